@@ -1,0 +1,8 @@
+use Rattle.std.proofs.Common.{map}
+use Rattle.amqp_audit.proofs.RunLemmas.{refused_run}
+use Rattle.amqp_audit.proofs.run.run_words.Goals as goal
+
+pub returns-in-Err-clause-run : goal.returns-in-Err-clause-run
+returns-in-Err-clause-run g c =
+    let told = c.tell_refused_words.ensures in
+    refused_run (map g.S.AsStr.text c.args.words.now) c.in-Err.error _ _ _ _ c.in-Err.ensures told.no_memory told.unknown told.memory

@@ -1,0 +1,4 @@
+pub mod Input
+pub mod Report
+pub mod Run
+pub mod Words

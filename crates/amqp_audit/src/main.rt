@@ -1,0 +1,44 @@
+//! The auditor of captures: `amqp_audit [FILE]` reads a capture from the file, or from standard input
+//! where no word is given, and prints its verdict as one line on standard output.
+//!
+//! The exit status tells the verdict too (`report`). A fault of the words gives the parser's text on
+//! standard error, nothing on standard output, and status 64. The modules, in reading order:
+//!
+//! - `words`: what the words of the command line ask for
+//! - `input`: the octets of a reader, as a whole
+//! - `report`: the line and the exit status of a verdict
+//! - `run`: a run over any words, reader and writers
+#![tactic(auto)]
+
+mod input;
+mod report;
+mod run;
+#[cfg(test)]
+mod tests;
+mod words;
+
+use run::{run_words, tell_unread_words};
+use std::process::ExitCode;
+use std::{env, io};
+
+fn main(rt: HostRuntime) -> ExitCode {
+    let (mut out, mut err) = (rt.stdout(), rt.stderr());
+    let status = match words_of(&rt) {
+        Ok(words) => run_words(
+            &rt,
+            rt.alloc(),
+            words.as_slice(),
+            &mut rt.stdin(),
+            &mut out,
+            &mut err,
+        ),
+        Err(error) => tell_unread_words(error, &mut out, &mut err),
+    };
+    ExitCode::from(status)
+}
+
+/// The words behind the program's name.
+fn words_of(rt: &HostRuntime) -> io::Result<Vec<String>> {
+    let words = env::args(rt)?.skip(1).collect(rt.alloc())?;
+    Ok(words)
+}

@@ -1,0 +1,223 @@
+//! Runs over fake readers and writers, and the words and files that the system gives.
+
+mod captures;
+
+use crate::run::{run_words, tell, tell_unread_words};
+use audit_core::{Clause, FormKind, Tally, Verdict};
+use captures::{INDEX_NOT_USED, OPENED, THREE_TRANSFERS, WINDOW_PLACES, octets_of};
+use std::alloc::AllocError;
+use std::io::{ErrorKind, Read, Write};
+use std::test::Fail;
+use std::{fs, io};
+
+/// The capture with no rule and no record.
+const EMPTY_CAPTURE: &[u8] = b"AMQPCAP1\0\0";
+
+/// What a run left: its status, standard output, standard error.
+type Left = (u8, String, String);
+
+fn run<R: Read>(rt: &HostRuntime, words: &[&str], input: &mut R) -> Result<Left, Fail> {
+    let (mut out, mut err) = (Vec::new(rt.alloc()), Vec::new(rt.alloc()));
+    let status = run_words(rt, rt.alloc(), words, input, &mut out, &mut err);
+    Ok((status, String::from_utf8(out)?, String::from_utf8(err)?))
+}
+
+/// A reader whose octets are followed by a fault.
+#[derive(Debug, Drop)]
+struct Failing {
+    octets: &'static [u8],
+    fault: ErrorKind,
+}
+
+impl Read for Failing {
+    fn read(&mut self, buf: &mut [u8]) -> io::Result<usize> {
+        if self.octets.is_empty() {
+            return Err(io::Error::from(self.fault));
+        }
+        self.octets.read(buf)
+    }
+}
+
+/// A writer that takes nothing.
+#[derive(Debug, Drop)]
+struct Full;
+
+impl Write for Full {
+    fn write(&mut self, _buf: &[u8]) -> io::Result<usize> {
+        Err(io::Error::from(ErrorKind::StorageFull))
+    }
+
+    fn flush(&mut self) -> io::Result<()> {
+        Ok(())
+    }
+}
+
+#[test]
+fn tells_each_verdict(rt: HostRuntime) -> Result<(), Fail> {
+    let tally = Tally {
+        records: 20,
+        deliveries: 1,
+        outcomes: 0,
+    };
+    let told = [
+        (
+            Verdict::Accepted(tally),
+            "accepted records=20 deliveries=1 outcomes=0\n",
+        ),
+        (
+            Verdict::Refused(19, Clause::L4),
+            "refused record=19 clause=L4\n",
+        ),
+        (
+            Verdict::Malformed(28, FormKind::Truncated),
+            "malformed offset=28\n",
+        ),
+        (Verdict::NoMemory(0), "no memory\n"),
+        (Verdict::Unreadable(0), "unreadable offset=0\n"),
+    ];
+    let mut wanted = 0;
+    for (verdict, line) in told {
+        let mut out = Vec::new(rt.alloc());
+        assert_eq!(rt; tell(&verdict, &mut out), wanted, "at {line}");
+        assert_eq!(rt; out.as_slice(), line.as_bytes());
+        wanted = wanted.saturating_add(1);
+    }
+    Ok(())
+}
+
+#[test]
+fn audits_standard_input(rt: HostRuntime) -> Result<(), Fail> {
+    let (status, out, err) = run(&rt, &[], &mut &*EMPTY_CAPTURE)?;
+    assert_eq!(rt;
+        out.as_str(),
+        "accepted records=0 deliveries=0 outcomes=0\n"
+    );
+    assert_eq!(rt; (status, err.as_str()), (0, ""));
+    Ok(())
+}
+
+#[test]
+fn audits_a_file(rt: HostRuntime) -> Result<(), Fail> {
+    fs::write(&rt, "empty.cap", EMPTY_CAPTURE)?;
+    let (status, out, err) = run(&rt, &["empty.cap"], &mut io::empty())?;
+    assert_eq!(rt;
+        out.as_str(),
+        "accepted records=0 deliveries=0 outcomes=0\n"
+    );
+    assert_eq!(rt; (status, err.as_str()), (0, ""));
+    Ok(())
+}
+
+#[test]
+fn refuses_two_words_and_an_unknown_option(rt: HostRuntime) -> Result<(), Fail> {
+    for words in [["a.cap", "b.cap"].as_slice(), ["--verbose"].as_slice()] {
+        let (status, out, err) = run(&rt, words, &mut &*EMPTY_CAPTURE)?;
+        assert_eq!(rt; (status, out.as_str()), (64, ""));
+        assert!(rt; err.as_str().starts_with("error: unexpected argument"));
+    }
+    Ok(())
+}
+
+#[test]
+fn helps_on_standard_output(rt: HostRuntime) -> Result<(), Fail> {
+    let (status, out, err) = run(&rt, &["--help"], &mut &*EMPTY_CAPTURE)?;
+    assert!(rt; out.as_str().contains("Usage: amqp_audit [FILE]"));
+    assert_eq!(rt; (status, err.as_str()), (0, ""));
+    Ok(())
+}
+
+#[test]
+fn tells_what_can_not_be_read(rt: HostRuntime) -> Result<(), Fail> {
+    let unreadable = "unreadable offset=0\n";
+    let (status, out, _) = run(&rt, &["missing.cap"], &mut io::empty())?;
+    assert_eq!(rt; (status, out.as_str()), (4, unreadable));
+
+    let mut input = Failing {
+        octets: EMPTY_CAPTURE,
+        fault: ErrorKind::TimedOut,
+    };
+    let (status, out, _) = run(&rt, &[], &mut input)?;
+    assert_eq!(rt; (status, out.as_str()), (4, unreadable));
+    Ok(())
+}
+
+#[test]
+fn tells_refused_memory(rt: HostRuntime) -> Result<(), Fail> {
+    let mut input = Failing {
+        octets: EMPTY_CAPTURE,
+        fault: ErrorKind::OutOfMemory,
+    };
+    let (status, out, _) = run(&rt, &[], &mut input)?;
+    assert_eq!(rt; (status, out.as_str()), (3, "no memory\n"));
+
+    let (mut out, mut err) = (Vec::new(rt.alloc()), Vec::new(rt.alloc()));
+    let status = tell_unread_words(io::Error::from(AllocError), &mut out, &mut err);
+    assert_eq!(rt; (status, out.as_slice()), (3, b"no memory\n".as_slice()));
+    Ok(())
+}
+
+#[test]
+fn tells_words_that_are_no_text(rt: HostRuntime) -> Result<(), Fail> {
+    let (mut out, mut err) = (Vec::new(rt.alloc()), Vec::new(rt.alloc()));
+    let no_text = io::Error::from(ErrorKind::InvalidData);
+    assert_eq!(rt; tell_unread_words(no_text, &mut out, &mut err), 64);
+    assert!(rt; out.is_empty() && err.starts_with(b"error: "));
+    Ok(())
+}
+
+#[test]
+fn fails_where_nothing_can_be_written(rt: HostRuntime) {
+    assert_eq!(rt; tell(&Verdict::NoMemory(0), &mut Full), 74);
+}
+
+#[test]
+fn tells_the_window_that_a_capture_passes(rt: HostRuntime) -> Result<(), Fail> {
+    let told = [
+        (2, 1, "refused record=19 clause=L4\n"),
+        (3, 0, "accepted records=20 deliveries=1 outcomes=0\n"),
+    ];
+    let mut capture = octets_of(rt.alloc(), THREE_TRANSFERS.as_slice())?;
+    for (window, wanted, line) in told {
+        for place in WINDOW_PLACES {
+            if let Some(octet) = capture.get_mut(place) {
+                *octet = window;
+            }
+        }
+        let (status, out, _) = run(&rt, &[], &mut capture.as_slice())?;
+        assert_eq!(rt;
+            (status, out.as_str()),
+            (wanted, line),
+            "with a window of {window}"
+        );
+    }
+    Ok(())
+}
+
+#[test]
+fn tells_where_a_capture_breaks_off(rt: HostRuntime) -> Result<(), Fail> {
+    let told = [
+        (28, 0, "accepted records=1 deliveries=0 outcomes=0\n"),
+        (29, 2, "malformed offset=28\n"),
+        (62, 2, "malformed offset=28\n"),
+        (63, 0, "accepted records=2 deliveries=0 outcomes=0\n"),
+    ];
+    let capture = octets_of(rt.alloc(), OPENED.as_slice())?;
+    for (length, wanted, line) in told {
+        let input = capture
+            .iter()
+            .copied()
+            .take(length)
+            .collect::<Vec<u8>>(rt.alloc())?;
+        let (status, out, _) = run(&rt, &[], &mut input.as_slice())?;
+        assert_eq!(rt; (status, out.as_str()), (wanted, line), "cut to {length}");
+    }
+    Ok(())
+}
+
+#[test]
+fn refuses_an_index_that_is_not_used(rt: HostRuntime) -> Result<(), Fail> {
+    let capture = octets_of(rt.alloc(), INDEX_NOT_USED.as_slice())?;
+    let (status, out, _) = run(&rt, &[], &mut capture.as_slice())?;
+    assert_eq!(rt; (status, out.as_str()), (2, "malformed offset=10\n"));
+    Ok(())
+}

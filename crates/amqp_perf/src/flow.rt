@@ -1,0 +1,58 @@
+//! What a flow says: the sender's ids and windows for its session, and for one link its credit (part 2, section
+//! 2.7.4).
+
+ghost use Rattle.std.specs.Prelude.{◌≡◌};
+ghost use Rattle.amqp_perf.specs.Meaning.{flow_of};
+
+use crate::fields::Fields;
+
+#[derive(Clone, Copy, Debug, PartialEq, Eq)]
+pub struct Flow {
+    /// The id of the next transfer that the sender expects; absent before it has seen the begin.
+    pub next_incoming_id: Option<u32>,
+    /// How many transfers the sender can take from that id on.
+    pub incoming_window: u32,
+    /// The id of the next transfer that the sender will send.
+    pub next_outgoing_id: u32,
+    /// How many transfers the sender can send.
+    pub outgoing_window: u32,
+    /// The link, where the flow is of one.
+    pub handle: Option<u32>,
+    /// How many deliveries the link's sender has begun, as the flow's sender knows it.
+    pub delivery_count: Option<u32>,
+    /// How many more deliveries may begin from that count on.
+    pub link_credit: Option<u32>,
+    /// Credit that cannot be used is to be given up.
+    pub drain: bool,
+    /// An answer is wanted.
+    pub echo: bool,
+}
+
+impl Flow {
+    /// From fields that fit the table of a flow.
+    pub(crate) fn of_fields(mut fields: Fields) -> Flow
+        ensures { result ≡ flow_of fields.entry }
+    {
+        let next_incoming_id = fields.uint();
+        let incoming_window = fields.number();
+        let next_outgoing_id = fields.number();
+        let outgoing_window = fields.number();
+        let handle = fields.uint();
+        let delivery_count = fields.uint();
+        let link_credit = fields.uint();
+        fields.pass_over();
+        let drain = fields.flag();
+        let echo = fields.flag();
+        Flow {
+            next_incoming_id,
+            incoming_window,
+            next_outgoing_id,
+            outgoing_window,
+            handle,
+            delivery_count,
+            link_credit,
+            drain,
+            echo,
+        }
+    }
+}

@@ -1,0 +1,56 @@
+//! What a transfer says of the part of a delivery that stands behind it (part 2, section 2.7.5).
+
+ghost use Rattle.std.specs.Prelude.{◌≡◌};
+ghost use Rattle.amqp_perf.specs.Meaning.{transfer_of};
+
+use crate::fields::Fields;
+
+#[derive(Clone, Copy, Debug, PartialEq, Eq)]
+pub struct Transfer<'a> {
+    /// The link.
+    pub handle: u32,
+    /// The delivery's id on its session; of a later part it may be absent.
+    pub delivery_id: Option<u32>,
+    /// The delivery's name on its link; of a later part it may be absent.
+    pub delivery_tag: Option<&'a [u8]>,
+    /// How the message is encoded.
+    pub message_format: Option<u32>,
+    /// The delivery is settled by its sender.
+    pub settled: Option<bool>,
+    /// Another part follows.
+    pub more: bool,
+    /// The delivery was begun on an earlier link of this name.
+    pub resume: bool,
+    /// The delivery is given up, and this is its last part.
+    pub aborted: bool,
+}
+
+impl<'a> Transfer<'a> {
+    ghost use Rattle.amqp_perf.specs.View.{transfer_fields};
+
+    /// From fields that fit the table of a transfer.
+    pub(crate) fn of_fields(mut fields: Fields<'a>) -> Transfer<'a>
+        ensures { transfer_fields result ≡ transfer_of fields.entry }
+    {
+        let handle = fields.number();
+        let delivery_id = fields.uint();
+        let delivery_tag = fields.binary();
+        let message_format = fields.uint();
+        let settled = fields.boolean();
+        let more = fields.flag();
+        fields.pass_over();
+        fields.pass_over();
+        let resume = fields.flag();
+        let aborted = fields.flag();
+        Transfer {
+            handle,
+            delivery_id,
+            delivery_tag,
+            message_format,
+            settled,
+            more,
+            resume,
+            aborted,
+        }
+    }
+}

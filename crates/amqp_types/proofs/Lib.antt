@@ -1,0 +1,11 @@
+pub mod Steps
+pub mod Octets
+pub mod Scalars
+pub mod Texts
+pub mod Values
+pub mod Deeper
+pub mod Held
+pub mod Loop
+pub mod Levels
+pub mod Front
+pub mod Nested

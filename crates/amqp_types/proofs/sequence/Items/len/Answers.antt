@@ -1,0 +1,6 @@
+use Rattle.std.proofs.Common.{sym}
+use Rattle.amqp_types.proofs.Held.{are_values_of}
+use Rattle.amqp_types.proofs.sequence.Items.len.Goals as goal
+
+pub returns : goal.returns
+returns c = sym (are_values_of c.args.self.now.left c.args.self.now.rest.now c.args.self.now.filled).count

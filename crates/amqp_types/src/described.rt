@@ -1,0 +1,15 @@
+//! A described value, whose parts were read with it.
+
+ghost use Rattle.std.specs.Prelude.{IsTrue};
+ghost use Rattle.amqp_types.specs.Items.{is_value};
+
+/// A descriptor and the value that it describes: part 1, 1.1.2.
+#[derive(Clone, Copy, Debug)]
+pub(crate) struct Described<'a> {
+    /// The octets of the descriptor.
+    pub(crate) descriptor: &'a [u8],
+    /// The octets of the value that it describes.
+    pub(crate) value: &'a [u8],
+    ghost descriptor_read: { IsTrue (is_value descriptor.now) },
+    ghost value_read: { IsTrue (is_value value.now) },
+}

@@ -1,0 +1,197 @@
+//! A value that was read, and what it says.
+
+use crate::described::Described;
+use crate::fault::ValueFault;
+use crate::reading::{LEVELS_ALLOWED, read_value, whole};
+use crate::sequence::{Items, Sequence};
+
+/// A value that was read from octets, on which it stays.
+#[derive(Clone, Copy, Debug)]
+pub struct Value<'a> {
+    pub(crate) raw: &'a [u8],
+    pub(crate) content: Content<'a>,
+}
+
+/// What a value says.
+#[derive(Clone, Copy, Debug)]
+pub(crate) enum Content<'a> {
+    Null,
+    Boolean(bool),
+    Ubyte(u8),
+    Ushort(u16),
+    Uint(u32),
+    Ulong(u64),
+    Binary(&'a [u8]),
+    Str(&'a str),
+    Symbol(&'a str),
+    List(Sequence<'a>),
+    Described(Described<'a>),
+}
+
+impl<'a> Value<'a> {
+    ghost use Rattle.std.specs.Prelude.{◌≡◌, option_map, ◌<◌, ◌^◌, List, ℕ, length, IfOk, Ok};
+    ghost use Rattle.std.specs.Option.{option_copied};
+    ghost use Rattle.amqp_types.specs.Part.{Seen};
+    ghost use Rattle.amqp_types.specs.Reading.{Gives, seen_at, levels_allowed};
+    ghost use Rattle.amqp_types.specs.Grammar.{IsFront, IsValueOf, AreItemsOf};
+    ghost use Rattle.amqp_types.specs.Items.{items_of, descriptor_of, described_of, descriptor_octets, described_octets};
+    ghost use Rattle.amqp_types.specs.Typed.{says_null, boolean_in, ubyte_in, ushort_in, uint_in, ulong_in, binary_in, str_in, symbol_in, list_in};
+    ghost use Rattle.amqp_types.specs.View.{view, view_of, items_left};
+
+    /// Reads the value at the front of the octets, and gives the octets behind it too.
+    ///
+    /// # Errors
+    ///
+    /// Where no front of the octets is a value: the first fault from left to right.
+    pub fn read(bytes: &'a [u8]) -> Result<(Value<'a>, &'a [u8]), ValueFault>
+        // What is read is a value at the front of the input.
+        ensures found { IfOk result (λ x. IsFront levels_allowed bytes.now (view x.0) x.1.now) }
+        // A value at the front of the input is read, whatever is behind it.
+        ensures only { (value : Seen) (rest : List ℕ) → IsFront levels_allowed bytes.now value rest
+            → Gives {Y = Seen × List ℕ} (λ x. (view x.0, x.1.now)) result (Ok (value, rest)) }
+        // Which fault it is.
+        ensures exact { Gives (λ x. (view x.0, x.1.now)) result (seen_at levels_allowed 0 bytes.now) }
+    {
+        read_value(LEVELS_ALLOWED, 0, bytes)
+    }
+
+    /// The octets of the value, its constructor among them.
+    pub fn raw(&self) -> &'a [u8]
+        ensures { result.now ≡ (view self.now).octets }
+    {
+        self.raw
+    }
+
+    /// Whether the value is null.
+    pub fn is_null(&self) -> bool
+        ensures { result ≡ says_null (view self.now).part }
+    {
+        matches!(self.content, Content::Null)
+    }
+
+    /// The boolean, if the value is one.
+    pub fn as_bool(&self) -> Option<bool>
+        ensures { result ≡ boolean_in (view self.now).part }
+    {
+        match self.content {
+            Content::Boolean(value) => Some(value),
+            _ => None,
+        }
+    }
+
+    /// The number, if the value is an ubyte.
+    pub fn as_ubyte(&self) -> Option<u8>
+        ensures { result ≡ ubyte_in (view self.now).part }
+    {
+        match self.content {
+            Content::Ubyte(value) => Some(value),
+            _ => None,
+        }
+    }
+
+    /// The number, if the value is an ushort.
+    pub fn as_ushort(&self) -> Option<u16>
+        ensures { result ≡ ushort_in (view self.now).part }
+    {
+        match self.content {
+            Content::Ushort(value) => Some(value),
+            _ => None,
+        }
+    }
+
+    /// The number, if the value is an uint.
+    pub fn as_uint(&self) -> Option<u32>
+        ensures { result ≡ uint_in (view self.now).part }
+    {
+        match self.content {
+            Content::Uint(value) => Some(value),
+            _ => None,
+        }
+    }
+
+    /// The number, if the value is an ulong.
+    pub fn as_ulong(&self) -> Option<u64>
+        ensures { result ≡ ulong_in (view self.now).part }
+    {
+        match self.content {
+            Content::Ulong(value) => Some(value),
+            _ => None,
+        }
+    }
+
+    /// The octets, if the value is a binary.
+    pub fn as_binary(&self) -> Option<&'a [u8]>
+        ensures { option_copied result ≡ binary_in (view self.now).part }
+    {
+        match self.content {
+            Content::Binary(octets) => Some(octets),
+            _ => None,
+        }
+    }
+
+    /// The text, if the value is a string.
+    pub fn as_str(&self) -> Option<&'a str>
+        ensures { option_copied result ≡ str_in (view self.now).part }
+    {
+        match self.content {
+            Content::Str(text) => Some(text),
+            _ => None,
+        }
+    }
+
+    /// The text, if the value is a symbol.
+    pub fn as_symbol(&self) -> Option<&'a str>
+        ensures { option_copied result ≡ symbol_in (view self.now).part }
+    {
+        match self.content {
+            Content::Symbol(text) => Some(text),
+            _ => None,
+        }
+    }
+
+    /// The items, if the value is a list.
+    pub fn as_list(&self) -> Option<Items<'a>>
+        ensures { option_map items_left result ≡ list_in (view self.now).part }
+    {
+        match self.content {
+            Content::List(sequence) => Some(sequence.items()),
+            _ => None,
+        }
+    }
+
+    /// The items, if the value is a list. Another value has none.
+    #[tactic(auto, unfolding(crate::specs::Items::seen_in))]
+    pub fn items(&self) -> Items<'a>
+        ensures same { items_left result ≡ items_of (view self.now).part }
+        ensures few { length (items_left result) < 2 ^ 32 }
+        // They are values, and their octets make up those of the list.
+        ensures whole { AreItemsOf (view self.now).part (items_left result) }
+    {
+        match self.content {
+            Content::List(sequence) => sequence.items(),
+            _ => Sequence::empty().items(),
+        }
+    }
+
+    /// The descriptor, if the value is a described one.
+    pub fn descriptor(&self) -> Option<Value<'a>>
+        ensures same { view_of result ≡ descriptor_of (view self.now).part }
+        ensures whole { IsValueOf (descriptor_octets (view self.now).part) (view_of result) }
+    {
+        match self.content {
+            Content::Described(pair) => Some(whole(pair.descriptor)),
+            _ => None,
+        }
+    }
+
+    /// The value that the descriptor describes, if the value is a described one.
+    pub fn described(&self) -> Option<Value<'a>>
+        ensures same { view_of result ≡ described_of (view self.now).part }
+        ensures whole { IsValueOf (described_octets (view self.now).part) (view_of result) }
+    {
+        match self.content {
+            Content::Described(pair) => Some(whole(pair.value)),
+            _ => None,
+        }
+    }
+}

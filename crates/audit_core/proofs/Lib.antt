@@ -1,0 +1,4 @@
+pub mod Order
+pub mod Judged
+pub mod Verdicts
+pub mod Answered

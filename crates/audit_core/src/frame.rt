@@ -1,0 +1,106 @@
+//! What a record's octets are, as one whole frame (part 2 of the standard, section 2.3).
+
+use amqp_perf::{Begin, Performative};
+
+/// How long a frame's header is at least, in octets.
+const HEADER: usize = 8;
+
+/// The type of the frames of sessions and connections.
+const AMQP: u8 = 0;
+
+/// A whole frame of a session or connection.
+#[derive(Clone, Copy)]
+pub(crate) struct Frame<'a> {
+    pub channel: u16,
+    /// What stands behind the header.
+    pub body: &'a [u8],
+}
+
+impl<'a> Frame<'a> {
+    ghost use Rattle.std.specs.Prelude.{◌≡◌, option_map};
+    ghost use Rattle.trace_law.specs.Frame.{frame_parts};
+    ghost use Rattle.audit_core.specs.View.{frame_view};
+
+    /// The frame that all the octets are.
+    #[tactic(auto, unfolding(trace_law::specs::Frame::frame_parts))]
+    pub(crate) fn read(octets: &'a [u8]) -> Option<Frame<'a>>
+        ensures { option_map frame_view result ≡ frame_parts octets.now }
+    {
+        if octets.len() < HEADER {
+            return None;
+        }
+        let size = u32::from_be_bytes([octets[0], octets[1], octets[2], octets[3]]) as usize;
+        let start = 4 * octets[4] as usize;
+        let is_whole = size == octets.len() && HEADER <= start && start <= octets.len();
+        if !is_whole || octets[5] != AMQP {
+            return None;
+        }
+        Some(Frame {
+            channel: u16::from_be_bytes([octets[6], octets[7]]),
+            body: &octets[start..],
+        })
+    }
+}
+
+/// A performative on a channel.
+#[derive(Clone, Copy)]
+pub(crate) struct Spoken<'a> {
+    pub channel: u16,
+    pub performative: Performative<'a>,
+}
+
+impl<'a> Spoken<'a> {
+    ghost use Rattle.std.specs.Prelude.{◌≡◌, option_map, Some};
+    ghost use Rattle.trace_law.specs.Frame.{spoken};
+    ghost use Rattle.audit_core.specs.Tallying.{has_delivery_id};
+    ghost use Rattle.trace_law.specs.Session.{begin_on};
+    ghost use Rattle.trace_law.specs.Event.{says, says_on, is_end, is_close};
+    ghost use Rattle.audit_core.specs.View.{spoken_view};
+
+    /// The performative that the octets are, as a frame; none where they are no frame of one.
+    #[tactic(auto, unfolding(trace_law::specs::Frame::spoken))]
+    pub(crate) fn read(octets: &'a [u8]) -> Option<Spoken<'a>>
+        ensures { option_map spoken_view result ≡ spoken octets.now }
+    {
+        let frame = Frame::read(octets)?;
+        let (performative, _) = Performative::read(frame.body).ok()?;
+        Some(Spoken {
+            channel: frame.channel,
+            performative,
+        })
+    }
+
+    /// The begin that it is on this channel.
+    pub(crate) fn begin_on(&self, channel: u16) -> Option<Begin>
+        ensures { result ≡ begin_on channel (Some (spoken_view self.now)) }
+    {
+        match self.performative {
+            Performative::Begin(begin) if self.channel == channel => Some(begin),
+            _ => None,
+        }
+    }
+
+    /// Whether it is an end on this channel.
+    pub(crate) fn is_end_on(&self, channel: u16) -> bool
+        ensures { result ≡ says_on channel is_end (Some (spoken_view self.now)) }
+    {
+        matches!(self.performative, Performative::End) && self.channel == channel
+    }
+
+    /// Whether it is a close.
+    pub(crate) fn is_close(&self) -> bool
+        ensures { result ≡ says is_close (Some (spoken_view self.now)) }
+    {
+        matches!(self.performative, Performative::Close)
+    }
+
+    /// Whether it is a transfer with a delivery-id.
+    pub(crate) fn has_delivery_id(&self) -> bool
+        ensures { result ≡ has_delivery_id (spoken_view self.now).meaning }
+    {
+        match self.performative {
+            Performative::Transfer(transfer) => transfer.delivery_id.is_some(),
+            _ => false,
+        }
+    }
+}
