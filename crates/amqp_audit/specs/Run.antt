@@ -23,7 +23,7 @@ IsStatus status = (status ≤ 4) ⊎ (status ≡ 64) ⊎ (status ≡ 74)
 abbrev pub IsVerdictOnInput : Option (List ℕ) → Verdict → Type 0
 IsVerdictOnInput held verdict = (verdict ≡ Unreadable 0) ⊎ (verdict ≡ NoMemory 0) ⊎ IfSome held (λ octets. Answers octets verdict)
 
--- without words the verdict on standard input is told; with one word the verdict on some octets; two words are a
+-- without words the verdict on standard input is told; with one word the line of a verdict; two words are a
 -- mistake, unless memory for the parser was refused; all this where standard output could be written (own format)
 abbrev pub IsRunOn : List (List ℕ) → Option (List ℕ) → Option (List ℕ) → Option (List ℕ) → ℕ → Type 0
 IsRunOn [] held before after status =

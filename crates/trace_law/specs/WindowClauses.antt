@@ -1,6 +1,6 @@
 -- What a record that is written has to meet, as far as windows need it. The full law will take this module's place:
 -- it asks more at each of the three clauses, and has all fourteen.
-use Rattle.std.specs.Prelude.{ℕ, Bool, true, false, ◌&&◌, not, List, [], ◌∷◌, Option, Some, None, is_some, is_none, option_map, find, nat_lt, ◌==◌, if◌then◌else◌}
+use Rattle.std.specs.Prelude.{ℕ, Bool, true, false, ◌&&◌, not, List, [], ◌∷◌, Option, Some, None, is_some, option_map, find, nat_lt, ◌==◌, if◌then◌else◌}
 use Rattle.amqp_perf.specs.Meaning.{Meaning, ABegin, ATransfer}
 use Rattle.trace_law.specs.declared.clause.Clause.{Clause}
 use Rattle.trace_law.specs.declared.clause.Clause.TheVariants as clauses
@@ -61,7 +61,3 @@ broken_clause e past = broken_by e past e.moment
 abbrev pub first_broken : List Event → Option (ℕ × Clause)
 first_broken [] = None
 first_broken (e ∷ past) = or_else (first_broken past) (option_map (λ clause. (e.number, clause)) (broken_clause e past))
-
--- each record that the router has written meets the clauses
-abbrev pub is_lawful : List Event → Bool
-is_lawful past = is_none (first_broken past)
