@@ -6,13 +6,13 @@ use Rattle.std.proofs.lemmas.List.Elements.{recursion_from_All}
 use Rattle.std.proofs.lemmas.List.Concat.{flat_map-cons}
 use Rattle.std.proofs.lemmas.Bool.{ltb-false, le-ltb}
 use Rattle.amqp_types.specs.declared.code.Kind.TheVariants as kinds
-use Rattle.amqp_types.specs.Part.{Part, Seen, Ulong, Nested, Described}
-use Rattle.amqp_types.specs.Reading.{Read, seen_at, levels_allowed}
-use Rattle.amqp_types.specs.Items.{seen_in, seen_of}
+use Rattle.amqp_types.specs.Part.{Part, Seen, Ulong, Nested, Described, Tagged}
+use Rattle.amqp_types.specs.Reading.{Read, seen_at, item_at, levels_allowed}
+use Rattle.amqp_types.specs.Items.{items_in, seen_in, seen_of}
 use Rattle.amqp_types.specs.Grammar.{IsValue, AreValuesOf}
 use Rattle.amqp_types.specs.Typed.{ulong_in, list_in}
 use Rattle.amqp_types.proofs.Values.{seen_found, seen_again}
-use Rattle.amqp_types.proofs.Nested.{pair_holds, list_holds, value_is}
+use Rattle.amqp_types.proofs.Nested.{not_tagged, pair_holds, list_holds, value_is}
 use Rattle.amqp_perf.specs.declared.fault.PerfFault.{PerfFault}
 use Rattle.amqp_perf.specs.declared.fault.PerfFault.TheVariants.{TooManyFields}
 use Rattle.amqp_perf.specs.declared.table.PerformativeKind.{PerformativeKind}
@@ -52,7 +52,7 @@ checked_again kind fields fit =
 
 values_are_by : (octets : List ℕ) (values : List Seen) → flat_map (λ value. value.octets) values ≡ octets → AllByRecursion (λ value. IsValue levels_allowed value.octets value.part) values
     → seen_in (length values) octets ≡ values
-unfolding seen_in
+unfolding items_in item_at
 values_are_by octets [] joined each = refl
 values_are_by octets (x ∷ xs) joined each =
     let rest = flat_map (λ (value : Seen). value.octets) xs in
@@ -101,6 +101,7 @@ said_found octets (Described descriptor described) meaning whole e =
     ap (λ (p : Part). described_by (option_and_then kind_of_code (ulong_in p)) (option_map parts_of (list_in holds.1.says))) (sym d)
     ∙ ap (λ (p : Part). described_by (option_and_then kind_of_code (ulong_in (seen_of descriptor).part)) (option_map parts_of (list_in p))) (sym v) ∙ e in
     parts_found octets descriptor described holds.0.says holds.1.says meaning (option_and_then kind_of_code (ulong_in holds.0.says)) whole holds.0.is holds.1.is refl spoken
+said_found octets (Tagged descriptor constructor own) meaning whole e = absurd (not_tagged octets descriptor constructor own whole)
 said_found octets _ meaning whole e = absurd cc
 
 said_again : (octets : List ℕ) (meaning : Meaning) (is : IsPerformative octets meaning) → said (Described is.descriptor is.described) ≡ Ok meaning

@@ -1,18 +1,20 @@
 -- The values that a value holds, which were read with it: to read them again cannot fail.
-use Rattle.std.proofs.Common.{◌≡◌, ℕ, zero, suc, ◌-◌, ◌≤◌, ◌<◌, true, List, [], ◌∷◌, ◌++◌, length, Result, Ok, Err, refl, sym, ap, subst, ◌∙◌, arith}
+use Rattle.std.proofs.Common.{◌≡◌, ℕ, zero, suc, ◌-◌, ◌≤◌, ◌<◌, true, List, [], ◌∷◌, ◌++◌, length, Option, Some, None, Result, Ok, Err, refl, sym, ap, subst, ◌∙◌, arith}
 use Rattle.std.specs.List.{flat_map, AllByRecursion}
 use Rattle.std.proofs.lemmas.List.Elements.{All-from_recursion}
 use Rattle.std.proofs.lemmas.List.Concat.{flat_map-cons}
 use Rattle.std.proofs.lemmas.Bool.{eqb-true}
 use Rattle.std.proofs.lemmas.List.{append-nil, nil_from_length}
+use Rattle.amqp_types.specs.declared.code.Code.{Code}
 use Rattle.amqp_types.specs.declared.fault.ValueFault.{ValueFault}
-use Rattle.amqp_types.specs.Part.{Seen}
-use Rattle.amqp_types.specs.Reading.{Read, seen_at, items_at, levels_allowed}
-use Rattle.amqp_types.specs.Items.{seen_in, is_value, is_used_up, are_values, is_filled, seen_of}
-use Rattle.amqp_types.specs.Grammar.{AreItems, IsValue, AreValuesOf}
-use Rattle.amqp_types.proofs.Steps.{ok_is, done}
-use Rattle.amqp_types.proofs.Values.{items_found, items_again, seen_found, seen_again}
-use Rattle.amqp_types.proofs.Deeper.{value_deeper, values_deeper}
+use Rattle.amqp_types.specs.Part.{Part, Seen, Constructor}
+use Rattle.amqp_types.specs.Reading.{Read, tagged, in_front, data_at, constructor_at, element_at, item_at, seen_at, items_at, levels_allowed}
+use Rattle.amqp_types.specs.Items.{seen_in, items_in, is_value, is_used_up, are_items, is_filled, seen_of, form_read, form_of, element_read, is_element, element_of}
+use Rattle.amqp_types.specs.Grammar.{AreItems, IsData, IsConstructor, IsValue, IsElement, IsItem, AreOf, AreValuesOf}
+use Rattle.amqp_types.proofs.Steps.{ok_is, some_is, done}
+use Rattle.amqp_types.proofs.Pieces.{items_found, items_again, in_front_is}
+use Rattle.amqp_types.proofs.Values.{data_found, constructor_found, constructor_again, item_found, item_again, seen_found, seen_again}
+use Rattle.amqp_types.proofs.Deeper.{value_deeper, values_deeper, constructor_deeper, data_under}
 
 -- ---- one value
 
@@ -56,94 +58,189 @@ pub whole_is : (octets : List ℕ) (x : Seen × List ℕ) → seen_at levels_all
 unfolding seen_of
 whole_is octets x e = rw e refl
 
--- ---- values one after the other
+-- ---- items one after the other
 
 filled : (r : Result (List ℕ) ValueFault) → is_filled r ≡ true → r ≡ Ok []
 filled (Ok rest) e = ap done (nil_from_length rest (eqb-true _ _ e))
 filled (Err d) e = absurd cc
 
-pub are_from_items : (n : ℕ) (octets : List ℕ) → AreItems (IsValue levels_allowed) n octets → are_values n octets ≡ true
-unfolding are_values
-are_from_items n octets are =
-    let again : items_at (seen_at levels_allowed) n 0 octets ≡ Ok [] = ap (items_at (seen_at levels_allowed) n 0) (sym (append-nil octets)) ∙ items_again (seen_at levels_allowed) (IsValue levels_allowed) (seen_again levels_allowed) n 0 octets [] are in
+pub are_from_items : (form : Option Constructor) (n : ℕ) (octets : List ℕ) → AreItems (IsItem levels_allowed form) n octets → are_items form n octets ≡ true
+unfolding are_items
+are_from_items form n octets are =
+    let again : items_at (item_at levels_allowed form) n 0 octets ≡ Ok [] = ap (items_at (item_at levels_allowed form) n 0) (sym (append-nil octets)) ∙ items_again (item_at levels_allowed form) (IsItem levels_allowed form) (item_again levels_allowed form) n 0 octets [] are in
     rw again refl
 
--- what the reader of values finds
-seen_finds : (levels at : ℕ) (bytes : List ℕ) (x : Seen × List ℕ) → seen_at levels at bytes ≡ Ok x → (bytes ≡ x.0.octets ++ x.1) × IsValue levels x.0.octets x.0.part
-seen_finds levels at bytes x e = let front = seen_found levels at bytes x e in (front.parts, front.is)
+items_from_read : (levels : ℕ) (form : Option Constructor) (n at : ℕ) (octets : List ℕ) → items_at (item_at levels form) n at octets ≡ Ok [] → AreItems (IsItem levels form) n octets
+items_from_read levels form n at octets e =
+    let items = items_found (item_at levels form) (IsItem levels form) (item_found levels form) n at octets [] e in
+    subst (AreItems (IsItem levels form) n) (sym (items.1 ∙ append-nil items.0)) items.2
 
-items_from_read : (levels n at : ℕ) (octets : List ℕ) → items_at (seen_at levels) n at octets ≡ Ok [] → AreItems (IsValue levels) n octets
-items_from_read levels n at octets e =
-    let items = items_found (seen_at levels) (IsValue levels) (seen_finds levels) n at octets [] e in
-    subst (AreItems (IsValue levels) n) (sym (items.1 ∙ append-nil items.0)) items.2
+-- octets that were read as items, where so many levels were left, are items
+pub held_items : (levels : ℕ) (form : Option Constructor) (n at : ℕ) (octets : List ℕ) → levels ≤ levels_allowed → items_at (item_at levels form) n at octets ≡ Ok [] → are_items form n octets ≡ true
+held_items levels form n at octets le e =
+    are_from_items form n octets (values_deeper levels levels_allowed form n octets le (items_from_read levels form n at octets e))
 
--- octets that were read as values, where so many levels were left, are values
-pub held_values : (levels n at : ℕ) (octets : List ℕ) → levels ≤ levels_allowed → items_at (seen_at levels) n at octets ≡ Ok [] → are_values n octets ≡ true
-held_values levels n at octets le e =
-    are_from_items n octets (values_deeper levels levels_allowed n octets le (items_from_read levels n at octets e))
+items_from_are : (form : Option Constructor) (n : ℕ) (octets : List ℕ) → are_items form n octets ≡ true → AreItems (IsItem levels_allowed form) n octets
+unfolding are_items
+items_from_are form n octets e = items_from_read levels_allowed form n 0 octets (filled (items_at (item_at levels_allowed form) n 0 octets) e)
 
-items_from_are : (n : ℕ) (octets : List ℕ) → are_values n octets ≡ true → AreItems (IsValue levels_allowed) n octets
-unfolding are_values
-items_from_are n octets e = items_from_read levels_allowed n 0 octets (filled (items_at (seen_at levels_allowed) n 0 octets) e)
+-- the first of some items, and the octets of the others
+pub record IsFirst (form : Option Constructor) (n : ℕ) (octets : List ℕ) (x : Seen × List ℕ) : Type 0 where
+  pub read : item_at levels_allowed form 0 octets ≡ Ok x
+  pub others : are_items form n x.1 ≡ true
 
--- the first of some values, and the octets of the others
-pub record IsFirst (n : ℕ) (octets : List ℕ) (x : Seen × List ℕ) : Type 0 where
-  pub read : seen_at levels_allowed 0 octets ≡ Ok x
-  pub others : are_values n x.1 ≡ true
-
-first_value : (n : ℕ) (octets : List ℕ) → are_values (suc n) octets ≡ true → (x : Seen × List ℕ) × IsFirst n octets x
-first_value n octets e =
-    let are = items_from_are (suc n) octets e in (
+first_value : (form : Option Constructor) (n : ℕ) (octets : List ℕ) → are_items form (suc n) octets ≡ true → (x : Seen × List ℕ) × IsFirst form n octets x
+first_value form n octets e =
+    let are = items_from_are form (suc n) octets e in (
       (record { octets = are.0; part = are.2 }, are.1),
       record {
-        read = ap (seen_at levels_allowed 0) are.3 ∙ seen_again levels_allowed 0 are.0 are.1 are.2 are.4;
-        others = are_from_items n are.1 are.5;
+        read = ap (item_at levels_allowed form 0) are.3 ∙ item_again levels_allowed form 0 are.0 are.1 are.2 are.4;
+        others = are_from_items form n are.1 are.5;
       },
     )
 
 less_one : (n : ℕ) → 0 < n → n ≡ suc (n - 1)
 less_one n some = omega arith
 
--- the first of some values is read
-pub first_read : (n : ℕ) (octets : List ℕ) → 0 < n → are_values n octets ≡ true → (x : Seen × List ℕ) × IsFirst (n - 1) octets x
-first_read n octets some e = first_value (n - 1) octets (subst (λ (k : ℕ). are_values k octets ≡ true) (less_one n some) e)
+-- the first of some items is read
+pub first_read : (form : Option Constructor) (n : ℕ) (octets : List ℕ) → 0 < n → are_items form n octets ≡ true → (x : Seen × List ℕ) × IsFirst form (n - 1) octets x
+first_read form n octets some e = first_value form (n - 1) octets (subst (λ (k : ℕ). are_items form k octets ≡ true) (less_one n some) e)
 
--- what is read first is the first of the values
-pub first_is : (n : ℕ) (octets : List ℕ) (x : Seen × List ℕ) → 0 < n → seen_at levels_allowed 0 octets ≡ Ok x → seen_in n octets ≡ x.0 ∷ seen_in (n - 1) x.1
-unfolding seen_in
-first_is n octets x some e = subst (λ (k : ℕ). seen_in k octets ≡ x.0 ∷ seen_in (n - 1) x.1) (sym (less_one n some)) (rw e refl)
+-- what is read first is the first of the items
+pub first_is : (form : Option Constructor) (n : ℕ) (octets : List ℕ) (x : Seen × List ℕ) → 0 < n → item_at levels_allowed form 0 octets ≡ Ok x → items_in form n octets ≡ x.0 ∷ items_in form (n - 1) x.1
+unfolding items_in
+first_is form n octets x some e = subst (λ (k : ℕ). items_in form k octets ≡ x.0 ∷ items_in form (n - 1) x.1) (sym (less_one n some)) (rw e refl)
 
--- the others are values too
-pub others_are : (n : ℕ) (octets : List ℕ) (x : Seen × List ℕ) → 0 < n → are_values n octets ≡ true → seen_at levels_allowed 0 octets ≡ Ok x → are_values (n - 1) x.1 ≡ true
-others_are n octets x some e read =
-    let first = first_read n octets some e in
-    subst (λ (y : Seen × List ℕ). are_values (n - 1) y.1 ≡ true) (ok_is first.0 x (sym first.1.read ∙ read)) first.1.others
+-- the others are items too
+pub others_are : (form : Option Constructor) (n : ℕ) (octets : List ℕ) (x : Seen × List ℕ) → 0 < n → are_items form n octets ≡ true → item_at levels_allowed form 0 octets ≡ Ok x → are_items form (n - 1) x.1 ≡ true
+others_are form n octets x some e read =
+    let first = first_read form n octets some e in
+    subst (λ (y : Seen × List ℕ). are_items form (n - 1) y.1 ≡ true) (ok_is first.0 x (sym first.1.read ∙ read)) first.1.others
 
 -- the values that are read of some octets
-pub record AreRead (n : ℕ) (octets : List ℕ) (values : List Seen) : Type 0 where
+pub record AreRead (form : Option Constructor) (n : ℕ) (octets : List ℕ) (values : List Seen) : Type 0 where
   pub count : length values ≡ n
   pub joined : flat_map (λ value. value.octets) values ≡ octets
-  pub each : AllByRecursion (λ value. IsValue levels_allowed value.octets value.part) values
+  pub each : AllByRecursion (λ value. IsItem levels_allowed form value.octets value.part) values
 
-are_read_from : (n : ℕ) (octets : List ℕ) → are_values n octets ≡ true → AreRead n octets (seen_in n octets)
-unfolding seen_in
-are_read_from zero octets e = record { count = refl; joined = sym (items_from_are 0 octets e); each = tt }
-are_read_from (suc n) octets e =
-    let first = first_value n octets e in
-    let front = seen_found levels_allowed 0 octets first.0 first.1.read in
-    let others = are_read_from n first.0.1 first.1.others in
+are_read_from : (form : Option Constructor) (n : ℕ) (octets : List ℕ) → are_items form n octets ≡ true → AreRead form n octets (items_in form n octets)
+unfolding items_in
+are_read_from form zero octets e = record { count = refl; joined = sym (items_from_are form 0 octets e); each = tt }
+are_read_from form (suc n) octets e =
+    let first = first_value form n octets e in
+    let front = item_found levels_allowed form 0 octets first.0 first.1.read in
+    let others = are_read_from form n first.0.1 first.1.others in
     rw first.1.read (record {
       count = ap suc others.count;
-      joined = flat_map-cons (λ (value : Seen). value.octets) first.0.0 (seen_in n first.0.1) ∙ ap (λ (t : List ℕ). first.0.0.octets ++ t) others.joined ∙ sym front.parts;
-      each = (front.is, others.each);
+      joined = flat_map-cons (λ (value : Seen). value.octets) first.0.0 (items_in form n first.0.1) ∙ ap (λ (t : List ℕ). first.0.0.octets ++ t) others.joined ∙ sym front.0;
+      each = (front.1, others.each);
     })
 
--- octets that are values hold just these
-pub are_values_of : (n : ℕ) (octets : List ℕ) → are_values n octets ≡ true → AreValuesOf n octets (seen_in n octets)
-are_values_of n octets e =
-    let read = are_read_from n octets e in
-    record { count = read.count; joined = read.joined; each = All-from_recursion (λ (value : Seen). IsValue levels_allowed value.octets value.part) (seen_in n octets) read.each }
+-- octets that are items hold just these
+pub are_items_of : (form : Option Constructor) (n : ℕ) (octets : List ℕ) → are_items form n octets ≡ true → AreOf (IsItem levels_allowed form) n octets (items_in form n octets)
+are_items_of form n octets e =
+    let read = are_read_from form n octets e in
+    record { count = read.count; joined = read.joined; each = All-from_recursion (λ (value : Seen). IsItem levels_allowed form value.octets value.part) (items_in form n octets) read.each }
 
-pub no_values : are_values 0 [] ≡ true
-unfolding are_values items_at
+-- octets that are values hold just these
+pub are_values_of : (n : ℕ) (octets : List ℕ) → are_items None n octets ≡ true → AreValuesOf n octets (seen_in n octets)
+are_values_of n octets e = are_items_of None n octets e
+
+pub no_values : are_items None 0 [] ≡ true
+unfolding are_items items_at
 no_values = refl
+
+-- ---- elements with their constructor
+
+-- a whole constructor is read
+constructor_whole : (octets : List ℕ) (c : Constructor) → IsConstructor levels_allowed octets c → constructor_at levels_allowed 0 octets ≡ Ok (c, [])
+constructor_whole octets c is = ap (constructor_at levels_allowed 0) (sym (append-nil octets)) ∙ constructor_again levels_allowed 0 octets [] c is
+
+-- octets that are a constructor say its descriptors and its code
+pub constructor_held : (levels : ℕ) (octets : List ℕ) (c : Constructor) → levels ≤ levels_allowed → IsConstructor levels octets c → form_of octets ≡ Some (c.tags, c.code)
+unfolding form_of
+constructor_held levels octets c le is = rw (constructor_whole octets c (constructor_deeper levels levels_allowed le octets c is)) refl
+
+-- a constructor by how many descriptors and which code it has
+abbrev HasForm : List ℕ → ℕ → Code → Type 0
+HasForm octets tags code = (c : Constructor) × (constructor_at levels_allowed 0 octets ≡ Ok (c, [])) × (c.tags ≡ tags) × (c.code ≡ code)
+
+form_found : (r : Read Constructor) (tags : ℕ) (code : Code) → form_read r ≡ Some (tags, code) → (c : Constructor) × (r ≡ Ok (c, [])) × (c.tags ≡ tags) × (c.code ≡ code)
+form_found (Ok (c, [])) tags code e = let both : (c.tags, c.code) ≡ (tags, code) = some_is e in (c, refl, ap (λ (p : ℕ × Code). p.0) both, ap (λ (p : ℕ × Code). p.1) both)
+form_found (Ok (c, b ∷ rest)) tags code e = absurd cc
+form_found (Err d) tags code e = absurd cc
+
+form_is : (octets : List ℕ) (tags : ℕ) (code : Code) → form_of octets ≡ Some (tags, code) → HasForm octets tags code
+unfolding form_of
+form_is octets tags code e = form_found (constructor_at levels_allowed 0 octets) tags code e
+
+-- a whole element is read
+element_whole : (c : Constructor) (octets : List ℕ) (part : Part) → IsElement levels_allowed c octets part → element_at levels_allowed c 0 octets ≡ Ok (record { octets = octets; part = part }, [])
+unfolding item_at
+element_whole c octets part is = ap (element_at levels_allowed c 0) (sym (append-nil octets)) ∙ item_again levels_allowed (Some c) 0 octets [] part is
+
+-- data that is behind the code of a constructor is an element of it
+pub element_held : (levels tags : ℕ) (code : Code) (at : ℕ) (constructor bytes : List ℕ) (x : Part × List ℕ) → tags < levels → levels ≤ levels_allowed
+    → form_of constructor ≡ Some (tags - 1, code) → data_at (levels - tags) 0 code at bytes ≡ Ok x → is_element constructor (in_front bytes x.1) ≡ true
+unfolding is_element IsElement
+element_held levels tags code at constructor bytes x lt le form e =
+    let c = form_is constructor (tags - 1) code form in
+    let takes = data_found (levels - tags) 0 code at bytes x e in
+    let front : takes.front ≡ in_front bytes x.1 = sym (ap (λ (t : List ℕ). in_front t x.1) takes.parts ∙ in_front_is takes.front x.1) in
+    let under : IsData levels_allowed (tags - 1) code takes.front x.0 = data_under levels tags levels_allowed code takes.front x.0 lt le takes.is in
+    let same : IsData levels_allowed c.0.tags c.0.code takes.front x.0 =
+    subst (λ (t : ℕ). IsData levels_allowed t c.0.code takes.front x.0) (sym c.2) (subst (λ (k : Code). IsData levels_allowed (tags - 1) k takes.front x.0) (sym c.3) under) in
+    let element : IsElement levels_allowed c.0 takes.front (tagged c.0.tag takes.front x.0) = record { says = x.0; behind = same; is = refl } in
+    subst (λ (t : List ℕ). is_used_up (element_read (constructor_at levels_allowed 0 constructor) t) ≡ true) front
+      (rw (c.1, element_whole c.0 takes.front (tagged c.0.tag takes.front x.0) element) refl)
+
+-- an element and its constructor
+pub record IsWhole (constructor octets : List ℕ) : Type 0 where
+  pub c : Constructor
+  pub read : constructor_at levels_allowed 0 constructor ≡ Ok (c, [])
+  pub element : Seen
+  pub element_read : element_at levels_allowed c 0 octets ≡ Ok (element, [])
+
+element_parts : (r : Read Constructor) (octets : List ℕ) → is_used_up (element_read r octets) ≡ true
+    → (c : Constructor) × (r ≡ Ok (c, [])) × (element : Seen) × (element_at levels_allowed c 0 octets ≡ Ok (element, []))
+element_parts (Ok (c, [])) octets e = let one = used_up octets (element_at levels_allowed c 0 octets) e in (c, refl, one.0, one.1)
+element_parts (Ok (c, b ∷ rest)) octets e = absurd cc
+element_parts (Err d) octets e = absurd cc
+
+-- a whole element is read with its constructor
+pub whole_parts : (constructor octets : List ℕ) → is_element constructor octets ≡ true → IsWhole constructor octets
+unfolding is_element
+whole_parts constructor octets e =
+    let one = element_parts (constructor_at levels_allowed 0 constructor) octets e in
+    record { c = one.0; read = one.1; element = one.2; element_read = one.3 }
+
+-- with its constructor, it is read
+pub whole_element_read : (constructor octets : List ℕ) (c : Constructor × List ℕ) → is_element constructor octets ≡ true → constructor_at levels_allowed 0 constructor ≡ Ok c
+    → (element : Seen) × (element_at levels_allowed c.0 0 octets ≡ Ok (element, []))
+whole_element_read constructor octets c e first =
+    let one = whole_parts constructor octets e in
+    let same : one.c ≡ c.0 = ap (λ (y : Constructor × List ℕ). y.0) (ok_is (one.c, []) c (sym one.read ∙ first)) in
+    (one.element, subst (λ (k : Constructor). element_at levels_allowed k 0 octets ≡ Ok (one.element, [])) same one.element_read)
+
+-- what it is read as
+pub whole_element_is : (constructor octets : List ℕ) (c : Constructor × List ℕ) (x : Seen × List ℕ) → is_element constructor octets ≡ true
+    → constructor_at levels_allowed 0 constructor ≡ Ok c → element_at levels_allowed c.0 0 octets ≡ Ok x
+    → (element_of constructor octets ≡ x.0) × (x.0.octets ≡ octets) × IsConstructor levels_allowed constructor c.0 × IsElement levels_allowed c.0 octets x.0.part
+unfolding element_of item_at
+whole_element_is constructor octets c x e first second =
+    let one = whole_parts constructor octets e in
+    let same : (one.c, []) ≡ c = ok_is (one.c, []) c (sym one.read ∙ first) in
+    let same_c : one.c ≡ c.0 = ap (λ (y : Constructor × List ℕ). y.0) same in
+    let rest : c.1 ≡ [] = sym (ap (λ (y : Constructor × List ℕ). y.1) same) in
+    let read : element_at levels_allowed c.0 0 octets ≡ Ok (one.element, []) = subst (λ (k : Constructor). element_at levels_allowed k 0 octets ≡ Ok (one.element, [])) same_c one.element_read in
+    let seen : (one.element, []) ≡ x = ok_is (one.element, []) x (sym read ∙ second) in
+    let behind : x.1 ≡ [] = sym (ap (λ (y : Seen × List ℕ). y.1) seen) in
+    let there = constructor_found levels_allowed 0 constructor c first in
+    let found = item_found levels_allowed (Some c.0) 0 octets x second in
+    let all : x.0.octets ≡ octets = sym (found.0 ∙ ap (λ (t : List ℕ). x.0.octets ++ t) behind ∙ append-nil x.0.octets) in
+    let whole : c.0.octets ≡ constructor = sym (there.0 ∙ ap (λ (t : List ℕ). c.0.octets ++ t) rest ∙ append-nil c.0.octets) in (
+      rw (one.read, one.element_read) (ap (λ (y : Seen × List ℕ). y.0) seen),
+      all,
+      subst (λ (t : List ℕ). IsConstructor levels_allowed t c.0) whole there.1,
+      subst (λ (t : List ℕ). IsElement levels_allowed c.0 t x.0.part) all found.1,
+    )

@@ -2,9 +2,12 @@ pub mod Steps
 pub mod Octets
 pub mod Scalars
 pub mod Texts
+pub mod Pieces
+pub mod Arrays
 pub mod Values
 pub mod Deeper
 pub mod Held
+pub mod Constructors
 pub mod Loop
 pub mod Levels
 pub mod Front

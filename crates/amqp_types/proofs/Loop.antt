@@ -1,15 +1,15 @@
 -- Going over items one after the other, as a loop does.
-use Rattle.std.proofs.Common.{◌≡◌, ℕ, suc, ◌+◌, ◌-◌, ◌^◌, ◌≤◌, ◌<◌, List, length, Ok, Err, refl, sym, ap, ◌∙◌, arith}
+use Rattle.std.proofs.Common.{◌≡◌, ℕ, suc, ◌+◌, ◌-◌, ◌≤◌, ◌<◌, List, length, Option, Ok, Err, refl, sym, ap, ◌∙◌, arith}
 use Rattle.std.proofs.lemmas.List.{length-append}
 use Rattle.amqp_types.specs.declared.fault.ValueFault.{ValueFault}
-use Rattle.amqp_types.specs.Part.{Seen}
-use Rattle.amqp_types.specs.Reading.{seen_at, items_at}
-use Rattle.amqp_types.proofs.Values.{seen_found}
+use Rattle.amqp_types.specs.Part.{Seen, Constructor}
+use Rattle.amqp_types.specs.Reading.{seen_at, item_at, items_at}
+use Rattle.amqp_types.proofs.Values.{item_found, seen_found}
 
 -- the items that are left are read as the last of all
-pub record GoesOver (levels count at : ℕ) (bytes : List ℕ) (i place : ℕ) (rest : List ℕ) : Type 0 where
-  pub same : items_at (seen_at levels) (count - i) place rest ≡ items_at (seen_at levels) count at bytes
-  pub room : place + length rest < 2 ^ 64
+pub record GoesOver (levels : ℕ) (form : Option Constructor) (count at : ℕ) (bytes : List ℕ) (i place : ℕ) (rest : List ℕ) : Type 0 where
+  pub same : items_at (item_at levels form) (count - i) place rest ≡ items_at (item_at levels form) count at bytes
+  pub room : place + length rest ≡ at + length bytes
 
 -- a value and the rest are as long as what was there
 pub seen_lengths : (levels at : ℕ) (bytes : List ℕ) (x : Seen × List ℕ) → seen_at levels at bytes ≡ Ok x → length x.0.octets + length x.1 ≡ length bytes
@@ -17,31 +17,37 @@ seen_lengths levels at bytes x e =
     let front = seen_found levels at bytes x e in
     omega (arith, ap length front.parts, length-append x.0.octets x.1)
 
-pub begins : (levels count at : ℕ) (bytes : List ℕ) → at + length bytes < 2 ^ 64 → GoesOver levels count at bytes 0 at bytes
-begins levels count at bytes room =
+-- an item and the rest are as long as what was there
+pub item_lengths : (levels : ℕ) (form : Option Constructor) (at : ℕ) (bytes : List ℕ) (x : Seen × List ℕ) → item_at levels form at bytes ≡ Ok x → length x.0.octets + length x.1 ≡ length bytes
+item_lengths levels form at bytes x e =
+    let found = item_found levels form at bytes x e in
+    omega (arith, ap length found.0, length-append x.0.octets x.1)
+
+pub begins : (levels : ℕ) (form : Option Constructor) (count at : ℕ) (bytes : List ℕ) → GoesOver levels form count at bytes 0 at bytes
+begins levels form count at bytes =
     let all : count - 0 ≡ count = omega arith in
-    record { same = ap (λ (n : ℕ). items_at (seen_at levels) n at bytes) all; room = room }
+    record { same = ap (λ (n : ℕ). items_at (item_at levels form) n at bytes) all; room = refl }
 
-pub goes_on : (levels count at : ℕ) (bytes : List ℕ) (i place : ℕ) (rest : List ℕ) (x : Seen × List ℕ) → i < count → seen_at levels place rest ≡ Ok x
-    → GoesOver levels count at bytes i place rest → GoesOver levels count at bytes (i + 1) (place + length x.0.octets) x.1
+pub goes_on : (levels : ℕ) (form : Option Constructor) (count at : ℕ) (bytes : List ℕ) (i place : ℕ) (rest : List ℕ) (x : Seen × List ℕ) → i < count → item_at levels form place rest ≡ Ok x
+    → GoesOver levels form count at bytes i place rest → GoesOver levels form count at bytes (i + 1) (place + length x.0.octets) x.1
 unfolding items_at
-goes_on levels count at bytes i place rest x lt e over =
+goes_on levels form count at bytes i place rest x lt e over =
     let one : count - i ≡ suc (count - (i + 1)) = omega arith in
-    let step : items_at (seen_at levels) (count - i) place rest ≡ items_at (seen_at levels) (count - (i + 1)) (place + length x.0.octets) x.1 = rw (one, e) refl in
-    record { same = sym step ∙ over.same; room = omega (arith, over.room, seen_lengths levels place rest x e) }
+    let step : items_at (item_at levels form) (count - i) place rest ≡ items_at (item_at levels form) (count - (i + 1)) (place + length x.0.octets) x.1 = rw (one, e) refl in
+    record { same = sym step ∙ over.same; room = omega (arith, over.room, item_lengths levels form place rest x e) }
 
-pub ends : (levels count at : ℕ) (bytes : List ℕ) (i place : ℕ) (rest : List ℕ) (d : ValueFault) → i < count → seen_at levels place rest ≡ Err d
-    → GoesOver levels count at bytes i place rest → items_at (seen_at levels) count at bytes ≡ Err d
+pub ends : (levels : ℕ) (form : Option Constructor) (count at : ℕ) (bytes : List ℕ) (i place : ℕ) (rest : List ℕ) (d : ValueFault) → i < count → item_at levels form place rest ≡ Err d
+    → GoesOver levels form count at bytes i place rest → items_at (item_at levels form) count at bytes ≡ Err d
 unfolding items_at
-ends levels count at bytes i place rest d lt e over =
+ends levels form count at bytes i place rest d lt e over =
     let one : count - i ≡ suc (count - (i + 1)) = omega arith in
-    let step : items_at (seen_at levels) (count - i) place rest ≡ Err d = rw (one, e) refl in
+    let step : items_at (item_at levels form) (count - i) place rest ≡ Err d = rw (one, e) refl in
     sym over.same ∙ step
 
-pub is_done : (levels count at : ℕ) (bytes : List ℕ) (i place : ℕ) (rest : List ℕ) → count ≤ i
-    → GoesOver levels count at bytes i place rest → items_at (seen_at levels) count at bytes ≡ Ok rest
+pub is_done : (levels : ℕ) (form : Option Constructor) (count at : ℕ) (bytes : List ℕ) (i place : ℕ) (rest : List ℕ) → count ≤ i
+    → GoesOver levels form count at bytes i place rest → items_at (item_at levels form) count at bytes ≡ Ok rest
 unfolding items_at
-is_done levels count at bytes i place rest le over =
+is_done levels form count at bytes i place rest le over =
     let none : count - i ≡ 0 = omega arith in
-    let step : items_at (seen_at levels) (count - i) place rest ≡ Ok rest = rw none refl in
+    let step : items_at (item_at levels form) (count - i) place rest ≡ Ok rest = rw none refl in
     sym over.same ∙ step

@@ -1,14 +1,14 @@
 -- What is nested in a value of the grammar is a value too, or values.
-use Rattle.std.proofs.Common.{◌≡◌, refl, sym, ap, subst, ◌∙◌, ℕ, zero, suc, ◌≤◌, true, List, [], ◌∷◌, inl, inr, arith}
+use Rattle.std.proofs.Common.{◌≡◌, refl, sym, ap, subst, ◌∙◌, ℕ, zero, suc, ◌≤◌, Bool, true, false, None, List, [], ◌∷◌, inl, inr, arith}
 use Rattle.std.proofs.lemmas.List.{append-nil}
 use Rattle.amqp_types.specs.declared.code.Scalar.{Scalar}
 use Rattle.amqp_types.specs.declared.code.Scalar.TheVariants as scalars
 use Rattle.amqp_types.specs.declared.code.Kind.{Kind}
 use Rattle.amqp_types.specs.declared.code.Code.{Code}
 use Rattle.amqp_types.specs.declared.code.Code.TheVariants as codes
-use Rattle.amqp_types.specs.Part.{Part, Nested, Described}
+use Rattle.amqp_types.specs.Part.{Part, Nested, Array, Described, Tagged}
 use Rattle.amqp_types.specs.Reading.{seen_at, levels_allowed}
-use Rattle.amqp_types.specs.Items.{seen_in, seen_of, are_values}
+use Rattle.amqp_types.specs.Items.{seen_in, seen_of, are_items}
 use Rattle.amqp_types.specs.Grammar.{IsScalar, IsData, IsValue, AreValuesOf}
 use Rattle.amqp_types.proofs.Values.{seen_again}
 use Rattle.amqp_types.proofs.Deeper.{value_deeper, values_deeper}
@@ -19,54 +19,65 @@ pub record HasValue (octets : List ℕ) : Type 0 where
   pub says : Part
   pub is : IsValue levels_allowed octets says
 
+-- whether a value holds no other
+abbrev is_alone : Part → Bool
+is_alone (Nested kind n body) = false
+is_alone (Array form n body) = false
+is_alone (Described descriptor described) = false
+is_alone (Tagged descriptor constructor octets) = false
+is_alone other = true
+
+-- a value of fixed width holds no other
+scalar_alone : (scalar : Scalar) (octets : List ℕ) (part : Part) → IsScalar scalar octets part → is_alone part ≡ true
+scalar_alone scalars.Null octets part h = rw h.1 refl
+scalar_alone scalars.True octets part h = rw h.1 refl
+scalar_alone scalars.False octets part h = rw h.1 refl
+scalar_alone scalars.Boolean octets part (inl h) = rw h.1 refl
+scalar_alone scalars.Boolean octets part (inr h) = rw h.1 refl
+scalar_alone scalars.Ubyte octets part h = rw h.2 refl
+scalar_alone scalars.Ushort octets part h = rw h.2 refl
+scalar_alone scalars.UintZero octets part h = rw h.1 refl
+scalar_alone scalars.UintOctet octets part h = rw h.2 refl
+scalar_alone scalars.Uint octets part h = rw h.2 refl
+scalar_alone scalars.UlongZero octets part h = rw h.1 refl
+scalar_alone scalars.UlongOctet octets part h = rw h.2 refl
+scalar_alone scalars.Ulong octets part h = rw h.2 refl
+scalar_alone scalars.Byte octets part h = rw h.2 refl
+scalar_alone scalars.Short octets part h = rw h.2 refl
+scalar_alone scalars.IntOctet octets part h = rw h.2 refl
+scalar_alone scalars.Int octets part h = rw h.2 refl
+scalar_alone scalars.LongOctet octets part h = rw h.2 refl
+scalar_alone scalars.Long octets part h = rw h.2 refl
+scalar_alone (scalars.Opaque opaque) octets part h = rw h.1 refl
+
 scalar_is_no_pair : (scalar : Scalar) (octets descriptor described : List ℕ) → IsScalar scalar octets (Described descriptor described) → ⊥
-scalar_is_no_pair scalars.Null octets descriptor described h = let e = h.1 in cc
-scalar_is_no_pair scalars.True octets descriptor described h = let e = h.1 in cc
-scalar_is_no_pair scalars.False octets descriptor described h = let e = h.1 in cc
-scalar_is_no_pair scalars.Boolean octets descriptor described (inl h) = let e = h.1 in cc
-scalar_is_no_pair scalars.Boolean octets descriptor described (inr h) = let e = h.1 in cc
-scalar_is_no_pair scalars.Ubyte octets descriptor described h = let e = h.2 in cc
-scalar_is_no_pair scalars.Ushort octets descriptor described h = let e = h.2 in cc
-scalar_is_no_pair scalars.UintZero octets descriptor described h = let e = h.1 in cc
-scalar_is_no_pair scalars.UintOctet octets descriptor described h = let e = h.2 in cc
-scalar_is_no_pair scalars.Uint octets descriptor described h = let e = h.2 in cc
-scalar_is_no_pair scalars.UlongZero octets descriptor described h = let e = h.1 in cc
-scalar_is_no_pair scalars.UlongOctet octets descriptor described h = let e = h.2 in cc
-scalar_is_no_pair scalars.Ulong octets descriptor described h = let e = h.2 in cc
+scalar_is_no_pair scalar octets descriptor described h = let e : false ≡ true = scalar_alone scalar octets (Described descriptor described) h in cc
 
 scalar_is_no_list : (scalar : Scalar) (octets : List ℕ) (kind : Kind) (n : ℕ) (body : List ℕ) → IsScalar scalar octets (Nested kind n body) → ⊥
-scalar_is_no_list scalars.Null octets kind n body h = let e = h.1 in cc
-scalar_is_no_list scalars.True octets kind n body h = let e = h.1 in cc
-scalar_is_no_list scalars.False octets kind n body h = let e = h.1 in cc
-scalar_is_no_list scalars.Boolean octets kind n body (inl h) = let e = h.1 in cc
-scalar_is_no_list scalars.Boolean octets kind n body (inr h) = let e = h.1 in cc
-scalar_is_no_list scalars.Ubyte octets kind n body h = let e = h.2 in cc
-scalar_is_no_list scalars.Ushort octets kind n body h = let e = h.2 in cc
-scalar_is_no_list scalars.UintZero octets kind n body h = let e = h.1 in cc
-scalar_is_no_list scalars.UintOctet octets kind n body h = let e = h.2 in cc
-scalar_is_no_list scalars.Uint octets kind n body h = let e = h.2 in cc
-scalar_is_no_list scalars.UlongZero octets kind n body h = let e = h.1 in cc
-scalar_is_no_list scalars.UlongOctet octets kind n body h = let e = h.2 in cc
-scalar_is_no_list scalars.Ulong octets kind n body h = let e = h.2 in cc
+scalar_is_no_list scalar octets kind n body h = let e : false ≡ true = scalar_alone scalar octets (Nested kind n body) h in cc
 
 has_value : (levels : ℕ) (octets whole : List ℕ) (part : Part) → levels ≤ levels_allowed → octets ≡ whole → IsValue levels octets part → HasValue whole
 has_value levels octets whole part le same is =
     record { says = part; is = subst (λ o. IsValue levels_allowed o part) same (value_deeper levels levels_allowed octets part le is) }
 
-pair_data : (levels : ℕ) (code : Code) (octets descriptor described : List ℕ) → levels ≤ levels_allowed → IsData levels code octets (Described descriptor described) → HasValue descriptor × HasValue described
+pair_data : (levels : ℕ) (code : Code) (octets descriptor described : List ℕ) → levels ≤ levels_allowed → IsData levels zero code octets (Described descriptor described) → HasValue descriptor × HasValue described
 unfolding IsData IsValue
 pair_data zero code octets descriptor described le h = absurd h
 pair_data (suc levels) (codes.Fixed scalar) octets descriptor described le h = absurd (scalar_is_no_pair scalar octets descriptor described h)
 pair_data (suc levels) (codes.Sized text width) octets descriptor described le h = let e = h.3 in absurd cc
 pair_data (suc levels) codes.EmptyList octets descriptor described le h = let e = h.1 in absurd cc
 pair_data (suc levels) (codes.Nested kind width) octets descriptor described le h = let e = h.is in absurd cc
+pair_data (suc levels) (codes.Array width) octets descriptor described le h = absurd (elim h.elements [
+  | inl k ↦ let e = k.2 in cc
+  | inr k ↦ let e = k.is in cc
+])
 pair_data (suc levels) codes.Described octets descriptor described le h =
     let e = h.is in
     let first : h.descriptor ≡ descriptor = cc in
     let second : h.described ≡ described = cc in
     (has_value levels h.descriptor descriptor h.descriptor_says (omega arith) first h.descriptor_is, has_value levels h.described described h.described_says (omega arith) second h.described_is)
 
-list_data : (levels : ℕ) (code : Code) (octets : List ℕ) (kind : Kind) (n : ℕ) (body : List ℕ) → levels ≤ levels_allowed → IsData levels code octets (Nested kind n body) → are_values n body ≡ true
+list_data : (levels : ℕ) (code : Code) (octets : List ℕ) (kind : Kind) (n : ℕ) (body : List ℕ) → levels ≤ levels_allowed → IsData levels zero code octets (Nested kind n body) → are_items None n body ≡ true
 unfolding IsData IsValue
 list_data zero code octets kind n body le h = absurd h
 list_data (suc levels) (codes.Fixed scalar) octets kind n body le h = absurd (scalar_is_no_list scalar octets kind n body h)
@@ -75,13 +86,37 @@ list_data (suc levels) codes.EmptyList octets kind n body le h =
     let e = h.1 in
     let count : n ≡ 0 = cc in
     let none : body ≡ [] = cc in
-    rw (count, none) (are_from_items 0 [] refl)
+    rw (count, none) (are_from_items None 0 [] refl)
 list_data (suc levels) (codes.Nested own width) octets kind n body le h =
     let e = h.is in
     let count : h.n ≡ n = cc in
     let all : h.body ≡ body = cc in
-    subst (λ k. are_values k body ≡ true) count (subst (λ o. are_values h.n o ≡ true) all (are_from_items h.n h.body (values_deeper levels levels_allowed h.n h.body (omega arith) h.items)))
+    subst (λ k. are_items None k body ≡ true) count (subst (λ o. are_items None h.n o ≡ true) all (are_from_items None h.n h.body (values_deeper levels levels_allowed None h.n h.body (omega arith) h.items)))
+list_data (suc levels) (codes.Array width) octets kind n body le h = absurd (elim h.elements [
+  | inl k ↦ let e = k.2 in cc
+  | inr k ↦ let e = k.is in cc
+])
 list_data (suc levels) codes.Described octets kind n body le h = let e = h.is in absurd cc
+
+tagged_data : (levels : ℕ) (code : Code) (octets descriptor constructor own : List ℕ) → IsData levels zero code octets (Tagged descriptor constructor own) → ⊥
+unfolding IsData
+tagged_data zero code octets descriptor constructor own h = h
+tagged_data (suc levels) (codes.Fixed scalar) octets descriptor constructor own h =
+    let e : false ≡ true = scalar_alone scalar octets (Tagged descriptor constructor own) h in absurd cc
+tagged_data (suc levels) (codes.Sized text width) octets descriptor constructor own h = let e = h.3 in cc
+tagged_data (suc levels) codes.EmptyList octets descriptor constructor own h = let e = h.1 in cc
+tagged_data (suc levels) (codes.Nested kind width) octets descriptor constructor own h = let e = h.is in cc
+tagged_data (suc levels) (codes.Array width) octets descriptor constructor own h = elim h.elements [
+  | inl k ↦ let e = k.2 in cc
+  | inr k ↦ let e = k.is in cc
+]
+tagged_data (suc levels) codes.Described octets descriptor constructor own h = let e = h.is in cc
+
+-- a value with its own constructor is no element of an array
+pub not_tagged : (octets descriptor constructor own : List ℕ) → IsValue levels_allowed octets (Tagged descriptor constructor own) → ⊥
+unfolding IsValue
+not_tagged [] descriptor constructor own h = h
+not_tagged (b ∷ octets) descriptor constructor own h = tagged_data levels_allowed h.0 octets descriptor constructor own h.2
 
 -- a descriptor and what it describes are values
 pub pair_holds : (octets descriptor described : List ℕ) → IsValue levels_allowed octets (Described descriptor described) → HasValue descriptor × HasValue described

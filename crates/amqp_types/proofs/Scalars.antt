@@ -2,15 +2,18 @@
 use Rattle.std.proofs.Common.{◌≡◌, ℕ, Bool, true, false, cond, eqb, List, [], ◌∷◌, length, Result, Ok, Err, refl, sym, ap, ◌∙◌, inl, inr, arith}
 use Rattle.std.specs.Prelude.{◌⊎◌}
 use Rattle.std.proofs.lemmas.Bool.{eqb-true}
+use Rattle.std.specs.Int.{w8, w16, w32, w64, cast_signed}
 use Rattle.byteorder.specs.Endian.{big_number}
 use Rattle.amqp_types.specs.declared.fault.ValueFaultKind.{ValueFaultKind}
 use Rattle.amqp_types.specs.declared.fault.ValueFaultKind.TheVariants.{BadBoolean}
 use Rattle.amqp_types.specs.declared.code.Scalar.{Scalar}
 use Rattle.amqp_types.specs.declared.code.Scalar.TheVariants as scalars
 use Rattle.amqp_types.specs.Codes.{width_of}
-use Rattle.amqp_types.specs.Part.{Part, Null, Boolean, Ubyte, Ushort, Uint, Ulong}
+use Rattle.amqp_types.specs.Part as parts
+use Rattle.amqp_types.specs.Part.{Part, Null, Boolean, Ubyte, Ushort, Uint, Ulong, Kept}
 use Rattle.amqp_types.specs.Reading.{scalar_of, boolean_of}
 use Rattle.amqp_types.specs.Grammar.{IsNumber, IsScalar}
+use Rattle.amqp_types.proofs.Steps.{chosen}
 
 abbrev said : Part → Result Part ValueFaultKind
 said part = Ok part
@@ -29,11 +32,6 @@ one_octet : (octets : List ℕ) (n : ℕ) → length octets ≡ 1 → big_number
 one_octet [] n e h = absurd (omega arith)
 one_octet (b ∷ []) n e h = ap (λ (x : ℕ). x ∷ []) (omega (arith, h))
 one_octet (b ∷ c ∷ octets) n e h = absurd (omega arith)
-
--- which way a test went
-chosen : {A : Type 0} (b : Bool) (x y z : A) → cond b x y ≡ z → ((b ≡ true) × (x ≡ z)) ⊎ ((b ≡ false) × (y ≡ z))
-chosen true x y z e = inl (refl, e)
-chosen false x y z e = inr (refl, e)
 
 boolean_found : (n : ℕ) (part : Part) → boolean_of n ≡ Ok part → ((n ≡ 0) × (part ≡ Boolean false)) ⊎ ((n ≡ 1) × (part ≡ Boolean true))
 boolean_found n part e =
@@ -63,6 +61,13 @@ scalar_found scalars.Uint octets part len e = (big_number 4 octets, record { len
 scalar_found scalars.UlongZero octets part len e = (nothing octets len, said_is (Ulong 0) part e)
 scalar_found scalars.UlongOctet octets part len e = (big_number 1 octets, record { len = len; says = refl }, said_is (Ulong (big_number 1 octets)) part e)
 scalar_found scalars.Ulong octets part len e = (big_number 8 octets, record { len = len; says = refl }, said_is (Ulong (big_number 8 octets)) part e)
+scalar_found scalars.Byte octets part len e = (big_number 1 octets, record { len = len; says = refl }, said_is (parts.Byte (cast_signed w8 (big_number 1 octets))) part e)
+scalar_found scalars.Short octets part len e = (big_number 2 octets, record { len = len; says = refl }, said_is (parts.Short (cast_signed w16 (big_number 2 octets))) part e)
+scalar_found scalars.IntOctet octets part len e = (big_number 1 octets, record { len = len; says = refl }, said_is (parts.Int (cast_signed w8 (big_number 1 octets))) part e)
+scalar_found scalars.Int octets part len e = (big_number 4 octets, record { len = len; says = refl }, said_is (parts.Int (cast_signed w32 (big_number 4 octets))) part e)
+scalar_found scalars.LongOctet octets part len e = (big_number 1 octets, record { len = len; says = refl }, said_is (parts.Long (cast_signed w8 (big_number 1 octets))) part e)
+scalar_found scalars.Long octets part len e = (big_number 8 octets, record { len = len; says = refl }, said_is (parts.Long (cast_signed w64 (big_number 8 octets))) part e)
+scalar_found (scalars.Opaque opaque) octets part len e = (len, said_is (Kept opaque octets) part e)
 
 -- what the data of a type of fixed width is read as
 pub record IsRead (scalar : Scalar) (octets : List ℕ) (part : Part) : Type 0 where
@@ -92,3 +97,10 @@ scalar_again scalars.Uint octets part h = number_read scalars.Uint 4 octets (λ 
 scalar_again scalars.UlongZero octets part h = empty_read scalars.UlongZero octets (Ulong 0) part refl refl h
 scalar_again scalars.UlongOctet octets part h = number_read scalars.UlongOctet 1 octets (λ n. Ulong n) part refl refl h
 scalar_again scalars.Ulong octets part h = number_read scalars.Ulong 8 octets (λ n. Ulong n) part refl refl h
+scalar_again scalars.Byte octets part h = number_read scalars.Byte 1 octets (λ n. parts.Byte (cast_signed w8 n)) part refl refl h
+scalar_again scalars.Short octets part h = number_read scalars.Short 2 octets (λ n. parts.Short (cast_signed w16 n)) part refl refl h
+scalar_again scalars.IntOctet octets part h = number_read scalars.IntOctet 1 octets (λ n. parts.Int (cast_signed w8 n)) part refl refl h
+scalar_again scalars.Int octets part h = number_read scalars.Int 4 octets (λ n. parts.Int (cast_signed w32 n)) part refl refl h
+scalar_again scalars.LongOctet octets part h = number_read scalars.LongOctet 1 octets (λ n. parts.Long (cast_signed w8 n)) part refl refl h
+scalar_again scalars.Long octets part h = number_read scalars.Long 8 octets (λ n. parts.Long (cast_signed w64 n)) part refl refl h
+scalar_again (scalars.Opaque opaque) octets part h = record { len = h.0; says = ap said (sym h.1) }

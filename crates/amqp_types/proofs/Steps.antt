@@ -1,5 +1,6 @@
 -- What follows of a reading that did not fail.
-use Rattle.std.proofs.Common.{◌≡◌, ℕ, Bool, true, false, cond, List, ◌++◌, Result, Ok, Err, refl}
+use Rattle.std.proofs.Common.{◌≡◌, ℕ, Bool, true, false, ◌&&◌, cond, inl, inr, List, ◌++◌, Some, Result, Ok, Err, refl}
+use Rattle.std.specs.Prelude.{◌⊎◌}
 use Rattle.amqp_types.specs.declared.fault.ValueFault.{ValueFault}
 use Rattle.amqp_types.specs.Reading.{◌>>=◌}
 
@@ -34,3 +35,16 @@ pub record Takes {A : Type 0} (Is : List ℕ → A → Type 0) (bytes : List ℕ
 pub never_both : {A : Type 0} (r : Result A ValueFault) (x : A) (d : ValueFault) → r ≡ Ok x → r ≡ Err d → ⊥
 never_both (Ok y) x d e h = cc
 never_both (Err c) x d e h = cc
+
+-- which way a test went
+pub chosen : {A : Type 0} (b : Bool) (x y z : A) → cond b x y ≡ z → ((b ≡ true) × (x ≡ z)) ⊎ ((b ≡ false) × (y ≡ z))
+chosen true x y z e = inl (refl, e)
+chosen false x y z e = inr (refl, e)
+
+-- both of two tests
+pub both : (a b : Bool) → (a && b) ≡ true → (a ≡ true) × (b ≡ true)
+both true b e = (refl, e)
+both false b e = absurd cc
+
+pub some_is : {A : Type 0} {x y : A} → Some x ≡ Some y → x ≡ y
+some_is e = cc

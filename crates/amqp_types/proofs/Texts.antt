@@ -8,10 +8,7 @@ use Rattle.amqp_types.specs.declared.code.Text.{Text}
 use Rattle.amqp_types.specs.declared.code.Text.TheVariants as texts
 use Rattle.amqp_types.specs.Reading.{is_text}
 use Rattle.amqp_types.specs.Grammar.{IsText}
-
-both : (a b : Bool) → (a && b) ≡ true → (a ≡ true) × (b ≡ true)
-both true b e = (refl, e)
-both false b e = absurd cc
+use Rattle.amqp_types.proofs.Steps.{both}
 
 abbrev is_ascii : List ℕ → Bool
 is_ascii octets = list_all (λ b. nat_lt b 128) octets

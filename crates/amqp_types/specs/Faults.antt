@@ -27,3 +27,7 @@ is_short OddMap = false
 -- a fault of an item, as a fault of the list that it is in: what passes the list's end is the list's (own format)
 abbrev pub fault_within : ℕ → ValueFault → ValueFault
 fault_within at e = if is_short e.kind then record { kind = BadSize; at = at } else e
+
+-- a fault inside an array, as a fault of the array: it is the array's, wherever in the array it lies (own format)
+abbrev pub fault_in_array : ℕ → ValueFault → ValueFault
+fault_in_array at e = record { kind = (fault_within at e).kind; at = at }

@@ -1,6 +1,7 @@
 -- The grammar: which octets are a value, and what the value says, by cases on the format code.
-use Rattle.std.specs.Prelude.{◌≡◌, ℕ, zero, suc, ◌≤◌, true, false, List, [], ◌∷◌, ◌++◌, length, Option, Some, None, All, IsUtf8, IsAscii, ◌⊎◌}
+use Rattle.std.specs.Prelude.{◌≡◌, ℕ, zero, suc, ◌≤◌, ◌%◌, true, false, List, [], ◌∷◌, ◌++◌, length, Option, Some, None, All, IsUtf8, IsAscii, ◌⊎◌}
 use Rattle.std.specs.List.{flat_map}
+use Rattle.std.specs.Int.{w8, w16, w32, w64, cast_signed}
 use Rattle.byteorder.specs.Endian.{big_number}
 use Rattle.amqp_types.specs.declared.code.Scalar.{Scalar}
 use Rattle.amqp_types.specs.declared.code.Scalar.TheVariants as scalars
@@ -11,16 +12,17 @@ use Rattle.amqp_types.specs.declared.code.Kind.TheVariants as kinds
 use Rattle.amqp_types.specs.declared.code.SizeWidth.{SizeWidth}
 use Rattle.amqp_types.specs.declared.code.Code.{Code}
 use Rattle.amqp_types.specs.declared.code.Code.TheVariants as codes
-use Rattle.amqp_types.specs.Codes.{code_of, size_len}
-use Rattle.amqp_types.specs.Reading.{levels_allowed}
-use Rattle.amqp_types.specs.Part.{Part, Null, Boolean, Ubyte, Ushort, Uint, Ulong, Sized, Nested, Described, Seen}
+use Rattle.amqp_types.specs.Codes.{code_of, opaque_width, size_len, is_described}
+use Rattle.amqp_types.specs.Reading.{tagged, code_alone, code_behind, levels_allowed}
+use Rattle.amqp_types.specs.Part as parts
+use Rattle.amqp_types.specs.Part.{Part, Null, Boolean, Ubyte, Ushort, Uint, Ulong, Kept, Sized, Nested, Array, Described, Tagged, Seen, Constructor}
 
 -- so many octets are this number, the highest first (part 1, 1.6)
 pub record IsNumber (width : ℕ) (octets : List ℕ) (n : ℕ) : Type 0 where
   pub len : length octets ≡ width
   pub says : big_number width octets ≡ n
 
--- the data of a type of fixed width, and what it says (part 1, 1.6.1 to 1.6.6)
+-- the data of a type of fixed width, and what it says (part 1, 1.6.1 to 1.6.18)
 abbrev pub IsScalar : Scalar → List ℕ → Part → Type 0
 IsScalar scalars.Null octets part = (octets ≡ []) × (part ≡ Null)
 IsScalar scalars.True octets part = (octets ≡ []) × (part ≡ Boolean true)
@@ -35,6 +37,13 @@ IsScalar scalars.Uint octets part = (n : ℕ) × IsNumber 4 octets n × (part �
 IsScalar scalars.UlongZero octets part = (octets ≡ []) × (part ≡ Ulong 0)
 IsScalar scalars.UlongOctet octets part = (n : ℕ) × IsNumber 1 octets n × (part ≡ Ulong n)
 IsScalar scalars.Ulong octets part = (n : ℕ) × IsNumber 8 octets n × (part ≡ Ulong n)
+IsScalar scalars.Byte octets part = (n : ℕ) × IsNumber 1 octets n × (part ≡ parts.Byte (cast_signed w8 n))
+IsScalar scalars.Short octets part = (n : ℕ) × IsNumber 2 octets n × (part ≡ parts.Short (cast_signed w16 n))
+IsScalar scalars.IntOctet octets part = (n : ℕ) × IsNumber 1 octets n × (part ≡ parts.Int (cast_signed w8 n))
+IsScalar scalars.Int octets part = (n : ℕ) × IsNumber 4 octets n × (part ≡ parts.Int (cast_signed w32 n))
+IsScalar scalars.LongOctet octets part = (n : ℕ) × IsNumber 1 octets n × (part ≡ parts.Long (cast_signed w8 n))
+IsScalar scalars.Long octets part = (n : ℕ) × IsNumber 8 octets n × (part ≡ parts.Long (cast_signed w64 n))
+IsScalar (scalars.Opaque opaque) octets part = (length octets ≡ opaque_width opaque) × (part ≡ Kept opaque octets)
 
 -- what may stand in a binary, a string or a symbol (part 1, 1.6.19 to 1.6.21)
 abbrev pub IsText : Text → List ℕ → Type 0
@@ -61,13 +70,35 @@ AreItems IsItem zero octets = octets ≡ []
 AreItems IsItem (suc n) octets =
     (first : List ℕ) × (rest : List ℕ) × (part : Part) × (octets ≡ first ++ rest) × IsItem first part × AreItems IsItem n rest
 
--- the data of a list (part 1, 1.2.3 and 1.6.22)
+-- the items of a map are keys and values in turn (part 1, 1.6.23)
+abbrev pub ArePaired : Kind → ℕ → Type 0
+ArePaired kinds.List n = Unit {0}
+ArePaired kinds.Map n = n % 2 ≡ 0
+
+-- the data of a list or a map (part 1, 1.2.3, 1.6.22 and 1.6.23)
 pub record IsNested (IsItem : List ℕ → Part → Type 0) (kind : Kind) (width : SizeWidth) (octets : List ℕ) (part : Part) : Type 0 where
   pub n : ℕ
   pub body : List ℕ
   pub counted : IsCounted width octets n body
+  pub paired : ArePaired kind n
   pub items : AreItems IsItem n body
   pub is : part ≡ Nested kind n body
+
+-- elements: their constructor, and then the data of each (part 1, 1.2.4)
+pub record AreElements (IsConstructor : List ℕ → Constructor → Type 0) (IsElement : Constructor → List ℕ → Part → Type 0) (n : ℕ) (octets : List ℕ) (part : Part) : Type 0 where
+  pub constructor : Constructor
+  pub elements : List ℕ
+  pub parts : octets ≡ constructor.octets ++ elements
+  pub constructor_is : IsConstructor constructor.octets constructor
+  pub each : AreItems (IsElement constructor) n elements
+  pub is : part ≡ Array (Some constructor) n elements
+
+-- the data of an array: an empty one may end behind its count (part 1, 1.2.4 and 1.6.24)
+pub record IsArray (IsConstructor : List ℕ → Constructor → Type 0) (IsElement : Constructor → List ℕ → Part → Type 0) (width : SizeWidth) (octets : List ℕ) (part : Part) : Type 0 where
+  pub n : ℕ
+  pub body : List ℕ
+  pub counted : IsCounted width octets n body
+  pub elements : ((n ≡ 0) × (body ≡ []) × (part ≡ Array None 0 [])) ⊎ AreElements IsConstructor IsElement n body part
 
 -- a descriptor, and the value that it describes (part 1, 1.1.2 and 1.2)
 pub record IsDescribed (IsInner : List ℕ → Part → Type 0) (octets : List ℕ) (part : Part) : Type 0 where
@@ -85,19 +116,69 @@ abbrev pub IsCoded : (Code → List ℕ → Part → Type 0) → List ℕ → Pa
 IsCoded IsBehind [] part = ⊥
 IsCoded IsBehind (b ∷ octets) part = (code : Code) × (code_of b ≡ Some code) × IsBehind code octets part
 
--- what belongs behind a code, where so many levels are left, that of the code included (part 1, 1.2)
-unfoldable pub IsData : ℕ → Code → List ℕ → Part → Type 0
-IsData zero code octets part = ⊥
-IsData (suc levels) (codes.Fixed scalar) octets part = IsScalar scalar octets part
-IsData (suc levels) (codes.Sized text width) octets part =
+-- a constructor that is a format code, which no descriptor follows (part 1, 1.2)
+pub record IsCode (octets : List ℕ) (c : Constructor) : Type 0 where
+  pub first : ℕ
+  pub code : Code
+  pub known : code_of first ≡ Some code
+  pub primitive : is_described code ≡ false
+  pub parts : octets ≡ first ∷ []
+  pub is : c ≡ code_alone first code
+
+-- a constructor that is a descriptor and another constructor (part 1, 1.2)
+pub record IsTagged (IsInner : List ℕ → Part → Type 0) (IsConstructor : List ℕ → Constructor → Type 0) (octets : List ℕ) (c : Constructor) : Type 0 where
+  pub first : ℕ
+  pub descriptor : List ℕ
+  pub descriptor_says : Part
+  pub inner : Constructor
+  pub known : code_of first ≡ Some codes.Described
+  pub descriptor_is : IsInner descriptor descriptor_says
+  pub inner_is : IsConstructor inner.octets inner
+  pub parts : octets ≡ first ∷ (descriptor ++ inner.octets)
+  pub is : c ≡ code_behind first descriptor inner
+
+-- the data of an element, whose constructor may describe it: data is what belongs behind so many descriptors and a code (part 1, 1.2.4)
+pub record IsElementBy (IsBehind : ℕ → Code → List ℕ → Part → Type 0) (c : Constructor) (octets : List ℕ) (part : Part) : Type 0 where
+  pub says : Part
+  pub behind : IsBehind c.tags c.code octets says
+  pub is : part ≡ tagged c.tag octets says
+
+-- what belongs behind a code, by what is nested in it (part 1, 1.2)
+abbrev pub IsDataBy : (List ℕ → Part → Type 0) → (List ℕ → Constructor → Type 0) → (Constructor → List ℕ → Part → Type 0) → Code → List ℕ → Part → Type 0
+IsDataBy IsInner IsConstructor IsElement (codes.Fixed scalar) octets part = IsScalar scalar octets part
+IsDataBy IsInner IsConstructor IsElement (codes.Sized text width) octets part =
     (content : List ℕ) × IsSized width octets content × IsText text content × (part ≡ Sized text content)
-IsData (suc levels) codes.EmptyList octets part = (octets ≡ []) × (part ≡ Nested kinds.List 0 [])
-IsData (suc levels) (codes.Nested kind width) octets part = IsNested (IsCoded (IsData levels)) kind width octets part
-IsData (suc levels) codes.Described octets part = IsDescribed (IsCoded (IsData levels)) octets part
+IsDataBy IsInner IsConstructor IsElement codes.EmptyList octets part = (octets ≡ []) × (part ≡ Nested kinds.List 0 [])
+IsDataBy IsInner IsConstructor IsElement (codes.Nested kind width) octets part = IsNested IsInner kind width octets part
+IsDataBy IsInner IsConstructor IsElement (codes.Array width) octets part = IsArray IsConstructor IsElement width octets part
+IsDataBy IsInner IsConstructor IsElement codes.Described octets part = IsDescribed IsInner octets part
+
+unfoldable mutual
+  -- what belongs behind so many descriptors and a code, where so many levels are left, that of the first descriptor included (part 1, 1.2)
+  pub IsData : ℕ → ℕ → Code → List ℕ → Part → Type 0
+  IsData zero tags code octets part = ⊥
+  IsData (suc levels) zero code octets part =
+      IsDataBy (IsCoded (IsData levels zero)) (IsConstructor levels) (IsElementBy (IsData levels)) code octets part
+  IsData (suc levels) (suc tags) code octets part = IsData levels tags code octets part
+
+  -- a constructor, where so many levels are left, that of its element included (part 1, 1.2)
+  pub IsConstructor : ℕ → List ℕ → Constructor → Type 0
+  IsConstructor zero octets c = ⊥
+  IsConstructor (suc levels) octets c =
+      IsCode octets c ⊎ IsTagged (IsCoded (IsData levels zero)) (IsConstructor levels) octets c
 
 -- a whole value, nested no deeper than so many levels (part 1, 1.2)
 unfoldable pub IsValue : ℕ → List ℕ → Part → Type 0
-IsValue levels octets part = IsCoded (IsData levels) octets part
+IsValue levels octets part = IsCoded (IsData levels zero) octets part
+
+-- an element of an array, nested no deeper than so many levels: its octets are its data alone (part 1, 1.2.4)
+unfoldable pub IsElement : ℕ → Constructor → List ℕ → Part → Type 0
+IsElement levels c octets part = IsElementBy (IsData levels) c octets part
+
+-- an element where there is a constructor, else a value of its own
+abbrev pub IsItem : ℕ → Option Constructor → List ℕ → Part → Type 0
+IsItem levels None octets part = IsValue levels octets part
+IsItem levels (Some c) octets part = IsElement levels c octets part
 
 -- a value at the front of the input, nested no deeper than so many levels, and what is behind it
 pub record IsFront (levels : ℕ) (bytes : List ℕ) (value : Seen) (rest : List ℕ) : Type 0 where
@@ -111,13 +192,26 @@ IsValueOf None (Some value) = ⊥
 IsValueOf (Some octets) None = ⊥
 IsValueOf (Some octets) (Some value) = (value.octets ≡ octets) × IsValue levels_allowed octets value.part
 
+-- the value that a descriptor describes: a value of its own, or the data of one whose constructor lies apart
+abbrev pub IsDescribedOf : Part → Option Seen → Type 0
+IsDescribedOf (Described descriptor described) value = IsValueOf (Some described) value
+IsDescribedOf (Tagged descriptor constructor octets) None = ⊥
+IsDescribedOf (Tagged descriptor constructor octets) (Some value) =
+    (value.octets ≡ octets) × ((c : Constructor) × IsConstructor levels_allowed constructor c × IsElement levels_allowed c octets value.part)
+IsDescribedOf other value = value ≡ None
+
 -- values that lie one after the other: so many, and the octets are theirs
-pub record AreValuesOf (n : ℕ) (octets : List ℕ) (values : List Seen) : Type 0 where
+pub record AreOf (Is : List ℕ → Part → Type 0) (n : ℕ) (octets : List ℕ) (values : List Seen) : Type 0 where
   pub count : length values ≡ n
   pub joined : flat_map (λ value. value.octets) values ≡ octets
-  pub each : All (λ value. IsValue levels_allowed value.octets value.part) values
+  pub each : All (λ value. Is value.octets value.part) values
 
--- the values in a list: as many as its count says, and the list's octets are theirs; another value holds none (part 1, 1.2.3)
+-- the same of values that have their own constructors
+abbrev pub AreValuesOf : ℕ → List ℕ → List Seen → Type 0
+AreValuesOf n octets values = AreOf (IsValue levels_allowed) n octets values
+
+-- the values in a list, a map or an array: as many as its count says, and its octets are theirs; another value holds none (part 1, 1.2.3 and 1.2.4)
 abbrev pub AreItemsOf : Part → List Seen → Type 0
 AreItemsOf (Nested kind n octets) values = AreValuesOf n octets values
+AreItemsOf (Array form n octets) values = AreOf (IsItem levels_allowed form) n octets values
 AreItemsOf other values = values ≡ []

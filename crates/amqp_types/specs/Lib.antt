@@ -3,6 +3,7 @@ pub mod Codes
 pub mod Part
 pub mod Reading
 pub mod Items
+pub mod Form
 pub mod View
 pub mod Grammar
 pub mod Typed

@@ -3,14 +3,20 @@ use Rattle.std.specs.Prelude.{◌≡◌, ℕ, true, false, List, Option, Some, N
 use Rattle.amqp_types.specs.declared.fault.ValueFaultKind.{ValueFaultKind}
 use Rattle.amqp_types.specs.declared.code.Text.{Text}
 use Rattle.amqp_types.specs.declared.code.Text.TheVariants as texts
-use Rattle.amqp_types.specs.declared.code.Kind.TheVariants as kinds
 use Rattle.amqp_types.specs.declared.value.Value.{Value}
 use Rattle.amqp_types.specs.declared.value.Content.{Content}
 use Rattle.amqp_types.specs.declared.value.Content.TheVariants as contents
+use Rattle.amqp_types.specs.declared.sequence.Array as code_array
 use Rattle.amqp_types.specs.declared.sequence.Items.{Items}
-use Rattle.amqp_types.specs.Part.{Part, Null, Boolean, Ubyte, Ushort, Uint, Ulong, Sized, Nested, Described, Seen}
+use Rattle.amqp_types.specs.Part as parts
+use Rattle.amqp_types.specs.Part.{Part, Null, Boolean, Ubyte, Ushort, Uint, Ulong, Kept, Sized, Nested, Array, Described, Tagged, Seen}
 use Rattle.amqp_types.specs.Reading.{is_text}
-use Rattle.amqp_types.specs.Items.{seen_in}
+use Rattle.amqp_types.specs.Items.{items_in}
+use Rattle.amqp_types.specs.Form.{form}
+
+-- what an array says
+abbrev pub array_part : code_array.Array → Part
+array_part array = Array (form array.constructor) array.count array.body.now
 
 -- what a value says
 abbrev pub part_of : Content → Part
@@ -20,10 +26,17 @@ part_of (contents.Ubyte n) = Ubyte n
 part_of (contents.Ushort n) = Ushort n
 part_of (contents.Uint n) = Uint n
 part_of (contents.Ulong n) = Ulong n
+part_of (contents.Byte n) = parts.Byte n
+part_of (contents.Short n) = parts.Short n
+part_of (contents.Int n) = parts.Int n
+part_of (contents.Long n) = parts.Long n
+part_of (contents.Opaque opaque octets) = Kept opaque octets.now
 part_of (contents.Binary octets) = Sized texts.Binary octets.now
 part_of (contents.Str text) = Sized texts.Str text.now
 part_of (contents.Symbol text) = Sized texts.Symbol text.now
-part_of (contents.List sequence) = Nested kinds.List sequence.count sequence.body.now
+part_of (contents.Nested kind sequence) = Nested kind sequence.count sequence.body.now
+part_of (contents.Array array) = array_part array
+part_of (contents.Tagged element) = Tagged element.descriptor.now element.constructor.now element.data.now
 part_of (contents.Described pair) = Described pair.descriptor.now pair.value.now
 
 -- a value, apart from where it lies in memory
@@ -32,7 +45,7 @@ view value = record { octets = value.raw.now; part = part_of value.content }
 
 -- the values that an iterator has not given yet
 abbrev pub items_left : Items → List Seen
-items_left items = seen_in items.left items.rest.now
+items_left items = items_in (form items.constructor) items.left items.rest.now
 
 -- a value that may be there
 abbrev pub view_of : Option Value → Option Seen

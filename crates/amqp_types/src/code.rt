@@ -1,7 +1,8 @@
 //! The format codes: what each first octet of a value says of the octets behind it.
 
 ghost use Rattle.std.specs.Prelude.{◌≡◌};
-ghost use Rattle.amqp_types.specs.Codes.{code_of, width_of, size_len};
+ghost use Rattle.amqp_types.specs.Codes.{code_of, width_of, opaque_width, size_len, is_described};
+ghost use Rattle.amqp_types.specs.Reading.{is_odd};
 
 /// A type whose data has the same length in each value: part 1, 1.2.1.
 #[derive(Clone, Copy, Debug, PartialEq, Eq)]
@@ -19,6 +20,26 @@ pub(crate) enum Scalar {
     UlongZero,
     UlongOctet,
     Ulong,
+    Byte,
+    Short,
+    IntOctet,
+    Int,
+    LongOctet,
+    Long,
+    Opaque(Opaque),
+}
+
+/// A type of fixed width whose data is kept as it is: part 1, 1.6.11 to 1.6.18.
+#[derive(Clone, Copy, Debug, PartialEq, Eq)]
+pub enum Opaque {
+    Float,
+    Double,
+    Decimal32,
+    Decimal64,
+    Decimal128,
+    Char,
+    Timestamp,
+    Uuid,
 }
 
 /// A type whose data is octets behind their number.
@@ -36,6 +57,8 @@ pub enum Text {
 #[derive(Clone, Copy, Debug, PartialEq, Eq)]
 pub enum Kind {
     List,
+    /// Keys and values in turn.
+    Map,
 }
 
 /// How many octets a size has, and the count behind it.
@@ -53,6 +76,7 @@ pub(crate) enum Code {
     /// A list without items, which has no data.
     EmptyList,
     Nested(Kind, SizeWidth),
+    Array(SizeWidth),
     /// A descriptor and a value.
     Described,
 }
@@ -72,12 +96,26 @@ impl Code {
             0x44 => Code::Fixed(Scalar::UlongZero),
             0x45 => Code::EmptyList,
             0x50 => Code::Fixed(Scalar::Ubyte),
+            0x51 => Code::Fixed(Scalar::Byte),
             0x52 => Code::Fixed(Scalar::UintOctet),
             0x53 => Code::Fixed(Scalar::UlongOctet),
+            0x54 => Code::Fixed(Scalar::IntOctet),
+            0x55 => Code::Fixed(Scalar::LongOctet),
             0x56 => Code::Fixed(Scalar::Boolean),
             0x60 => Code::Fixed(Scalar::Ushort),
+            0x61 => Code::Fixed(Scalar::Short),
             0x70 => Code::Fixed(Scalar::Uint),
+            0x71 => Code::Fixed(Scalar::Int),
+            0x72 => Code::Fixed(Scalar::Opaque(Opaque::Float)),
+            0x73 => Code::Fixed(Scalar::Opaque(Opaque::Char)),
+            0x74 => Code::Fixed(Scalar::Opaque(Opaque::Decimal32)),
             0x80 => Code::Fixed(Scalar::Ulong),
+            0x81 => Code::Fixed(Scalar::Long),
+            0x82 => Code::Fixed(Scalar::Opaque(Opaque::Double)),
+            0x83 => Code::Fixed(Scalar::Opaque(Opaque::Timestamp)),
+            0x84 => Code::Fixed(Scalar::Opaque(Opaque::Decimal64)),
+            0x94 => Code::Fixed(Scalar::Opaque(Opaque::Decimal128)),
+            0x98 => Code::Fixed(Scalar::Opaque(Opaque::Uuid)),
             0xA0 => Code::Sized(Text::Binary, SizeWidth::One),
             0xA1 => Code::Sized(Text::Str, SizeWidth::One),
             0xA3 => Code::Sized(Text::Symbol, SizeWidth::One),
@@ -85,10 +123,46 @@ impl Code {
             0xB1 => Code::Sized(Text::Str, SizeWidth::Four),
             0xB3 => Code::Sized(Text::Symbol, SizeWidth::Four),
             0xC0 => Code::Nested(Kind::List, SizeWidth::One),
+            0xC1 => Code::Nested(Kind::Map, SizeWidth::One),
             0xD0 => Code::Nested(Kind::List, SizeWidth::Four),
+            0xD1 => Code::Nested(Kind::Map, SizeWidth::Four),
+            0xE0 => Code::Array(SizeWidth::One),
+            0xF0 => Code::Array(SizeWidth::Four),
             _ => return None,
         };
         Some(code)
+    }
+
+    /// Whether a descriptor follows.
+    pub(crate) fn is_described(self) -> bool
+        ensures { result ≡ is_described self }
+    {
+        matches!(self, Code::Described)
+    }
+}
+
+impl Opaque {
+    /// How many octets of data the type has.
+    pub(crate) fn width(self) -> usize
+        ensures { result ≡ opaque_width self }
+    {
+        match self {
+            Opaque::Float | Opaque::Decimal32 | Opaque::Char => 4,
+            Opaque::Double | Opaque::Decimal64 | Opaque::Timestamp => 8,
+            Opaque::Decimal128 | Opaque::Uuid => 16,
+        }
+    }
+}
+
+impl Kind {
+    /// Whether so many items leave a key without a value.
+    pub(crate) fn is_odd(self, count: u32) -> bool
+        ensures { result ≡ is_odd self count }
+    {
+        match self {
+            Kind::List => false,
+            Kind::Map => count % 2 == 1,
+        }
     }
 }
 
@@ -101,9 +175,11 @@ impl Scalar {
             Scalar::Null | Scalar::True | Scalar::False => 0,
             Scalar::UintZero | Scalar::UlongZero => 0,
             Scalar::Boolean | Scalar::Ubyte | Scalar::UintOctet | Scalar::UlongOctet => 1,
-            Scalar::Ushort => 2,
-            Scalar::Uint => 4,
-            Scalar::Ulong => 8,
+            Scalar::Byte | Scalar::IntOctet | Scalar::LongOctet => 1,
+            Scalar::Ushort | Scalar::Short => 2,
+            Scalar::Uint | Scalar::Int => 4,
+            Scalar::Ulong | Scalar::Long => 8,
+            Scalar::Opaque(opaque) => opaque.width(),
         }
     }
 }

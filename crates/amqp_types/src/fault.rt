@@ -1,7 +1,7 @@
 //! What is wrong with octets that are no value.
 
 ghost use Rattle.std.specs.Prelude.{◌≡◌};
-ghost use Rattle.amqp_types.specs.Faults.{number_of, fault_within};
+ghost use Rattle.amqp_types.specs.Faults.{number_of, fault_within, fault_in_array};
 
 use std::error::Error;
 use std::fmt;
@@ -53,8 +53,8 @@ pub struct ValueFault {
 }
 
 impl ValueFault {
-    /// The fault of an item, as a fault of the list at an offset: what passes the list's end is the
-    /// list's own.
+    /// The fault of an item, as a fault of the list or map at an offset: what passes the end of
+    /// its items is its own.
     pub(crate) fn within(self, at: usize) -> ValueFault
         ensures { result ≡ fault_within at self }
     {
@@ -62,6 +62,13 @@ impl ValueFault {
             ValueFaultKind::Short => ValueFaultKind::BadSize.of(at),
             _ => self,
         }
+    }
+
+    /// The fault of what lies in an array, as a fault of the array at an offset.
+    pub(crate) fn in_array(self, at: usize) -> ValueFault
+        ensures { result ≡ fault_in_array at self }
+    {
+        self.within(at).kind.of(at)
     }
 }
 

@@ -2,181 +2,218 @@
 //!
 //! Each function is given the octets from its place to the end of the input or of the list that it
 //! reads in, `at`, the offset of the value that they belong to, and answers what it read and the
-//! octets behind it.
+//! octets behind it. So many levels are left: that of the value, and those of the values in it.
 
-ghost use Rattle.std.specs.Prelude.{◌≡◌, ◌+◌, ◌-◌, ◌<◌, ◌≤◌, ◌^◌, ◌∷◌, IsTrue, length};
-ghost use Rattle.byteorder.specs.Endian.{big_number};
-ghost use Rattle.amqp_types.specs.Codes.{size_len, width_of};
-ghost use Rattle.amqp_types.specs.Reading.{Gives, octets_at, sized_at, fixed_at, text_at, counted_at, items_at, nested_at, described_at, data_at, seen_at, levels_allowed, scalar_of};
-ghost use Rattle.amqp_types.specs.Items.{are_values, is_value, seen_of, seen_in};
-ghost use Rattle.amqp_types.specs.Grammar.{IsValue};
-ghost use Rattle.amqp_types.specs.View.{view, part_of, Says, IsTextOf};
+ghost use Rattle.std.specs.Prelude.{◌≡◌, ◌+◌, ◌-◌, ◌<◌, ◌≤◌, ◌^◌, ◌∷◌, IsTrue, IfSome, Some, None, length, drop, slice_index};
+ghost use Rattle.amqp_types.specs.Part as parts;
+ghost use Rattle.amqp_types.specs.Reading.{Gives, items_at, nested_at, described_at, tagged_at, array_at, elements_at, constructor_at, element_at, item_at, data_at, seen_at, levels_allowed};
+ghost use Rattle.amqp_types.specs.Items.{are_items, items_in, is_value, is_element, element_of, seen_of};
+ghost use Rattle.amqp_types.specs.Grammar.{IsValue, IsConstructor, IsElement};
+ghost use Rattle.amqp_types.specs.Form.{constructor_of, form};
+ghost use Rattle.amqp_types.specs.View.{view, part_of, array_part};
 
-use crate::code::{Code, Kind, Scalar, SizeWidth, Text};
-use crate::described::Described;
+use crate::code::{Code, Kind, SizeWidth};
+use crate::constructor::{Constructor, Tag};
+use crate::described::{Described, Tagged};
 use crate::fault::{ValueFault, ValueFaultKind};
-use crate::sequence::Sequence;
+use crate::primitive::{Read, read_counted, read_fixed, read_text};
+use crate::sequence::{Array, Sequence};
 use crate::value::{Content, Value};
-use byteorder::{BigEndian, ByteOrder};
 
 /// How many values may lie in one another, the outermost among them.
 pub(crate) const LEVELS_ALLOWED: usize = 32;
 
-/// What was read, and the octets behind it.
-type Read<'a, T> = Result<(T, &'a [u8]), ValueFault>;
-
-/// The next octets, so many of them.
-#[tactic(auto, unfolding(crate::specs::Reading::octets_at))]
-fn read_octets(count: usize, at: usize, bytes: &[u8]) -> Read<'_, &[u8]>
-    ensures { Gives (λ x. (x.0.now, x.1.now)) result (octets_at count at bytes.now) }
+/// A value, or an element where there is a constructor.
+#[cycle(reader)]
+#[tactic(auto, unfolding(crate::specs::Reading::item_at))]
+fn read_item<'a>(
+    levels: usize,
+    constructor: Option<Constructor<'a>>,
+    at: usize,
+    bytes: &'a [u8],
+) -> Read<'a, Value<'a>>
+    requires levels { levels ≤ levels_allowed }
+    requires room { at + length bytes.now < 2 ^ 64 }
+    requires fits { IfSome constructor (λ c. (c.tags < levels) × (at + 1 + length bytes.now < 2 ^ 64)) }
+    ensures { Gives (λ x. (view x.0, x.1.now)) result (item_at levels (form constructor.entry) at bytes.now) }
 {
-    if bytes.len() < count {
-        return Err(ValueFaultKind::Short.of(at));
+    match constructor {
+        None => read_value(levels, at, bytes),
+        Some(constructor) => read_element(levels, constructor, at, bytes),
     }
-    Ok(bytes.split_at(count))
-}
-
-/// The number in a size or a count.
-fn size_in(width: SizeWidth, octets: &[u8]) -> u32
-    requires { size_len width ≤ length octets.now }
-    ensures { result ≡ big_number (size_len width) octets.now }
-{
-    match width {
-        SizeWidth::One => u32::from(octets[0]),
-        SizeWidth::Four => BigEndian::read_u32(octets),
-    }
-}
-
-/// A size, and then that many octets.
-#[tactic(auto, unfolding(crate::specs::Reading::sized_at))]
-fn read_sized(width: SizeWidth, at: usize, bytes: &[u8]) -> Read<'_, &[u8]>
-    ensures { Gives (λ x. (x.0.now, x.1.now)) result (sized_at width at bytes.now) }
-{
-    let (size, rest) = read_octets(width.octets(), at, bytes)?;
-    read_octets(size_in(width, size) as usize, at, rest)
-}
-
-/// What the data of a type of fixed width says.
-#[tactic(auto, unfolding(crate::specs::Reading::scalar_of))]
-fn scalar_in(scalar: Scalar, octets: &[u8]) -> Result<Content<'_>, ValueFaultKind>
-    requires { length octets.now ≡ width_of scalar }
-    ensures { Says result (scalar_of scalar octets.now) }
-{
-    let content = match scalar {
-        Scalar::Null => Content::Null,
-        Scalar::True => Content::Boolean(true),
-        Scalar::False => Content::Boolean(false),
-        Scalar::Boolean => match octets[0] {
-            0 => Content::Boolean(false),
-            1 => Content::Boolean(true),
-            _ => return Err(ValueFaultKind::BadBoolean),
-        },
-        Scalar::Ubyte => Content::Ubyte(octets[0]),
-        Scalar::Ushort => Content::Ushort(BigEndian::read_u16(octets)),
-        Scalar::UintZero => Content::Uint(0),
-        Scalar::UintOctet => Content::Uint(u32::from(octets[0])),
-        Scalar::Uint => Content::Uint(BigEndian::read_u32(octets)),
-        Scalar::UlongZero => Content::Ulong(0),
-        Scalar::UlongOctet => Content::Ulong(u64::from(octets[0])),
-        Scalar::Ulong => Content::Ulong(BigEndian::read_u64(octets)),
-    };
-    Ok(content)
-}
-
-/// The data of a type of fixed width.
-#[tactic(auto, unfolding(crate::specs::Reading::fixed_at))]
-fn read_fixed(scalar: Scalar, at: usize, bytes: &[u8]) -> Read<'_, Content<'_>>
-    ensures { Gives (λ x. (part_of x.0, x.1.now)) result (fixed_at scalar at bytes.now) }
-{
-    let (octets, rest) = read_octets(scalar.width(), at, bytes)?;
-    match scalar_in(scalar, octets) {
-        Ok(content) => Ok((content, rest)),
-        Err(kind) => Err(kind.of(at)),
-    }
-}
-
-/// The octets as a binary, a string or a symbol, if they may stand in one.
-#[tactic(auto, unfolding(crate::specs::Reading::is_text))]
-fn text_in(text: Text, octets: &[u8]) -> Option<Content<'_>>
-    ensures { IsTextOf result text octets.now }
-{
-    match text {
-        Text::Binary => Some(Content::Binary(octets)),
-        Text::Str => match str::from_utf8(octets) {
-            Ok(text) => Some(Content::Str(text)),
-            Err(_) => None,
-        },
-        Text::Symbol if octets.is_ascii() => match str::from_utf8(octets) {
-            Ok(text) => Some(Content::Symbol(text)),
-            Err(_) => None,
-        },
-        Text::Symbol => None,
-    }
-}
-
-/// The data of a binary, a string or a symbol.
-#[tactic(auto, unfolding(crate::specs::Reading::text_at))]
-fn read_text(text: Text, width: SizeWidth, at: usize, bytes: &[u8]) -> Read<'_, Content<'_>>
-    ensures { Gives (λ x. (part_of x.0, x.1.now)) result (text_at text width at bytes.now) }
-{
-    let (octets, rest) = read_sized(width, at, bytes)?;
-    match text_in(text, octets) {
-        Some(content) => Ok((content, rest)),
-        None => Err(ValueFaultKind::BadText.of(at)),
-    }
-}
-
-/// How many items there are, and the octets in which they lie.
-#[tactic(auto, unfolding(crate::specs::Reading::counted_at))]
-fn read_counted(width: SizeWidth, at: usize, bytes: &[u8]) -> Read<'_, (u32, &[u8])>
-    ensures { Gives (λ x. ((x.0.0, x.0.1.now), x.1.now)) result (counted_at width at bytes.now) }
-{
-    let (whole, rest) = read_sized(width, at, bytes)?;
-    if whole.len() < width.octets() {
-        return Err(ValueFaultKind::BadSize.of(at));
-    }
-    let count = size_in(width, whole);
-    if whole.len() < count as usize {
-        return Err(ValueFaultKind::BadSize.of(at));
-    }
-    Ok(((count, &whole[width.octets()..]), rest))
 }
 
 /// Goes over so many items, and gives the octets behind them.
 #[cycle(reader)]
-fn read_items(levels: usize, count: u32, at: usize, bytes: &[u8]) -> Result<&[u8], ValueFault>
+fn read_items<'a>(
+    levels: usize,
+    constructor: Option<Constructor<'a>>,
+    count: u32,
+    at: usize,
+    bytes: &'a [u8],
+) -> Result<&'a [u8], ValueFault>
     requires levels { levels ≤ levels_allowed }
     requires room { at + length bytes.now < 2 ^ 64 }
-    ensures { Gives (λ x. x.now) result (items_at (seen_at levels) count at bytes.now) }
+    requires fits { IfSome constructor (λ c. (c.tags < levels) × (at + 1 + length bytes.now < 2 ^ 64)) }
+    ensures { Gives (λ x. x.now) result (items_at (item_at levels (form constructor.entry)) count at bytes.now) }
 {
     let mut place = at;
     let mut rest = bytes;
     for _ in 0..count {
-        let (item, after) = read_value(levels, place, rest)?;
+        let (item, after) = read_item(levels, constructor, place, rest)?;
         place += item.raw.len();
         rest = after;
     }
     Ok(rest)
 }
 
-/// The data of a list.
+/// The data of a list or a map.
 #[cycle(reader)]
 #[tactic(auto, unfolding(crate::specs::Reading::nested_at))]
-fn read_list(levels: usize, width: SizeWidth, at: usize, bytes: &[u8]) -> Read<'_, Content<'_>>
+fn read_nested(
+    levels: usize,
+    kind: Kind,
+    width: SizeWidth,
+    at: usize,
+    bytes: &[u8],
+) -> Read<'_, Content<'_>>
     requires levels { levels ≤ levels_allowed }
     requires room { at + 1 + length bytes.now < 2 ^ 64 }
-    ensures { Gives (λ x. (part_of x.0, x.1.now)) result (nested_at (seen_at levels) Kind.List width at bytes.now) }
+    ensures { Gives (λ x. (part_of x.0, x.1.now)) result (nested_at (item_at levels None) kind width at bytes.now) }
 {
     let ((count, body), rest) = read_counted(width, at, bytes)?;
-    match read_items(
-        levels,
-        count,
-        at + 1 + width.octets() + width.octets(),
-        body,
-    ) {
-        Ok([]) => Ok((Content::List(Sequence { count, body }), rest)),
+    if kind.is_odd(count) {
+        return Err(ValueFaultKind::OddMap.of(at));
+    }
+    let first = at + 1 + width.octets() + width.octets();
+    match read_items(levels, None, count, first, body) {
+        Ok([]) => Ok((Content::Nested(kind, Sequence { count, body }), rest)),
         Ok(_) => Err(ValueFaultKind::BadSize.of(at)),
         Err(fault) => Err(fault.within(at)),
+    }
+}
+
+/// The constructor of elements, which stands in front of their data.
+#[cycle(reader)]
+#[tactic(auto, unfolding(crate::specs::Reading::constructor_at, crate::specs::Reading::constructor_by))]
+fn read_constructor(levels: usize, at: usize, bytes: &[u8]) -> Read<'_, Constructor<'_>>
+    requires levels { levels ≤ levels_allowed }
+    requires room { at + length bytes.now < 2 ^ 64 }
+    ensures { Gives (λ x. (constructor_of x.0, x.1.now)) result (constructor_at levels at bytes.now) }
+{
+    let Some((octet, behind)) = bytes.split_first() else {
+        return Err(ValueFaultKind::Short.of(at));
+    };
+    if levels == 0 {
+        return Err(ValueFaultKind::TooDeep.of(at));
+    }
+    let Some(code) = Code::of(*octet) else {
+        return Err(ValueFaultKind::UnknownCode.of(at));
+    };
+    if code.is_described() {
+        return read_tagged(levels - 1, at, bytes);
+    }
+    let alone = Constructor {
+        octets: &bytes[..1],
+        tags: 0,
+        code,
+        tag: None,
+    };
+    Ok((alone, behind))
+}
+
+/// A constructor whose first octet says that a descriptor follows, and behind it another constructor.
+#[cycle(reader)]
+#[tactic(auto, unfolding(crate::specs::Reading::tagged_at))]
+fn read_tagged(levels: usize, at: usize, bytes: &[u8]) -> Read<'_, Constructor<'_>>
+    requires some { 0 < length bytes.now }
+    requires levels { levels < levels_allowed }
+    requires room { at + length bytes.now < 2 ^ 64 }
+    ensures { Gives (λ x. (constructor_of x.0, x.1.now)) result (tagged_at (seen_at levels) (constructor_at levels) at (slice_index bytes.now 0) (drop 1 bytes.now)) }
+{
+    let (_, behind) = bytes.split_at(1);
+    let (descriptor, after) = read_value(levels, at, behind)?;
+    let (inner, rest) = read_constructor(levels, at, after)?;
+    let constructor = Constructor {
+        octets: &bytes[..bytes.len() - rest.len()],
+        tags: inner.tags + 1,
+        code: inner.code,
+        tag: Some(Tag {
+            descriptor: descriptor.raw,
+            constructor: inner.octets,
+        }),
+    };
+    Ok((constructor, rest))
+}
+
+/// An element of an array, whose constructor was read before.
+#[cycle(reader)]
+#[tactic(auto, unfolding(crate::specs::Reading::element_at, crate::specs::Reading::element_by))]
+fn read_element<'a>(
+    levels: usize,
+    constructor: Constructor<'a>,
+    at: usize,
+    bytes: &'a [u8],
+) -> Read<'a, Value<'a>>
+    requires tags { constructor.tags < levels }
+    requires levels { levels ≤ levels_allowed }
+    requires room { at + 1 + length bytes.now < 2 ^ 64 }
+    ensures { Gives (λ x. (view x.0, x.1.now)) result (element_at levels (constructor_of constructor.entry) at bytes.now) }
+{
+    let below = levels - constructor.tags;
+    let (content, rest) = read_data(below, constructor.code, at, bytes)?;
+    let raw = &bytes[..bytes.len() - rest.len()];
+    let content = match constructor.tag {
+        None => content,
+        Some(tag) => Content::Tagged(Tagged {
+            descriptor: tag.descriptor,
+            constructor: tag.constructor,
+            data: raw,
+        }),
+    };
+    Ok((Value { raw, content }, rest))
+}
+
+/// So many elements: their constructor, their data, and nothing behind these.
+#[cycle(reader)]
+#[tactic(auto, unfolding(crate::specs::Reading::elements_at))]
+fn read_elements(
+    levels: usize,
+    count: u32,
+    at: usize,
+    bytes: &[u8],
+) -> Result<Array<'_>, ValueFault>
+    requires levels { levels ≤ levels_allowed }
+    requires room { at + 1 + length bytes.now < 2 ^ 64 }
+    ensures { Gives array_part result (elements_at (constructor_at levels) (λ c. item_at levels (Some c)) count at bytes.now) }
+{
+    if count == 0 && bytes.len() == 0 {
+        return Ok(Array::empty());
+    }
+    let (constructor, body) = read_constructor(levels, at, bytes)?;
+    match read_items(levels, Some(constructor), count, at, body) {
+        Ok([]) => Ok(Array {
+            constructor: Some(constructor),
+            count,
+            body,
+        }),
+        Ok(_) => Err(ValueFaultKind::BadSize.of(at)),
+        Err(fault) => Err(fault.within(at)),
+    }
+}
+
+/// The data of an array.
+#[cycle(reader)]
+#[tactic(auto, unfolding(crate::specs::Reading::array_at))]
+fn read_array(levels: usize, width: SizeWidth, at: usize, bytes: &[u8]) -> Read<'_, Content<'_>>
+    requires levels { levels ≤ levels_allowed }
+    requires room { at + 1 + length bytes.now < 2 ^ 64 }
+    ensures { Gives (λ x. (part_of x.0, x.1.now)) result (array_at (constructor_at levels) (λ c. item_at levels (Some c)) width at bytes.now) }
+{
+    let ((count, body), rest) = read_counted(width, at, bytes)?;
+    match read_elements(levels, count, at, body) {
+        Ok(array) => Ok((Content::Array(array), rest)),
+        Err(fault) => Err(fault.in_array(at)),
     }
 }
 
@@ -197,25 +234,26 @@ fn read_described(levels: usize, at: usize, bytes: &[u8]) -> Read<'_, Content<'_
     Ok((Content::Described(pair), rest))
 }
 
-/// What is behind a code. So many levels are left, that of the code included.
+/// What is behind a code.
 #[cycle(reader)]
 #[tactic(auto, unfolding(crate::specs::Reading::data_at, crate::specs::Reading::data_by))]
 fn read_data(levels: usize, code: Code, at: usize, bytes: &[u8]) -> Read<'_, Content<'_>>
     requires some { 0 < levels }
     requires levels { levels ≤ levels_allowed }
     requires room { at + 1 + length bytes.now < 2 ^ 64 }
-    ensures { Gives (λ x. (part_of x.0, x.1.now)) result (data_at levels code at bytes.now) }
+    ensures { Gives (λ x. (part_of x.0, x.1.now)) result (data_at levels 0 code at bytes.now) }
 {
     match code {
         Code::Fixed(scalar) => read_fixed(scalar, at, bytes),
         Code::Sized(text, width) => read_text(text, width, at, bytes),
-        Code::EmptyList => Ok((Content::List(Sequence::empty()), bytes)),
-        Code::Nested(Kind::List, width) => read_list(levels - 1, width, at, bytes),
+        Code::EmptyList => Ok((Content::Nested(Kind::List, Sequence::empty()), bytes)),
+        Code::Nested(kind, width) => read_nested(levels - 1, kind, width, at, bytes),
+        Code::Array(width) => read_array(levels - 1, width, at, bytes),
         Code::Described => read_described(levels - 1, at, bytes),
     }
 }
 
-/// The value at the front of the octets, where so many levels are left.
+/// The value at the front of the octets.
 #[cycle(reader)]
 #[tactic(auto, unfolding(crate::specs::Reading::seen_at, crate::specs::Reading::value_at, crate::specs::Reading::value_by, crate::specs::Reading::coded_at))]
 pub(crate) fn read_value(levels: usize, at: usize, bytes: &[u8]) -> Read<'_, Value<'_>>
@@ -250,14 +288,34 @@ pub(crate) fn whole(octets: &[u8]) -> Value<'_>
     }
 }
 
-/// The first of some values, which were read before, and the octets of the others.
-pub(crate) fn first_of(count: u32, octets: &[u8]) -> (Value<'_>, &[u8])
-    requires some { 0 < count }
-    requires filled { IsTrue (are_values count octets.now) }
-    ensures first { seen_in count octets.now ≡ view result.0 ∷ seen_in (count - 1) result.1.now }
-    ensures others { IsTrue (are_values (count - 1) result.1.now) }
+/// The element that octets are, with its constructor, both of which were read before.
+pub(crate) fn whole_element<'a>(constructor: &'a [u8], octets: &'a [u8]) -> Value<'a>
+    requires { IsTrue (is_element constructor.now octets.now) }
+    ensures same { view result ≡ element_of constructor.now octets.now }
+    ensures whole { (view result).octets ≡ octets.now }
+    ensures element { (c : parts.Constructor) × IsConstructor levels_allowed constructor.now c × IsElement levels_allowed c octets.now (view result).part }
 {
-    match read_value(LEVELS_ALLOWED, 0, octets) {
+    let Ok((constructor, _)) = read_constructor(LEVELS_ALLOWED, 0, constructor) else {
+        unreachable!()
+    };
+    match read_element(LEVELS_ALLOWED, constructor, 0, octets) {
+        Ok((value, _)) => value,
+        Err(_) => unreachable!(),
+    }
+}
+
+/// The first of some items, which were read before, and the octets of the others.
+pub(crate) fn first_of<'a>(
+    constructor: Option<Constructor<'a>>,
+    count: u32,
+    octets: &'a [u8],
+) -> (Value<'a>, &'a [u8])
+    requires some { 0 < count }
+    requires filled { IsTrue (are_items (form constructor) count octets.now) }
+    ensures first { items_in (form constructor.entry) count octets.now ≡ view result.0 ∷ items_in (form constructor.entry) (count - 1) result.1.now }
+    ensures others { IsTrue (are_items (form constructor.entry) (count - 1) result.1.now) }
+{
+    match read_item(LEVELS_ALLOWED, constructor, 0, octets) {
         Ok(read) => read,
         Err(_) => unreachable!(),
     }

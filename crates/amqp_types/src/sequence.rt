@@ -1,8 +1,10 @@
-//! The values in a list, which were read with the list.
+//! The values in a list, a map or an array, which were read with it.
 
-ghost use Rattle.std.specs.Prelude.{IsTrue};
-ghost use Rattle.amqp_types.specs.Items.{are_values};
+ghost use Rattle.std.specs.Prelude.{◌<◌, ◌^◌, IsTrue, None};
+ghost use Rattle.amqp_types.specs.Items.{are_items};
+ghost use Rattle.amqp_types.specs.Form.{form};
 
+use crate::constructor::Constructor;
 use crate::reading::first_of;
 use crate::value::Value;
 
@@ -13,11 +15,11 @@ pub(crate) struct Sequence<'a> {
     pub(crate) count: u32,
     /// Their octets.
     pub(crate) body: &'a [u8],
-    ghost filled: { IsTrue (are_values count body.now) },
+    ghost filled: { IsTrue (are_items None count body.now) },
 }
 
 impl<'a> Sequence<'a> {
-    ghost use Rattle.std.specs.Prelude.{◌≡◌, ◌<◌, ◌^◌, [], length};
+    ghost use Rattle.std.specs.Prelude.{◌≡◌, [], length};
     ghost use Rattle.amqp_types.specs.Items.{seen_in};
     ghost use Rattle.amqp_types.specs.Grammar.{AreValuesOf};
     ghost use Rattle.amqp_types.specs.View.{items_left};
@@ -41,20 +43,70 @@ impl<'a> Sequence<'a> {
         ensures whole { AreValuesOf self.now.count self.now.body.now (items_left result) }
     {
         Items {
+            constructor: None,
             left: self.count,
             rest: self.body,
         }
     }
 }
 
-/// The values of a list, first to last.
+/// The elements of an array, which share their constructor.
+#[derive(Clone, Copy, Debug)]
+pub(crate) struct Array<'a> {
+    /// The elements' constructor. An array without elements may have none.
+    pub(crate) constructor: Option<Constructor<'a>>,
+    /// How many elements there are.
+    pub(crate) count: u32,
+    /// The octets of their data.
+    pub(crate) body: &'a [u8],
+    ghost few: { count < 2 ^ 32 },
+    ghost filled: { IsTrue (are_items (form constructor) count body.now) },
+}
+
+impl<'a> Array<'a> {
+    ghost use Rattle.std.specs.Prelude.{◌≡◌, [], length};
+    ghost use Rattle.amqp_types.specs.Part as parts;
+    ghost use Rattle.amqp_types.specs.Items.{items_in};
+    ghost use Rattle.amqp_types.specs.Grammar.{AreOf, IsItem};
+    ghost use Rattle.amqp_types.specs.Reading.{levels_allowed};
+    ghost use Rattle.amqp_types.specs.View.{array_part, items_left};
+
+    /// No elements, and no constructor.
+    #[tactic(auto, using(crate::proofs::Held::no_values))]
+    pub(crate) fn empty() -> Array<'a>
+        ensures { array_part result ≡ parts.Array None 0 [] }
+    {
+        Array {
+            constructor: None,
+            count: 0,
+            body: &[],
+        }
+    }
+
+    /// The elements, first to last.
+    pub(crate) fn items(&self) -> Items<'a>
+        ensures same { items_left result ≡ items_in (form self.now.constructor) self.now.count self.now.body.now }
+        ensures few { length (items_left result) < 2 ^ 32 }
+        ensures whole { AreOf (IsItem levels_allowed (form self.now.constructor)) self.now.count self.now.body.now (items_left result) }
+    {
+        Items {
+            constructor: self.constructor,
+            left: self.count,
+            rest: self.body,
+        }
+    }
+}
+
+/// The values of a list, a map or an array, first to last.
 #[derive(Clone, Copy, Debug)]
 pub struct Items<'a> {
+    /// The constructor of an array's elements, which it was read with.
+    pub(crate) constructor: Option<Constructor<'a>>,
     /// How many values are left.
     pub(crate) left: u32,
     /// Their octets.
     pub(crate) rest: &'a [u8],
-    ghost filled: { IsTrue (are_values left rest.now) },
+    ghost filled: { IsTrue (are_items (form constructor) left rest.now) },
 }
 
 impl<'a> Items<'a> {
@@ -79,13 +131,14 @@ impl<'a> Iterator for Items<'a> {
 
     ghost remaining = { item_count items_left };
 
-    #[tactic(auto, unfolding(crate::specs::Items::seen_in))]
+    #[tactic(auto, unfolding(crate::specs::Items::items_in))]
     fn next(&mut self) -> Option<Value<'a>> {
         if self.left == 0 {
             return None;
         }
-        let (value, rest) = first_of(self.left, self.rest);
+        let (value, rest) = first_of(self.constructor, self.left, self.rest);
         *self = Items {
+            constructor: self.constructor,
             left: self.left - 1,
             rest,
         };

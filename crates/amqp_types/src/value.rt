@@ -1,9 +1,10 @@
 //! A value that was read, and what it says.
 
-use crate::described::Described;
+use crate::code::{Kind, Opaque};
+use crate::described::{Described, Tagged};
 use crate::fault::ValueFault;
-use crate::reading::{LEVELS_ALLOWED, read_value, whole};
-use crate::sequence::{Items, Sequence};
+use crate::reading::{LEVELS_ALLOWED, read_value, whole, whole_element};
+use crate::sequence::{Array, Items, Sequence};
 
 /// A value that was read from octets, on which it stays.
 #[derive(Clone, Copy, Debug)]
@@ -21,11 +22,18 @@ pub(crate) enum Content<'a> {
     Ushort(u16),
     Uint(u32),
     Ulong(u64),
+    Byte(i8),
+    Short(i16),
+    Int(i32),
+    Long(i64),
+    Opaque(Opaque, &'a [u8]),
     Binary(&'a [u8]),
     Str(&'a str),
     Symbol(&'a str),
-    List(Sequence<'a>),
+    Nested(Kind, Sequence<'a>),
+    Array(Array<'a>),
     Described(Described<'a>),
+    Tagged(Tagged<'a>),
 }
 
 impl<'a> Value<'a> {
@@ -33,9 +41,9 @@ impl<'a> Value<'a> {
     ghost use Rattle.std.specs.Option.{option_copied};
     ghost use Rattle.amqp_types.specs.Part.{Seen};
     ghost use Rattle.amqp_types.specs.Reading.{Gives, seen_at, levels_allowed};
-    ghost use Rattle.amqp_types.specs.Grammar.{IsFront, IsValueOf, AreItemsOf};
-    ghost use Rattle.amqp_types.specs.Items.{items_of, descriptor_of, described_of, descriptor_octets, described_octets};
-    ghost use Rattle.amqp_types.specs.Typed.{says_null, boolean_in, ubyte_in, ushort_in, uint_in, ulong_in, binary_in, str_in, symbol_in, list_in};
+    ghost use Rattle.amqp_types.specs.Grammar.{IsFront, IsValueOf, IsDescribedOf, AreItemsOf};
+    ghost use Rattle.amqp_types.specs.Items.{items_of, descriptor_of, described_of, descriptor_octets};
+    ghost use Rattle.amqp_types.specs.Typed.{says_null, boolean_in, ubyte_in, ushort_in, uint_in, ulong_in, byte_in, short_in, int_in, long_in, opaque_in, binary_in, str_in, symbol_in, list_in, map_in, array_in};
     ghost use Rattle.amqp_types.specs.View.{view, view_of, items_left};
 
     /// Reads the value at the front of the octets, and gives the octets behind it too.
@@ -55,7 +63,8 @@ impl<'a> Value<'a> {
         read_value(LEVELS_ALLOWED, 0, bytes)
     }
 
-    /// The octets of the value, its constructor among them.
+    /// The octets of the value, its constructor among them. An element of an array has its data
+    /// alone.
     pub fn raw(&self) -> &'a [u8]
         ensures { result.now ≡ (view self.now).octets }
     {
@@ -119,6 +128,57 @@ impl<'a> Value<'a> {
         }
     }
 
+    /// The number, if the value is a byte, which has a sign.
+    pub fn as_byte(&self) -> Option<i8>
+        ensures { result ≡ byte_in (view self.now).part }
+    {
+        match self.content {
+            Content::Byte(value) => Some(value),
+            _ => None,
+        }
+    }
+
+    /// The number, if the value is a short.
+    pub fn as_short(&self) -> Option<i16>
+        ensures { result ≡ short_in (view self.now).part }
+    {
+        match self.content {
+            Content::Short(value) => Some(value),
+            _ => None,
+        }
+    }
+
+    /// The number, if the value is an int.
+    pub fn as_int(&self) -> Option<i32>
+        ensures { result ≡ int_in (view self.now).part }
+    {
+        match self.content {
+            Content::Int(value) => Some(value),
+            _ => None,
+        }
+    }
+
+    /// The number, if the value is a long.
+    pub fn as_long(&self) -> Option<i64>
+        ensures { result ≡ long_in (view self.now).part }
+    {
+        match self.content {
+            Content::Long(value) => Some(value),
+            _ => None,
+        }
+    }
+
+    /// The type and the data, if the value is a float, a double, a decimal, a char, a timestamp or
+    /// a uuid. The data is kept as it came, the highest octet first.
+    pub fn as_opaque(&self) -> Option<(Opaque, &'a [u8])>
+        ensures { option_map (λ x. (x.0, x.1.now)) result ≡ opaque_in (view self.now).part }
+    {
+        match self.content {
+            Content::Opaque(opaque, octets) => Some((opaque, octets)),
+            _ => None,
+        }
+    }
+
     /// The octets, if the value is a binary.
     pub fn as_binary(&self) -> Option<&'a [u8]>
         ensures { option_copied result ≡ binary_in (view self.now).part }
@@ -154,21 +214,42 @@ impl<'a> Value<'a> {
         ensures { option_map items_left result ≡ list_in (view self.now).part }
     {
         match self.content {
-            Content::List(sequence) => Some(sequence.items()),
+            Content::Nested(Kind::List, sequence) => Some(sequence.items()),
             _ => None,
         }
     }
 
-    /// The items, if the value is a list. Another value has none.
-    #[tactic(auto, unfolding(crate::specs::Items::seen_in))]
+    /// The keys and values in turn, if the value is a map.
+    pub fn as_map(&self) -> Option<Items<'a>>
+        ensures { option_map items_left result ≡ map_in (view self.now).part }
+    {
+        match self.content {
+            Content::Nested(Kind::Map, sequence) => Some(sequence.items()),
+            _ => None,
+        }
+    }
+
+    /// The elements, if the value is an array.
+    pub fn as_array(&self) -> Option<Items<'a>>
+        ensures { option_map items_left result ≡ array_in (view self.now).part }
+    {
+        match self.content {
+            Content::Array(array) => Some(array.items()),
+            _ => None,
+        }
+    }
+
+    /// The items, if the value is a list, a map or an array. Another value has none.
+    #[tactic(auto, unfolding(crate::specs::Items::items_in))]
     pub fn items(&self) -> Items<'a>
         ensures same { items_left result ≡ items_of (view self.now).part }
         ensures few { length (items_left result) < 2 ^ 32 }
-        // They are values, and their octets make up those of the list.
+        // They are values, and their octets make up those of the list, the map or the array.
         ensures whole { AreItemsOf (view self.now).part (items_left result) }
     {
         match self.content {
-            Content::List(sequence) => sequence.items(),
+            Content::Nested(_, sequence) => sequence.items(),
+            Content::Array(array) => array.items(),
             _ => Sequence::empty().items(),
         }
     }
@@ -180,6 +261,7 @@ impl<'a> Value<'a> {
     {
         match self.content {
             Content::Described(pair) => Some(whole(pair.descriptor)),
+            Content::Tagged(element) => Some(whole(element.descriptor)),
             _ => None,
         }
     }
@@ -187,10 +269,11 @@ impl<'a> Value<'a> {
     /// The value that the descriptor describes, if the value is a described one.
     pub fn described(&self) -> Option<Value<'a>>
         ensures same { view_of result ≡ described_of (view self.now).part }
-        ensures whole { IsValueOf (described_octets (view self.now).part) (view_of result) }
+        ensures whole { IsDescribedOf (view self.now).part (view_of result) }
     {
         match self.content {
             Content::Described(pair) => Some(whole(pair.value)),
+            Content::Tagged(element) => Some(whole_element(element.constructor, element.data)),
             _ => None,
         }
     }

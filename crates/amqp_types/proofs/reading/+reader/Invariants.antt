@@ -1,21 +1,40 @@
-use Rattle.std.proofs.Common.{◌+◌, ◌-◌, ◌*◌}
+use Rattle.std.proofs.Common.{◌+◌, ◌*◌}
+use Rattle.amqp_types.specs.Form.{form}
 use Rattle.amqp_types.proofs.Loop.{GoesOver}
 use Rattle.amqp_types.proofs.reading.+reader.Given as goal
 
-abbrev pub decreases-read_value : goal.decreases-read_value
-decreases-read_value l = 4 * l.levels
-
 abbrev pub decreases-read_data : goal.decreases-read_data
-decreases-read_data l = 4 * l.levels - 1
+decreases-read_data l = 8 * l.levels
 
-abbrev pub decreases-read_list : goal.decreases-read_list
-decreases-read_list l = 4 * l.levels + 2
+abbrev pub decreases-read_value : goal.decreases-read_value
+decreases-read_value l = 8 * l.levels + 1
 
-abbrev pub decreases-read_described : goal.decreases-read_described
-decreases-read_described l = 4 * l.levels + 2
+abbrev pub decreases-read_element : goal.decreases-read_element
+decreases-read_element l = 8 * l.levels + 1
+
+abbrev pub decreases-read_constructor : goal.decreases-read_constructor
+decreases-read_constructor l = 8 * l.levels + 1
+
+abbrev pub decreases-read_tagged : goal.decreases-read_tagged
+decreases-read_tagged l = 8 * l.levels + 2
+
+abbrev pub decreases-read_item : goal.decreases-read_item
+decreases-read_item l = 8 * l.levels + 2
 
 abbrev pub decreases-read_items : goal.decreases-read_items
-decreases-read_items l = 4 * l.levels + 1
+decreases-read_items l = 8 * l.levels + 3
+
+abbrev pub decreases-read_nested : goal.decreases-read_nested
+decreases-read_nested l = 8 * l.levels + 4
+
+abbrev pub decreases-read_elements : goal.decreases-read_elements
+decreases-read_elements l = 8 * l.levels + 4
+
+abbrev pub decreases-read_array : goal.decreases-read_array
+decreases-read_array l = 8 * l.levels + 5
+
+abbrev pub decreases-read_described : goal.decreases-read_described
+decreases-read_described l = 8 * l.levels + 4
 
 abbrev pub invariant-read_items-loop : goal.invariant-read_items-loop
-invariant-read_items-loop l = GoesOver l.levels l.count l.at l.bytes l.counter l.place l.rest
+invariant-read_items-loop l = GoesOver l.levels (form l.constructor) l.count l.at l.bytes l.counter l.place l.rest

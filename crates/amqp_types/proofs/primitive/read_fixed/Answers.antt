@@ -1,6 +1,6 @@
 use Rattle.std.proofs.Common.{◌∙◌}
 use Rattle.amqp_types.proofs.Octets.{octets_found}
-use Rattle.amqp_types.proofs.reading.read_fixed.Goals as goal
+use Rattle.amqp_types.proofs.primitive.read_fixed.Goals as goal
 
 pub scalar_in-requires : goal.scalar_in-requires
 scalar_in-requires c =

@@ -3,7 +3,7 @@ use Rattle.std.proofs.lemmas.Str.{IsUtf8-from_ascii}
 use Rattle.amqp_types.specs.declared.code.Text.TheVariants as texts
 use Rattle.amqp_types.specs.Part.{Sized}
 use Rattle.amqp_types.proofs.Texts.{text_again, text_refused}
-use Rattle.amqp_types.proofs.reading.text_in.Goals as goal
+use Rattle.amqp_types.proofs.primitive.text_in.Goals as goal
 
 pub returns-in-Ok : goal.returns-in-Ok
 returns-in-Ok c = rw c.in-Str.is (text_again texts.Str c.args.octets.now c.in-Ok.ensures.cases.1, ap (Sized texts.Str) c.in-Ok.ensures.cases.0)

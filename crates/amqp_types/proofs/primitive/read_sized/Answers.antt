@@ -1,6 +1,6 @@
 use Rattle.std.proofs.Common.{arith}
 use Rattle.amqp_types.proofs.Octets.{octets_found}
-use Rattle.amqp_types.proofs.reading.read_sized.Goals as goal
+use Rattle.amqp_types.proofs.primitive.read_sized.Goals as goal
 
 pub size_in-requires : goal.size_in-requires
 size_in-requires c =
