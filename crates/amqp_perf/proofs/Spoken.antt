@@ -1,33 +1,36 @@
 -- What is read is a performative, and what is one is read.
-use Rattle.std.proofs.Common.{◌≡◌, refl, sym, ap, subst, ◌∙◌, ℕ, ◌≤◌, Bool, true, false, List, [], ◌∷◌, ◌++◌, length, Option, Some, None, option_map, option_and_then, Result, Ok, Err, Bor}
+use Rattle.std.proofs.Common.{◌≡◌, refl, sym, ap, subst, ◌∙◌, ℕ, ◌≤◌, Bool, true, false, List, [], ◌∷◌, ◌++◌, length, Option, Some, None, Result, Ok, Err, Bor}
 use Rattle.std.specs.Prelude.{nat_lt, IfOk}
 use Rattle.std.specs.List.{flat_map, AllByRecursion}
 use Rattle.std.proofs.lemmas.List.Elements.{recursion_from_All}
 use Rattle.std.proofs.lemmas.List.Concat.{flat_map-cons}
 use Rattle.std.proofs.lemmas.Bool.{ltb-false, le-ltb}
 use Rattle.amqp_types.specs.declared.code.Kind.TheVariants as kinds
-use Rattle.amqp_types.specs.Part.{Part, Seen, Ulong, Nested, Described, Tagged}
+use Rattle.amqp_types.specs.Part.{Part, Seen, Nested, Described, Tagged}
 use Rattle.amqp_types.specs.Reading.{Read, seen_at, item_at, levels_allowed}
 use Rattle.amqp_types.specs.Items.{items_in, seen_in, seen_of}
 use Rattle.amqp_types.specs.Grammar.{IsValue, AreValuesOf}
-use Rattle.amqp_types.specs.Typed.{ulong_in, list_in}
+use Rattle.amqp_types.specs.Typed.{list_in}
 use Rattle.amqp_types.proofs.Values.{seen_found, seen_again}
 use Rattle.amqp_types.proofs.Nested.{not_tagged, pair_holds, list_holds, value_is}
 use Rattle.amqp_perf.specs.declared.fault.PerfFault.{PerfFault}
 use Rattle.amqp_perf.specs.declared.fault.PerfFault.TheVariants.{TooManyFields}
-use Rattle.amqp_perf.specs.declared.table.PerformativeKind.{PerformativeKind}
-use Rattle.amqp_perf.specs.Tables.{kind_of_code, table_of}
+use Rattle.amqp_perf.specs.declared.descriptor.PerformativeKind.{PerformativeKind}
+use Rattle.amqp_perf.specs.declared.descriptor.Descriptor.{Descriptor}
+use Rattle.amqp_perf.specs.declared.descriptor.Descriptor.TheVariants.{Performative}
+use Rattle.amqp_perf.specs.Descriptors.{descriptor_named, both_of}
+use Rattle.amqp_perf.specs.Tables.{table_of}
 use Rattle.amqp_perf.specs.Fields.{first_fault}
 use Rattle.amqp_perf.specs.Meaning.{Meaning, meaning_of}
-use Rattle.amqp_perf.specs.Reading.{parts_of, checked, described_by, said, said_by, before, performative_at, Gives}
-use Rattle.amqp_perf.specs.declared.performative.Performative.{Performative}
+use Rattle.amqp_perf.specs.Reading.{checked, said_of, said, said_by, before, performative_at, Gives}
+use Rattle.amqp_perf.specs.declared.performative.Performative as performatives
 use Rattle.amqp_perf.specs.View.{view}
 use Rattle.amqp_perf.specs.Grammar.{IsPerformative, IsFront, AreFields}
 use Rattle.amqp_perf.proofs.Fits.{are_fields, no_faults, not_too_many}
 
 -- ---- the fields
 
-checked_by : (kind : PerformativeKind) (fields : List Part) (meaning : Meaning) (many : Bool) (fault : Option PerfFault) → nat_lt (length (table_of kind)) (length fields) ≡ many
+checked_by : (kind : PerformativeKind) (fields : List Seen) (meaning : Meaning) (many : Bool) (fault : Option PerfFault) → nat_lt (length (table_of kind)) (length fields) ≡ many
     → first_fault 1 (table_of kind) fields ≡ fault → checked kind fields ≡ Ok meaning → AreFields (table_of kind) fields × (meaning ≡ meaning_of kind fields)
 checked_by kind fields meaning true fault is none e =
     let h : checked kind fields ≡ Err TooManyFields = rw is refl in absurd cc
@@ -40,10 +43,10 @@ checked_by kind fields meaning false None is none e =
     (are_fields 1 (table_of kind) fields few none, cc)
 
 -- fields that were read fit their table
-checked_found : (kind : PerformativeKind) (fields : List Part) (meaning : Meaning) → checked kind fields ≡ Ok meaning → AreFields (table_of kind) fields × (meaning ≡ meaning_of kind fields)
+checked_found : (kind : PerformativeKind) (fields : List Seen) (meaning : Meaning) → checked kind fields ≡ Ok meaning → AreFields (table_of kind) fields × (meaning ≡ meaning_of kind fields)
 checked_found kind fields meaning e = checked_by kind fields meaning (nat_lt (length (table_of kind)) (length fields)) (first_fault 1 (table_of kind) fields) refl refl e
 
-checked_again : (kind : PerformativeKind) (fields : List Part) → AreFields (table_of kind) fields → checked kind fields ≡ Ok (meaning_of kind fields)
+checked_again : (kind : PerformativeKind) (fields : List Seen) → AreFields (table_of kind) fields → checked kind fields ≡ Ok (meaning_of kind fields)
 checked_again kind fields fit =
     let few : nat_lt (length (table_of kind)) (length fields) ≡ false = le-ltb _ _ (not_too_many (table_of kind) fields fit) in
     rw (few, no_faults 1 (table_of kind) fields fit) refl
@@ -67,18 +70,18 @@ values_are n octets values are =
 
 -- ---- a value
 
--- a described list of a known code, where its parts are known
-parts_found : (octets descriptor described : List ℕ) (d v : Part) (meaning : Meaning) (kind : Option PerformativeKind) → IsValue levels_allowed octets (Described descriptor described)
-    → IsValue levels_allowed descriptor d → IsValue levels_allowed described v → option_and_then kind_of_code (ulong_in d) ≡ kind → described_by kind (option_map parts_of (list_in v)) ≡ Ok meaning
+-- a described list, where its parts are known
+parts_found : (octets descriptor described : List ℕ) (d v : Part) (meaning : Meaning) (names : Option Descriptor) → IsValue levels_allowed octets (Described descriptor described)
+    → IsValue levels_allowed descriptor d → IsValue levels_allowed described v → descriptor_named d ≡ names → said_of (both_of names (list_in v)) ≡ Ok meaning
     → IsPerformative octets meaning
-parts_found octets descriptor described (Ulong code) (Nested kinds.List count body) meaning (Some kind) whole says list names e =
-    let fit = checked_found kind (parts_of (seen_in count body)) meaning e in
+parts_found octets descriptor described d (Nested kinds.List count body) meaning (Some (Performative kind)) whole says list names e =
+    let fit = checked_found kind (seen_in count body) meaning e in
     record {
       descriptor = descriptor;
       described = described;
       whole = whole;
-      code = code;
-      says = says;
+      says = d;
+      descriptor_is = says;
       kind = kind;
       names = names;
       count = count;
@@ -89,26 +92,28 @@ parts_found octets descriptor described (Ulong code) (Nested kinds.List count bo
       fit = fit.0;
       means = fit.1;
     }
-parts_found octets descriptor described _ _ meaning None whole says list names e = absurd cc
-parts_found octets descriptor described _ _ meaning (Some kind) whole says list names e = absurd cc
+parts_found octets descriptor described d _ meaning None whole says list names e = absurd cc
+parts_found octets descriptor described d _ meaning (Some _) whole says list names e = absurd cc
 
 said_found : (octets : List ℕ) (part : Part) (meaning : Meaning) → IsValue levels_allowed octets part → said part ≡ Ok meaning → IsPerformative octets meaning
 said_found octets (Described descriptor described) meaning whole e =
     let holds = pair_holds octets descriptor described whole in
     let d = ap (λ (x : Seen). x.part) (value_is descriptor holds.0.says holds.0.is) in
     let v = ap (λ (x : Seen). x.part) (value_is described holds.1.says holds.1.is) in
-    let spoken : described_by (option_and_then kind_of_code (ulong_in holds.0.says)) (option_map parts_of (list_in holds.1.says)) ≡ Ok meaning =
-    ap (λ (p : Part). described_by (option_and_then kind_of_code (ulong_in p)) (option_map parts_of (list_in holds.1.says))) (sym d)
-    ∙ ap (λ (p : Part). described_by (option_and_then kind_of_code (ulong_in (seen_of descriptor).part)) (option_map parts_of (list_in p))) (sym v) ∙ e in
-    parts_found octets descriptor described holds.0.says holds.1.says meaning (option_and_then kind_of_code (ulong_in holds.0.says)) whole holds.0.is holds.1.is refl spoken
+    let spoken : said_of (both_of (descriptor_named holds.0.says) (list_in holds.1.says)) ≡ Ok meaning =
+    ap (λ (p : Part). said_of (both_of (descriptor_named p) (list_in holds.1.says))) (sym d)
+    ∙ ap (λ (p : Part). said_of (both_of (descriptor_named (seen_of descriptor).part) (list_in p))) (sym v) ∙ e in
+    parts_found octets descriptor described holds.0.says holds.1.says meaning (descriptor_named holds.0.says) whole holds.0.is holds.1.is refl spoken
 said_found octets (Tagged descriptor constructor own) meaning whole e = absurd (not_tagged octets descriptor constructor own whole)
 said_found octets _ meaning whole e = absurd cc
 
 said_again : (octets : List ℕ) (meaning : Meaning) (is : IsPerformative octets meaning) → said (Described is.descriptor is.described) ≡ Ok meaning
 said_again octets meaning is =
-    let d : (seen_of is.descriptor).part ≡ Ulong is.code = ap (λ (x : Seen). x.part) (value_is is.descriptor (Ulong is.code) is.says) in
+    let d : (seen_of is.descriptor).part ≡ is.says = ap (λ (x : Seen). x.part) (value_is is.descriptor is.says is.descriptor_is) in
     let v : (seen_of is.described).part ≡ Nested kinds.List is.count is.body = ap (λ (x : Seen). x.part) (value_is is.described (Nested kinds.List is.count is.body) is.list) in
-    rw (d, v, is.names, values_are is.count is.body is.values is.items) (checked_again is.kind (parts_of is.values) is.fit ∙ ap Ok (sym is.means))
+    ap (λ (p : Part). said_of (both_of (descriptor_named p) (list_in (seen_of is.described).part))) d
+    ∙ ap (λ (p : Part). said_of (both_of (descriptor_named is.says) (list_in p))) v
+    ∙ rw (is.names, values_are is.count is.body is.values is.items) (checked_again is.kind is.values is.fit ∙ ap Ok (sym is.means))
 
 -- ---- octets
 
@@ -138,7 +143,7 @@ performative_again bytes meaning rest front =
 
 -- ---- what a function returned
 
-pub is_found : (bytes : List ℕ) (r : Result (Performative × Bor (List ℕ)) PerfFault) → Gives {Y = Meaning × List ℕ} (λ x. (view x.0, x.1.now)) r (performative_at bytes)
+pub is_found : (bytes : List ℕ) (r : Result (performatives.Performative × Bor (List ℕ)) PerfFault) → Gives {Y = Meaning × List ℕ} (λ x. (view x.0, x.1.now)) r (performative_at bytes)
     → IfOk r (λ x. IsFront bytes (view x.0) x.1.now)
 is_found bytes (Ok x) given = performative_found bytes (view x.0, x.1.now) given
 is_found bytes (Err e) given = tt

@@ -1,24 +1,25 @@
--- Which octets are a performative: a list described by its code, whose items fit the table of its fields
+-- Which octets are a performative: a list described by its code or its name, whose items fit the table of its fields
 -- (part 1 of the standard, section 1.4; part 2, section 2.7).
 use Rattle.std.specs.Prelude.{◌≡◌, ℕ, true, false, List, [], ◌∷◌, ◌++◌, Some, ◌⊎◌}
 use Rattle.amqp_types.specs.declared.code.Kind.TheVariants as kinds
-use Rattle.amqp_types.specs.Part.{Part, Seen, Ulong, Nested, Described}
+use Rattle.amqp_types.specs.Part.{Part, Seen, Nested, Described}
 use Rattle.amqp_types.specs.Typed.{says_null}
 use Rattle.amqp_types.specs.Grammar.{IsValue, AreValuesOf}
 use Rattle.amqp_types.specs.Reading.{levels_allowed}
 use Rattle.amqp_perf.specs.declared.table.Field.{Field}
-use Rattle.amqp_perf.specs.declared.table.PerformativeKind.{PerformativeKind}
-use Rattle.amqp_perf.specs.Tables.{kind_of_code, table_of, accepts}
+use Rattle.amqp_perf.specs.declared.descriptor.PerformativeKind.{PerformativeKind}
+use Rattle.amqp_perf.specs.declared.descriptor.Descriptor.TheVariants.{Performative}
+use Rattle.amqp_perf.specs.Descriptors.{descriptor_named}
+use Rattle.amqp_perf.specs.Tables.{table_of, accepts}
 use Rattle.amqp_perf.specs.Meaning.{Meaning, meaning_of}
-use Rattle.amqp_perf.specs.Reading.{parts_of}
 
 -- null stands for an optional field that is absent; any other value has the field's type
-abbrev pub IsField : Field → Part → Type 0
-IsField field part =
-    ((says_null part ≡ true) × (field.is_mandatory ≡ false)) ⊎ ((says_null part ≡ false) × (accepts field.field_type part ≡ true))
+abbrev pub IsField : Field → Seen → Type 0
+IsField field value =
+    ((says_null value.part ≡ true) × (field.is_mandatory ≡ false)) ⊎ ((says_null value.part ≡ false) × (accepts field.field_type value ≡ true))
 
 -- a value for each field in order; those at the end that are not mandatory may be left out, and nothing may follow
-abbrev pub AreFields : List Field → List Part → Type 0
+abbrev pub AreFields : List Field → List Seen → Type 0
 AreFields [] [] = Unit {0}
 AreFields [] (p ∷ ps) = ⊥
 AreFields (f ∷ fs) [] = (f.is_mandatory ≡ false) × AreFields fs []
@@ -28,17 +29,17 @@ pub record IsPerformative (octets : List ℕ) (meaning : Meaning) : Type 0 where
   pub descriptor : List ℕ
   pub described : List ℕ
   pub whole : IsValue levels_allowed octets (Described descriptor described)
-  pub code : ℕ
-  pub says : IsValue levels_allowed descriptor (Ulong code)
+  pub says : Part
+  pub descriptor_is : IsValue levels_allowed descriptor says
   pub kind : PerformativeKind
-  pub names : kind_of_code code ≡ Some kind
+  pub names : descriptor_named says ≡ Some (Performative kind)
   pub count : ℕ
   pub body : List ℕ
   pub list : IsValue levels_allowed described (Nested kinds.List count body)
   pub values : List Seen
   pub items : AreValuesOf count body values
-  pub fit : AreFields (table_of kind) (parts_of values)
-  pub means : meaning ≡ meaning_of kind (parts_of values)
+  pub fit : AreFields (table_of kind) values
+  pub means : meaning ≡ meaning_of kind values
 
 -- a performative at the front of the input, and what stands behind it
 pub record IsFront (bytes : List ℕ) (meaning : Meaning) (rest : List ℕ) : Type 0 where

@@ -1,3 +1,8 @@
+pub mod FieldsLeft
+pub mod Descriptors
+pub mod FieldPlaces
+pub mod Nested
+pub mod NestedViews
 pub mod Tables
 pub mod Fields
 pub mod Meaning

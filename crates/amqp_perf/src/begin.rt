@@ -15,6 +15,8 @@ pub struct Begin {
     pub incoming_window: u32,
     /// How many transfers the sender can send.
     pub outgoing_window: u32,
+    /// The highest handle that the sender takes, where it is a uint.
+    pub handle_max: Option<u32>,
 }
 
 impl Begin {
@@ -27,6 +29,7 @@ impl Begin {
             next_outgoing_id: fields.number(),
             incoming_window: fields.number(),
             outgoing_window: fields.number(),
+            handle_max: fields.uint(),
         }
     }
 }

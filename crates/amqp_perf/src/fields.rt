@@ -1,7 +1,11 @@
-//! The items of a list as the fields of a performative: checked against a table, and taken one after the other.
+//! The items of a list as fields: checked against a table, and taken one after the other.
 
+use crate::attach::{ReceiverSettleMode, Role, SenderSettleMode};
+use crate::descriptor::{Descriptor, described_list};
 use crate::fault::PerfFault;
+use crate::state::State;
 use crate::table::{Field, FieldType};
+use crate::terminus::{Target, Terminus};
 use amqp_types::{Items, Value};
 use std::marker::Model;
 
@@ -13,20 +17,24 @@ pub(crate) struct Fields<'a> {
 
 impl<'a> Model for Fields<'a> {
     ghost use Rattle.std.specs.Prelude.{List};
-    ghost use Rattle.amqp_types.specs.Part.{Part};
-    ghost use Rattle.amqp_perf.specs.View.{fields_left};
+    ghost use Rattle.amqp_types.specs.Part.{Seen};
+    ghost use Rattle.amqp_perf.specs.FieldsLeft.{fields_left};
 
-    ghost Value = { List Part };
+    ghost Value = { List Seen };
 
     ghost view = { λ fields. fields_left fields.items };
 }
 
 impl<'a> Fields<'a> {
-    ghost use Rattle.std.specs.Prelude.{◌≡◌, unwrap_or, false};
+    ghost use Rattle.std.specs.Prelude.{◌≡◌, [], false, unwrap_or, option_map, Some, None, ◌||◌, is_some, if◌then◌else◌};
     ghost use Rattle.std.specs.Option.{option_copied};
-    ghost use Rattle.amqp_types.specs.Typed.{boolean_in, ushort_in, uint_in, binary_in};
-    ghost use Rattle.amqp_perf.specs.Fields.{first, others, first_fault};
-    ghost use Rattle.amqp_perf.specs.View.{part_or_null, fields_left, fault_in};
+    ghost use Rattle.amqp_types.specs.Typed.{says_null, boolean_in, ushort_in, uint_in, ulong_in, binary_in, str_in};
+    ghost use Rattle.amqp_perf.specs.FieldPlaces.{first, others};
+    ghost use Rattle.amqp_perf.specs.FieldsLeft.{fields_left};
+    ghost use Rattle.amqp_perf.specs.Fields.{first_fault};
+    ghost use Rattle.amqp_perf.specs.Nested.{role_of, sender_mode_in, receiver_mode_in, state_in, source_in, target_in, condition_in};
+    ghost use Rattle.amqp_perf.specs.NestedViews.{state_view, terminus_view, target_view};
+    ghost use Rattle.amqp_perf.specs.View.{seen_or_missing, fault_in};
 
     pub(crate) fn new(items: Items<'a>) -> Fields<'a>
         ensures { result ≡ fields_left items.entry }
@@ -35,8 +43,8 @@ impl<'a> Fields<'a> {
     }
 
     /// The next field's value; none where it is missing.
-    fn next(&mut self) -> Option<Value<'a>>
-        ensures value { part_or_null result ≡ first self.old }
+    pub(crate) fn next(&mut self) -> Option<Value<'a>>
+        ensures value { seen_or_missing result ≡ first self.old }
         ensures left { self.new ≡ others self.old }
     {
         self.items.next()
@@ -50,47 +58,127 @@ impl<'a> Fields<'a> {
     }
 
     pub(crate) fn boolean(&mut self) -> Option<bool>
-        ensures value { result ≡ boolean_in (first self.old) }
+        ensures value { result ≡ boolean_in (first self.old).part }
         ensures left { self.new ≡ others self.old }
     {
         self.next()?.as_bool()
     }
 
-    /// A boolean that is false where it is absent.
-    pub(crate) fn flag(&mut self) -> bool
-        ensures value { result ≡ unwrap_or (boolean_in (first self.old)) false }
+    /// A boolean that may be absent; none where the field is of another type.
+    pub(crate) fn checked_boolean(&mut self) -> Option<Option<bool>>
+        ensures value { result ≡ (if says_null (first self.old).part || is_some (boolean_in (first self.old).part)
+            then Some (boolean_in (first self.old).part) else None) }
         ensures left { self.new ≡ others self.old }
     {
-        self.boolean().unwrap_or(false)
+        match self.next() {
+            Some(value) if !value.is_null() => Some(Some(value.as_bool()?)),
+            _ => Some(None),
+        }
     }
 
     pub(crate) fn ushort(&mut self) -> Option<u16>
-        ensures value { result ≡ ushort_in (first self.old) }
+        ensures value { result ≡ ushort_in (first self.old).part }
         ensures left { self.new ≡ others self.old }
     {
         self.next()?.as_ushort()
     }
 
     pub(crate) fn uint(&mut self) -> Option<u32>
-        ensures value { result ≡ uint_in (first self.old) }
+        ensures value { result ≡ uint_in (first self.old).part }
         ensures left { self.new ≡ others self.old }
     {
         self.next()?.as_uint()
     }
 
+    pub(crate) fn ulong(&mut self) -> Option<u64>
+        ensures value { result ≡ ulong_in (first self.old).part }
+        ensures left { self.new ≡ others self.old }
+    {
+        self.next()?.as_ulong()
+    }
+
+    pub(crate) fn binary(&mut self) -> Option<&'a [u8]>
+        ensures value { option_copied result ≡ binary_in (first self.old).part }
+        ensures left { self.new ≡ others self.old }
+    {
+        self.next()?.as_binary()
+    }
+
     /// A mandatory uint, which a check has found.
     pub(crate) fn number(&mut self) -> u32
-        ensures value { result ≡ unwrap_or (uint_in (first self.old)) 0 }
+        ensures value { result ≡ unwrap_or (uint_in (first self.old).part) 0 }
         ensures left { self.new ≡ others self.old }
     {
         self.uint().unwrap_or(0)
     }
 
-    pub(crate) fn binary(&mut self) -> Option<&'a [u8]>
-        ensures value { option_copied result ≡ binary_in (first self.old) }
+    fn text(&mut self) -> Option<&'a str>
+        ensures value { option_copied result ≡ str_in (first self.old).part }
         ensures left { self.new ≡ others self.old }
     {
-        self.next()?.as_binary()
+        self.next()?.as_str()
+    }
+
+    /// A mandatory text, which a check has found.
+    pub(crate) fn mandatory_text(&mut self) -> &'a str
+        ensures value { result.now ≡ unwrap_or (str_in (first self.old).part) [] }
+        ensures left { self.new ≡ others self.old }
+    {
+        self.text().unwrap_or("")
+    }
+
+    /// A mandatory role, which a check has found.
+    pub(crate) fn role(&mut self) -> Role
+        ensures value { result ≡ role_of (unwrap_or (boolean_in (first self.old).part) false) }
+        ensures left { self.new ≡ others self.old }
+    {
+        Role::of(self.boolean().unwrap_or(false))
+    }
+
+    pub(crate) fn sender_mode(&mut self) -> Option<SenderSettleMode>
+        ensures value { result ≡ sender_mode_in (first self.old).part }
+        ensures left { self.new ≡ others self.old }
+    {
+        SenderSettleMode::of(self.next()?.as_ubyte()?)
+    }
+
+    pub(crate) fn receiver_mode(&mut self) -> Option<ReceiverSettleMode>
+        ensures value { result ≡ receiver_mode_in (first self.old).part }
+        ensures left { self.new ≡ others self.old }
+    {
+        ReceiverSettleMode::of(self.next()?.as_ubyte()?)
+    }
+
+    pub(crate) fn state(&mut self) -> Option<State<'a>>
+        ensures value { option_map state_view result ≡ state_in (first self.old) }
+        ensures left { self.new ≡ others self.old }
+    {
+        State::of_value(self.next()?)
+    }
+
+    pub(crate) fn source(&mut self) -> Option<Terminus<'a>>
+        ensures value { option_map terminus_view result ≡ source_in (first self.old) }
+        ensures left { self.new ≡ others self.old }
+    {
+        Terminus::source(self.next()?)
+    }
+
+    pub(crate) fn target(&mut self) -> Option<Target<'a>>
+        ensures value { option_map target_view result ≡ target_in (first self.old) }
+        ensures left { self.new ≡ others self.old }
+    {
+        Target::of_value(self.next()?)
+    }
+
+    /// The condition of an error, where the field is one.
+    pub(crate) fn condition(&mut self) -> Option<&'a str>
+        ensures value { option_copied result ≡ condition_in (first self.old) }
+        ensures left { self.new ≡ others self.old }
+    {
+        match described_list(self.next()?) {
+            Some((Descriptor::Error, items)) => Fields::new(items).next()?.as_symbol(),
+            _ => None,
+        }
     }
 
     /// The fault of the lowest field that does not fit its place in the table.
@@ -107,13 +195,12 @@ impl<'a> Fields<'a> {
 
 impl Field {
     ghost use Rattle.std.specs.Prelude.{◌≡◌};
-    ghost use Rattle.amqp_perf.specs.Tables.{accepts};
     ghost use Rattle.amqp_perf.specs.Fields.{field_fault};
-    ghost use Rattle.amqp_perf.specs.View.{part_or_null, fault_in};
+    ghost use Rattle.amqp_perf.specs.View.{seen_or_missing, fault_in};
 
     /// Whether a value may stand in the field, the n-th of its performative.
     fn check(&self, n: usize, value: Option<Value>) -> Result<(), PerfFault>
-        ensures { fault_in result ≡ field_fault n self.now (part_or_null value.entry) }
+        ensures { fault_in result ≡ field_fault n self.now (seen_or_missing value.entry) }
     {
         match value {
             Some(value) if !value.is_null() => {
@@ -138,7 +225,7 @@ impl FieldType {
 
     /// Whether a value that is not null has this type.
     fn accepts(self, value: Value) -> bool
-        ensures { result ≡ accepts self (view value.entry).part }
+        ensures { result ≡ accepts self (view value.entry) }
     {
         match self {
             FieldType::Any => true,
@@ -146,6 +233,12 @@ impl FieldType {
             FieldType::Ushort => value.as_ushort().is_some(),
             FieldType::Uint => value.as_uint().is_some(),
             FieldType::Binary => value.as_binary().is_some(),
+            FieldType::Str => value.as_str().is_some(),
+            FieldType::SenderMode => value.as_ubyte().and_then(SenderSettleMode::of).is_some(),
+            FieldType::ReceiverMode => value.as_ubyte().and_then(ReceiverSettleMode::of).is_some(),
+            FieldType::State => State::of_value(value).is_some(),
+            FieldType::Source => Terminus::source(value).is_some(),
+            FieldType::Target => Target::of_value(value).is_some(),
         }
     }
 }

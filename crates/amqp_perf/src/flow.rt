@@ -1,9 +1,6 @@
 //! What a flow says: the sender's ids and windows for its session, and for one link its credit (part 2, section
 //! 2.7.4).
 
-ghost use Rattle.std.specs.Prelude.{◌≡◌};
-ghost use Rattle.amqp_perf.specs.Meaning.{flow_of};
-
 use crate::fields::Fields;
 
 #[derive(Clone, Copy, Debug, PartialEq, Eq)]
@@ -23,12 +20,15 @@ pub struct Flow {
     /// How many more deliveries may begin from that count on.
     pub link_credit: Option<u32>,
     /// Credit that cannot be used is to be given up.
-    pub drain: bool,
+    pub drain: Option<bool>,
     /// An answer is wanted.
-    pub echo: bool,
+    pub echo: Option<bool>,
 }
 
 impl Flow {
+    ghost use Rattle.std.specs.Prelude.{◌≡◌};
+    ghost use Rattle.amqp_perf.specs.Meaning.{flow_of, flag};
+
     /// From fields that fit the table of a flow.
     pub(crate) fn of_fields(mut fields: Fields) -> Flow
         ensures { result ≡ flow_of fields.entry }
@@ -41,8 +41,8 @@ impl Flow {
         let delivery_count = fields.uint();
         let link_credit = fields.uint();
         fields.pass_over();
-        let drain = fields.flag();
-        let echo = fields.flag();
+        let drain = fields.boolean();
+        let echo = fields.boolean();
         Flow {
             next_incoming_id,
             incoming_window,
@@ -54,5 +54,19 @@ impl Flow {
             drain,
             echo,
         }
+    }
+
+    /// Whether credit that cannot be used is to be given up: not where the flow doesn't say.
+    pub fn drains(&self) -> bool
+        ensures { result ≡ flag self.now.drain }
+    {
+        self.drain.unwrap_or(false)
+    }
+
+    /// Whether an answer is wanted: not where the flow doesn't say.
+    pub fn wants_echo(&self) -> bool
+        ensures { result ≡ flag self.now.echo }
+    {
+        self.echo.unwrap_or(false)
     }
 }

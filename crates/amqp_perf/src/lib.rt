@@ -1,29 +1,48 @@
 //! Performatives (part 2 of the standard, section 2.7): what a frame's body says. `Performative::read` is `Ok`
-//! exactly where the octets begin with a list that is described by a performative's code and whose items fit the
-//! table of its fields; it then gives these fields, with the standard's defaults, and the octets behind it. Else
-//! it gives the first fault, in the order of `PerfFault`. It takes no memory. Begin, flow, transfer, end and close
-//! are known so far, by the code of their descriptor.
+//! exactly where the octets begin with a list that is described as a performative, by its code or by its name, and
+//! whose items fit the table of its fields; it then gives these fields and the octets behind it. Else it gives the
+//! first fault, in the order of `PerfFault`. It takes no memory. A field that is absent is `None`; methods apply
+//! the standard's defaults.
 //!
 //! - `fault`: what can be wrong;
+//! - `descriptor`: what a descriptor names;
 //! - `table`: the fields of each performative, in the standard's order;
 //! - `fields`: a list's items, taken and checked as such fields;
-//! - `begin`, `flow`, `transfer`: what each says; an end and a close say nothing but their kind;
+//! - `state`, `terminus`: what is nested in a disposition and in an attach;
+//! - `opening`, `begin`, `attach`, `flow`, `transfer`, `disposition`, `detach`: what each says; an end and a close
+//!   say their error alone;
 //! - `performative`: reading.
 #![tactic(auto)]
 
+mod attach;
 mod begin;
+mod descriptor;
+mod detach;
+mod disposition;
 mod fault;
 mod fields;
 mod flow;
+mod opening;
 mod performative;
+mod state;
 mod table;
+mod terminus;
 mod transfer;
 
+pub use attach::{Attach, ReceiverSettleMode, Role, SenderSettleMode};
 pub use begin::Begin;
+pub use descriptor::Outcome;
+pub use detach::Detach;
+pub use disposition::Disposition;
 pub use fault::PerfFault;
 pub use flow::Flow;
+pub use opening::Open;
 pub use performative::Performative;
+pub use state::State;
+pub use terminus::{Address, Target, Terminus};
 pub use transfer::Transfer;
 
 #[cfg(test)]
 mod tests;
+#[cfg(test)]
+mod tests_nested;

@@ -1,28 +1,40 @@
 //! Reading a performative.
 
+use crate::attach::Attach;
 use crate::begin::Begin;
+use crate::descriptor::{Descriptor, PerformativeKind, described_list};
+use crate::detach::Detach;
+use crate::disposition::Disposition;
 use crate::fault::PerfFault;
 use crate::fields::Fields;
 use crate::flow::Flow;
-use crate::table::{PerformativeKind, kind_of, table};
+use crate::opening::Open;
+use crate::table::table;
 use crate::transfer::Transfer;
-use amqp_types::{Items, Value};
+use amqp_types::Value;
 
 /// What a frame's body says.
 #[derive(Clone, Copy, Debug, PartialEq, Eq)]
 pub enum Performative<'a> {
+    Open(Open<'a>),
     Begin(Begin),
+    Attach(Attach<'a>),
     Flow(Flow),
     Transfer(Transfer<'a>),
-    End,
-    Close,
+    Disposition(Disposition<'a>),
+    Detach(Detach<'a>),
+    /// The end of a session, with the condition of its error.
+    End(Option<&'a str>),
+    /// The end of a connection, with the condition of its error.
+    Close(Option<&'a str>),
 }
 
 impl<'a> Performative<'a> {
     ghost use Rattle.std.specs.Prelude.{◌≡◌, ◌++◌, List, ℕ, IfOk, Ok};
     ghost use Rattle.amqp_types.specs.View as values;
-    ghost use Rattle.amqp_perf.specs.Meaning.{Meaning, meaning_of};
-    ghost use Rattle.amqp_perf.specs.Reading.{Gives, performative_at, said, kind_named, fields_in};
+    ghost use Rattle.std.specs.Option.{option_copied};
+    ghost use Rattle.amqp_perf.specs.Meaning.{Meaning, meaning_of, state_octets};
+    ghost use Rattle.amqp_perf.specs.Reading.{Gives, performative_at, said};
     ghost use Rattle.amqp_perf.specs.Grammar.{IsFront};
     ghost use Rattle.amqp_perf.specs.View.{view};
 
@@ -57,7 +69,7 @@ impl<'a> Performative<'a> {
     fn of_value(value: Value<'a>) -> Result<Performative<'a>, PerfFault>
         ensures { Gives view result (said (values.view value.entry).part) }
     {
-        let (Some(kind), Some(items)) = (named_kind(value), described_items(value)) else {
+        let Some((Descriptor::Performative(kind), items)) = described_list(value) else {
             return Err(PerfFault::NotPerformative);
         };
         let table = table(kind);
@@ -69,34 +81,31 @@ impl<'a> Performative<'a> {
     }
 
     /// From fields that fit the table of this kind.
-    fn of_fields(kind: PerformativeKind, fields: Fields<'a>) -> Performative<'a>
+    fn of_fields(kind: PerformativeKind, mut fields: Fields<'a>) -> Performative<'a>
         ensures { view result ≡ meaning_of kind fields.entry }
     {
         match kind {
+            PerformativeKind::Open => Performative::Open(Open::of_fields(fields)),
             PerformativeKind::Begin => Performative::Begin(Begin::of_fields(fields)),
+            PerformativeKind::Attach => Performative::Attach(Attach::of_fields(fields)),
             PerformativeKind::Flow => Performative::Flow(Flow::of_fields(fields)),
             PerformativeKind::Transfer => Performative::Transfer(Transfer::of_fields(fields)),
-            PerformativeKind::End => Performative::End,
-            PerformativeKind::Close => Performative::Close,
+            PerformativeKind::Disposition => {
+                Performative::Disposition(Disposition::of_fields(fields))
+            }
+            PerformativeKind::Detach => Performative::Detach(Detach::of_fields(fields)),
+            PerformativeKind::End => Performative::End(fields.condition()),
+            PerformativeKind::Close => Performative::Close(fields.condition()),
         }
     }
-}
 
-ghost use Rattle.std.specs.Prelude.{◌≡◌, option_map};
-ghost use Rattle.amqp_types.specs.View as values;
-ghost use Rattle.amqp_perf.specs.Reading.{kind_named, fields_in};
-ghost use Rattle.amqp_perf.specs.View.{fields_left};
-
-/// The performative that the value's descriptor names.
-fn named_kind(value: Value) -> Option<PerformativeKind>
-    ensures { result ≡ kind_named (values.view value.entry).part }
-{
-    kind_of(value.descriptor()?.as_ulong()?)
-}
-
-/// The items of a described list.
-fn described_items(value: Value<'_>) -> Option<Items<'_>>
-    ensures { option_map fields_left result ≡ fields_in (values.view value.entry).part }
-{
-    value.described()?.as_list()
+    /// The octets of the state that a disposition tells.
+    pub fn state_raw(&self) -> Option<&'a [u8]>
+        ensures { option_copied result ≡ state_octets (view self.now) }
+    {
+        match self {
+            Performative::Disposition(disposition) => Some(disposition.state?.raw()),
+            _ => None,
+        }
+    }
 }

@@ -1,17 +1,9 @@
 //! The fields of each performative, in the order of the standard (part 2, section 2.7).
 
 ghost use Rattle.std.specs.Prelude.{◌≡◌};
-ghost use Rattle.amqp_perf.specs.Tables.{kind_of_code, table_of};
+ghost use Rattle.amqp_perf.specs.Tables.{table_of};
 
-/// The performatives that are known.
-#[derive(Clone, Copy, Debug, PartialEq, Eq)]
-pub enum PerformativeKind {
-    Begin,
-    Flow,
-    Transfer,
-    End,
-    Close,
-}
+use crate::descriptor::PerformativeKind;
 
 /// What a field holds. One of `Any` is passed over.
 #[derive(Clone, Copy, Debug, PartialEq, Eq)]
@@ -21,6 +13,16 @@ pub enum FieldType {
     Ushort,
     Uint,
     Binary,
+    Str,
+    /// An ubyte from 0 to 2.
+    SenderMode,
+    /// An ubyte of 0 or 1.
+    ReceiverMode,
+    /// A described value.
+    State,
+    Source,
+    /// A target or a coordinator.
+    Target,
 }
 
 #[derive(Clone, Copy, Debug, PartialEq, Eq)]
@@ -54,10 +56,49 @@ const BINARY: Field = Field {
     field_type: FieldType::Binary,
 };
 
+const SENDER_MODE: Field = Field {
+    is_mandatory: false,
+    field_type: FieldType::SenderMode,
+};
+
+const RECEIVER_MODE: Field = Field {
+    is_mandatory: false,
+    field_type: FieldType::ReceiverMode,
+};
+
+const STATE: Field = Field {
+    is_mandatory: false,
+    field_type: FieldType::State,
+};
+
+const SOURCE: Field = Field {
+    is_mandatory: false,
+    field_type: FieldType::Source,
+};
+
+const TARGET: Field = Field {
+    is_mandatory: false,
+    field_type: FieldType::Target,
+};
+
+const MANDATORY_BOOLEAN: Field = Field {
+    is_mandatory: true,
+    field_type: FieldType::Boolean,
+};
+
 const MANDATORY_UINT: Field = Field {
     is_mandatory: true,
     field_type: FieldType::Uint,
 };
+
+const MANDATORY_STR: Field = Field {
+    is_mandatory: true,
+    field_type: FieldType::Str,
+};
+
+/// container-id, hostname, max-frame-size, channel-max, idle-time-out, outgoing-locales, incoming-locales,
+/// offered-capabilities, desired-capabilities, properties.
+static OPEN: [Field; 10] = [MANDATORY_STR, ANY, UINT, ANY, UINT, ANY, ANY, ANY, ANY, ANY];
 
 /// remote-channel, next-outgoing-id, incoming-window, outgoing-window, handle-max, offered-capabilities,
 /// desired-capabilities, properties.
@@ -66,6 +107,25 @@ static BEGIN: [Field; 8] = [
     MANDATORY_UINT,
     MANDATORY_UINT,
     MANDATORY_UINT,
+    ANY,
+    ANY,
+    ANY,
+    ANY,
+];
+
+/// name, handle, role, snd-settle-mode, rcv-settle-mode, source, target, unsettled, incomplete-unsettled,
+/// initial-delivery-count, max-message-size, offered-capabilities, desired-capabilities, properties.
+static ATTACH: [Field; 14] = [
+    MANDATORY_STR,
+    MANDATORY_UINT,
+    MANDATORY_BOOLEAN,
+    SENDER_MODE,
+    RECEIVER_MODE,
+    SOURCE,
+    TARGET,
+    ANY,
+    ANY,
+    UINT,
     ANY,
     ANY,
     ANY,
@@ -104,34 +164,30 @@ static TRANSFER: [Field; 11] = [
     ANY,
 ];
 
+/// role, first, last, settled, state, batchable.
+static DISPOSITION: [Field; 6] = [MANDATORY_BOOLEAN, MANDATORY_UINT, UINT, BOOLEAN, STATE, ANY];
+
+/// handle, closed, error.
+static DETACH: [Field; 3] = [MANDATORY_UINT, BOOLEAN, ANY];
+
 /// error.
 static END: [Field; 1] = [ANY];
 
 /// error.
 static CLOSE: [Field; 1] = [ANY];
 
-/// The performative that a descriptor's code names.
-pub(crate) fn kind_of(code: u64) -> Option<PerformativeKind>
-    ensures { result ≡ kind_of_code code }
-{
-    match code {
-        0x11 => Some(PerformativeKind::Begin),
-        0x13 => Some(PerformativeKind::Flow),
-        0x14 => Some(PerformativeKind::Transfer),
-        0x17 => Some(PerformativeKind::End),
-        0x18 => Some(PerformativeKind::Close),
-        _ => None,
-    }
-}
-
 /// The fields that a performative of this kind may have.
 pub(crate) fn table(kind: PerformativeKind) -> &'static [Field]
     ensures { result.now ≡ table_of kind }
 {
     match kind {
+        PerformativeKind::Open => &OPEN,
         PerformativeKind::Begin => &BEGIN,
+        PerformativeKind::Attach => &ATTACH,
         PerformativeKind::Flow => &FLOW,
         PerformativeKind::Transfer => &TRANSFER,
+        PerformativeKind::Disposition => &DISPOSITION,
+        PerformativeKind::Detach => &DETACH,
         PerformativeKind::End => &END,
         PerformativeKind::Close => &CLOSE,
     }

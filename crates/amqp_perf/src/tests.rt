@@ -13,6 +13,7 @@ fn a_begin_of_a_client_and_of_the_router(rt: HostRuntime) {
         next_outgoing_id: 0,
         incoming_window: 100,
         outgoing_window: 100,
+        handle_max: None,
     };
     let wanted = Performative::Begin(begin);
     assert!(rt; matches!(Performative::read(&client), Ok((read, [])) if read == wanted));
@@ -26,6 +27,7 @@ fn a_begin_of_a_client_and_of_the_router(rt: HostRuntime) {
         next_outgoing_id: 0,
         incoming_window: 2048,
         outgoing_window: 2147483647,
+        handle_max: Some(1023),
     };
     let wanted = Performative::Begin(begin);
     assert!(rt; matches!(Performative::read(&router), Ok((read, [])) if read == wanted));
@@ -45,9 +47,10 @@ fn a_flow_that_drains(rt: HostRuntime) {
         handle: Some(0),
         delivery_count: Some(5),
         link_credit: Some(0),
-        drain: true,
-        echo: false,
+        drain: Some(true),
+        echo: None,
     };
+    assert!(rt; flow.drains() && !flow.wants_echo());
     let wanted = Performative::Flow(flow);
     assert!(rt; matches!(Performative::read(&octets), Ok((read, [])) if read == wanted));
 }
@@ -64,7 +67,8 @@ fn a_transfer_in_front_of_its_payload(rt: HostRuntime) {
             assert_eq!(rt; transfer.delivery_tag, Some(b"1".as_slice()));
             assert_eq!(rt; transfer.message_format, Some(0));
             assert_eq!(rt; transfer.settled, Some(false));
-            assert!(rt; !transfer.more && !transfer.resume && !transfer.aborted);
+            assert!(rt; transfer.more.is_none() && !transfer.has_more());
+            assert!(rt; !transfer.is_resumed() && !transfer.is_aborted());
             assert_eq!(rt;
                 payload,
                 [0x00, 0x53, 0x77, 0xA1, 0x02, 0x68, 0x69].as_slice()
@@ -77,13 +81,18 @@ fn a_transfer_in_front_of_its_payload(rt: HostRuntime) {
 #[test]
 fn an_end_and_a_close_with_an_error(rt: HostRuntime) {
     let end = [0x00, 0x53, 0x17, 0x45];
-    assert!(rt; matches!(Performative::read(&end), Ok((Performative::End, []))));
+    assert!(rt; matches!(Performative::read(&end), Ok((Performative::End(None), []))));
     let close = [
         0x00, 0x53, 0x18, 0xC0, 0x1B, 0x01, 0x00, 0x53, 0x1D, 0xC0, 0x15, 0x01, 0xA3, 0x12, 0x61,
         0x6D, 0x71, 0x70, 0x3A, 0x69, 0x6E, 0x76, 0x61, 0x6C, 0x69, 0x64, 0x2D, 0x66, 0x69, 0x65,
         0x6C, 0x64,
     ];
-    assert!(rt; matches!(Performative::read(&close), Ok((Performative::Close, []))));
+    assert!(rt;
+        matches!(
+            Performative::read(&close),
+            Ok((Performative::Close(Some("amqp:invalid-field")), []))
+        )
+    );
 }
 
 #[test]

@@ -1,8 +1,5 @@
 //! What a transfer says of the part of a delivery that stands behind it (part 2, section 2.7.5).
 
-ghost use Rattle.std.specs.Prelude.{◌≡◌};
-ghost use Rattle.amqp_perf.specs.Meaning.{transfer_of};
-
 use crate::fields::Fields;
 
 #[derive(Clone, Copy, Debug, PartialEq, Eq)]
@@ -18,14 +15,16 @@ pub struct Transfer<'a> {
     /// The delivery is settled by its sender.
     pub settled: Option<bool>,
     /// Another part follows.
-    pub more: bool,
+    pub more: Option<bool>,
     /// The delivery was begun on an earlier link of this name.
-    pub resume: bool,
+    pub resume: Option<bool>,
     /// The delivery is given up, and this is its last part.
-    pub aborted: bool,
+    pub aborted: Option<bool>,
 }
 
 impl<'a> Transfer<'a> {
+    ghost use Rattle.std.specs.Prelude.{◌≡◌};
+    ghost use Rattle.amqp_perf.specs.Meaning.{transfer_of, flag};
     ghost use Rattle.amqp_perf.specs.View.{transfer_fields};
 
     /// From fields that fit the table of a transfer.
@@ -37,11 +36,11 @@ impl<'a> Transfer<'a> {
         let delivery_tag = fields.binary();
         let message_format = fields.uint();
         let settled = fields.boolean();
-        let more = fields.flag();
+        let more = fields.boolean();
         fields.pass_over();
         fields.pass_over();
-        let resume = fields.flag();
-        let aborted = fields.flag();
+        let resume = fields.boolean();
+        let aborted = fields.boolean();
         Transfer {
             handle,
             delivery_id,
@@ -52,5 +51,26 @@ impl<'a> Transfer<'a> {
             resume,
             aborted,
         }
+    }
+
+    /// Whether another part follows: not where the transfer doesn't say.
+    pub fn has_more(&self) -> bool
+        ensures { result ≡ flag self.now.more }
+    {
+        self.more.unwrap_or(false)
+    }
+
+    /// Whether the delivery was begun on an earlier link: not where the transfer doesn't say.
+    pub fn is_resumed(&self) -> bool
+        ensures { result ≡ flag self.now.resume }
+    {
+        self.resume.unwrap_or(false)
+    }
+
+    /// Whether the delivery is given up: not where the transfer doesn't say.
+    pub fn is_aborted(&self) -> bool
+        ensures { result ≡ flag self.now.aborted }
+    {
+        self.aborted.unwrap_or(false)
     }
 }

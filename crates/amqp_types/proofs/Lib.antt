@@ -12,3 +12,6 @@ pub mod Loop
 pub mod Levels
 pub mod Front
 pub mod Nested
+pub mod Shortest
+pub mod Written
+mod WrittenExamples

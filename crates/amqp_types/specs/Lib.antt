@@ -7,3 +7,4 @@ pub mod Form
 pub mod View
 pub mod Grammar
 pub mod Typed
+pub mod Writing

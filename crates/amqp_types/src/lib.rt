@@ -1,4 +1,5 @@
-//! Values of AMQP 1.0, read from octets that lie in memory, with no memory of their own.
+//! Values of AMQP 1.0, read from octets that lie in memory, with no memory of their own, and written
+//! in their shortest form.
 //!
 //! `Value::read` takes the value at the front of any octets. What it takes is a value of the
 //! standard's grammar, and wherever a front of the input is one, it takes exactly that front: so no
@@ -8,7 +9,7 @@
 //! were read with the value that holds them: to take them out cannot fail.
 //!
 //! Reading order: `fault`, `code`, `value`, `sequence`, `constructor`, `described`, `primitive`,
-//! `reading`.
+//! `reading`, `writing`.
 #![tactic(auto)]
 
 mod code;
@@ -19,14 +20,22 @@ mod primitive;
 mod reading;
 mod sequence;
 mod value;
+mod writing;
 
 pub use code::{Kind, Opaque, Text};
 pub use fault::{ValueFault, ValueFaultKind};
 pub use sequence::Items;
 pub use value::Value;
+pub use writing::{
+    put_binary, put_bool, put_described_list, put_list, put_null, put_str, put_symbol, put_ubyte,
+    put_uint, put_ulong, put_ushort,
+};
 
 #[cfg(test)]
 mod tests;
 
 #[cfg(test)]
-mod nested_tests;
+mod tests_nested;
+
+#[cfg(test)]
+mod tests_writing;

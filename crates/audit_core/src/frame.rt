@@ -84,14 +84,14 @@ impl<'a> Spoken<'a> {
     pub(crate) fn is_end_on(&self, channel: u16) -> bool
         ensures { result ≡ says_on channel is_end (Some (spoken_view self.now)) }
     {
-        matches!(self.performative, Performative::End) && self.channel == channel
+        matches!(self.performative, Performative::End(_)) && self.channel == channel
     }
 
     /// Whether it is a close.
     pub(crate) fn is_close(&self) -> bool
         ensures { result ≡ says is_close (Some (spoken_view self.now)) }
     {
-        matches!(self.performative, Performative::Close)
+        matches!(self.performative, Performative::Close(_))
     }
 
     /// Whether it is a transfer with a delivery-id.

@@ -1,2 +1,5 @@
 pub mod Serial
 pub mod Window
+pub mod GivenWindow
+pub mod Credit
+pub mod GivenCredit

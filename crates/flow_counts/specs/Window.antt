@@ -3,23 +3,26 @@
 use Rattle.std.specs.Prelude.{ℕ, suc, ◌-◌, List, [], ◌∷◌, Option, unwrap_or}
 use Rattle.flow_counts.specs.Serial.{serial_add, serial_sub}
 
--- What moves the window: a flow from the client, with the id that it expects next, where it knows one, and its
--- incoming-window; a transfer that is sent to it.
+-- What moves the windows of a session: a flow from the client, with the id that it expects next, where it knows one,
+-- and its incoming-window; a transfer that is sent to it; a flow to the client; a transfer that is received from it.
 pub data WindowEvent : Type 0 where
   TheirFlow : Option ℕ → ℕ → WindowEvent
   Sent : WindowEvent
+  OurFlow : WindowEvent
+  Received : WindowEvent
 
 -- how many transfers were sent
 abbrev pub sent_count : List WindowEvent → ℕ
 sent_count [] = 0
 sent_count (Sent ∷ past) = suc (sent_count past)
-sent_count (TheirFlow expected window ∷ past) = sent_count past
+sent_count (_ ∷ past) = sent_count past
 
 -- how many were sent since the client's last flow, or since the begin
 abbrev pub sent_since_flow : List WindowEvent → ℕ
 sent_since_flow [] = 0
 sent_since_flow (Sent ∷ past) = suc (sent_since_flow past)
 sent_since_flow (TheirFlow expected window ∷ past) = 0
+sent_since_flow (_ ∷ past) = sent_since_flow past
 
 -- the id of the next transfer, where the first one's is `first`
 abbrev pub next_id : ℕ → List WindowEvent → ℕ
@@ -33,8 +36,8 @@ lag first next expected = serial_sub next (unwrap_or expected first)
 -- window of its begin
 abbrev pub granted_window : ℕ → ℕ → List WindowEvent → ℕ
 granted_window first begun [] = begun
-granted_window first begun (Sent ∷ past) = granted_window first begun past
 granted_window first begun (TheirFlow expected window ∷ past) = window - lag first (next_id first past) expected
+granted_window first begun (_ ∷ past) = granted_window first begun past
 
 -- how many transfers may still be sent
 abbrev pub window : ℕ → ℕ → List WindowEvent → ℕ

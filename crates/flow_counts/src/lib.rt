@@ -1,2 +1,3 @@
-//! Counts over the events of one session: definitions alone, in `specs/`, which every crate with a counter stands on.
+//! Counts over the own events of one session or link: definitions alone, in `specs/`, which every crate with a counter
+//! stands on.
 #![tactic(auto)]

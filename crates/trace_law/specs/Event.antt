@@ -51,11 +51,11 @@ as_transfer (ATransfer transfer) = Some transfer
 as_transfer _ = None
 
 abbrev pub is_end : Meaning → Bool
-is_end AnEnd = true
+is_end (AnEnd error) = true
 is_end _ = false
 
 abbrev pub is_close : Meaning → Bool
-is_close AClose = true
+is_close (AClose error) = true
 is_close _ = false
 
 -- ---- where they stand

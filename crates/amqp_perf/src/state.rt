@@ -1,0 +1,47 @@
+//! The state of a delivery, as a disposition tells it (part 2, section 2.8.7; part 3, section 3.4).
+
+use crate::descriptor::{Descriptor, Outcome, described_list};
+use amqp_types::Value;
+
+/// A described value that says how a delivery stands.
+#[derive(Clone, Copy, Debug, PartialEq, Eq)]
+pub struct State<'a> {
+    pub(crate) raw: &'a [u8],
+    pub(crate) outcome: Option<Outcome>,
+}
+
+impl<'a> State<'a> {
+    ghost use Rattle.std.specs.Prelude.{◌≡◌, option_map, is_some};
+    ghost use Rattle.amqp_types.specs.View.{view};
+    ghost use Rattle.amqp_perf.specs.Nested.{state_in};
+    ghost use Rattle.amqp_perf.specs.NestedViews.{state_view};
+
+    /// The state that a value is, if it is described.
+    pub(crate) fn of_value(value: Value<'a>) -> Option<State<'a>>
+        ensures { option_map state_view result ≡ state_in (view value.entry) }
+    {
+        value.descriptor()?;
+        let outcome = match described_list(value) {
+            Some((Descriptor::Outcome(outcome), _)) => Some(outcome),
+            _ => None,
+        };
+        Some(State {
+            raw: value.raw(),
+            outcome,
+        })
+    }
+
+    /// The octets of the state.
+    pub fn raw(&self) -> &'a [u8]
+        ensures { result.now ≡ (state_view self.now).octets }
+    {
+        self.raw
+    }
+
+    /// The outcome that the state is. Without one it isn't terminal.
+    pub fn outcome(&self) -> Option<Outcome>
+        ensures { result ≡ (state_view self.now).outcome }
+    {
+        self.outcome
+    }
+}

@@ -1,0 +1,3 @@
+pub mod Order
+pub mod Consumed
+pub mod Produced

@@ -1,0 +1,4 @@
+pub mod SenderCounts
+pub mod GivenCounts
+pub mod ConsumerHistory
+pub mod ProducerHistory

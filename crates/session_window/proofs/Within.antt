@@ -1,0 +1,57 @@
+-- What it means that each transfer had room.
+use Rattle.std.proofs.Common.{◌≡◌, ◌∙◌, sym, ap, subst, ℕ, ◌+◌, ◌<◌, IsTrue, List, [], ◌∷◌, ◌++◌, length, take, drop, get_or, arith, refl}
+use Rattle.std.proofs.Math.ListN.{take-append-drop}
+use Rattle.std.proofs.lemmas.Bool.{and_parts, and_from, ltb-true}
+use Rattle.std.proofs.lemmas.List.{reverse-append, map-append}
+use Rattle.flow_counts.specs.Window.{WindowEvent, TheirFlow, Sent, OurFlow, Received}
+use Rattle.session_window.specs.declared.history.SessionEvent.{SessionEvent}
+use Rattle.session_window.specs.Counters.{Opening, remote_window, given_left}
+use Rattle.session_window.specs.History.{event_view, past_of, has_room, stays_within, IsWithinWindows}
+use Rattle.session_window.proofs.Order.{past_of-none, past_of-next, past_of-all}
+
+-- the event in front had room, and those behind it stay within
+pub room_in_front : (begun : Opening) (event : WindowEvent) (past : List WindowEvent) → IsTrue (stays_within begun (event ∷ past)) → IsTrue (has_room begun past event)
+room_in_front begun event past h = (and_parts (has_room begun past event) (stays_within begun past) h).0
+
+pub within_behind : (begun : Opening) (event : WindowEvent) (past : List WindowEvent) → IsTrue (stays_within begun (event ∷ past)) → IsTrue (stays_within begun past)
+within_behind begun event past h = (and_parts (has_room begun past event) (stays_within begun past) h).1
+
+-- where each transfer had room, no window is overrun
+pub within_windows : (begun : Opening) (past : List WindowEvent) → IsTrue (stays_within begun past) → IsWithinWindows begun past
+within_windows begun [] h = record { sent = omega arith; received = omega arith }
+within_windows begun (TheirFlow expected window ∷ past) h =
+    let earlier = within_windows begun past (within_behind begun (TheirFlow expected window) past h) in record { sent = omega arith; received = earlier.received }
+within_windows begun (OurFlow ∷ past) h =
+    let earlier = within_windows begun past (within_behind begun OurFlow past h) in record { sent = earlier.sent; received = omega arith }
+within_windows begun (Sent ∷ past) h =
+    let earlier = within_windows begun past (within_behind begun Sent past h) in
+    let room : 0 < remote_window begun past = ltb-true 0 (remote_window begun past) (room_in_front begun Sent past h) in record { sent = omega arith; received = earlier.received }
+within_windows begun (Received ∷ past) h =
+    let earlier = within_windows begun past (within_behind begun Received past h) in
+    let room : 0 < given_left begun past = ltb-true 0 (given_left begun past) (room_in_front begun Received past h) in record { sent = earlier.sent; received = omega arith }
+
+-- what stays within does so up to each event
+within_before : (begun : Opening) (later past : List WindowEvent) → IsTrue (stays_within begun (later ++ past)) → IsTrue (stays_within begun past)
+within_before begun [] past h = h
+within_before begun (event ∷ later) past h = within_before begun later past (within_behind begun event (later ++ past) h)
+
+past_of-split : (events : List SessionEvent) (i : ℕ) → past_of events ≡ past_of (drop i events) ++ past_of (take i events)
+unfolding past_of
+past_of-split events i =
+    ap past_of (sym (take-append-drop i events)) ∙ rw (map-append event_view (take i events) (drop i events), reverse-append) refl
+
+-- where all stay within, the event at each place had room
+pub room_at : (begun : Opening) (events : List SessionEvent) (i : ℕ) (d : SessionEvent) → i < length events → IsTrue (stays_within begun (past_of events))
+    → IsTrue (has_room begun (past_of (take i events)) (event_view (get_or events i d)))
+room_at begun events i d lt h =
+    let all : IsTrue (stays_within begun (past_of (drop (i + 1) events) ++ past_of (take (i + 1) events))) = subst (λ p. IsTrue (stays_within begun p)) (past_of-split events (i + 1)) h in
+    let upto = within_before begun (past_of (drop (i + 1) events)) (past_of (take (i + 1) events)) all in
+    room_in_front begun (event_view (get_or events i d)) (past_of (take i events)) (subst (λ p. IsTrue (stays_within begun p)) (past_of-next events i d lt) upto)
+
+-- one event further
+pub within_next : (begun : Opening) (events : List SessionEvent) (i : ℕ) (d : SessionEvent) → i < length events
+    → IsTrue (has_room begun (past_of (take i events)) (event_view (get_or events i d))) → IsTrue (stays_within begun (past_of (take i events)))
+    → IsTrue (stays_within begun (past_of (take (i + 1) events)))
+within_next begun events i d lt room earlier = rw (past_of-next events i d lt) (and_from _ _ room earlier)
+
+pub ruleset within = (past_of-none, past_of-next, past_of-all, room_at, within_next, within_windows)
