@@ -1,5 +1,5 @@
 -- The descriptors of performatives and of what is nested in them (part 2, sections 2.7 and 2.8; part 3; part 4).
-use Rattle.std.specs.Prelude.{ℕ, List, Option, Some, None, option_map, option_and_then, codes, ◌==◌, if◌then◌else◌}
+use Rattle.std.specs.Prelude.{ℕ, List, Option, Some, None, option_and_then, codes, ◌==◌, if◌then◌else◌}
 use Rattle.std.specs.Str.{bytes_eq}
 use Rattle.amqp_types.specs.Part.{Part, Seen}
 use Rattle.amqp_types.specs.Items.{descriptor_of, described_of}
@@ -51,6 +51,7 @@ descriptor_of_name name =
     if bytes_eq name (codes "amqp:target:list") then Some Target else
     if bytes_eq name (codes "amqp:coordinator:list") then Some Coordinator else None
 
+-- what a descriptor names by its code, or else by its name
 abbrev pub descriptor_by : Option ℕ → Option (List ℕ) → Option Descriptor
 descriptor_by (Some code) name = descriptor_of_code code
 descriptor_by None name = option_and_then descriptor_of_name name
@@ -59,6 +60,7 @@ descriptor_by None name = option_and_then descriptor_of_name name
 abbrev pub descriptor_named : Part → Option Descriptor
 descriptor_named part = descriptor_by (ulong_in part) (symbol_in part)
 
+-- a descriptor and some fields, where both are there
 abbrev pub both_of : Option Descriptor → Option (List Seen) → Option (Descriptor × List Seen)
 both_of (Some descriptor) (Some fields) = Some (descriptor, fields)
 both_of (Some descriptor) None = None

@@ -14,6 +14,7 @@ field_fault n field value =
     if says_null value.part then (if field.is_mandatory then Some (MissingField n) else None)
     else (if accepts field.field_type value then None else Some (WrongType n))
 
+-- the first of two faults
 abbrev pub or_else : Option PerfFault → Option PerfFault → Option PerfFault
 or_else (Some fault) later = Some fault
 or_else None later = later

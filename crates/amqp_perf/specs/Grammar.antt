@@ -25,6 +25,7 @@ AreFields [] (p ∷ ps) = ⊥
 AreFields (f ∷ fs) [] = (f.is_mandatory ≡ false) × AreFields fs []
 AreFields (f ∷ fs) (p ∷ ps) = IsField f p × AreFields fs ps
 
+-- a performative, and what it says
 pub record IsPerformative (octets : List ℕ) (meaning : Meaning) : Type 0 where
   pub descriptor : List ℕ
   pub described : List ℕ

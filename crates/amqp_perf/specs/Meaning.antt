@@ -58,6 +58,7 @@ pub record DetachFields : Type 0 where
   pub closed : Option Bool
   pub error : Option (List ℕ)
 
+-- what a performative says
 pub data Meaning : Type 0 where
   AnOpen : OpenFields → Meaning
   ABegin : Begin → Meaning
@@ -82,7 +83,7 @@ text_at n fields = unwrap_or (str_in (field_at n fields).part) []
 abbrev pub role_at : ℕ → List Seen → Role
 role_at n fields = role_of (unwrap_or (boolean_in (field_at n fields).part) false)
 
--- 2.7.1
+-- an open (2.7.1)
 abbrev pub open_of : List Seen → OpenFields
 open_of fields = record {
   container_id = text_at 0 fields;
@@ -91,7 +92,7 @@ open_of fields = record {
   idle_time_out = uint_in (field_at 4 fields).part;
 }
 
--- 2.7.2
+-- a begin (2.7.2)
 abbrev pub begin_of : List Seen → Begin
 begin_of fields = record {
   remote_channel = ushort_in (field_at 0 fields).part;
@@ -101,7 +102,7 @@ begin_of fields = record {
   handle_max = uint_in (field_at 4 fields).part;
 }
 
--- 2.7.3
+-- an attach (2.7.3)
 abbrev pub attach_of : List Seen → AttachFields
 attach_of fields = record {
   name = text_at 0 fields;
@@ -115,7 +116,7 @@ attach_of fields = record {
   max_message_size = ulong_in (field_at 10 fields).part;
 }
 
--- 2.7.4
+-- a flow (2.7.4)
 abbrev pub flow_of : List Seen → Flow
 flow_of fields = record {
   next_incoming_id = uint_in (field_at 0 fields).part;
@@ -129,7 +130,7 @@ flow_of fields = record {
   echo = boolean_in (field_at 9 fields).part;
 }
 
--- 2.7.5
+-- a transfer (2.7.5)
 abbrev pub transfer_of : List Seen → TransferFields
 transfer_of fields = record {
   handle = number_at 0 fields;
@@ -142,7 +143,7 @@ transfer_of fields = record {
   aborted = boolean_in (field_at 9 fields).part;
 }
 
--- 2.7.6
+-- a disposition (2.7.6)
 abbrev pub disposition_of : List Seen → DispositionFields
 disposition_of fields = record {
   role = role_at 0 fields;
@@ -152,7 +153,7 @@ disposition_of fields = record {
   state = state_in (field_at 4 fields);
 }
 
--- 2.7.7
+-- a detach (2.7.7)
 abbrev pub detach_of : List Seen → DetachFields
 detach_of fields = record {
   handle = number_at 0 fields;
@@ -160,6 +161,7 @@ detach_of fields = record {
   error = condition_in (field_at 2 fields);
 }
 
+-- what fields say as a performative
 abbrev pub meaning_of : PerformativeKind → List Seen → Meaning
 meaning_of kinds.Open fields = AnOpen (open_of fields)
 meaning_of kinds.Begin fields = ABegin (begin_of fields)
@@ -181,11 +183,11 @@ flag value = unwrap_or value false
 abbrev pub frame_limit : OpenFields → ℕ
 frame_limit fields = unwrap_or fields.max_frame_size 4294967295
 
--- (2.7.3)
+-- how the sender settles (2.7.3)
 abbrev pub sender_mode : AttachFields → SenderSettleMode
 sender_mode fields = unwrap_or fields.snd_settle_mode Mixed
 
--- (2.7.3)
+-- when the receiver settles (2.7.3)
 abbrev pub receiver_mode : AttachFields → ReceiverSettleMode
 receiver_mode fields = unwrap_or fields.rcv_settle_mode First
 

@@ -25,6 +25,7 @@ role_of true = Receiver
 abbrev pub sender_mode_of : ℕ → Option SenderSettleMode
 sender_mode_of n = if n == 0 then Some Unsettled else if n == 1 then Some Settled else if n == 2 then Some Mixed else None
 
+-- an ubyte that is such a mode
 abbrev pub sender_mode_in : Part → Option SenderSettleMode
 sender_mode_in part = option_and_then sender_mode_of (ubyte_in part)
 
@@ -32,6 +33,7 @@ sender_mode_in part = option_and_then sender_mode_of (ubyte_in part)
 abbrev pub receiver_mode_of : ℕ → Option ReceiverSettleMode
 receiver_mode_of n = if n == 0 then Some First else if n == 1 then Some Second else None
 
+-- an ubyte that is such a mode
 abbrev pub receiver_mode_in : Part → Option ReceiverSettleMode
 receiver_mode_in part = option_and_then receiver_mode_of (ubyte_in part)
 
@@ -45,16 +47,17 @@ abbrev pub outcome_of : Option (Descriptor × List Seen) → Option Outcome
 outcome_of (Some (descriptors.Outcome outcome, fields)) = Some outcome
 outcome_of other = None
 
--- any described value is a state (part 2, 2.8.7)
+-- any described value is a state (part 3, 3.4)
 abbrev pub state_in : Seen → Option StateFields
 state_in value =
     if is_some (descriptor_of value.part) then Some (record { octets = value.octets; outcome = outcome_of (described_list value.part) }) else None
 
--- an address: a text, or a value of another type (part 2, 2.8.15)
+-- an address: a text, or a value of another type (part 3, 3.5.3)
 pub data AddressFields : Type 0 where
   AText : List ℕ → AddressFields
   AnOther : List ℕ → AddressFields
 
+-- null is no address
 abbrev pub address_in : Seen → Option AddressFields
 address_in value = address_of value.octets value.part
   where
@@ -80,6 +83,7 @@ abbrev pub source_of : Option (Descriptor × List Seen) → Option TerminusField
 source_of (Some (descriptors.Source, fields)) = terminus_of 11 fields
 source_of other = None
 
+-- the source that a value is
 abbrev pub source_in : Seen → Option TerminusFields
 source_in value = source_of (described_list value.part)
 
@@ -88,6 +92,7 @@ pub data TargetFields : Type 0 where
   ATerminus : TerminusFields → TargetFields
   ACoordinator : TargetFields
 
+-- a terminus that may be there, as a target
 abbrev pub a_terminus : Option TerminusFields → Option TargetFields
 a_terminus None = None
 a_terminus (Some terminus) = Some (ATerminus terminus)
@@ -98,6 +103,7 @@ target_of (Some (descriptors.Target, fields)) = a_terminus (terminus_of 7 fields
 target_of (Some (descriptors.Coordinator, fields)) = if nat_le (length fields) 1 then Some ACoordinator else None
 target_of other = None
 
+-- the target that a value is
 abbrev pub target_in : Seen → Option TargetFields
 target_in value = target_of (described_list value.part)
 
@@ -106,5 +112,6 @@ abbrev pub condition_of : Option (Descriptor × List Seen) → Option (List ℕ)
 condition_of (Some (descriptors.Error, fields)) = symbol_in (first fields).part
 condition_of other = None
 
+-- the condition of the error that a value is
 abbrev pub condition_in : Seen → Option (List ℕ)
 condition_in value = condition_of (described_list value.part)

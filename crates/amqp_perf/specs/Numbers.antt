@@ -3,6 +3,7 @@ use Rattle.std.specs.Prelude.{ℕ}
 use Rattle.amqp_perf.specs.declared.fault.PerfFault.{PerfFault}
 use Rattle.amqp_perf.specs.declared.fault.PerfFault.TheVariants.{Value, NotPerformative, MissingField, WrongType, TooManyFields}
 
+-- the number of a fault (own format)
 abbrev pub number_of : PerfFault → ℕ
 number_of (Value fault) = 1
 number_of NotPerformative = 2

@@ -12,6 +12,7 @@ use Rattle.amqp_perf.specs.Tables.{table_of}
 use Rattle.amqp_perf.specs.Fields.{first_fault}
 use Rattle.amqp_perf.specs.Meaning.{Meaning, meaning_of}
 
+-- a meaning, unless there is a fault
 abbrev pub said_or : Meaning → Option PerfFault → Result Meaning PerfFault
 said_or meaning (Some fault) = Err fault
 said_or meaning None = Ok meaning
@@ -31,10 +32,12 @@ said_of other = Err NotPerformative
 abbrev pub said : Part → Result Meaning PerfFault
 said part = said_of (described_list part)
 
+-- what was read, with the octets behind it
 abbrev pub before : List ℕ → Result Meaning PerfFault → Result (Meaning × List ℕ) PerfFault
 before rest (Ok meaning) = Ok (meaning, rest)
 before rest (Err fault) = Err fault
 
+-- what a value that was read says as a performative
 abbrev pub said_by : Read Seen → Result (Meaning × List ℕ) PerfFault
 said_by (Ok x) = before x.1 (said x.0.part)
 said_by (Err fault) = Err (Value fault)

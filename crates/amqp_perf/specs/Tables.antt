@@ -9,12 +9,15 @@ use Rattle.amqp_perf.specs.declared.table.FieldType.{FieldType}
 use Rattle.amqp_perf.specs.declared.table.FieldType.TheVariants.{Any, Boolean, Ushort, Uint, Binary, Str, SenderMode, ReceiverMode, State, Source, Target}
 use Rattle.amqp_perf.specs.Nested.{sender_mode_in, receiver_mode_in, state_in, source_in, target_in}
 
+-- a field that has to be there
 abbrev pub mandatory : FieldType → Field
 mandatory type_ = record { is_mandatory = true; field_type = type_ }
 
+-- a field that may be absent
 abbrev pub optional : FieldType → Field
 optional type_ = record { is_mandatory = false; field_type = type_ }
 
+-- the fields of a performative
 abbrev pub table_of : PerformativeKind → List Field
 -- container-id, hostname, max-frame-size, channel-max, idle-time-out, outgoing-locales, incoming-locales,
 -- offered-capabilities, desired-capabilities, properties (2.7.1)

@@ -21,6 +21,7 @@ abbrev pub seen_or_missing : Option Value → Seen
 seen_or_missing (Some value) = values.view value
 seen_or_missing None = missing
 
+-- an open of the code
 abbrev pub open_fields : Open → OpenFields
 open_fields o = record {
   container_id = o.container_id.now;
@@ -29,6 +30,7 @@ open_fields o = record {
   idle_time_out = o.idle_time_out;
 }
 
+-- an attach of the code
 abbrev pub attach_fields : Attach → AttachFields
 attach_fields a = record {
   name = a.name.now;
@@ -42,6 +44,7 @@ attach_fields a = record {
   max_message_size = a.max_message_size;
 }
 
+-- a transfer of the code
 abbrev pub transfer_fields : Transfer → TransferFields
 transfer_fields t = record {
   handle = t.handle;
@@ -54,6 +57,7 @@ transfer_fields t = record {
   aborted = t.aborted;
 }
 
+-- a disposition of the code
 abbrev pub disposition_fields : Disposition → DispositionFields
 disposition_fields d = record {
   role = d.role;
@@ -63,9 +67,11 @@ disposition_fields d = record {
   state = option_map state_view d.state;
 }
 
+-- a detach of the code
 abbrev pub detach_fields : Detach → DetachFields
 detach_fields d = record { handle = d.handle; closed = d.closed; error = option_copied d.error }
 
+-- a performative of the code
 abbrev pub view : Performative → Meaning
 view (performatives.Open o) = AnOpen (open_fields o)
 view (performatives.Begin begin) = ABegin begin

@@ -26,6 +26,7 @@ pub enum ReceiverSettleMode {
     Second = 1,
 }
 
+/// The first performative of a link.
 #[derive(Clone, Copy, Debug, PartialEq, Eq)]
 pub struct Attach<'a> {
     /// The link's name.

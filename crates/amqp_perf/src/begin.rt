@@ -5,6 +5,7 @@ ghost use Rattle.amqp_perf.specs.Meaning.{begin_of};
 
 use crate::fields::Fields;
 
+/// The first performative of a session.
 #[derive(Clone, Copy, Debug, PartialEq, Eq)]
 pub struct Begin {
     /// Of an answer, the channel of the begin that it answers.

@@ -2,6 +2,7 @@
 
 use crate::fields::Fields;
 
+/// The last performative of a link.
 #[derive(Clone, Copy, Debug, PartialEq, Eq)]
 pub struct Detach<'a> {
     /// The link.

@@ -4,6 +4,7 @@ use crate::attach::Role;
 use crate::fields::Fields;
 use crate::state::State;
 
+/// A range of deliveries, and what became of them.
 #[derive(Clone, Copy, Debug, PartialEq, Eq)]
 pub struct Disposition<'a> {
     /// Which end of the links speaks.

@@ -7,13 +7,13 @@ use amqp_types::ValueFault;
 use std::error::Error;
 use std::fmt;
 
-/// Why octets are no performative, in the order in which it is tested. Fields count from 1, and of several fields
-/// at fault the lowest is named.
+/// Why octets are no performative. A value's own fault is told first, then that it is no performative, then that it
+/// has too many fields, and then the lowest field that is missing or of a wrong type. Fields count from 1.
 #[derive(Clone, Copy, Debug, PartialEq, Eq)]
 pub enum PerfFault {
     /// They are no value, or one that is cut short.
     Value(ValueFault),
-    /// The value is no list that is described by a performative's code.
+    /// The value is no list that is described as a performative, by its code or its name.
     NotPerformative,
     /// A mandatory field is missing or null.
     MissingField(usize),

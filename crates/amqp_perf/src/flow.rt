@@ -3,6 +3,7 @@
 
 use crate::fields::Fields;
 
+/// The numbers of a session, and of one of its links.
 #[derive(Clone, Copy, Debug, PartialEq, Eq)]
 pub struct Flow {
     /// The id of the next transfer that the sender expects; absent before it has seen the begin.
@@ -15,7 +16,7 @@ pub struct Flow {
     pub outgoing_window: u32,
     /// The link, where the flow is of one.
     pub handle: Option<u32>,
-    /// How many deliveries the link's sender has begun, as the flow's sender knows it.
+    /// The count of deliveries that the link's sender has come to, as the flow's sender knows it.
     pub delivery_count: Option<u32>,
     /// How many more deliveries may begin from that count on.
     pub link_credit: Option<u32>,

@@ -1,7 +1,7 @@
 //! Performatives (part 2 of the standard, section 2.7): what a frame's body says. `Performative::read` is `Ok`
 //! exactly where the octets begin with a list that is described as a performative, by its code or by its name, and
 //! whose items fit the table of its fields; it then gives these fields and the octets behind it. Else it gives the
-//! first fault, in the order of `PerfFault`. It takes no memory. A field that is absent is `None`; methods apply
+//! first fault, as `PerfFault` orders them. It takes no memory. A field that is absent is `None`; methods apply
 //! the standard's defaults.
 //!
 //! - `fault`: what can be wrong;

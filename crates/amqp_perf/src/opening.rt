@@ -2,6 +2,7 @@
 
 use crate::fields::Fields;
 
+/// The first performative of a connection.
 #[derive(Clone, Copy, Debug, PartialEq, Eq)]
 pub struct Open<'a> {
     /// The name of the sender's container.

@@ -42,7 +42,7 @@ impl<'a> Performative<'a> {
     ///
     /// # Errors
     ///
-    /// Where no front of the octets is a performative: the first fault, in the order of `PerfFault`.
+    /// Where no front of the octets is a performative: the first fault, as `PerfFault` orders them.
     pub fn read(octets: &'a [u8]) -> Result<(Performative<'a>, &'a [u8]), PerfFault>
         // What is read is a performative at the front of the input.
         ensures found { IfOk result (λ x. IsFront octets.now (view x.0) x.1.now) }

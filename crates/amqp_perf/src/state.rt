@@ -1,4 +1,4 @@
-//! The state of a delivery, as a disposition tells it (part 2, section 2.8.7; part 3, section 3.4).
+//! The state of a delivery, as a disposition tells it (part 3, section 3.4).
 
 use crate::descriptor::{Descriptor, Outcome, described_list};
 use amqp_types::Value;

@@ -132,6 +132,16 @@ fn each_fault(rt: HostRuntime) {
             PerfFault::WrongType(3),
             4,
         ),
+        // an open of eleven fields, all of them null: there are too many before one is missing
+        (
+            [
+                0x00, 0x53, 0x10, 0xC0, 0x0C, 0x0B, 0x40, 0x40, 0x40, 0x40, 0x40, 0x40, 0x40, 0x40,
+                0x40, 0x40, 0x40,
+            ]
+            .as_slice(),
+            PerfFault::TooManyFields,
+            5,
+        ),
         // an end of two fields
         (
             [0x00, 0x53, 0x17, 0xC0, 0x03, 0x02, 0x40, 0x40].as_slice(),

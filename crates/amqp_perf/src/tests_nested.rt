@@ -80,29 +80,14 @@ fn an_attach_with_all_its_fields(rt: HostRuntime) {
     assert_eq!(rt; wanted.receiver_mode(), ReceiverSettleMode::First);
 }
 
-/// An attach of a receiver `r` with handle 0, both settle modes and a source.
-fn attach_with<'a>(modes: [u8; 2], source: &[u8], out: &'a mut [u8; 40]) -> &'a [u8] {
-    let front = [
-        0x00, 0x53, 0x12, 0xC0, 0x00, 0x06, 0xA1, 0x01, 0x72, 0x43, 0x41,
-    ];
-    let end = 15 + source.len();
-    out[..11].copy_from_slice(&front);
-    out[4] = (end - 5) as u8;
-    out[11] = 0x50;
-    out[12] = modes[0];
-    out[13] = 0x50;
-    out[14] = modes[1];
-    out[15..end].copy_from_slice(source);
-    &out[..end]
-}
-
 #[test]
-fn settle_modes_and_termini(rt: HostRuntime) {
-    let source: &[u8] = &[
+fn settle_modes(rt: HostRuntime) {
+    // a receiver that settles second, asks for settled deliveries and for a source to be made up
+    let octets: &[u8] = &[
+        0x00, 0x53, 0x12, 0xC0, 0x16, 0x06, 0xA1, 0x01, 0x72, 0x43, 0x41, 0x50, 0x01, 0x50, 0x01,
         0x00, 0x53, 0x28, 0xC0, 0x07, 0x05, 0x53, 0x07, 0x40, 0x40, 0x40, 0x41,
     ];
-    let mut out = [0; 40];
-    let Performative::Attach(attach) = read(&rt, attach_with([1, 1], source, &mut out)) else {
+    let Performative::Attach(attach) = read(&rt, octets) else {
         panic!(rt; "no attach");
     };
     assert_eq!(rt; attach.role, Role::Receiver);
@@ -111,41 +96,68 @@ fn settle_modes_and_termini(rt: HostRuntime) {
     let terminus = attach.source.expect(&rt, "a source");
     assert_eq!(rt; terminus.address, Some(Address::Other(&[0x53, 0x07])));
     assert!(rt; terminus.is_dynamic() && attach.target.is_none());
-    let sources: [(&[u8], Option<PerfFault>); 6] = [
-        // absent; not described; described as a target; dynamic is a number; twelve fields
-        (&[0x40], None),
-        (&[0x45], Some(PerfFault::WrongType(6))),
-        (&[0x00, 0x53, 0x29, 0x45], Some(PerfFault::WrongType(6))),
+    let modes: [(&[u8], usize); 2] = [
+        (
+            &[
+                0x00, 0x53, 0x12, 0xC0, 0x08, 0x04, 0xA1, 0x01, 0x72, 0x43, 0x41, 0x50, 0x03,
+            ],
+            4,
+        ),
+        (
+            &[
+                0x00, 0x53, 0x12, 0xC0, 0x0B, 0x06, 0xA1, 0x01, 0x72, 0x43, 0x41, 0x50, 0x00, 0x50,
+                0x02, 0x45,
+            ],
+            5,
+        ),
+    ];
+    for (octets, field) in modes {
+        assert_eq!(rt;
+            fault_of(octets),
+            Some(PerfFault::WrongType(field)),
+            "{octets:?}"
+        );
+    }
+}
+
+#[test]
+fn sources(rt: HostRuntime) {
+    let sources: [(&[u8], bool); 6] = [
+        // null; not described; described as a target; dynamic is a number; twelve fields
+        (&[0x40], true),
+        (&[0x45], false),
+        (&[0x00, 0x53, 0x29, 0x45], false),
         (
             &[
                 0x00, 0x53, 0x28, 0xC0, 0x06, 0x05, 0x40, 0x40, 0x40, 0x40, 0x43,
             ],
-            Some(PerfFault::WrongType(6)),
+            false,
         ),
         (
             &[
                 0x00, 0x53, 0x28, 0xC0, 0x0D, 0x0C, 0x40, 0x40, 0x40, 0x40, 0x40, 0x40, 0x40, 0x40,
                 0x40, 0x40, 0x40, 0x40,
             ],
-            Some(PerfFault::WrongType(6)),
+            false,
         ),
-        (b"\x00\xA3\x10amqp:source:list\x45", None),
+        (b"\x00\xA3\x10amqp:source:list\x45", true),
     ];
-    for (octets, fault) in sources {
-        let mut octets_of = [0; 40];
-        let body = attach_with([2, 0], octets, &mut octets_of);
-        assert_eq!(rt; fault_of(body), fault, "{octets:?}");
+    for (octets, is_taken) in sources {
+        let front = [
+            0x00, 0x53, 0x12, 0xC0, 0x00, 0x06, 0xA1, 0x01, 0x72, 0x43, 0x41, 0x40, 0x40,
+        ];
+        let mut body = [0; 40];
+        let end = 13 + octets.len();
+        body[..13].copy_from_slice(&front);
+        body[4] = (end - 5) as u8;
+        body[13..end].copy_from_slice(octets);
+        let fault = fault_of(&body[..end]);
+        if is_taken {
+            assert!(rt; fault.is_none());
+        } else {
+            assert_eq!(rt; fault, Some(PerfFault::WrongType(6)));
+        }
     }
-    let mut out = [0; 40];
-    assert_eq!(rt;
-        fault_of(attach_with([3, 0], &[0x40], &mut out)),
-        Some(PerfFault::WrongType(4))
-    );
-    let mut out = [0; 40];
-    assert_eq!(rt;
-        fault_of(attach_with([0, 2], &[0x45], &mut out)),
-        Some(PerfFault::WrongType(5))
-    );
 }
 
 #[test]

@@ -2,6 +2,7 @@
 
 use crate::fields::Fields;
 
+/// A part of a delivery.
 #[derive(Clone, Copy, Debug, PartialEq, Eq)]
 pub struct Transfer<'a> {
     /// The link.

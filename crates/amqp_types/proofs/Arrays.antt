@@ -1,18 +1,16 @@
 -- The steps of reading an array, as `Pieces` has those of reading a list.
-use Rattle.std.proofs.Common.{◌≡◌, ℕ, zero, suc, ◌+◌, ◌<◌, cond, eqb, Bool, true, false, ◌&&◌, List, [], ◌∷◌, ◌++◌, length, Option, Some, None, Result, Ok, Err, refl, sym, ap, subst, ◌∙◌, append_assoc, inl, inr, arith}
+use Rattle.std.proofs.Common.{◌≡◌, ℕ, ◌+◌, ◌<◌, eqb, Bool, true, false, ◌&&◌, List, [], ◌∷◌, ◌++◌, length, Option, Some, None, Result, Ok, Err, refl, sym, ap, subst, ◌∙◌, append_assoc, inl, inr, arith}
 use Rattle.std.specs.Prelude.{◌⊎◌}
 use Rattle.std.proofs.lemmas.Bool.{eqb-true, ne_eqb}
 use Rattle.std.proofs.lemmas.List.{append-nil, length-append, nil_from_length}
 use Rattle.amqp_types.specs.declared.fault.ValueFault.{ValueFault}
-use Rattle.amqp_types.specs.declared.fault.ValueFaultKind.TheVariants.{UnknownCode}
-use Rattle.amqp_types.specs.declared.code.Scalar.{Scalar}
 use Rattle.amqp_types.specs.declared.code.SizeWidth.{SizeWidth}
 use Rattle.amqp_types.specs.declared.code.Code.{Code}
 use Rattle.amqp_types.specs.declared.code.Code.TheVariants as codes
 use Rattle.amqp_types.specs.Codes.{code_of, is_described}
-use Rattle.amqp_types.specs.Part.{Part, Array, Seen, Tag, Constructor}
-use Rattle.amqp_types.specs.Reading.{◌>>=◌, Read, counted_at, items_at, all_used, tagged, with_tag, with_octets, in_array, elements_at, array_at, code_alone, code_behind, tagged_at, constructor_by, element_by}
-use Rattle.amqp_types.specs.Grammar.{AreItems, IsCounted, AreElements, IsArray, IsCode, IsTagged, IsElementBy}
+use Rattle.amqp_types.specs.Part.{Part, Array, Seen, Tag, Constructor, tagged, code_alone, code_behind}
+use Rattle.amqp_types.specs.Reading.{◌>>=◌, Read, counted_at, items_at, all_used, with_tag, with_octets, in_array, elements_at, array_at, tagged_at, constructor_by, element_by}
+use Rattle.amqp_types.specs.Grammar.{AreItems, AreElements, IsArray, IsCode, IsTagged, IsElementBy}
 use Rattle.amqp_types.proofs.Steps.{bind_ok, chosen, both, ok_is, done, Takes}
 use Rattle.amqp_types.proofs.Octets.{counted_found, counted_again}
 use Rattle.amqp_types.proofs.Pieces.{Finds, ReadsAgain, FindsData, ReadsDataAgain, items_found, items_again, all_used_ok, with_octets_found, with_octets_again}
@@ -39,7 +37,7 @@ alone_found : (IsInner : List ℕ → Part → Type 0) (IsConstructor : List ℕ
     → code_of first ≡ Some code → is_described code ≡ false → done (code_alone first code, bytes) ≡ Ok x → IsThere IsInner IsConstructor (first ∷ bytes) x
 alone_found IsInner IsConstructor first code bytes x known plain e =
     subst (IsThere IsInner IsConstructor (first ∷ bytes)) (ok_is (code_alone first code, bytes) x e)
-      (refl, inl (record { first = first; code = code; known = known; primitive = plain; parts = refl; is = refl }))
+    (refl, inl (record { first = first; code = code; known = known; primitive = plain; parts = refl; is = refl }))
 
 behind_found : (value : ℕ → List ℕ → Read Seen) (IsInner : List ℕ → Part → Type 0) → Finds value IsInner
     → (inner : ℕ → List ℕ → Read Constructor) (IsConstructor : List ℕ → Constructor → Type 0) → FindsConstructor inner IsConstructor
@@ -107,7 +105,7 @@ element_by_found behind Is finds c at bytes x e =
     let y = with_tag_ok c.tag (with_octets bytes (behind c.tags c.code at bytes)) x e in
     let found = with_octets_found (Is c.tags c.code) bytes (behind c.tags c.code at bytes) y.0 (λ z h. finds c.tags c.code at bytes z h) y.1 in
     subst (λ (z : Seen × List ℕ). (bytes ≡ z.0.octets ++ z.1) × IsElementBy Is c z.0.octets z.0.part) y.2
-      (found.0, record { says = y.0.0.part; behind = found.1; is = refl })
+    (found.0, record { says = y.0.0.part; behind = found.1; is = refl })
 
 pub element_by_again : (behind : ℕ → Code → ℕ → List ℕ → Read Part) (Is : ℕ → Code → List ℕ → Part → Type 0) → ((tags : ℕ) → ReadsDataAgain (behind tags) (Is tags))
     → (c : Constructor) → ReadsAgain (element_by behind c) (IsElementBy Is c)

@@ -1,8 +1,8 @@
 -- The constructor of an array's elements, as it is read.
-use Rattle.std.proofs.Common.{◌≡◌, ℕ, suc, ◌+◌, ◌-◌, ◌≤◌, ◌<◌, List, [], ◌∷◌, ◌++◌, length, take, drop, slice_index, Some, Ok, refl, sym, ap, ◌∙◌, append_assoc, arith}
-use Rattle.std.proofs.lemmas.List.{length-append, length-drop}
+use Rattle.std.proofs.Common.{◌≡◌, ℕ, suc, ◌+◌, ◌≤◌, ◌<◌, List, [], ◌∷◌, ◌++◌, length, drop, slice_index, Some, Ok, sym, ap, ◌∙◌, append_assoc, arith}
+use Rattle.std.proofs.lemmas.List.{length-append}
 use Rattle.amqp_types.specs.Part.{Seen, Constructor}
-use Rattle.amqp_types.specs.Reading.{tagged_at, code_behind, constructor_at, seen_at, in_front, levels_allowed}
+use Rattle.amqp_types.specs.Reading.{tagged_at, constructor_at, seen_at, in_front, levels_allowed}
 use Rattle.amqp_types.specs.Items.{form_of}
 use Rattle.amqp_types.proofs.Steps.{done}
 use Rattle.amqp_types.proofs.Pieces.{in_front_is}
@@ -42,4 +42,4 @@ tagged_is levels at (first ∷ bytes) d x some read behind =
     let inner = constructor_found levels at d.1 x behind in
     let octets = octets_behind first d.0.octets x.0.octets x.1 bytes (descriptor.parts ∙ ap (λ (t : List ℕ). d.0.octets ++ t) inner.0) in
     rw (read, behind) (ap (λ (o : List ℕ). done {A = Constructor × List ℕ} (record { octets = o; tags = suc x.0.tags; code = x.0.code; tag = Some (record { descriptor = d.0.octets; constructor = x.0.octets }) }, x.1)) (sym octets)
-      ∙ ap (λ (n : ℕ). done {A = Constructor × List ℕ} (record { octets = in_front (first ∷ bytes) x.1; tags = n; code = x.0.code; tag = Some (record { descriptor = d.0.octets; constructor = x.0.octets }) }, x.1)) (one_more x.0.tags))
+    ∙ ap (λ (n : ℕ). done {A = Constructor × List ℕ} (record { octets = in_front (first ∷ bytes) x.1; tags = n; code = x.0.code; tag = Some (record { descriptor = d.0.octets; constructor = x.0.octets }) }, x.1)) (one_more x.0.tags))

@@ -1,11 +1,11 @@
 -- What is a value where few levels are left is one where more are.
-use Rattle.std.proofs.Common.{◌≡◌, ℕ, zero, suc, ◌-◌, ◌≤◌, ◌<◌, List, [], ◌∷◌, Option, Some, None, inl, inr, ap, refl, subst, sym, arith}
+use Rattle.std.proofs.Common.{◌≡◌, ℕ, zero, suc, ◌-◌, ◌≤◌, ◌<◌, List, [], ◌∷◌, Option, Some, None, inl, inr, subst, arith}
 use Rattle.amqp_types.specs.declared.code.Kind.{Kind}
 use Rattle.amqp_types.specs.declared.code.SizeWidth.{SizeWidth}
 use Rattle.amqp_types.specs.declared.code.Code.{Code}
 use Rattle.amqp_types.specs.declared.code.Code.TheVariants as codes
 use Rattle.amqp_types.specs.Part.{Part, Constructor}
-use Rattle.amqp_types.specs.Grammar.{AreItems, IsNested, AreElements, IsArray, IsDescribed, IsCoded, IsTagged, IsElementBy, IsData, IsConstructor, IsValue, IsElement, IsItem}
+use Rattle.amqp_types.specs.Grammar.{AreItems, IsNested, IsArray, IsDescribed, IsCoded, IsTagged, IsElementBy, IsData, IsConstructor, IsValue, IsElement, IsItem}
 
 -- each that is so is also otherwise
 abbrev Follows : (List ℕ → Part → Type 0) → (List ℕ → Part → Type 0) → Type 0

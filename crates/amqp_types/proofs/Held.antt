@@ -7,8 +7,8 @@ use Rattle.std.proofs.lemmas.Bool.{eqb-true}
 use Rattle.std.proofs.lemmas.List.{append-nil, nil_from_length}
 use Rattle.amqp_types.specs.declared.code.Code.{Code}
 use Rattle.amqp_types.specs.declared.fault.ValueFault.{ValueFault}
-use Rattle.amqp_types.specs.Part.{Part, Seen, Constructor}
-use Rattle.amqp_types.specs.Reading.{Read, tagged, in_front, data_at, constructor_at, element_at, item_at, seen_at, items_at, levels_allowed}
+use Rattle.amqp_types.specs.Part.{Part, Seen, Constructor, tagged}
+use Rattle.amqp_types.specs.Reading.{Read, in_front, data_at, constructor_at, element_at, item_at, seen_at, items_at, levels_allowed}
 use Rattle.amqp_types.specs.Items.{seen_in, items_in, is_value, is_used_up, are_items, is_filled, seen_of, form_read, form_of, element_read, is_element, element_of}
 use Rattle.amqp_types.specs.Grammar.{AreItems, IsData, IsConstructor, IsValue, IsElement, IsItem, AreOf, AreValuesOf}
 use Rattle.amqp_types.proofs.Steps.{ok_is, some_is, done}
@@ -192,7 +192,7 @@ element_held levels tags code at constructor bytes x lt le form e =
     subst (λ (t : ℕ). IsData levels_allowed t c.0.code takes.front x.0) (sym c.2) (subst (λ (k : Code). IsData levels_allowed (tags - 1) k takes.front x.0) (sym c.3) under) in
     let element : IsElement levels_allowed c.0 takes.front (tagged c.0.tag takes.front x.0) = record { says = x.0; behind = same; is = refl } in
     subst (λ (t : List ℕ). is_used_up (element_read (constructor_at levels_allowed 0 constructor) t) ≡ true) front
-      (rw (c.1, element_whole c.0 takes.front (tagged c.0.tag takes.front x.0) element) refl)
+    (rw (c.1, element_whole c.0 takes.front (tagged c.0.tag takes.front x.0) element) refl)
 
 -- an element and its constructor
 pub record IsWhole (constructor octets : List ℕ) : Type 0 where

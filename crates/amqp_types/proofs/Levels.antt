@@ -1,13 +1,13 @@
 -- What is behind a code, by its kind, where some levels are left.
-use Rattle.std.proofs.Common.{◌≡◌, ℕ, zero, suc, ◌-◌, ◌<◌, true, List, [], ◌∷◌, length, drop, slice_index, Some, None, Ok, Err, ap, ◌∙◌, refl, sym, arith}
+use Rattle.std.proofs.Common.{◌≡◌, ℕ, zero, suc, ◌-◌, ◌<◌, true, List, [], ◌∷◌, length, drop, slice_index, Some, None, Ok, Err, ap, ◌∙◌, refl, arith}
 use Rattle.amqp_types.specs.declared.code.Kind.{Kind}
 use Rattle.amqp_types.specs.declared.code.SizeWidth.{SizeWidth}
 use Rattle.amqp_types.specs.declared.code.Code.{Code}
 use Rattle.amqp_types.specs.declared.code.Code.TheVariants as codes
 use Rattle.amqp_types.specs.Codes.{code_of, is_described}
-use Rattle.amqp_types.specs.Part.{Part, Constructor}
+use Rattle.amqp_types.specs.Part.{Part, Constructor, tagged}
 use Rattle.amqp_types.specs.declared.fault.ValueFault.{ValueFault}
-use Rattle.amqp_types.specs.Reading.{nested_at, array_at, described_at, data_at, data_by, tagged, tagged_at, constructor_by, constructor_at, in_front, element_by, element_at, item_at, seen_by, seen_at, value_at}
+use Rattle.amqp_types.specs.Reading.{nested_at, array_at, described_at, data_at, data_by, tagged_at, constructor_by, constructor_at, in_front, element_by, element_at, item_at, seen_by, seen_at, value_at}
 
 below : (levels : ℕ) → 0 < levels → levels ≡ suc (levels - 1)
 below levels some = omega arith

@@ -1,5 +1,5 @@
 -- The steps of reading: what each reads is in the grammar, and what is in the grammar it reads, by what is so of the values in it.
-use Rattle.std.proofs.Common.{◌≡◌, ℕ, zero, suc, ◌+◌, ◌-◌, ◌%◌, ◌<◌, Bool, false, cond, List, [], ◌∷◌, ◌++◌, length, Option, Some, None, Result, Ok, Err, refl, sym, ap, subst, ◌∙◌, append_assoc, arith}
+use Rattle.std.proofs.Common.{◌≡◌, ℕ, zero, suc, ◌+◌, ◌-◌, ◌%◌, ◌<◌, false, cond, List, [], ◌∷◌, ◌++◌, length, Option, Some, None, Result, Ok, Err, refl, sym, ap, subst, ◌∙◌, append_assoc, arith}
 use Rattle.std.proofs.Math.Nat.{mod-lt}
 use Rattle.std.proofs.lemmas.Bool.{eqb-false, ne_eqb}
 use Rattle.std.proofs.lemmas.List.{take_at, length-append, append-nil}
@@ -11,7 +11,6 @@ use Rattle.amqp_types.specs.declared.code.Kind.{Kind}
 use Rattle.amqp_types.specs.declared.code.Kind.TheVariants as kinds
 use Rattle.amqp_types.specs.declared.code.SizeWidth.{SizeWidth}
 use Rattle.amqp_types.specs.declared.code.Code.{Code}
-use Rattle.amqp_types.specs.declared.code.Code.TheVariants as codes
 use Rattle.amqp_types.specs.Codes.{code_of, width_of, size_len}
 use Rattle.amqp_types.specs.Part.{Part, Sized, Nested, Described, Seen}
 use Rattle.amqp_types.specs.Reading.{◌>>=◌, Read, fault, placed, scalar_of, is_text, octets_at, sized_at, counted_at, fixed_at, text_at, items_at, all_used, is_odd, nested_at, described_at, coded_at, value_by, in_front, with_octets, seen_by}

@@ -13,7 +13,7 @@ use Rattle.amqp_types.specs.declared.code.Kind.TheVariants as kinds
 use Rattle.amqp_types.specs.declared.code.SizeWidth.{SizeWidth}
 use Rattle.amqp_types.specs.declared.code.SizeWidth.TheVariants.{One, Four}
 use Rattle.amqp_types.specs.declared.code.Code.TheVariants as codes
-use Rattle.amqp_types.specs.Codes.{code_of, size_len}
+use Rattle.amqp_types.specs.Codes.{scalar_of_code, code_of, size_len}
 use Rattle.amqp_types.specs.Reading.{levels_allowed}
 use Rattle.amqp_types.specs.Part.{Part, Null, Boolean, Ubyte, Ushort, Uint, Ulong, Sized, Nested, Described}
 use Rattle.amqp_types.specs.Grammar.{IsNumber, IsScalar, IsText, AreItems, IsData, IsValue}
@@ -55,24 +55,24 @@ is_octet : (n : ℕ) → IsNumber 1 (n ∷ []) n
 is_octet n = record { len = refl; says = omega arith }
 
 pub null_written : IsWritten null_octets Null
-unfolding code_of null_octets least
+unfolding code_of scalar_of_code null_octets least
 null_written = written null_octets Null refl (fixed 0x40 scalars.Null [] Null refl (refl, refl))
 
 pub boolean_written : (truth : Bool) → IsWritten (boolean_octets truth) (Boolean truth)
-unfolding code_of boolean_octets least
+unfolding code_of scalar_of_code boolean_octets least
 boolean_written true = written (boolean_octets true) (Boolean true) refl (fixed 0x41 scalars.True [] (Boolean true) refl (refl, refl))
 boolean_written false = written (boolean_octets false) (Boolean false) refl (fixed 0x42 scalars.False [] (Boolean false) refl (refl, refl))
 
 pub ubyte_written : (n : ℕ) → IsWritten (ubyte_octets n) (Ubyte n)
-unfolding code_of ubyte_octets least
+unfolding code_of scalar_of_code ubyte_octets least
 ubyte_written n = written (ubyte_octets n) (Ubyte n) refl (fixed 0x50 scalars.Ubyte (n ∷ []) (Ubyte n) refl (n, is_octet n, refl))
 
 pub ushort_written : (n : ℕ) → n < 2 ^ 16 → IsWritten (ushort_octets n) (Ushort n)
-unfolding code_of ushort_octets least
+unfolding code_of scalar_of_code ushort_octets least
 ushort_written n fits = written (ushort_octets n) (Ushort n) refl (fixed 0x60 scalars.Ushort (big_bytes 2 n) (Ushort n) refl (n, is_number 2 n fits, refl))
 
 uint_by : (n : ℕ) (none one : Bool) → eqb n 0 ≡ none → n < 2 ^ 32 → IsFlat (cond none (0x43 ∷ []) (cond one (0x52 ∷ n ∷ []) (0x70 ∷ big_bytes 4 n))) (Uint n)
-unfolding code_of
+unfolding code_of scalar_of_code
 uint_by n true one e fits = fixed 0x43 scalars.UintZero [] (Uint n) refl (refl, ap (λ (m : ℕ). Uint m) (eqb-true n 0 e))
 uint_by n false true e fits = fixed 0x52 scalars.UintOctet (n ∷ []) (Uint n) refl (n, is_octet n, refl)
 uint_by n false false e fits = fixed 0x70 scalars.Uint (big_bytes 4 n) (Uint n) refl (n, is_number 4 n fits, refl)
@@ -82,7 +82,7 @@ unfolding uint_octets least
 uint_written n fits = written (uint_octets n) (Uint n) refl (uint_by n (eqb n 0) (fits_octet n) refl fits)
 
 ulong_by : (n : ℕ) (none one : Bool) → eqb n 0 ≡ none → n < 2 ^ 64 → IsFlat (cond none (0x44 ∷ []) (cond one (0x53 ∷ n ∷ []) (0x80 ∷ big_bytes 8 n))) (Ulong n)
-unfolding code_of
+unfolding code_of scalar_of_code
 ulong_by n true one e fits = fixed 0x44 scalars.UlongZero [] (Ulong n) refl (refl, ap (λ (m : ℕ). Ulong m) (eqb-true n 0 e))
 ulong_by n false true e fits = fixed 0x53 scalars.UlongOctet (n ∷ []) (Ulong n) refl (n, is_octet n, refl)
 ulong_by n false false e fits = fixed 0x80 scalars.Ulong (big_bytes 8 n) (Ulong n) refl (n, is_number 8 n fits, refl)
@@ -92,7 +92,7 @@ unfolding ulong_octets least
 ulong_written n fits = written (ulong_octets n) (Ulong n) refl (ulong_by n (eqb n 0) (fits_octet n) refl fits)
 
 text_codes : (text : Text) (width : SizeWidth) → code_of (text_code text width) ≡ Some (codes.Sized text width)
-unfolding code_of
+unfolding code_of scalar_of_code
 text_codes texts.Binary One = refl
 text_codes texts.Str One = refl
 text_codes texts.Symbol One = refl
@@ -135,7 +135,7 @@ list_code One = 0xC0
 list_code Four = 0xD0
 
 list_codes : (width : SizeWidth) → code_of (list_code width) ≡ Some (codes.Nested kinds.List width)
-unfolding code_of list_code
+unfolding code_of scalar_of_code list_code
 list_codes One = refl
 list_codes Four = refl
 
@@ -158,7 +158,7 @@ counted levels width size count body n counts sizes are =
     )
 
 empty_list : (levels n : ℕ) (body : List ℕ) → n ≡ 0 → AreItems (IsValue levels) n body → IsValue (suc levels) (0x45 ∷ []) (Nested kinds.List n body)
-unfolding IsValue IsData code_of
+unfolding IsValue IsData code_of scalar_of_code
 empty_list levels n body e are =
     let none : body ≡ [] = subst (λ (m : ℕ). AreItems (IsValue levels) m body) e are in
     (codes.EmptyList, refl, (refl, rw (e, none) refl))
@@ -203,7 +203,7 @@ one_more levels n octets item part are says =
 -- ---- described lists
 
 described_by : (levels code : ℕ) (octets : List ℕ) (part : Part) → IsValue (suc levels) octets part → IsValue (suc (suc levels)) (0x00 ∷ (descriptor_octets code ++ octets)) (Described (descriptor_octets code) octets)
-unfolding IsValue IsData code_of
+unfolding IsValue IsData code_of scalar_of_code
 described_by levels code octets part is = (
   codes.Described,
   refl,

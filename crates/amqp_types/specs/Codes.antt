@@ -1,5 +1,5 @@
 -- The table of format codes (part 1, 1.6).
-use Rattle.std.specs.Prelude.{ℕ, Bool, true, false, Option, Some, None, ◌==◌, if◌then◌else◌}
+use Rattle.std.specs.Prelude.{ℕ, Bool, true, false, Option, Some, None, option_map, ◌==◌, if◌then◌else◌}
 use Rattle.amqp_types.specs.declared.code.Scalar.{Scalar}
 use Rattle.amqp_types.specs.declared.code.Scalar.TheVariants as scalars
 use Rattle.amqp_types.specs.declared.code.Opaque.{Opaque}
@@ -11,37 +11,41 @@ use Rattle.amqp_types.specs.declared.code.SizeWidth.TheVariants.{One, Four}
 use Rattle.amqp_types.specs.declared.code.Code.{Code}
 use Rattle.amqp_types.specs.declared.code.Code.TheVariants.{Fixed, Sized, EmptyList, Nested, Array, Described}
 
+-- the type of fixed width that the first octet of a value names (part 1, 1.6.1 to 1.6.18)
+unfoldable pub scalar_of_code : ℕ → Option Scalar
+scalar_of_code b =
+    if b == 0x40 then Some scalars.Null else
+    if b == 0x41 then Some scalars.True else
+    if b == 0x42 then Some scalars.False else
+    if b == 0x43 then Some scalars.UintZero else
+    if b == 0x44 then Some scalars.UlongZero else
+    if b == 0x50 then Some scalars.Ubyte else
+    if b == 0x51 then Some scalars.Byte else
+    if b == 0x52 then Some scalars.UintOctet else
+    if b == 0x53 then Some scalars.UlongOctet else
+    if b == 0x54 then Some scalars.IntOctet else
+    if b == 0x55 then Some scalars.LongOctet else
+    if b == 0x56 then Some scalars.Boolean else
+    if b == 0x60 then Some scalars.Ushort else
+    if b == 0x61 then Some scalars.Short else
+    if b == 0x70 then Some scalars.Uint else
+    if b == 0x71 then Some scalars.Int else
+    if b == 0x72 then Some (scalars.Opaque opaques.Float) else
+    if b == 0x73 then Some (scalars.Opaque opaques.Char) else
+    if b == 0x74 then Some (scalars.Opaque opaques.Decimal32) else
+    if b == 0x80 then Some scalars.Ulong else
+    if b == 0x81 then Some scalars.Long else
+    if b == 0x82 then Some (scalars.Opaque opaques.Double) else
+    if b == 0x83 then Some (scalars.Opaque opaques.Timestamp) else
+    if b == 0x84 then Some (scalars.Opaque opaques.Decimal64) else
+    if b == 0x94 then Some (scalars.Opaque opaques.Decimal128) else
+    if b == 0x98 then Some (scalars.Opaque opaques.Uuid) else None
+
 -- what the first octet of a value says (part 1, 1.2 and 1.6)
 unfoldable pub code_of : ℕ → Option Code
 code_of b =
     if b == 0x00 then Some Described else
-    if b == 0x40 then Some (Fixed scalars.Null) else
-    if b == 0x41 then Some (Fixed scalars.True) else
-    if b == 0x42 then Some (Fixed scalars.False) else
-    if b == 0x43 then Some (Fixed scalars.UintZero) else
-    if b == 0x44 then Some (Fixed scalars.UlongZero) else
     if b == 0x45 then Some EmptyList else
-    if b == 0x50 then Some (Fixed scalars.Ubyte) else
-    if b == 0x51 then Some (Fixed scalars.Byte) else
-    if b == 0x52 then Some (Fixed scalars.UintOctet) else
-    if b == 0x53 then Some (Fixed scalars.UlongOctet) else
-    if b == 0x54 then Some (Fixed scalars.IntOctet) else
-    if b == 0x55 then Some (Fixed scalars.LongOctet) else
-    if b == 0x56 then Some (Fixed scalars.Boolean) else
-    if b == 0x60 then Some (Fixed scalars.Ushort) else
-    if b == 0x61 then Some (Fixed scalars.Short) else
-    if b == 0x70 then Some (Fixed scalars.Uint) else
-    if b == 0x71 then Some (Fixed scalars.Int) else
-    if b == 0x72 then Some (Fixed (scalars.Opaque opaques.Float)) else
-    if b == 0x73 then Some (Fixed (scalars.Opaque opaques.Char)) else
-    if b == 0x74 then Some (Fixed (scalars.Opaque opaques.Decimal32)) else
-    if b == 0x80 then Some (Fixed scalars.Ulong) else
-    if b == 0x81 then Some (Fixed scalars.Long) else
-    if b == 0x82 then Some (Fixed (scalars.Opaque opaques.Double)) else
-    if b == 0x83 then Some (Fixed (scalars.Opaque opaques.Timestamp)) else
-    if b == 0x84 then Some (Fixed (scalars.Opaque opaques.Decimal64)) else
-    if b == 0x94 then Some (Fixed (scalars.Opaque opaques.Decimal128)) else
-    if b == 0x98 then Some (Fixed (scalars.Opaque opaques.Uuid)) else
     if b == 0xA0 then Some (Sized texts.Binary One) else
     if b == 0xA1 then Some (Sized texts.Str One) else
     if b == 0xA3 then Some (Sized texts.Symbol One) else
@@ -53,7 +57,8 @@ code_of b =
     if b == 0xD0 then Some (Nested kinds.List Four) else
     if b == 0xD1 then Some (Nested kinds.Map Four) else
     if b == 0xE0 then Some (Array One) else
-    if b == 0xF0 then Some (Array Four) else None
+    if b == 0xF0 then Some (Array Four) else
+    option_map (λ scalar. Fixed scalar) (scalar_of_code b)
 
 -- how many octets a type has whose data is kept as it is (part 1, 1.6.11 to 1.6.18)
 abbrev pub opaque_width : Opaque → ℕ

@@ -13,9 +13,9 @@ use Rattle.amqp_types.specs.declared.code.SizeWidth.{SizeWidth}
 use Rattle.amqp_types.specs.declared.code.Code.{Code}
 use Rattle.amqp_types.specs.declared.code.Code.TheVariants as codes
 use Rattle.amqp_types.specs.Codes.{code_of, opaque_width, size_len, is_described}
-use Rattle.amqp_types.specs.Reading.{tagged, code_alone, code_behind, levels_allowed}
+use Rattle.amqp_types.specs.Reading.{levels_allowed}
 use Rattle.amqp_types.specs.Part as parts
-use Rattle.amqp_types.specs.Part.{Part, Null, Boolean, Ubyte, Ushort, Uint, Ulong, Kept, Sized, Nested, Array, Described, Tagged, Seen, Constructor}
+use Rattle.amqp_types.specs.Part.{Part, Null, Boolean, Ubyte, Ushort, Uint, Ulong, Kept, Sized, Nested, Array, Described, Tagged, Seen, Constructor, tagged, code_alone, code_behind}
 
 -- so many octets are this number, the highest first (part 1, 1.6)
 pub record IsNumber (width : ℕ) (octets : List ℕ) (n : ℕ) : Type 0 where

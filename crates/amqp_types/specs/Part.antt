@@ -1,5 +1,5 @@
 -- A value as what its octets say: for what is nested in it stand the octets that it has there.
-use Rattle.std.specs.Prelude.{ℕ, ℤ, Bool, List, Option}
+use Rattle.std.specs.Prelude.{ℕ, suc, ℤ, Bool, List, [], ◌∷◌, ◌++◌, Option, Some, None}
 use Rattle.amqp_types.specs.declared.code.Text.{Text}
 use Rattle.amqp_types.specs.declared.code.Kind.{Kind}
 use Rattle.amqp_types.specs.declared.code.Opaque.{Opaque}
@@ -47,3 +47,21 @@ pub data Part : Type 0 where
 pub record Seen : Type 0 where
   pub octets : List ℕ
   pub part : Part
+
+-- what an element says whose data says a part: the first descriptor of its array's constructor describes it
+abbrev pub tagged : Option Tag → List ℕ → Part → Part
+tagged None octets part = part
+tagged (Some tag) octets part = Tagged tag.descriptor tag.constructor octets
+
+-- a constructor that is a format code alone (part 1, 1.2)
+abbrev pub code_alone : ℕ → Code → Constructor
+code_alone first code = record { octets = first ∷ []; tags = 0; code = code; tag = None }
+
+-- a constructor with a descriptor in front (part 1, 1.2)
+abbrev pub code_behind : ℕ → List ℕ → Constructor → Constructor
+code_behind first descriptor inner = record {
+  octets = first ∷ (descriptor ++ inner.octets);
+  tags = suc inner.tags;
+  code = inner.code;
+  tag = Some (record { descriptor = descriptor; constructor = inner.octets });
+}

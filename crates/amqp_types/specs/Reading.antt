@@ -19,7 +19,7 @@ use Rattle.amqp_types.specs.declared.code.Code.TheVariants as codes
 use Rattle.amqp_types.specs.Faults.{fault_within, fault_in_array}
 use Rattle.amqp_types.specs.Codes.{code_of, width_of, size_len, is_described}
 use Rattle.amqp_types.specs.Part as parts
-use Rattle.amqp_types.specs.Part.{Part, Null, Boolean, Ubyte, Ushort, Uint, Ulong, Kept, Sized, Nested, Array, Described, Tagged, Seen, Tag, Constructor}
+use Rattle.amqp_types.specs.Part.{Part, Null, Boolean, Ubyte, Ushort, Uint, Ulong, Kept, Sized, Nested, Array, Described, Seen, Tag, Constructor, tagged, code_alone, code_behind}
 
 -- what was read, and the octets behind it
 abbrev pub Read : Type 0 → Type 0
@@ -134,11 +134,6 @@ nested_at item kind width at bytes = do
     end ← all_used at (items_at item counted.0.0 (at + 1 + size_len width + size_len width) counted.0.1)
     Ok (Nested kind counted.0.0 counted.0.1, counted.1))
 
--- what an element says whose data says a part: the first descriptor of its array's constructor describes it
-abbrev pub tagged : Option Tag → List ℕ → Part → Part
-tagged None octets part = part
-tagged (Some tag) octets part = Tagged tag.descriptor tag.constructor octets
-
 -- an element, which its array's constructor may describe
 abbrev pub with_tag : Option Tag → Read Seen → Read Seen
 with_tag tag (Ok x) = Ok (record { octets = x.0.octets; part = tagged tag x.0.octets x.0.part }, x.1)
@@ -152,9 +147,9 @@ in_array at (Err e) = Err (fault_in_array at e)
 -- n elements and nothing behind them: their constructor, and then their data (part 1, 1.2.4)
 unfoldable pub elements_at : (ℕ → List ℕ → Read Constructor) → (Constructor → ℕ → List ℕ → Read Seen) → ℕ → ℕ → List ℕ → Result Part ValueFault
 elements_at constructor element n at bytes = if n == 0 && length bytes == 0 then Ok (Array None 0 []) else (do
-    first ← constructor at bytes
-    end ← all_used at (items_at (element first.0) n at first.1)
-    Ok (Array (Some first.0) n first.1))
+  first ← constructor at bytes
+  end ← all_used at (items_at (element first.0) n at first.1)
+  Ok (Array (Some first.0) n first.1))
 
 -- the data of an array (part 1, 1.2.4)
 unfoldable pub array_at : (ℕ → List ℕ → Read Constructor) → (Constructor → ℕ → List ℕ → Read Seen) → SizeWidth → ℕ → List ℕ → Read Part
@@ -207,19 +202,6 @@ data_by value constructor element codes.Described at bytes = described_at value 
 -- an element of a constructor, where behind reads what is behind so many descriptors and a code
 unfoldable pub element_by : (ℕ → Code → ℕ → List ℕ → Read Part) → Constructor → ℕ → List ℕ → Read Seen
 element_by behind c at bytes = with_tag c.tag (with_octets bytes (behind c.tags c.code at bytes))
-
--- a constructor that is a format code alone (part 1, 1.2)
-abbrev pub code_alone : ℕ → Code → Constructor
-code_alone first code = record { octets = first ∷ []; tags = 0; code = code; tag = None }
-
--- a constructor with a descriptor in front (part 1, 1.2)
-abbrev pub code_behind : ℕ → List ℕ → Constructor → Constructor
-code_behind first descriptor inner = record {
-  octets = first ∷ (descriptor ++ inner.octets);
-  tags = suc inner.tags;
-  code = inner.code;
-  tag = Some (record { descriptor = descriptor; constructor = inner.octets });
-}
 
 -- a descriptor and the constructor behind it, behind the octet that says so: value reads a descriptor, and inner a constructor (part 1, 1.2)
 unfoldable pub tagged_at : (ℕ → List ℕ → Read Seen) → (ℕ → List ℕ → Read Constructor) → ℕ → ℕ → List ℕ → Read Constructor

@@ -1,7 +1,7 @@
 //! The format codes: what each first octet of a value says of the octets behind it.
 
 ghost use Rattle.std.specs.Prelude.{◌≡◌};
-ghost use Rattle.amqp_types.specs.Codes.{code_of, width_of, opaque_width, size_len, is_described};
+ghost use Rattle.amqp_types.specs.Codes.{code_of, scalar_of_code, width_of, opaque_width, size_len, is_described};
 ghost use Rattle.amqp_types.specs.Reading.{is_odd};
 
 /// A type whose data has the same length in each value: part 1, 1.2.1.
@@ -89,33 +89,7 @@ impl Code {
     {
         let code = match octet {
             0x00 => Code::Described,
-            0x40 => Code::Fixed(Scalar::Null),
-            0x41 => Code::Fixed(Scalar::True),
-            0x42 => Code::Fixed(Scalar::False),
-            0x43 => Code::Fixed(Scalar::UintZero),
-            0x44 => Code::Fixed(Scalar::UlongZero),
             0x45 => Code::EmptyList,
-            0x50 => Code::Fixed(Scalar::Ubyte),
-            0x51 => Code::Fixed(Scalar::Byte),
-            0x52 => Code::Fixed(Scalar::UintOctet),
-            0x53 => Code::Fixed(Scalar::UlongOctet),
-            0x54 => Code::Fixed(Scalar::IntOctet),
-            0x55 => Code::Fixed(Scalar::LongOctet),
-            0x56 => Code::Fixed(Scalar::Boolean),
-            0x60 => Code::Fixed(Scalar::Ushort),
-            0x61 => Code::Fixed(Scalar::Short),
-            0x70 => Code::Fixed(Scalar::Uint),
-            0x71 => Code::Fixed(Scalar::Int),
-            0x72 => Code::Fixed(Scalar::Opaque(Opaque::Float)),
-            0x73 => Code::Fixed(Scalar::Opaque(Opaque::Char)),
-            0x74 => Code::Fixed(Scalar::Opaque(Opaque::Decimal32)),
-            0x80 => Code::Fixed(Scalar::Ulong),
-            0x81 => Code::Fixed(Scalar::Long),
-            0x82 => Code::Fixed(Scalar::Opaque(Opaque::Double)),
-            0x83 => Code::Fixed(Scalar::Opaque(Opaque::Timestamp)),
-            0x84 => Code::Fixed(Scalar::Opaque(Opaque::Decimal64)),
-            0x94 => Code::Fixed(Scalar::Opaque(Opaque::Decimal128)),
-            0x98 => Code::Fixed(Scalar::Opaque(Opaque::Uuid)),
             0xA0 => Code::Sized(Text::Binary, SizeWidth::One),
             0xA1 => Code::Sized(Text::Str, SizeWidth::One),
             0xA3 => Code::Sized(Text::Symbol, SizeWidth::One),
@@ -128,7 +102,7 @@ impl Code {
             0xD1 => Code::Nested(Kind::Map, SizeWidth::Four),
             0xE0 => Code::Array(SizeWidth::One),
             0xF0 => Code::Array(SizeWidth::Four),
-            _ => return None,
+            _ => Code::Fixed(Scalar::of(octet)?),
         };
         Some(code)
     }
@@ -167,6 +141,43 @@ impl Kind {
 }
 
 impl Scalar {
+    /// The type of fixed width that an octet is the code of, if it is one.
+    #[tactic(auto, unfolding(crate::specs::Codes::scalar_of_code))]
+    fn of(octet: u8) -> Option<Scalar>
+        ensures { result ≡ scalar_of_code octet }
+    {
+        let scalar = match octet {
+            0x40 => Scalar::Null,
+            0x41 => Scalar::True,
+            0x42 => Scalar::False,
+            0x43 => Scalar::UintZero,
+            0x44 => Scalar::UlongZero,
+            0x50 => Scalar::Ubyte,
+            0x51 => Scalar::Byte,
+            0x52 => Scalar::UintOctet,
+            0x53 => Scalar::UlongOctet,
+            0x54 => Scalar::IntOctet,
+            0x55 => Scalar::LongOctet,
+            0x56 => Scalar::Boolean,
+            0x60 => Scalar::Ushort,
+            0x61 => Scalar::Short,
+            0x70 => Scalar::Uint,
+            0x71 => Scalar::Int,
+            0x72 => Scalar::Opaque(Opaque::Float),
+            0x73 => Scalar::Opaque(Opaque::Char),
+            0x74 => Scalar::Opaque(Opaque::Decimal32),
+            0x80 => Scalar::Ulong,
+            0x81 => Scalar::Long,
+            0x82 => Scalar::Opaque(Opaque::Double),
+            0x83 => Scalar::Opaque(Opaque::Timestamp),
+            0x84 => Scalar::Opaque(Opaque::Decimal64),
+            0x94 => Scalar::Opaque(Opaque::Decimal128),
+            0x98 => Scalar::Opaque(Opaque::Uuid),
+            _ => return None,
+        };
+        Some(scalar)
+    }
+
     /// How many octets of data the type has.
     pub(crate) fn width(self) -> usize
         ensures { result ≡ width_of self }

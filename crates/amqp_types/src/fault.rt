@@ -48,7 +48,8 @@ impl ValueFaultKind {
 pub struct ValueFault {
     /// Which rule is broken.
     pub kind: ValueFaultKind,
-    /// The offset, in octets from the start of the input, of the value that breaks it.
+    /// The offset, in octets from the start of the input, of the value that breaks it; of the outermost
+    /// array where the value lies in one, and the end of the input where a value is missing there.
     pub at: usize,
 }
 

@@ -1,7 +1,7 @@
 //! The data of values that hold no others, and sizes and counts.
 //!
-//! Each function is given the octets from its place to the end of the input or of the list that it
-//! reads in, `at`, the offset of the value that they belong to, and answers what it read and the
+//! A reader is given the octets from its place to the end of the input or of the container that it
+//! reads in, and `at`, the offset of the value that they belong to; it answers what it read and the
 //! octets behind it.
 
 ghost use Rattle.std.specs.Prelude.{◌≡◌, ◌≤◌, length};
@@ -116,7 +116,12 @@ fn text_in(text: Text, octets: &[u8]) -> Option<Content<'_>>
 
 /// The data of a binary, a string or a symbol.
 #[tactic(auto, unfolding(crate::specs::Reading::text_at))]
-pub(crate) fn read_text(text: Text, width: SizeWidth, at: usize, bytes: &[u8]) -> Read<'_, Content<'_>>
+pub(crate) fn read_text(
+    text: Text,
+    width: SizeWidth,
+    at: usize,
+    bytes: &[u8],
+) -> Read<'_, Content<'_>>
     ensures { Gives (λ x. (part_of x.0, x.1.now)) result (text_at text width at bytes.now) }
 {
     let (octets, rest) = read_sized(width, at, bytes)?;

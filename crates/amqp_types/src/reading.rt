@@ -1,8 +1,8 @@
 //! Reading a value from left to right, up to the first fault.
 //!
-//! Each function is given the octets from its place to the end of the input or of the list that it
-//! reads in, `at`, the offset of the value that they belong to, and answers what it read and the
-//! octets behind it. So many levels are left: that of the value, and those of the values in it.
+//! A reader is given the octets from its place to the end of the input or of the container that it
+//! reads in, and `at`, the offset of the value that they belong to; it answers what it read and the
+//! octets behind it. `levels` is how many values may still lie in one another from there.
 
 ghost use Rattle.std.specs.Prelude.{◌≡◌, ◌+◌, ◌-◌, ◌<◌, ◌≤◌, ◌^◌, ◌∷◌, IsTrue, IfSome, Some, None, length, drop, slice_index};
 ghost use Rattle.amqp_types.specs.Part as parts;

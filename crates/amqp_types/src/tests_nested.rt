@@ -13,7 +13,9 @@ const NEST: [u8; 97] = [
 ];
 
 fn fault_of(octets: &[u8]) -> Option<(ValueFaultKind, usize)> {
-    Value::read(octets).err().map(|fault| (fault.kind, fault.at))
+    Value::read(octets)
+        .err()
+        .map(|fault| (fault.kind, fault.at))
 }
 
 fn value<'a>(rt: &impl Abort, octets: &'a [u8]) -> Value<'a> {
@@ -41,7 +43,10 @@ fn depth_of_arrays(rt: HostRuntime) {
     // what lies too deep isn't looked at
     arrays[96] = 0x3F;
     assert_eq!(rt; fault_of(&arrays), Some((ValueFaultKind::TooDeep, 0)));
-    assert_eq!(rt; fault_of(&arrays[3..]), Some((ValueFaultKind::UnknownCode, 0)));
+    assert_eq!(rt;
+        fault_of(&arrays[3..]),
+        Some((ValueFaultKind::UnknownCode, 0))
+    );
 }
 
 #[test]
@@ -74,20 +79,13 @@ fn depth_of_constructors(rt: HostRuntime) {
         array[3 + 2 * tag] = 0x00;
     }
     assert_eq!(rt; fault_of(&array), Some((ValueFaultKind::TooDeep, 0)));
-    array[1] = 62;
-    array[5] = 0xE0;
-    array[3] = 0x40;
-    array[4] = 0x40;
     let mut thirty = [0x40u8; 64];
     thirty.copy_from_slice(&array[2..]);
     thirty[0] = 0xE0;
     thirty[1] = 62;
     thirty[2] = 0x01;
     thirty[3] = 0x00;
-    let mut inner = value(&rt, &thirty)
-        .items()
-        .next()
-        .expect(&rt, "an element");
+    let mut inner = value(&rt, &thirty).items().next().expect(&rt, "an element");
     for _ in 0..30 {
         assert!(rt; inner.descriptor().expect(&rt, "a descriptor").is_null());
         inner = inner.described().expect(&rt, "a described value");
@@ -108,11 +106,31 @@ fn faults_in_arrays(rt: HostRuntime) {
         (&[0xE0, 0x02, 0x00, 0x3F], ValueFaultKind::UnknownCode, 0),
         (&[0xE0, 0x02, 0x00, 0x00], ValueFaultKind::BadSize, 0),
         // inside an array the offset is the outermost array's
-        (&[0xE0, 0x05, 0x01, 0xE0, 0x02, 0x01, 0x3F], ValueFaultKind::UnknownCode, 0),
-        (&[0xC0, 0x08, 0x01, 0xE0, 0x05, 0x01, 0xE0, 0x02, 0x01, 0x3F], ValueFaultKind::UnknownCode, 3),
-        (&[0xE0, 0x06, 0x01, 0xC0, 0x03, 0x01, 0xA1, 0x05], ValueFaultKind::BadSize, 0),
-        (&[0xC0, 0x06, 0x02, 0x40, 0xE0, 0x02, 0x01, 0x56], ValueFaultKind::BadSize, 4),
-        (&[0xC0, 0x06, 0x01, 0xE0, 0x03, 0x01, 0x56, 0x02], ValueFaultKind::BadBoolean, 3),
+        (
+            &[0xE0, 0x05, 0x01, 0xE0, 0x02, 0x01, 0x3F],
+            ValueFaultKind::UnknownCode,
+            0,
+        ),
+        (
+            &[0xC0, 0x08, 0x01, 0xE0, 0x05, 0x01, 0xE0, 0x02, 0x01, 0x3F],
+            ValueFaultKind::UnknownCode,
+            3,
+        ),
+        (
+            &[0xE0, 0x06, 0x01, 0xC0, 0x03, 0x01, 0xA1, 0x05],
+            ValueFaultKind::BadSize,
+            0,
+        ),
+        (
+            &[0xC0, 0x06, 0x02, 0x40, 0xE0, 0x02, 0x01, 0x56],
+            ValueFaultKind::BadSize,
+            4,
+        ),
+        (
+            &[0xC0, 0x06, 0x01, 0xE0, 0x03, 0x01, 0x56, 0x02],
+            ValueFaultKind::BadBoolean,
+            3,
+        ),
     ];
     for (octets, kind, at) in cases {
         assert_eq!(rt; fault_of(octets), Some((kind, at)), "{octets:?}");
@@ -127,7 +145,11 @@ fn faults_in_maps(rt: HostRuntime) {
         (&[0xC1, 0x02, 0x01, 0x3F], ValueFaultKind::OddMap, 0),
         (&[0xC1, 0x02, 0x03, 0x3F], ValueFaultKind::BadSize, 0),
         (&[0xC1, 0x02, 0x02, 0x40], ValueFaultKind::BadSize, 0),
-        (&[0xD1, 0, 0, 0, 5, 0, 0, 0, 1, 0x40], ValueFaultKind::OddMap, 0),
+        (
+            &[0xD1, 0, 0, 0, 5, 0, 0, 0, 1, 0x40],
+            ValueFaultKind::OddMap,
+            0,
+        ),
     ];
     for (octets, kind, at) in cases {
         assert_eq!(rt; fault_of(octets), Some((kind, at)), "{octets:?}");
@@ -145,7 +167,10 @@ fn arrays(rt: HostRuntime) {
     assert_eq!(rt; value(&rt, empty[0]).items().count(), 0);
     assert_eq!(rt; value(&rt, empty[1]).items().count(), 0);
     assert_eq!(rt; fault_of(empty[2]), Some((ValueFaultKind::BadSize, 0)));
-    assert_eq!(rt; value(&rt, empty[3]).as_array().map(|items| items.len()), Some(0));
+    assert_eq!(rt;
+        value(&rt, empty[3]).as_array().map(|items| items.len()),
+        Some(0)
+    );
     let symbols = [0xE0, 0x07, 0x02, 0xA3, 0x02, 0x68, 0x69, 0x01, 0x61];
     let mut items = value(&rt, &symbols).items();
     assert_eq!(rt; items.len(), 2);
@@ -157,8 +182,14 @@ fn arrays(rt: HostRuntime) {
     assert!(rt; items.next().is_none());
     let numbers = [0xF0, 0, 0, 0, 9, 0, 0, 0, 2, 0x60, 0x01, 0x02, 0xFF, 0xFE];
     let mut items = value(&rt, &numbers).items();
-    assert_eq!(rt; items.next().expect(&rt, "a number").as_ushort(), Some(0x0102));
-    assert_eq!(rt; items.next().expect(&rt, "a number").as_ushort(), Some(0xFFFE));
+    assert_eq!(rt;
+        items.next().expect(&rt, "a number").as_ushort(),
+        Some(0x0102)
+    );
+    assert_eq!(rt;
+        items.next().expect(&rt, "a number").as_ushort(),
+        Some(0xFFFE)
+    );
     assert!(rt; value(&rt, &numbers).as_list().is_none());
 }
 
@@ -169,17 +200,26 @@ fn described_elements(rt: HostRuntime) {
     assert_eq!(rt; value(&rt, &accepted).items().len(), 2);
     for state in value(&rt, &accepted).items() {
         assert_eq!(rt; state.raw(), [0u8; 0].as_slice());
-        assert_eq!(rt; state.descriptor().expect(&rt, "a descriptor").as_ulong(), Some(0x24));
+        assert_eq!(rt;
+            state.descriptor().expect(&rt, "a descriptor").as_ulong(),
+            Some(0x24)
+        );
         let list = state.described().expect(&rt, "a described value");
         assert_eq!(rt; list.as_list().map(|items| items.len()), Some(0));
     }
     // an ubyte that a uint describes, both of which an ulong describes
     let twice = [0xE0, 0x08, 0x02, 0x00, 0x44, 0x00, 0x43, 0x50, 0x07, 0x08];
     let last = value(&rt, &twice).items().last().expect(&rt, "an element");
-    assert_eq!(rt; last.descriptor().expect(&rt, "a descriptor").as_ulong(), Some(0));
+    assert_eq!(rt;
+        last.descriptor().expect(&rt, "a descriptor").as_ulong(),
+        Some(0)
+    );
     let inner = last.described().expect(&rt, "a described value");
     assert_eq!(rt; inner.raw(), [0x08u8].as_slice());
-    assert_eq!(rt; inner.descriptor().expect(&rt, "a descriptor").as_uint(), Some(0));
+    assert_eq!(rt;
+        inner.descriptor().expect(&rt, "a descriptor").as_uint(),
+        Some(0)
+    );
     let number = inner.described().expect(&rt, "a described value");
     assert_eq!(rt; number.as_ubyte(), Some(8));
     assert!(rt; number.described().is_none());
@@ -206,7 +246,10 @@ fn maps(rt: HostRuntime) {
 fn signed_numbers(rt: HostRuntime) {
     assert_eq!(rt; value(&rt, &[0x51, 0xFF]).as_byte(), Some(-1));
     assert_eq!(rt; value(&rt, &[0x61, 0x80, 0x01]).as_short(), Some(-32767));
-    assert_eq!(rt; value(&rt, &[0x71, 0xFF, 0xFF, 0xFF, 0xFE]).as_int(), Some(-2));
+    assert_eq!(rt;
+        value(&rt, &[0x71, 0xFF, 0xFF, 0xFF, 0xFE]).as_int(),
+        Some(-2)
+    );
     assert_eq!(rt; value(&rt, &[0x54, 0x80]).as_int(), Some(-128));
     let long = [0x81, 0xFF, 0xFF, 0xFF, 0xFF, 0xFF, 0xFF, 0xFF, 0x00];
     assert_eq!(rt; value(&rt, &long).as_long(), Some(-256));
@@ -234,6 +277,9 @@ fn kept_octets(rt: HostRuntime) {
             value(&rt, &octets[..=width]).as_opaque(),
             Some((opaque, expected))
         );
-        assert_eq!(rt; fault_of(&octets[..width]), Some((ValueFaultKind::Short, 0)));
+        assert_eq!(rt;
+            fault_of(&octets[..width]),
+            Some((ValueFaultKind::Short, 0))
+        );
     }
 }

@@ -1,4 +1,4 @@
-//! Writing values, each in its shortest form.
+//! Writing values, each in its shortest form; a descriptor in the form that fits any code of one octet.
 //!
 //! A writer appends the octets of its value to those that are there: all of them, or none where
 //! memory is refused. It is refused only where the room that was there is too small.

@@ -1,0 +1,301 @@
+use super::*;
+use std::alloc::{AllocError, Global};
+use std::process::Abort;
+use std::test::Fail;
+
+// An open of the container `a`.
+const OPEN: [u8; 17] = [
+    0x00, 0x00, 0x00, 0x11, 0x02, 0x00, 0x00, 0x00, 0x00, 0x53, 0x10, 0xC0, 0x04, 0x01, 0xA1, 0x01,
+    0x61,
+];
+
+// The same open in another spelling.
+const LONG_OPEN: [u8; 37] = [
+    0x00, 0x00, 0x00, 0x25, 0x02, 0x00, 0x00, 0x00, 0x00, 0xA3, 0x0E, 0x61, 0x6D, 0x71, 0x70, 0x3A,
+    0x6F, 0x70, 0x65, 0x6E, 0x3A, 0x6C, 0x69, 0x73, 0x74, 0xD0, 0x00, 0x00, 0x00, 0x07, 0x00, 0x00,
+    0x00, 0x01, 0xA1, 0x01, 0x61,
+];
+
+// A transfer with handle 0, delivery-id 0, tag `1`, message-format 0 and settled false, and then its
+// payload, the text `hi`.
+const TRANSFER: [u8; 28] = [
+    0x00, 0x00, 0x00, 0x1C, 0x02, 0x00, 0x00, 0x00, 0x00, 0x53, 0x14, 0xC0, 0x08, 0x05, 0x43, 0x43,
+    0xA0, 0x01, 0x31, 0x43, 0x42, 0x00, 0x53, 0x77, 0xA1, 0x02, 0x68, 0x69,
+];
+
+// A SASL init that names ANONYMOUS.
+const SASL_INIT: [u8; 25] = [
+    0x00, 0x00, 0x00, 0x19, 0x02, 0x01, 0x00, 0x00, 0x00, 0x53, 0x41, 0xC0, 0x0C, 0x01, 0xA3, 0x09,
+    0x41, 0x4E, 0x4F, 0x4E, 0x59, 0x4D, 0x4F, 0x55, 0x53,
+];
+
+// What `read` makes of octets: the length of a frame, none yet, or a fault.
+fn length(octets: &[u8]) -> Result<Option<usize>, FrameFault> {
+    match FrameView::read(octets, FRAME_LIMIT) {
+        Ok(Some((_, length))) => Ok(Some(length)),
+        Ok(None) => Ok(None),
+        Err(fault) => Err(fault),
+    }
+}
+
+fn view<'a>(rt: &impl Abort, octets: &'a [u8]) -> FrameView<'a> {
+    match FrameView::read(octets, FRAME_LIMIT) {
+        Ok(Some((view, _))) => view,
+        _ => panic!(rt; "no frame is at the front of these octets"),
+    }
+}
+
+#[test]
+fn whole_frames(rt: HostRuntime) {
+    for octets in [&OPEN[..], &LONG_OPEN[..], &TRANSFER[..]] {
+        let frame = view(&rt, octets);
+        assert_eq!(rt; length(octets), Ok(Some(octets.len())));
+        assert_eq!(rt; frame.kind(), FrameKind::Amqp);
+        assert_eq!(rt; frame.channel(), 0);
+        assert_eq!(rt; frame.octets(), octets);
+        assert!(rt; octets.ends_with(frame.body()));
+        assert_eq!(rt; frame.body().len() + 8, octets.len());
+        assert!(rt; FrameView::whole(octets, FRAME_LIMIT).is_some());
+    }
+    assert!(rt; FrameView::whole(&LONG_OPEN[..36], FRAME_LIMIT).is_none());
+    assert_eq!(rt; view(&rt, &SASL_INIT).kind(), FrameKind::Sasl);
+    // the payload is the slice of octets 21 to 27
+    assert_eq!(rt;
+        view(&rt, &TRANSFER).body().get(13..),
+        Some(&TRANSFER[21..28])
+    );
+}
+
+#[test]
+fn frames_with_more_to_their_header(rt: HostRuntime) {
+    // a channel, and a header of 12 octets
+    let extended = [
+        0x00, 0x00, 0x00, 0x0E, 0x03, 0x00, 0x01, 0x02, 0xAA, 0xBB, 0xCC, 0xDD, 0x61, 0x62,
+    ];
+    let frame = view(&rt, &extended);
+    assert_eq!(rt; frame.channel(), 258);
+    assert_eq!(rt; frame.body(), b"ab".as_slice());
+    // an empty body, and octets behind the frame
+    let empty = [
+        0x00, 0x00, 0x00, 0x08, 0x02, 0x00, 0x00, 0x00, 0x00, 0x00, 0x00, 0x07,
+    ];
+    assert_eq!(rt; length(&empty), Ok(Some(8)));
+    assert!(rt; FrameView::whole(&empty, FRAME_LIMIT).is_none());
+    assert!(rt; view(&rt, &empty).body().is_empty());
+}
+
+#[test]
+fn cut_frames(rt: HostRuntime) {
+    for length_left in 0..TRANSFER.len() {
+        assert_eq!(rt; length(&TRANSFER[..length_left]), Ok(None));
+    }
+}
+
+#[test]
+fn faults(rt: HostRuntime) {
+    let cases: [(&[u8], FrameFault); 8] = [
+        (&[0x00, 0x00, 0x00, 0x07], FrameFault::TooSmall),
+        (&[0x00, 0x00, 0x00, 0x00], FrameFault::TooSmall),
+        (&[0x00, 0x00, 0x40, 0x01], FrameFault::TooLarge),
+        (&[0xFF, 0xFF, 0xFF, 0xFF], FrameFault::TooLarge),
+        (
+            &[0x00, 0x00, 0x00, 0x08, 0x01, 0x00, 0x00, 0x00],
+            FrameFault::BadOffset,
+        ),
+        (
+            &[0x00, 0x00, 0x00, 0x08, 0x03, 0x00, 0x00, 0x00],
+            FrameFault::BadOffset,
+        ),
+        (
+            &[0x00, 0x00, 0x00, 0x08, 0x02, 0x02, 0x00, 0x00],
+            FrameFault::WrongType,
+        ),
+        (
+            &[0x00, 0x00, 0x40, 0x00, 0x02, 0x02, 0x00, 0x00],
+            FrameFault::WrongType,
+        ),
+    ];
+    for (octets, fault) in cases {
+        assert_eq!(rt; length(octets), Err(fault));
+    }
+    // no fault stands before the octets that show it are there
+    assert_eq!(rt; length(&[0xFF, 0xFF, 0xFF]), Ok(None));
+    assert_eq!(rt;
+        length(&[0x00, 0x00, 0x00, 0x08, 0x01, 0x02, 0x00]),
+        Ok(None)
+    );
+    // the largest frame is whole at its last octet alone
+    assert_eq!(rt;
+        length(&[0x00, 0x00, 0x40, 0x00, 0x02, 0x00, 0x00, 0x00]),
+        Ok(None)
+    );
+    // a limit below a frame's header leaves its faults in their order
+    assert_eq!(rt;
+        FrameView::read(&[0, 0, 0, 7], 4).err(),
+        Some(FrameFault::TooSmall)
+    );
+    assert_eq!(rt;
+        FrameView::read(&[0, 0, 0, 8], 4).err(),
+        Some(FrameFault::TooLarge)
+    );
+}
+
+#[test]
+fn fault_numbers_and_texts(rt: HostRuntime) -> Result<(), Fail> {
+    let cases = [
+        (
+            FrameFault::TooSmall,
+            1,
+            "the size is less than a frame's header",
+        ),
+        (FrameFault::TooLarge, 2, "the size is over the limit"),
+        (
+            FrameFault::BadOffset,
+            3,
+            "the body starts outside the frame",
+        ),
+        (
+            FrameFault::WrongType,
+            4,
+            "the type is neither AMQP nor SASL",
+        ),
+    ];
+    for (fault, number, text) in cases {
+        assert_eq!(rt; fault.number(), number);
+        assert_eq!(rt; format!(in rt.alloc(); "{fault}")?.as_str(), text);
+    }
+    Ok(())
+}
+
+#[test]
+fn protocol_headers(rt: HostRuntime) {
+    let amqp = [0x41, 0x4D, 0x51, 0x50, 0x00, 0x01, 0x00, 0x00];
+    let sasl = [0x41, 0x4D, 0x51, 0x50, 0x03, 0x01, 0x00, 0x00];
+    assert_eq!(rt; ProtocolHeader::Amqp.octets(), amqp);
+    assert_eq!(rt; ProtocolHeader::Sasl.octets(), sasl);
+    assert_eq!(rt; ProtocolHeader::of(&amqp), Some(ProtocolHeader::Amqp));
+    assert_eq!(rt; ProtocolHeader::of(&sasl), Some(ProtocolHeader::Sasl));
+    assert_eq!(rt; ProtocolHeader::of(b"HTTP/1.1"), None);
+    assert_eq!(rt; ProtocolHeader::of(&amqp[..7]), None);
+}
+
+// A frame of this size, whose octets behind its header are `filling`.
+fn frame_of_size(alloc: Global, size: u32, filling: u8) -> Result<Vec<u8>, AllocError> {
+    let mut octets = Vec::new(alloc);
+    octets.extend_from_slice(&size.to_be_bytes())?;
+    octets.extend_from_slice(&[2, 0, 0, filling])?;
+    octets.resize(size as usize, filling)?;
+    Ok(octets)
+}
+
+// 200 frames of sizes from 8 to 16384.
+fn many_frames(alloc: Global) -> Result<Vec<Vec<u8>>, AllocError> {
+    let mut frames = Vec::new(alloc);
+    for number in 0..199u8 {
+        let size = 8 + u32::from(number) * 82 + u32::from(number % 3);
+        frames.push(frame_of_size(alloc, size, number)?)?;
+    }
+    frames.push(frame_of_size(alloc, 16384, 199)?)?;
+    Ok(frames)
+}
+
+fn joined(alloc: Global, frames: &[Vec<u8>]) -> Result<Vec<u8>, AllocError> {
+    let mut stream = Vec::new(alloc);
+    for frame in frames {
+        stream.extend_from_slice(frame)?;
+    }
+    Ok(stream)
+}
+
+// The stream in pieces of 1 to 9000 octets.
+fn uneven_pieces(alloc: Global, stream: &[u8]) -> Result<Vec<&[u8]>, AllocError> {
+    let mut pieces = Vec::new(alloc);
+    let mut rest = stream;
+    let mut state = 12345u32;
+    for _ in 0..stream.len() {
+        if rest.is_empty() {
+            break;
+        }
+        state = state.wrapping_mul(1664525).wrapping_add(1013904223);
+        let length = 1 + (state / 65536) as usize % 9000;
+        let (piece, behind) = rest.split_at(length.min(rest.len()));
+        pieces.push(piece)?;
+        rest = behind;
+    }
+    Ok(pieces)
+}
+
+fn assert_cuts_into(
+    rt: &impl Abort,
+    alloc: Global,
+    pieces: &[&[u8]],
+    frames: &[Vec<u8>],
+) -> Result<(), AllocError> {
+    let cut = cut_stream(alloc, pieces)?;
+    assert_eq!(rt; cut.fault, None);
+    assert_eq!(rt; cut.frames.len(), frames.len());
+    for (frame, expected) in cut.frames.iter().zip(frames) {
+        assert!(rt; frame.as_slice() == expected.as_slice());
+    }
+    Ok(())
+}
+
+#[test]
+fn frames_of_any_pieces(rt: HostRuntime) -> Result<(), Fail> {
+    let alloc = rt.alloc();
+    let frames = many_frames(alloc)?;
+    let stream = joined(alloc, &frames)?;
+    for length in [1, 7, 4096, 16384, 2000000] {
+        let pieces: Vec<&[u8]> = stream.chunks(length).collect(alloc)?;
+        assert_cuts_into(&rt, alloc, &pieces, &frames)?;
+    }
+    let pieces = uneven_pieces(alloc, &stream)?;
+    assert_cuts_into(&rt, alloc, &pieces, &frames)?;
+    Ok(())
+}
+
+#[test]
+fn a_fault_stays(rt: HostRuntime) -> Result<(), Fail> {
+    let mut splitter = Splitter::new(rt.alloc());
+    assert_eq!(rt; splitter.next(), Ok(None));
+    splitter.feed(&OPEN)?;
+    splitter.feed(&[0x00, 0x00, 0x00, 0x08, 0x01])?;
+    assert_eq!(rt; splitter.next(), Ok(Some(OPEN.as_slice())));
+    assert_eq!(rt; splitter.next(), Ok(None));
+    splitter.feed(&[0x00, 0x00, 0x00])?;
+    assert_eq!(rt; splitter.next(), Err(FrameFault::BadOffset));
+    splitter.feed(&OPEN)?;
+    assert_eq!(rt; splitter.next(), Err(FrameFault::BadOffset));
+    assert_eq!(rt; splitter.next(), Err(FrameFault::BadOffset));
+    Ok(())
+}
+
+#[test]
+fn frames_before_a_fault(rt: HostRuntime) -> Result<(), Fail> {
+    let pieces: [&[u8]; 4] = [&OPEN[..3], &OPEN[3..], &TRANSFER, &[0xFF, 0xFF, 0xFF, 0xFF]];
+    let cut = cut_stream(rt.alloc(), &pieces)?;
+    assert_eq!(rt; cut.fault, Some(FrameFault::TooLarge));
+    assert_eq!(rt; cut.frames.len(), 2);
+    assert_eq!(rt; cut.frames[0].as_slice(), OPEN.as_slice());
+    assert_eq!(rt; cut.frames[1].as_slice(), TRANSFER.as_slice());
+    Ok(())
+}
+
+// Where a long stream were moved for each of its small frames, this would not end in time.
+#[test]
+fn many_small_frames_in_one_piece(rt: HostRuntime) -> Result<(), Fail> {
+    let alloc = rt.alloc();
+    let frame = frame_of_size(alloc, 8, 7)?;
+    let mut stream = Vec::new(alloc);
+    for _ in 0..1000000 {
+        stream.extend_from_slice(&frame)?;
+    }
+    let mut splitter = Splitter::new(alloc);
+    splitter.feed(&stream)?;
+    for _ in 0..1000000 {
+        assert_eq!(rt; splitter.next(), Ok(Some(frame.as_slice())));
+        splitter.feed(&[])?;
+    }
+    assert_eq!(rt; splitter.next(), Ok(None));
+    Ok(())
+}
