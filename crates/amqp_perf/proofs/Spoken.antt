@@ -64,7 +64,7 @@ values_are_by octets (x ∷ xs) joined each =
     rw read (ap (λ (vs : List Seen). x ∷ vs) (values_are_by rest xs refl each.1))
 
 -- octets hold just these values
-values_are : (n : ℕ) (octets : List ℕ) (values : List Seen) → AreValuesOf n octets values → seen_in n octets ≡ values
+pub values_are : (n : ℕ) (octets : List ℕ) (values : List Seen) → AreValuesOf n octets values → seen_in n octets ≡ values
 values_are n octets values are =
     subst (λ k. seen_in k octets ≡ values) are.count (values_are_by octets values are.joined (recursion_from_All (λ value. IsValue levels_allowed value.octets value.part) values are.each))
 

@@ -10,3 +10,6 @@ pub mod Reading
 pub mod Grammar
 pub mod View
 pub mod Numbers
+pub mod Slots
+pub mod Writing
+pub mod SlotViews

@@ -11,7 +11,9 @@
 //! - `state`, `terminus`: what is nested in a disposition and in an attach;
 //! - `opening`, `begin`, `attach`, `flow`, `transfer`, `disposition`, `detach`: what each says; an end and a close
 //!   say their error alone;
-//! - `performative`: reading.
+//! - `performative`: reading;
+//! - `slot`: a field as it is written;
+//! - `writing`: writing all performatives but an attach.
 #![tactic(auto)]
 
 mod attach;
@@ -24,10 +26,12 @@ mod fields;
 mod flow;
 mod opening;
 mod performative;
+mod slot;
 mod state;
 mod table;
 mod terminus;
 mod transfer;
+mod writing;
 
 pub use attach::{Attach, ReceiverSettleMode, Role, SenderSettleMode};
 pub use begin::Begin;
@@ -41,8 +45,11 @@ pub use performative::Performative;
 pub use state::State;
 pub use terminus::{Address, Target, Terminus};
 pub use transfer::Transfer;
+pub use writing::{write_close, write_end};
 
 #[cfg(test)]
 mod tests;
 #[cfg(test)]
 mod tests_nested;
+#[cfg(test)]
+mod tests_writing;
