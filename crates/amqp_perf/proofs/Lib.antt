@@ -5,3 +5,6 @@ pub mod Slots
 pub mod SlotValues
 pub mod Again
 pub mod NestedAgain
+pub mod Conditions
+pub mod Lengths
+pub mod Writable

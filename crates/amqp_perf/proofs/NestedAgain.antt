@@ -1,5 +1,5 @@
 -- What is nested in a performative is read again as it was written.
-use Rattle.std.proofs.Common.{◌≡◌, refl, sym, ap, subst, ◌∙◌, ℕ, suc, ◌<◌, ◌^◌, Bool, false, List, [], length, Option, Some, None, option_map, unwrap_or, is_some, arith}
+use Rattle.std.proofs.Common.{◌≡◌, refl, sym, ap, subst, ◌∙◌, ℕ, suc, ◌<◌, ◌^◌, Bool, false, List, [], length, Option, Some, None, option_map, unwrap_or, is_some, IsUtf8, arith}
 use Rattle.amqp_types.specs.declared.code.Text.TheVariants as texts
 use Rattle.amqp_types.specs.declared.code.Kind.TheVariants as kinds_of_lists
 use Rattle.amqp_types.specs.Part.{Part, Null, Ulong, Sized, Nested, Seen}
@@ -25,17 +25,17 @@ use Rattle.amqp_perf.specs.Nested.{StateFields, AddressFields, AText, AnOther, T
 use Rattle.amqp_perf.specs.Meaning.{AnAttach, ADisposition, ADetach, AnEnd, AClose, AttachFields, DispositionFields, DetachFields}
 use Rattle.amqp_perf.specs.Grammar.{IsPerformative}
 use Rattle.amqp_perf.specs.SlotViews.{nested_view}
-use Rattle.amqp_perf.specs.Slots.{ulong_value, kept_value, or_null, values_of, octets_of, fields_octets, IsShortPart, CanStand, AllCanStand, AreShort}
+use Rattle.amqp_perf.specs.Slots.{uint_value, ulong_value, kept_value, or_null, values_of, octets_of, fields_octets, IsShortPart, CanStand, AllCanStand, AreShort}
 use Rattle.amqp_perf.specs.Writing.{state_value, address_value, terminus_slots, source_octets, source_value, target_octets, target_value, error_slots, error_octets, error_value, octets_if, role_value, sender_mode_value, receiver_mode_value, disposition_slots, detach_slots, attach_slots, performative_octets, IsWritable, IfThere, IsWritableState, IsWritableAddress, IsWritableTerminus, IsWritableTarget, IsWritableError}
 use Rattle.amqp_perf.proofs.Slots.{Suits, AreAt, stand_values, are_items, values_long, says_fields, fields_nested, descriptor_is}
-use Rattle.amqp_perf.proofs.SlotValues.{flag_can, text_can}
+use Rattle.amqp_perf.proofs.SlotValues.{uint_can, ulong_can, flag_can, role_can, sender_mode_can, receiver_mode_can, text_can}
 use Rattle.amqp_perf.proofs.Spoken.{values_are}
 use Rattle.amqp_perf.proofs.Again.{are_values, again_by, uint_again, flag_again, uint_suits, flag_suits}
 
 -- ---- described lists
 
 -- a described list that was written is seen as one
-seen_again : (code : ℕ) (ss : List (Option Seen)) → AllCanStand 28 ss → AreShort ss → kept_value (fields_octets code ss) ≡ record { octets = fields_octets code ss; part = says_fields code ss }
+pub seen_again : (code : ℕ) (ss : List (Option Seen)) → AllCanStand 28 ss → AreShort ss → kept_value (fields_octets code ss) ≡ record { octets = fields_octets code ss; part = says_fields code ss }
 seen_again code ss can few =
     let is : IsValue levels_allowed (fields_octets code ss) (says_fields code ss) = value_deeper 30 levels_allowed (fields_octets code ss) (says_fields code ss) (omega arith) (fields_nested 27 code ss can few) in
     ap (λ (x : Seen). record { octets = fields_octets code ss; part = x.part }) (value_is (fields_octets code ss) (says_fields code ss) is)
@@ -44,7 +44,7 @@ nested_can : (code : ℕ) (ss : List (Option Seen)) → AllCanStand 28 ss → Ar
 nested_can code ss can few = subst (λ (v : Seen). CanStand levels_in_described (Some v)) (sym (seen_again code ss can few)) (fields_nested 27 code ss can few, tt)
 
 -- what its descriptor names, and its fields
-described_again : (code : ℕ) (ss : List (Option Seen)) → AllCanStand 28 ss → AreShort ss → described_list (says_fields code ss) ≡ both_of (descriptor_of_code code) (Some (values_of ss))
+pub described_again : (code : ℕ) (ss : List (Option Seen)) → AllCanStand 28 ss → AreShort ss → described_list (says_fields code ss) ≡ both_of (descriptor_of_code code) (Some (values_of ss))
 described_again code ss can few =
     let vs = values_of ss in
     let d = descriptor_octets code in
@@ -141,7 +141,7 @@ target_says (Some (AText text)) None is = refl
 target_says (Some (AText text)) (Some b) is = refl
 target_says (Some (AnOther octets)) dynamic is = absurd is
 
-none_short : AreShort []
+pub none_short : AreShort []
 none_short = omega arith
 
 pub source_can : (source : Option TerminusFields) → IfThere IsWritableTerminus source → CanStand levels_in_described (option_map source_value source)
@@ -281,3 +281,35 @@ attach_again a can is =
       uint_again a.initial_delivery_count,
       ulong_again a.max_message_size,
     ) refl)
+
+uint_there : (x : Option ℕ) → ((n : ℕ) → x ≡ Some n → n < 2 ^ 32) → CanStand levels_in_described (option_map uint_value x)
+uint_there None fits = tt
+uint_there (Some n) fits = uint_can n (fits n refl) 29
+
+ulong_there : (x : Option ℕ) → ((n : ℕ) → x ≡ Some n → n < 2 ^ 64) → CanStand levels_in_described (option_map ulong_value x)
+ulong_there None fits = tt
+ulong_there (Some n) fits = ulong_can n (fits n refl) 29
+
+-- an attach whose numbers fit their types, and whose texts and termini can be written
+attach_can : (a : AttachFields) → a.handle < 2 ^ 32 → ((n : ℕ) → a.initial_delivery_count ≡ Some n → n < 2 ^ 32) → ((n : ℕ) → a.max_message_size ≡ Some n → n < 2 ^ 64) → IsUtf8 a.name → IsWritable (AnAttach a)
+    → AllCanStand levels_in_described (attach_slots a)
+attach_can a handle count size name is = (
+  text_can a.name is.fields.0 name 29,
+  (
+    uint_can a.handle handle 29,
+    (
+      role_can a.role 29,
+      (
+        sender_mode_can a.snd_settle_mode 29,
+        (
+          receiver_mode_can a.rcv_settle_mode 29,
+          (source_can a.source is.fields.1, (target_can a.target is.fields.2, (tt, (tt, (uint_there a.initial_delivery_count count, (ulong_there a.max_message_size size, tt)))))),
+        ),
+      ),
+    ),
+  ),
+)
+
+pub attach_read_again : (a : AttachFields) → a.handle < 2 ^ 32 → ((n : ℕ) → a.initial_delivery_count ≡ Some n → n < 2 ^ 32) → ((n : ℕ) → a.max_message_size ≡ Some n → n < 2 ^ 64) → IsUtf8 a.name → IsWritable (AnAttach a)
+    → IsPerformative (performative_octets (AnAttach a)) (AnAttach a)
+attach_read_again a handle count size name is = attach_again a (attach_can a handle count size name is) is

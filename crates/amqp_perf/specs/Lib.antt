@@ -13,3 +13,5 @@ pub mod Numbers
 pub mod Slots
 pub mod Writing
 pub mod SlotViews
+pub mod Conditions
+pub mod Router

@@ -8,16 +8,19 @@
 //! - `descriptor`: what a descriptor names;
 //! - `table`: the fields of each performative, in the standard's order;
 //! - `fields`: a list's items, taken and checked as such fields;
+//! - `condition`: the names of errors;
 //! - `state`, `terminus`: what is nested in a disposition and in an attach;
 //! - `opening`, `begin`, `attach`, `flow`, `transfer`, `disposition`, `detach`: what each says; an end and a close
 //!   say their error alone;
 //! - `performative`: reading;
 //! - `slot`: a field as it is written;
-//! - `writing`: writing all performatives but an attach.
+//! - `writing`: writing a performative;
+//! - `router`: the performatives that the router writes.
 #![tactic(auto)]
 
 mod attach;
 mod begin;
+mod condition;
 mod descriptor;
 mod detach;
 mod disposition;
@@ -26,6 +29,7 @@ mod fields;
 mod flow;
 mod opening;
 mod performative;
+mod router;
 mod slot;
 mod state;
 mod table;
@@ -35,6 +39,7 @@ mod writing;
 
 pub use attach::{Attach, ReceiverSettleMode, Role, SenderSettleMode};
 pub use begin::Begin;
+pub use condition::ErrorCondition;
 pub use descriptor::Outcome;
 pub use detach::Detach;
 pub use disposition::Disposition;
@@ -42,6 +47,10 @@ pub use fault::PerfFault;
 pub use flow::Flow;
 pub use opening::Open;
 pub use performative::Performative;
+pub use router::{
+    HIGHEST_CHANNEL, HIGHEST_HANDLE, INCOMING_WINDOW, LARGEST_FRAME, LARGEST_MESSAGE,
+    OUTGOING_WINDOW,
+};
 pub use state::State;
 pub use terminus::{Address, Target, Terminus};
 pub use transfer::Transfer;

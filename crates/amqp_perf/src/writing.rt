@@ -1,11 +1,14 @@
 //! Writing a performative.
 
+use crate::attach::Attach;
 use crate::begin::Begin;
 use crate::detach::Detach;
 use crate::disposition::Disposition;
 use crate::flow::Flow;
 use crate::opening::Open;
+use crate::performative::Performative;
 use crate::slot::{Slot, put_fields};
+use crate::terminus::{Target, Terminus};
 use crate::transfer::Transfer;
 use std::alloc::AllocError;
 
@@ -76,8 +79,8 @@ impl Begin {
     /// # Errors
     ///
     /// Where memory is refused: then nothing was appended.
+    #[tactic(auto, using(crate::proofs::Lengths::begin_writable))]
     pub fn write(self, out: &mut Vec<u8>) -> Result<(), AllocError>
-        requires { IsWritable (ABegin self) }
         ensures appended { Puts out.old.items out.new.items result (performative_octets (ABegin self)) }
         ensures again { IsPerformative (performative_octets (ABegin self)) (ABegin self) }
     {
@@ -118,8 +121,8 @@ impl Flow {
     /// # Errors
     ///
     /// Where memory is refused: then nothing was appended.
+    #[tactic(auto, using(crate::proofs::Lengths::flow_writable))]
     pub fn write(self, out: &mut Vec<u8>) -> Result<(), AllocError>
-        requires { IsWritable (AFlow self) }
         ensures appended { Puts out.old.items out.new.items result (performative_octets (AFlow self)) }
         ensures again { IsPerformative (performative_octets (AFlow self)) (AFlow self) }
     {
@@ -221,7 +224,7 @@ ghost use Rattle.amqp_perf.specs.View.{detach_fields, attach_fields, view};
 ghost use Rattle.amqp_perf.specs.Grammar.{IsPerformative};
 ghost use Rattle.amqp_perf.specs.Slots.{AllCanStand, AreShort, fields_octets};
 ghost use Rattle.amqp_perf.specs.SlotViews.{slots_view};
-ghost use Rattle.amqp_perf.specs.Writing.{terminus_slots, source_octets, target_octets, error_octets, ending_slots, octets_if, performative_octets, IsWritable, IsWritableError, IsWritableTerminus, IsWritableTarget, IfThere};
+ghost use Rattle.amqp_perf.specs.Writing.{attach_slots, terminus_slots, source_octets, target_octets, error_octets, ending_slots, octets_if, performative_octets, IsWritable, IsWritableError, IsWritableTerminus, IsWritableTarget, IfThere};
 
 /// Appends an error, where there is one.
 #[tactic(auto, using(crate::proofs::NestedAgain::error_slots_stand))]
@@ -292,4 +295,116 @@ pub fn write_close(out: &mut Vec<u8>, error: Option<&str>) -> Result<(), AllocEr
     ensures again { IsPerformative (performative_octets (AClose (option_copied error.entry))) (AClose (option_copied error.entry)) }
 {
     put_ending(out, 0x18, error)
+}
+
+impl<'a> Terminus<'a> {
+    /// The fields in their places.
+    #[tactic(auto, using(crate::proofs::NestedAgain::terminus_can))]
+    fn slots(self) -> [Slot<'a>; 5]
+        requires { IsWritableTerminus (terminus_view self) }
+        ensures slots { slots_view result ≡ terminus_slots (terminus_view self.entry) }
+        ensures each { AllCanStand levels_in_described (terminus_slots (terminus_view self.entry)) }
+    {
+        [
+            Slot::address(self.address),
+            Slot::Absent,
+            Slot::Absent,
+            Slot::Absent,
+            Slot::flag(self.dynamic),
+        ]
+    }
+}
+
+/// Appends a source, where there is one.
+fn put_source(out: &mut Vec<u8>, source: Option<Terminus<'_>>) -> Result<(), AllocError>
+    requires { IfThere IsWritableTerminus (option_map terminus_view source) }
+    ensures { Puts out.old.items out.new.items result (octets_if source_octets (option_map terminus_view source.entry)) }
+{
+    match source {
+        Some(source) => put_fields(out, 0x28, &source.slots()),
+        None => Ok(()),
+    }
+}
+
+/// Appends a target, where there is one.
+fn put_target(out: &mut Vec<u8>, target: Option<Target<'_>>) -> Result<(), AllocError>
+    requires { IfThere IsWritableTarget (option_map target_view target) }
+    ensures { Puts out.old.items out.new.items result (octets_if target_octets (option_map target_view target.entry)) }
+{
+    match target {
+        Some(Target::Terminus(target)) => put_fields(out, 0x29, &target.slots()),
+        Some(Target::Coordinator) => put_fields(out, 0x30, &[]),
+        None => Ok(()),
+    }
+}
+
+impl<'a> Attach<'a> {
+    /// The fields in their places, with the octets of source and target, none where they are absent.
+    #[tactic(auto, using(crate::proofs::NestedAgain::source_slot, crate::proofs::NestedAgain::target_slot, crate::proofs::NestedAgain::source_can, crate::proofs::NestedAgain::target_can))]
+    fn slots<'s>(&'s self, source: &'s [u8], target: &'s [u8]) -> [Slot<'s>; 11]
+        requires writable { IsWritable (AnAttach (attach_fields self.now)) }
+        requires source { source.now ≡ octets_if source_octets (option_map terminus_view self.now.source) }
+        requires target { target.now ≡ octets_if target_octets (option_map target_view self.now.target) }
+        ensures slots { slots_view result ≡ attach_slots (attach_fields self.now) }
+        ensures each { AllCanStand levels_in_described (attach_slots (attach_fields self.now)) }
+    {
+        [
+            Slot::text(&*self.name),
+            Slot::number(self.handle),
+            Slot::role(self.role),
+            Slot::sender_mode(self.snd_settle_mode),
+            Slot::receiver_mode(self.rcv_settle_mode),
+            Slot::nested(source),
+            Slot::nested(target),
+            Slot::Absent,
+            Slot::Absent,
+            Slot::uint(self.initial_delivery_count),
+            Slot::ulong(self.max_message_size),
+        ]
+    }
+
+    /// Appends the attach.
+    ///
+    /// # Errors
+    ///
+    /// Where memory is refused: then nothing was appended.
+    #[tactic(auto, using(crate::proofs::NestedAgain::attach_again))]
+    pub fn write(self, out: &mut Vec<u8>) -> Result<(), AllocError>
+        requires { IsWritable (AnAttach (attach_fields self)) }
+        ensures appended { Puts out.old.items out.new.items result (performative_octets (AnAttach (attach_fields self.entry))) }
+        ensures again { IsPerformative (performative_octets (AnAttach (attach_fields self.entry))) (AnAttach (attach_fields self.entry)) }
+    {
+        let mut source = Vec::new(*out.allocator());
+        put_source(&mut source, self.source)?;
+        let mut target = Vec::new(*out.allocator());
+        put_target(&mut target, self.target)?;
+        put_fields(out, 0x12, &self.slots(&source, &target))
+    }
+}
+
+impl<'a> Performative<'a> {
+    /// Appends the performative, a transfer without its payload.
+    ///
+    /// # Errors
+    ///
+    /// Where memory is refused: then nothing was appended.
+    pub fn write(&self, out: &mut Vec<u8>) -> Result<(), AllocError>
+        requires { IsWritable (view self.now) }
+        // The fields in their places, each in its shortest form, up to the last that is there.
+        ensures appended { Puts out.old.items out.new.items result (performative_octets (view self.now)) }
+        // What is written is this performative.
+        ensures again { IsPerformative (performative_octets (view self.now)) (view self.now) }
+    {
+        match *self {
+            Performative::Open(open) => open.write(out),
+            Performative::Begin(begin) => begin.write(out),
+            Performative::Attach(attach) => attach.write(out),
+            Performative::Flow(flow) => flow.write(out),
+            Performative::Transfer(transfer) => transfer.write(out),
+            Performative::Disposition(disposition) => disposition.write(out),
+            Performative::Detach(detach) => detach.write(out),
+            Performative::End(error) => write_end(out, error),
+            Performative::Close(error) => write_close(out, error),
+        }
+    }
 }

@@ -44,7 +44,7 @@ uint_by n true one = lit≤ tt
 uint_by n false true = lit≤ tt
 uint_by n false false = lit≤ tt
 
-uint_long : (n : ℕ) → length (uint_octets n) ≤ 5
+pub uint_long : (n : ℕ) → length (uint_octets n) ≤ 5
 unfolding uint_octets
 uint_long n = uint_by n (eqb n 0) (fits_octet n)
 
@@ -61,7 +61,7 @@ ulong_by n true one = lit≤ tt
 ulong_by n false true = lit≤ tt
 ulong_by n false false = lit≤ tt
 
-ulong_long : (n : ℕ) → length (ulong_octets n) ≤ 9
+pub ulong_long : (n : ℕ) → length (ulong_octets n) ≤ 9
 unfolding ulong_octets
 ulong_long n = ulong_by n (eqb n 0) (fits_octet n)
 
@@ -77,7 +77,7 @@ text_by : (text : Text) (content : List ℕ) (one : Bool) → length (cond one (
 text_by text content true = omega arith
 text_by text content false = omega (arith, length-append (big_bytes 4 (length content)) content, length-bytes_high_first 4 (length content))
 
-text_long : (text : Text) (content : List ℕ) → length (text_octets text content) ≤ 5 + length content
+pub text_long : (text : Text) (content : List ℕ) → length (text_octets text content) ≤ 5 + length content
 unfolding text_octets
 text_long text content = text_by text content (fits_octet (length content))
 
@@ -91,7 +91,7 @@ list_by n body false true = omega arith
 list_by n body false false =
     omega (arith, length-append (big_bytes 4 (length body + 4)) (big_bytes 4 n ++ body), length-append (big_bytes 4 n) body, length-bytes_high_first 4 (length body + 4), length-bytes_high_first 4 n)
 
-list_long : (n : ℕ) (body : List ℕ) → length (list_octets n body) ≤ 9 + length body
+pub list_long : (n : ℕ) (body : List ℕ) → length (list_octets n body) ≤ 9 + length body
 unfolding list_octets
 list_long n body = list_by n body (eqb n 0) (fits_octet (length body + 1) && fits_octet n)
 

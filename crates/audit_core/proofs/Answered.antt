@@ -10,8 +10,8 @@ use Rattle.capture_form.specs.Reading.{Reads, reading}
 use Rattle.capture_form.specs.Laws.{BeginsWith}
 use Rattle.capture_form.specs.Gives.{is_refusal, was_refused, IsRefusedRule, IsRefusedRecord}
 use Rattle.trace_law.specs.declared.clause.Clause.{Clause}
-use Rattle.trace_law.specs.History.{history}
-use Rattle.trace_law.specs.WindowClauses.{first_broken}
+use Rattle.trace_law.specs.Windows.History.{history}
+use Rattle.trace_law.specs.Windows.WindowClauses.{first_broken}
 use Rattle.audit_core.specs.declared.verdict.Tally.{Tally}
 use Rattle.audit_core.specs.declared.judge.Finding.{Finding}
 use Rattle.audit_core.specs.declared.judge.Finding.TheVariants.{Lawful, Broken}

@@ -2,8 +2,8 @@
 use Rattle.std.proofs.Common.{◌≡◌, sym, ap, ◌∙◌, ℕ, ◌+◌, ◌<◌, List, [], ◌∷◌, ◌++◌, length, take, get_or, Some, None}
 use Rattle.capture_form.specs.declared.records.Record.{Record}
 use Rattle.trace_law.specs.declared.clause.Clause.{Clause}
-use Rattle.trace_law.specs.History.{judge, history}
-use Rattle.trace_law.specs.WindowClauses.{first_broken, broken_clause}
+use Rattle.trace_law.specs.Windows.History.{judge, history}
+use Rattle.trace_law.specs.Windows.WindowClauses.{first_broken, broken_clause}
 use Rattle.trace_law.proofs.Histories.{history-next, first_broken-here, first_broken-not_here}
 use Rattle.audit_core.specs.declared.event.Event.{Event}
 use Rattle.audit_core.specs.View.{event_view, past_of}

@@ -3,7 +3,7 @@ use Rattle.std.proofs.Common.{◌≡◌, refl, ap, ◌∙◌, ℕ, ◌+◌, ◌<
 use Rattle.std.proofs.Math.Seq.{take-suc}
 use Rattle.std.proofs.lemmas.List.{reverse-append, map-append, take_all, length-reverse, length-map}
 use Rattle.std.proofs.lemmas.List.Sums.{sum_by-cons}
-use Rattle.trace_law.specs.Event as law
+use Rattle.trace_law.specs.Windows.Event as law
 use Rattle.audit_core.specs.declared.event.Event.{Event}
 use Rattle.audit_core.specs.View.{event_view, past_of}
 

@@ -9,8 +9,8 @@ use Rattle.capture_form.specs.Reading.{Reads, reading, head_at}
 use Rattle.capture_form.specs.Laws.{whole_reads, first_records, trace_of}
 use Rattle.capture_form.proofs.ReadingLaws.{reads_on, reads_whole, stands_in_front, spells_whole, headless}
 use Rattle.trace_law.specs.declared.clause.Clause.{Clause}
-use Rattle.trace_law.specs.History.{history}
-use Rattle.trace_law.specs.WindowClauses.{first_broken}
+use Rattle.trace_law.specs.Windows.History.{history}
+use Rattle.trace_law.specs.Windows.WindowClauses.{first_broken}
 use Rattle.trace_law.proofs.Histories.{continued-append, first_broken-continued, broken_at}
 use Rattle.audit_core.specs.declared.verdict.Verdict.{Verdict}
 use Rattle.audit_core.specs.declared.verdict.Verdict.TheVariants.{Accepted, Refused, Malformed, NoMemory, Unreadable}

@@ -1,8 +1,8 @@
 -- What the records of a capture are found to be.
 use Rattle.std.specs.Prelude.{◌≡◌, List, Some, None}
 use Rattle.capture_form.specs.declared.records.Record.{Record}
-use Rattle.trace_law.specs.History.{history}
-use Rattle.trace_law.specs.WindowClauses.{first_broken}
+use Rattle.trace_law.specs.Windows.History.{history}
+use Rattle.trace_law.specs.Windows.WindowClauses.{first_broken}
 use Rattle.audit_core.specs.declared.judge.Finding.{Finding}
 use Rattle.audit_core.specs.declared.judge.Finding.TheVariants.{Lawful, Broken}
 use Rattle.audit_core.specs.Tallying.{tally_of}

@@ -4,7 +4,7 @@ use Rattle.amqp_perf.specs.Meaning.{Meaning}
 use Rattle.capture_form.specs.declared.note.Note.{Note}
 use Rattle.capture_form.specs.declared.note.Note.TheVariants.{Told}
 use Rattle.trace_law.specs.Words.{is_some_and}
-use Rattle.trace_law.specs.Event.{Event, out_spoken, as_transfer}
+use Rattle.trace_law.specs.Windows.Event.{Event, out_spoken, as_transfer}
 use Rattle.audit_core.specs.declared.verdict.Tally.{Tally}
 
 -- a transfer with a delivery-id

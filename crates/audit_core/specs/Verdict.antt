@@ -4,8 +4,8 @@ use Rattle.capture_form.specs.declared.fault.FormKind.{FormKind}
 use Rattle.capture_form.specs.Text.{Trace, IsCapture, text}
 use Rattle.capture_form.specs.Reading.{reading}
 use Rattle.trace_law.specs.declared.clause.Clause.{Clause}
-use Rattle.trace_law.specs.History.{history}
-use Rattle.trace_law.specs.WindowClauses.{first_broken}
+use Rattle.trace_law.specs.Windows.History.{history}
+use Rattle.trace_law.specs.Windows.WindowClauses.{first_broken}
 use Rattle.audit_core.specs.Tallying.{tally_of}
 use Rattle.audit_core.specs.declared.verdict.Tally.{Tally}
 use Rattle.audit_core.specs.declared.verdict.Verdict.{Verdict}

@@ -1,8 +1,8 @@
 -- What the code's events stand for.
 use Rattle.std.specs.Prelude.{List, map, reverse, option_map}
 use Rattle.amqp_perf.specs.View as performatives
-use Rattle.trace_law.specs.Frame as law
-use Rattle.trace_law.specs.Event as events
+use Rattle.trace_law.specs.Windows.Frame as law
+use Rattle.trace_law.specs.Windows.Event as events
 use Rattle.trace_law.specs.RemoteWindow as moves
 use Rattle.audit_core.specs.declared.window.WindowMove.{WindowMove}
 use Rattle.audit_core.specs.declared.window.WindowMove.TheVariants.{TheirFlow, Sent}

@@ -1,7 +1,7 @@
 //! The clauses that a record which the router has written must meet.
 
 ghost use Rattle.std.specs.Prelude.{◌≡◌};
-ghost use Rattle.trace_law.specs.WindowClauses as law;
+ghost use Rattle.trace_law.specs.Windows.WindowClauses as law;
 ghost use Rattle.audit_core.specs.View.{event_view, past_of, spoken_view};
 
 use crate::event::{Event, Moment};

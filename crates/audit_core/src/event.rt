@@ -17,9 +17,9 @@ pub(crate) enum Moment<'a> {
 
 impl<'a> Moment<'a> {
     ghost use Rattle.std.specs.Prelude.{◌≡◌};
-    ghost use Rattle.trace_law.specs.History.{moment_of};
-    ghost use Rattle.trace_law.specs.Connection.{is_final, is_opening, is_last_written};
-    ghost use Rattle.trace_law.specs.Session.{in_begin, out_begin, is_end_on};
+    ghost use Rattle.trace_law.specs.Windows.History.{moment_of};
+    ghost use Rattle.trace_law.specs.Windows.Connection.{is_final, is_opening, is_last_written};
+    ghost use Rattle.trace_law.specs.Windows.Session.{in_begin, out_begin, is_end_on};
     ghost use Rattle.audit_core.specs.View.{moment_view};
 
     pub(crate) fn of(what: &'a What) -> Moment<'a>
@@ -110,10 +110,10 @@ pub(crate) struct Event<'a> {
 /// How one more event changes what the events say. An answer `earlier` is that of the events before.
 impl<'a> Event<'a> {
     ghost use Rattle.std.specs.Prelude.{◌≡◌, ◌∷◌, List};
-    ghost use Rattle.trace_law.specs.Event as law;
-    ghost use Rattle.trace_law.specs.Connection as connections;
-    ghost use Rattle.trace_law.specs.Session as sessions;
-    ghost use Rattle.trace_law.specs.WindowClauses as clauses;
+    ghost use Rattle.trace_law.specs.Windows.Event as law;
+    ghost use Rattle.trace_law.specs.Windows.Connection as connections;
+    ghost use Rattle.trace_law.specs.Windows.Session as sessions;
+    ghost use Rattle.trace_law.specs.Windows.WindowClauses as clauses;
     ghost use Rattle.audit_core.specs.Tallying as tallies;
     ghost use Rattle.audit_core.specs.View.{event_view};
 

@@ -18,11 +18,11 @@ pub(crate) struct Frame<'a> {
 
 impl<'a> Frame<'a> {
     ghost use Rattle.std.specs.Prelude.{◌≡◌, option_map};
-    ghost use Rattle.trace_law.specs.Frame.{frame_parts};
+    ghost use Rattle.trace_law.specs.Windows.Frame.{frame_parts};
     ghost use Rattle.audit_core.specs.View.{frame_view};
 
     /// The frame that all the octets are.
-    #[tactic(auto, unfolding(trace_law::specs::Frame::frame_parts))]
+    #[tactic(auto, unfolding(trace_law::specs::Windows::Frame::frame_parts))]
     pub(crate) fn read(octets: &'a [u8]) -> Option<Frame<'a>>
         ensures { option_map frame_view result ≡ frame_parts octets.now }
     {
@@ -51,14 +51,14 @@ pub(crate) struct Spoken<'a> {
 
 impl<'a> Spoken<'a> {
     ghost use Rattle.std.specs.Prelude.{◌≡◌, option_map, Some};
-    ghost use Rattle.trace_law.specs.Frame.{spoken};
+    ghost use Rattle.trace_law.specs.Windows.Frame.{spoken};
     ghost use Rattle.audit_core.specs.Tallying.{has_delivery_id};
-    ghost use Rattle.trace_law.specs.Session.{begin_on};
-    ghost use Rattle.trace_law.specs.Event.{says, says_on, is_end, is_close};
+    ghost use Rattle.trace_law.specs.Windows.Session.{begin_on};
+    ghost use Rattle.trace_law.specs.Windows.Event.{says, says_on, is_end, is_close};
     ghost use Rattle.audit_core.specs.View.{spoken_view};
 
     /// The performative that the octets are, as a frame; none where they are no frame of one.
-    #[tactic(auto, unfolding(trace_law::specs::Frame::spoken))]
+    #[tactic(auto, unfolding(trace_law::specs::Windows::Frame::spoken))]
     pub(crate) fn read(octets: &'a [u8]) -> Option<Spoken<'a>>
         ensures { option_map spoken_view result ≡ spoken octets.now }
     {

@@ -1,9 +1,9 @@
 //! What the events so far say, oldest first: each answer is counted over all of them anew.
 
 ghost use Rattle.std.specs.Prelude.{◌≡◌};
-ghost use Rattle.trace_law.specs.Connection as connections;
-ghost use Rattle.trace_law.specs.Session as sessions;
-ghost use Rattle.trace_law.specs.WindowClauses as clauses;
+ghost use Rattle.trace_law.specs.Windows.Connection as connections;
+ghost use Rattle.trace_law.specs.Windows.Session as sessions;
+ghost use Rattle.trace_law.specs.Windows.WindowClauses as clauses;
 ghost use Rattle.audit_core.specs.View.{past_of};
 
 use crate::event::Event;

@@ -1,7 +1,7 @@
 //! A record in its place.
 
 ghost use Rattle.std.specs.Prelude.{◌≡◌, length};
-ghost use Rattle.trace_law.specs.History as law;
+ghost use Rattle.trace_law.specs.Windows.History as law;
 ghost use Rattle.audit_core.specs.View.{event_view, past_of, moment_view, spoken_view};
 
 use crate::event::{Event, Moment};
@@ -51,7 +51,7 @@ fn written_on(past: &[Event], number: u64, connection: u32, spoken: Spoken) -> O
     }
 }
 
-ghost use Rattle.trace_law.specs.Session as sessions;
+ghost use Rattle.trace_law.specs.Windows.Session as sessions;
 
 /// The session that an Out begin begins, where `theirs` is the client's last begin.
 fn new_session(

@@ -15,7 +15,7 @@ pub(crate) enum WindowMove {
 
 impl<'a> Moment<'a> {
     ghost use Rattle.std.specs.Prelude.{◌≡◌, option_map};
-    ghost use Rattle.trace_law.specs.Window.{window_move};
+    ghost use Rattle.trace_law.specs.Windows.Window.{window_move};
     ghost use Rattle.audit_core.specs.View.{moment_view, move_view};
 
     /// How it moves the window of the session on which it stands.
@@ -38,7 +38,7 @@ impl<'a> Moment<'a> {
 
 impl<'a> Event<'a> {
     ghost use Rattle.std.specs.Prelude.{◌≡◌, option_map, if◌then◌else◌, None};
-    ghost use Rattle.trace_law.specs.Window.{window_move, is_on_session};
+    ghost use Rattle.trace_law.specs.Windows.Window.{window_move, is_on_session};
     ghost use Rattle.audit_core.specs.View.{event_view, moment_view, move_view};
 
     /// How it moves the window of this session.
@@ -101,7 +101,7 @@ impl Room {
 }
 
 ghost use Rattle.std.specs.Prelude.{◌≡◌};
-ghost use Rattle.trace_law.specs.Window as windows;
+ghost use Rattle.trace_law.specs.Windows.Window as windows;
 ghost use Rattle.audit_core.specs.View.{past_of};
 
 /// How many transfers may still be sent on the session.

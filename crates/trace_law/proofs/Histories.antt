@@ -5,9 +5,9 @@ use Rattle.std.proofs.Math.ListN.{take-append-drop}
 use Rattle.capture_form.specs.declared.records.Record.{Record}
 use Rattle.trace_law.specs.declared.clause.Clause.{Clause}
 use Rattle.trace_law.specs.Words.{or_else}
-use Rattle.trace_law.specs.Event.{Event}
-use Rattle.trace_law.specs.History.{judge, continued, history}
-use Rattle.trace_law.specs.WindowClauses.{first_broken, broken_clause}
+use Rattle.trace_law.specs.Windows.Event.{Event}
+use Rattle.trace_law.specs.Windows.History.{judge, continued, history}
+use Rattle.trace_law.specs.Windows.WindowClauses.{first_broken, broken_clause}
 
 pub continued-append : (past : List Event) (rs qs : List Record) → continued past (rs ++ qs) ≡ continued (continued past rs) qs
 continued-append past [] qs = refl

@@ -1,6 +1,6 @@
 use Rattle.std.proofs.Common.{rules, ◌≡◌, refl, sym, ap, ◌∙◌, None}
-use Rattle.trace_law.specs.History.{judge}
-use Rattle.trace_law.specs.WindowClauses.{broken_clause}
+use Rattle.trace_law.specs.Windows.History.{judge}
+use Rattle.trace_law.specs.Windows.WindowClauses.{broken_clause}
 use Rattle.audit_core.specs.View.{event_view, past_of}
 use Rattle.audit_core.proofs.Order.{past_of-none}
 use Rattle.audit_core.proofs.Judged.{refused, next, next_lawful}

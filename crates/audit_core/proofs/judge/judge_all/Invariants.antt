@@ -1,6 +1,6 @@
 use Rattle.std.proofs.Common.{◌≡◌, take, None}
-use Rattle.trace_law.specs.History.{history}
-use Rattle.trace_law.specs.WindowClauses.{first_broken}
+use Rattle.trace_law.specs.Windows.History.{history}
+use Rattle.trace_law.specs.Windows.WindowClauses.{first_broken}
 use Rattle.audit_core.specs.View.{past_of}
 use Rattle.audit_core.proofs.judge.judge_all.Given as goal
 

@@ -1,5 +1,5 @@
 use Rattle.std.proofs.Common.{◌≡◌, take}
-use Rattle.trace_law.specs.WindowClauses as clauses
+use Rattle.trace_law.specs.Windows.WindowClauses as clauses
 use Rattle.audit_core.specs.View.{past_of}
 use Rattle.audit_core.proofs.past.has_unanswered_begin.Given as goal
 

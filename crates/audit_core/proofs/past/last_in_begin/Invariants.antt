@@ -1,5 +1,5 @@
 use Rattle.std.proofs.Common.{◌≡◌, take}
-use Rattle.trace_law.specs.Session as sessions
+use Rattle.trace_law.specs.Windows.Session as sessions
 use Rattle.audit_core.specs.View.{past_of}
 use Rattle.audit_core.proofs.past.last_in_begin.Given as goal
 

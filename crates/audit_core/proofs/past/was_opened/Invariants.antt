@@ -1,5 +1,5 @@
 use Rattle.std.proofs.Common.{◌≡◌, take}
-use Rattle.trace_law.specs.Connection as connections
+use Rattle.trace_law.specs.Windows.Connection as connections
 use Rattle.audit_core.specs.View.{past_of}
 use Rattle.audit_core.proofs.past.was_opened.Given as goal
 

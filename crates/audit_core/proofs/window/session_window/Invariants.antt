@@ -1,5 +1,5 @@
 use Rattle.std.proofs.Common.{take}
-use Rattle.trace_law.specs.Window.{window_events}
+use Rattle.trace_law.specs.Windows.Window.{window_events}
 use Rattle.audit_core.specs.Room.{IsRoom}
 use Rattle.audit_core.specs.View.{past_of}
 use Rattle.audit_core.proofs.window.session_window.Given as goal

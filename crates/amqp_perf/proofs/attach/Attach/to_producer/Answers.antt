@@ -1,0 +1,7 @@
+use Rattle.std.proofs.Common.{rules}
+use Rattle.amqp_perf.specs.View.{attach_fields}
+use Rattle.amqp_perf.proofs.Writable.{to_producer_writable}
+use Rattle.amqp_perf.proofs.attach.Attach.to_producer.Goals as goal
+
+pub returns-clause-writable : goal.returns-clause-writable
+returns-clause-writable c = to_producer_writable (attach_fields c.args.self) c.args.address.now (search rules)

@@ -1,7 +1,0 @@
-use Rattle.std.proofs.Common.{arith}
-use Rattle.amqp_types.specs.Writing.{null_octets, boolean_octets, ushort_octets, uint_octets}
-use Rattle.amqp_perf.proofs.tests_writing.a_drain_answer.Goals as goal
-
-pub write-requires : goal.write-requires
-unfolding null_octets boolean_octets ushort_octets uint_octets
-write-requires g c = record { fields = tt; few = omega arith }
