@@ -1,5 +1,5 @@
 -- The names of conditions can be written.
-use Rattle.std.proofs.Common.{◌≡◌, refl, ℕ, zero, suc, ◌+◌, ◌<◌, ◌≤◌, ◌^◌, Bool, true, false, ◌&&◌, List, [], ◌∷◌, length, IsAscii, nat_lt, arith}
+use Rattle.std.proofs.Common.{◌≡◌, refl, ℕ, zero, suc, Bool, true, false, ◌&&◌, List, [], ◌∷◌, IsAscii, nat_lt, arith}
 use Rattle.std.specs.List.{list_all}
 use Rattle.std.proofs.lemmas.Bool.{ltb-true}
 use Rattle.std.proofs.lemmas.Str.Ascii.{IsAscii-nil}
@@ -7,7 +7,7 @@ use Rattle.amqp_types.specs.Writing.{text_octets}
 use Rattle.amqp_perf.specs.declared.condition.ErrorCondition.{ErrorCondition}
 use Rattle.amqp_perf.specs.declared.condition.ErrorCondition.TheVariants.{FramingError, DecodeError, NotAllowed, InvalidField, HandleInUse, ResourceLimitExceeded, NotImplemented, WindowViolation, UnattachedHandle, TransferLimitExceeded, MessageSizeExceeded}
 use Rattle.amqp_perf.specs.Conditions.{condition_name}
-use Rattle.amqp_perf.specs.Writing.{error_slots, IsWritableError}
+use Rattle.amqp_perf.specs.Writing.{IsWritableError}
 
 first_of : (a b : Bool) → (a && b) ≡ true → a ≡ true
 first_of true b e = refl

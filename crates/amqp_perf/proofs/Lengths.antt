@@ -1,5 +1,5 @@
 -- How many octets the fields of a performative take.
-use Rattle.std.proofs.Common.{◌≡◌, refl, ap, ℕ, suc, ◌+◌, ◌<◌, ◌≤◌, ◌^◌, Bool, true, false, List, [], ◌∷◌, ◌++◌, map, length, Option, Some, None, option_map, lit≤, arith}
+use Rattle.std.proofs.Common.{◌≡◌, refl, ℕ, ◌+◌, ◌≤◌, Bool, true, false, List, [], ◌∷◌, map, length, Option, Some, None, option_map, lit≤, arith}
 use Rattle.std.proofs.lemmas.List.{length-append}
 use Rattle.std.proofs.lemmas.List.Concat.{flat_map-cons}
 use Rattle.amqp_types.specs.Part.{Seen}
@@ -8,7 +8,7 @@ use Rattle.amqp_types.proofs.Shortest.{uint_long}
 use Rattle.amqp_perf.specs.declared.begin.Begin.{Begin}
 use Rattle.amqp_perf.specs.declared.flow.Flow.{Flow}
 use Rattle.amqp_perf.specs.Meaning.{ABegin, AFlow}
-use Rattle.amqp_perf.specs.Slots.{boolean_value, ushort_value, uint_value, or_null, used_before, used, values_of, octets_of, AreShort}
+use Rattle.amqp_perf.specs.Slots.{boolean_value, ushort_value, uint_value, or_null, used_before, used, values_of, octets_of}
 use Rattle.amqp_perf.specs.Writing.{begin_slots, flow_slots, IsWritable}
 
 -- a field of so many octets at most

@@ -8,3 +8,4 @@ pub mod NestedAgain
 pub mod Conditions
 pub mod Lengths
 pub mod Writable
+pub mod Within

@@ -1,8 +1,8 @@
 -- What the router writes can be written.
-use Rattle.std.proofs.Common.{◌≡◌, refl, sym, ap, ◌∙◌, subst, ℕ, suc, ◌+◌, ◌<◌, ◌≤◌, ◌^◌, Bool, true, false, List, [], ◌∷◌, ◌++◌, length, Option, Some, None, option_map, IsUtf8, codes, lit≤, arith}
+use Rattle.std.proofs.Common.{◌≡◌, refl, ap, ◌∙◌, ℕ, ◌+◌, ◌≤◌, Bool, true, false, List, [], ◌∷◌, length, Option, Some, None, option_map, IsUtf8, codes, lit≤, arith}
 use Rattle.amqp_types.specs.declared.code.Text.TheVariants as texts
 use Rattle.amqp_types.specs.Part.{Seen}
-use Rattle.amqp_types.specs.Writing.{boolean_octets, ubyte_octets, text_octets, list_octets, levels_in_described}
+use Rattle.amqp_types.specs.Writing.{boolean_octets, ubyte_octets, list_octets}
 use Rattle.amqp_types.proofs.Shortest.{uint_long, ulong_long, text_long, list_long}
 use Rattle.amqp_perf.specs.declared.attach.Role.{Role}
 use Rattle.amqp_perf.specs.declared.attach.Role.TheVariants.{Sender, Receiver}
@@ -17,17 +17,17 @@ use Rattle.amqp_perf.specs.declared.descriptor.Outcome.TheVariants.{Accepted, Re
 use Rattle.amqp_perf.specs.declared.descriptor.Descriptor.{Descriptor}
 use Rattle.amqp_perf.specs.declared.descriptor.Descriptor.TheVariants as descriptors
 use Rattle.amqp_perf.specs.Descriptors.{descriptor_of_code, both_of}
-use Rattle.amqp_perf.specs.Nested.{StateFields, AText, TerminusFields, ATerminus, outcome_of, state_in}
+use Rattle.amqp_perf.specs.Nested.{StateFields, outcome_of}
 use Rattle.amqp_perf.specs.Meaning.{AnOpen, AnAttach, ATransfer, ADisposition, ADetach, AnEnd, AClose, AttachFields}
 use Rattle.amqp_perf.specs.Conditions.{condition_name}
-use Rattle.amqp_perf.specs.Slots.{boolean_value, uint_value, ulong_value, text_value, values_of, octets_of, fields_octets, AllCanStand, AreShort}
-use Rattle.amqp_perf.specs.Writing.{role_value, sender_mode_value, receiver_mode_value, source_value, target_value, state_value, error_value, error_slots, terminus_slots, open_slots, attach_slots, transfer_slots, disposition_slots, detach_slots, ending_slots, IsWritable, IsWritableState, IsWritableTerminus, IsWritableTarget, IsWritableError, IfThere}
-use Rattle.amqp_perf.specs.Router.{largest_frame, highest_channel, router_open, attach_to_producer, attach_to_consumer, attach_refused, bare_terminus, terminus_at, source_at, detach_with, first_transfer, later_transfer, outcome_told, settling, outcome_code, bare_state, delivery_failed, FitsFrame}
+use Rattle.amqp_perf.specs.Slots.{boolean_value, uint_value, ulong_value, values_of, octets_of, fields_octets, AllCanStand, AreShort}
+use Rattle.amqp_perf.specs.Writing.{role_value, sender_mode_value, receiver_mode_value, source_value, target_value, state_value, error_value, error_slots, terminus_slots, open_slots, attach_slots, transfer_slots, disposition_slots, detach_slots, ending_slots, IsWritable, IsWritableState, IsWritableTerminus, IsWritableError, IfThere}
+use Rattle.amqp_perf.specs.Router.{largest_frame, highest_channel, router_open, attach_to_producer, attach_to_consumer, attach_refused, bare_terminus, terminus_at, source_at, detach_with, first_transfer, later_transfer, outcome_told, settling, bare_state, delivery_failed, FitsFrame}
 use Rattle.amqp_perf.proofs.Slots.{says_fields, fields_nested}
 use Rattle.amqp_perf.proofs.NestedAgain.{described_again, none_short}
 use Rattle.amqp_perf.proofs.SlotValues.{flag_can}
 use Rattle.amqp_perf.proofs.Conditions.{condition_writable}
-use Rattle.amqp_perf.proofs.Lengths.{AtMost, AllAtMost, fields_long, ushort_long, flag_long}
+use Rattle.amqp_perf.proofs.Lengths.{AtMost, fields_long, ushort_long, flag_long}
 
 -- ---- how long what is nested is
 

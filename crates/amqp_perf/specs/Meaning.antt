@@ -197,7 +197,11 @@ last_id fields = unwrap_or fields.last fields.first
 
 -- ---- parts
 
--- the octets of the state that a disposition tells
+-- the state that a disposition tells
+abbrev pub state_told : Meaning → Option StateFields
+state_told (ADisposition fields) = fields.state
+state_told other = None
+
+-- its octets
 abbrev pub state_octets : Meaning → Option (List ℕ)
-state_octets (ADisposition fields) = option_map (λ state. state.octets) fields.state
-state_octets other = None
+state_octets meaning = option_map (λ state. state.octets) (state_told meaning)

@@ -33,9 +33,10 @@ impl<'a> Performative<'a> {
     ghost use Rattle.std.specs.Prelude.{◌≡◌, ◌++◌, List, ℕ, IfOk, Ok};
     ghost use Rattle.amqp_types.specs.View as values;
     ghost use Rattle.std.specs.Option.{option_copied};
-    ghost use Rattle.amqp_perf.specs.Meaning.{Meaning, meaning_of, state_octets};
+    ghost use Rattle.amqp_perf.specs.Meaning.{Meaning, meaning_of, state_told, state_octets};
     ghost use Rattle.amqp_perf.specs.Reading.{Gives, performative_at, said};
     ghost use Rattle.amqp_perf.specs.Grammar.{IsFront};
+    ghost use Rattle.amqp_perf.specs.Writing.{IfThere, IsWritableState};
     ghost use Rattle.amqp_perf.specs.View.{view};
 
     /// The performative at the front of these octets, and the octets behind it: of a transfer its payload.
@@ -49,6 +50,8 @@ impl<'a> Performative<'a> {
         // A performative at the front of the input is read, whatever stands behind it.
         ensures only { (meaning : Meaning) (rest : List ℕ) → IsFront octets.now meaning rest
             → Gives {Y = Meaning × List ℕ} (λ x. (view x.0, x.1.now)) result (Ok (meaning, rest)) }
+        // The state that a disposition tells can be written in another.
+        ensures state { IfOk result (λ x. IfThere IsWritableState (state_told (view x.0))) }
         // Which fault it is.
         ensures exact { Gives (λ x. (view x.0, x.1.now)) result (performative_at octets.now) }
     {

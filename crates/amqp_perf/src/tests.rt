@@ -1,5 +1,6 @@
 //! Performatives of known octets.
 
+use super::PerfFault::{MissingField, NotPerformative, TooManyFields, WrongType};
 use super::*;
 use amqp_types::{ValueFault, ValueFaultKind};
 
@@ -103,49 +104,33 @@ fn each_fault(rt: HostRuntime) {
     };
     let table = [
         // nothing behind the constructor of a described value
-        ([0x00].as_slice(), PerfFault::Value(cut), 1),
+        (b"\x00".as_slice(), PerfFault::Value(cut), 1),
         // a list without a descriptor; one described as accepted; a described number
-        ([0x45].as_slice(), PerfFault::NotPerformative, 2),
-        (
-            [0x00, 0x53, 0x24, 0x45].as_slice(),
-            PerfFault::NotPerformative,
-            2,
-        ),
-        (
-            [0x00, 0x53, 0x17, 0x43].as_slice(),
-            PerfFault::NotPerformative,
-            2,
-        ),
+        (b"\x45".as_slice(), NotPerformative, 2),
+        (b"\x00\x53\x24\x45".as_slice(), NotPerformative, 2),
+        (b"\x00\x53\x17\x43".as_slice(), NotPerformative, 2),
         // a begin without fields; one whose second field is null; one whose third field is a boolean
+        (b"\x00\x53\x11\x45".as_slice(), MissingField(2), 3),
         (
-            [0x00, 0x53, 0x11, 0x45].as_slice(),
-            PerfFault::MissingField(2),
+            b"\x00\x53\x11\xC0\x05\x04\x40\x40\x43\x43".as_slice(),
+            MissingField(2),
             3,
         ),
         (
-            [0x00, 0x53, 0x11, 0xC0, 0x05, 0x04, 0x40, 0x40, 0x43, 0x43].as_slice(),
-            PerfFault::MissingField(2),
-            3,
-        ),
-        (
-            [0x00, 0x53, 0x11, 0xC0, 0x05, 0x04, 0x40, 0x43, 0x41, 0x40].as_slice(),
-            PerfFault::WrongType(3),
+            b"\x00\x53\x11\xC0\x05\x04\x40\x43\x41\x40".as_slice(),
+            WrongType(3),
             4,
         ),
         // an open of eleven fields, all of them null: there are too many before one is missing
         (
-            [
-                0x00, 0x53, 0x10, 0xC0, 0x0C, 0x0B, 0x40, 0x40, 0x40, 0x40, 0x40, 0x40, 0x40, 0x40,
-                0x40, 0x40, 0x40,
-            ]
-            .as_slice(),
-            PerfFault::TooManyFields,
+            b"\x00\x53\x10\xC0\x0C\x0B\x40\x40\x40\x40\x40\x40\x40\x40\x40\x40\x40".as_slice(),
+            TooManyFields,
             5,
         ),
         // an end of two fields
         (
-            [0x00, 0x53, 0x17, 0xC0, 0x03, 0x02, 0x40, 0x40].as_slice(),
-            PerfFault::TooManyFields,
+            b"\x00\x53\x17\xC0\x03\x02\x40\x40".as_slice(),
+            TooManyFields,
             5,
         ),
     ];

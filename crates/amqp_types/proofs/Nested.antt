@@ -50,10 +50,10 @@ scalar_alone scalars.LongOctet octets part h = rw h.2 refl
 scalar_alone scalars.Long octets part h = rw h.2 refl
 scalar_alone (scalars.Opaque opaque) octets part h = rw h.1 refl
 
-scalar_is_no_pair : (scalar : Scalar) (octets descriptor described : List ℕ) → IsScalar scalar octets (Described descriptor described) → ⊥
+pub scalar_is_no_pair : (scalar : Scalar) (octets descriptor described : List ℕ) → IsScalar scalar octets (Described descriptor described) → ⊥
 scalar_is_no_pair scalar octets descriptor described h = let e : false ≡ true = scalar_alone scalar octets (Described descriptor described) h in cc
 
-scalar_is_no_list : (scalar : Scalar) (octets : List ℕ) (kind : Kind) (n : ℕ) (body : List ℕ) → IsScalar scalar octets (Nested kind n body) → ⊥
+pub scalar_is_no_list : (scalar : Scalar) (octets : List ℕ) (kind : Kind) (n : ℕ) (body : List ℕ) → IsScalar scalar octets (Nested kind n body) → ⊥
 scalar_is_no_list scalar octets kind n body h = let e : false ≡ true = scalar_alone scalar octets (Nested kind n body) h in cc
 
 has_value : (levels : ℕ) (octets whole : List ℕ) (part : Part) → levels ≤ levels_allowed → octets ≡ whole → IsValue levels octets part → HasValue whole
