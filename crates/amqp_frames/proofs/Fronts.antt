@@ -4,12 +4,13 @@ use Rattle.std.proofs.lemmas.Bool.{eq-eqb, eqb-true, ne_eqb, ltb-true, ltb-false
 use Rattle.std.proofs.lemmas.List.{append-nil, get_or-append_right, drop-drop, take_at, drop_at, take-append-drop, length-append, length-drop, length-take, get_or-take}
 use Rattle.std.proofs.Math.Bool.{or-true}
 use Rattle.byteorder.specs.Endian.{big_number}
+use Rattle.amqp_types.specs.Grammar.{IsNumber}
 use Rattle.byteorder.specs.Numbers.{big_from-append, big_from-take}
 use Rattle.amqp_frames.specs.declared.fault.FrameFault.{FrameFault}
 use Rattle.amqp_frames.specs.declared.fault.FrameFault.TheVariants.{TooSmall, TooLarge, BadOffset, WrongType}
 use Rattle.amqp_frames.specs.declared.frame.FrameKind.{FrameKind}
 use Rattle.amqp_frames.specs.declared.frame.FrameKind.TheVariants.{Amqp, Sasl}
-use Rattle.amqp_frames.specs.Frame.{Frame, code_of, IsNumber, IsFrame, IsFront, HasHeader, IsFault, IsPartial, stated_size, stated_start, stated_type}
+use Rattle.amqp_frames.specs.Frame.{Frame, code_of, IsFrame, IsFront, HasHeader, IsFault, IsPartial, stated_size, stated_start, stated_type}
 use Rattle.std.proofs.Common.{◌||◌}
 use Rattle.amqp_frames.specs.Reading.{ReadFrame, kind_of, frame_of, typed_frame, headed_frame, sized_frame, frame_at, whole_frame}
 use Rattle.amqp_frames.proofs.Steps.{neither, done, apart_err, apart_none, one_fault, one_read}

@@ -1,6 +1,7 @@
 -- What a frame is, and what octets are that begin none (part 2 of the standard, section 2.3).
 use Rattle.std.specs.Prelude.{◌≡◌, ℕ, ◌+◌, ◌*◌, ◌<◌, ◌≤◌, ◌⊎◌, List, ◌∷◌, [], ◌++◌, length, slice_index}
 use Rattle.byteorder.specs.Endian.{big_number}
+use Rattle.amqp_types.specs.Grammar.{IsNumber}
 use Rattle.amqp_frames.specs.declared.fault.FrameFault.{FrameFault}
 use Rattle.amqp_frames.specs.declared.fault.FrameFault.TheVariants.{TooSmall, TooLarge, BadOffset, WrongType}
 use Rattle.amqp_frames.specs.declared.frame.FrameKind.{FrameKind}
@@ -17,11 +18,6 @@ pub record Frame : Type 0 where
 abbrev pub code_of : FrameKind → ℕ
 code_of Amqp = 0
 code_of Sasl = 1
-
--- so many octets are this number, the highest first (part 1, 1.6)
-pub record IsNumber (width : ℕ) (octets : List ℕ) (n : ℕ) : Type 0 where
-  pub len : length octets ≡ width
-  pub says : big_number width octets ≡ n
 
 -- The octets of a frame are its size, which counts all of them and is no more than the limit; the data offset, which
 -- counts words of four octets up to the body; its type and channel; an extended header, of which nothing is said; and

@@ -5,3 +5,9 @@ pub mod Reading
 pub mod View
 pub mod Stream
 pub mod Held
+pub mod Sasl
+pub mod SaslReading
+pub mod SaslGrammar
+pub mod SaslView
+pub mod Writing
+pub mod SaslWriting

@@ -7,7 +7,7 @@ use byteorder::{BigEndian, ByteOrder};
 const SIZE_OCTETS: usize = 4;
 
 /// How many octets a frame's header has, without what may extend it.
-const HEADER_OCTETS: usize = 8;
+pub(crate) const HEADER_OCTETS: usize = 8;
 
 /// What a frame belongs to: its type.
 #[derive(Clone, Copy, Debug, PartialEq, Eq)]

@@ -1,4 +1,5 @@
 use super::*;
+use crate::splitter::tests::gives;
 use std::alloc::{AllocError, Global};
 use std::process::Abort;
 use std::test::Fail;
@@ -207,18 +208,16 @@ fn joined(alloc: Global, frames: &[Vec<u8>]) -> Result<Vec<u8>, AllocError> {
     Ok(stream)
 }
 
-// The stream in pieces of 1 to 9000 octets.
-fn uneven_pieces(alloc: Global, stream: &[u8]) -> Result<Vec<&[u8]>, AllocError> {
+// The stream in pieces of these lengths, in turn.
+fn pieces_of(alloc: Global, stream: &[u8], lengths: [usize; 4]) -> Result<Vec<&[u8]>, AllocError> {
     let mut pieces = Vec::new(alloc);
     let mut rest = stream;
-    let mut state = 12345u32;
-    for _ in 0..stream.len() {
+    for number in 0..stream.len() {
         if rest.is_empty() {
             break;
         }
-        state = state.wrapping_mul(1664525).wrapping_add(1013904223);
-        let length = 1 + (state / 65536) as usize % 9000;
-        let (piece, behind) = rest.split_at(length.min(rest.len()));
+        let length = lengths[number % lengths.len()].min(rest.len());
+        let (piece, behind) = rest.split_at(length);
         pieces.push(piece)?;
         rest = behind;
     }
@@ -245,39 +244,41 @@ fn frames_of_any_pieces(rt: HostRuntime) -> Result<(), Fail> {
     let alloc = rt.alloc();
     let frames = many_frames(alloc)?;
     let stream = joined(alloc, &frames)?;
-    for length in [1, 7, 4096, 16384, 2000000] {
-        let pieces: Vec<&[u8]> = stream.chunks(length).collect(alloc)?;
+    let cuts = [
+        [1; 4],
+        [7; 4],
+        [4096; 4],
+        [16384; 4],
+        [stream.len(); 4],
+        [9000, 1, 300, 16385],
+    ];
+    for lengths in cuts {
+        let pieces = pieces_of(alloc, &stream, lengths)?;
         assert_cuts_into(&rt, alloc, &pieces, &frames)?;
     }
-    let pieces = uneven_pieces(alloc, &stream)?;
-    assert_cuts_into(&rt, alloc, &pieces, &frames)?;
     Ok(())
 }
 
 #[test]
 fn a_fault_stays(rt: HostRuntime) -> Result<(), Fail> {
-    let mut splitter = Splitter::new(rt.alloc());
-    assert_eq!(rt; splitter.next(), Ok(None));
-    splitter.feed(&OPEN)?;
-    splitter.feed(&[0x00, 0x00, 0x00, 0x08, 0x01])?;
-    assert_eq!(rt; splitter.next(), Ok(Some(OPEN.as_slice())));
-    assert_eq!(rt; splitter.next(), Ok(None));
-    splitter.feed(&[0x00, 0x00, 0x00])?;
-    assert_eq!(rt; splitter.next(), Err(FrameFault::BadOffset));
-    splitter.feed(&OPEN)?;
-    assert_eq!(rt; splitter.next(), Err(FrameFault::BadOffset));
-    assert_eq!(rt; splitter.next(), Err(FrameFault::BadOffset));
-    Ok(())
-}
-
-#[test]
-fn frames_before_a_fault(rt: HostRuntime) -> Result<(), Fail> {
-    let pieces: [&[u8]; 4] = [&OPEN[..3], &OPEN[3..], &TRANSFER, &[0xFF, 0xFF, 0xFF, 0xFF]];
-    let cut = cut_stream(rt.alloc(), &pieces)?;
-    assert_eq!(rt; cut.fault, Some(FrameFault::TooLarge));
-    assert_eq!(rt; cut.frames.len(), 2);
-    assert_eq!(rt; cut.frames[0].as_slice(), OPEN.as_slice());
-    assert_eq!(rt; cut.frames[1].as_slice(), TRANSFER.as_slice());
+    let pieces: [&[u8]; 5] = [
+        &OPEN[..3],
+        &OPEN[3..],
+        &[0x00, 0x00, 0x00, 0x08, 0x01],
+        &[0x00, 0x00, 0x00],
+        &OPEN,
+    ];
+    // it shows with its eighth octet, and no frame is given behind it
+    for (count, fault) in [
+        (3, None),
+        (4, Some(FrameFault::BadOffset)),
+        (5, Some(FrameFault::BadOffset)),
+    ] {
+        let cut = cut_stream(rt.alloc(), &pieces[..count])?;
+        assert_eq!(rt; cut.fault, fault);
+        assert_eq!(rt; cut.frames.len(), 1);
+        assert_eq!(rt; cut.frames[0].as_slice(), OPEN.as_slice());
+    }
     Ok(())
 }
 
@@ -293,9 +294,9 @@ fn many_small_frames_in_one_piece(rt: HostRuntime) -> Result<(), Fail> {
     let mut splitter = Splitter::new(alloc);
     splitter.feed(&stream)?;
     for _ in 0..1000000 {
-        assert_eq!(rt; splitter.next(), Ok(Some(frame.as_slice())));
+        assert!(rt; gives(&mut splitter, Ok(Some(frame.as_slice()))));
         splitter.feed(&[])?;
     }
-    assert_eq!(rt; splitter.next(), Ok(None));
+    assert!(rt; gives(&mut splitter, Ok(None)));
     Ok(())
 }

@@ -1,9 +1,9 @@
 -- The fields of a performative as the items of its list, with the first fault.
-use Rattle.std.specs.Prelude.{ℕ, ◌+◌, List, [], ◌∷◌, Option, Some, None, if◌then◌else◌}
+use Rattle.std.specs.Prelude.{ℕ, ◌+◌, List, [], ◌∷◌, length, Option, Some, None, nat_lt, if◌then◌else◌}
 use Rattle.amqp_types.specs.Part.{Seen}
 use Rattle.amqp_types.specs.Typed.{says_null}
 use Rattle.amqp_perf.specs.declared.fault.PerfFault.{PerfFault}
-use Rattle.amqp_perf.specs.declared.fault.PerfFault.TheVariants.{MissingField, WrongType}
+use Rattle.amqp_perf.specs.declared.fault.PerfFault.TheVariants.{MissingField, WrongType, TooManyFields}
 use Rattle.amqp_perf.specs.declared.table.Field.{Field}
 use Rattle.amqp_perf.specs.FieldPlaces.{first, others}
 use Rattle.amqp_perf.specs.Tables.{accepts}
@@ -23,3 +23,7 @@ or_else None later = later
 unfoldable pub first_fault : ℕ → List Field → List Seen → Option PerfFault
 first_fault n [] ps = None
 first_fault n (f ∷ fs) ps = or_else (field_fault n f (first ps)) (first_fault (n + 1) fs (others ps))
+
+-- the first fault of a list's items as the fields of a table: that there are too many, or that of the lowest at fault
+abbrev pub table_fault : List Field → List Seen → Option PerfFault
+table_fault table fields = if nat_lt (length table) (length fields) then Some TooManyFields else first_fault 1 table fields

@@ -1,12 +1,13 @@
 -- The fields of each performative, in the order of the standard (part 2, section 2.7).
-use Rattle.std.specs.Prelude.{Bool, true, false, List, [], ◌∷◌, is_some}
+use Rattle.std.specs.Prelude.{Bool, true, false, List, [], ◌∷◌, Option, Some, None, is_some}
+use Rattle.std.specs.List.{list_all}
 use Rattle.amqp_types.specs.Part.{Seen}
-use Rattle.amqp_types.specs.Typed.{boolean_in, ushort_in, uint_in, binary_in, str_in}
+use Rattle.amqp_types.specs.Typed.{boolean_in, ubyte_in, ushort_in, uint_in, binary_in, str_in, symbol_in, array_in}
 use Rattle.amqp_perf.specs.declared.descriptor.PerformativeKind.{PerformativeKind}
 use Rattle.amqp_perf.specs.declared.descriptor.PerformativeKind.TheVariants as kinds
 use Rattle.amqp_perf.specs.declared.table.Field.{Field}
 use Rattle.amqp_perf.specs.declared.table.FieldType.{FieldType}
-use Rattle.amqp_perf.specs.declared.table.FieldType.TheVariants.{Any, Boolean, Ushort, Uint, Binary, Str, SenderMode, ReceiverMode, State, Source, Target}
+use Rattle.amqp_perf.specs.declared.table.FieldType.TheVariants.{Any, Boolean, Ubyte, Ushort, Uint, Binary, Str, Symbol, Symbols, SenderMode, ReceiverMode, State, Source, Target}
 use Rattle.amqp_perf.specs.Nested.{sender_mode_in, receiver_mode_in, state_in, source_in, target_in}
 
 -- a field that has to be there
@@ -52,14 +53,26 @@ table_of kinds.End =
 table_of kinds.Close =
     optional Any ∷ []
 
+-- all of them are symbols (part 1, 1.6.21)
+abbrev pub are_symbols : List Seen → Bool
+are_symbols values = list_all (λ value. is_some (symbol_in value.part)) values
+
+-- an array that holds symbols alone (part 1, 1.6.24)
+abbrev pub holds_symbols : Option (List Seen) → Bool
+holds_symbols None = false
+holds_symbols (Some values) = are_symbols values
+
 -- a value that is there has the field's type; what is passed over has any
 abbrev pub accepts : FieldType → Seen → Bool
 accepts Any value = true
 accepts Boolean value = is_some (boolean_in value.part)
+accepts Ubyte value = is_some (ubyte_in value.part)
 accepts Ushort value = is_some (ushort_in value.part)
 accepts Uint value = is_some (uint_in value.part)
 accepts Binary value = is_some (binary_in value.part)
 accepts Str value = is_some (str_in value.part)
+accepts Symbol value = is_some (symbol_in value.part)
+accepts Symbols value = holds_symbols (array_in value.part)
 accepts SenderMode value = is_some (sender_mode_in value.part)
 accepts ReceiverMode value = is_some (receiver_mode_in value.part)
 accepts State value = is_some (state_in value)

@@ -9,9 +9,9 @@ use crate::terminus::{Target, Terminus};
 use amqp_types::{Items, Value};
 use std::marker::Model;
 
-/// The fields that are left, in order. Behind the last one all others count as null.
+/// The fields of a described list that are left, in order. Behind the last one all others count as null.
 #[derive(Drop)]
-pub(crate) struct Fields<'a> {
+pub struct Fields<'a> {
     items: Items<'a>,
 }
 
@@ -28,7 +28,7 @@ impl<'a> Model for Fields<'a> {
 impl<'a> Fields<'a> {
     ghost use Rattle.std.specs.Prelude.{◌≡◌, [], false, unwrap_or, option_map, Some, None, ◌||◌, is_some, if◌then◌else◌};
     ghost use Rattle.std.specs.Option.{option_copied};
-    ghost use Rattle.amqp_types.specs.Typed.{says_null, boolean_in, ushort_in, uint_in, ulong_in, binary_in, str_in};
+    ghost use Rattle.amqp_types.specs.Typed.{says_null, boolean_in, ubyte_in, ushort_in, uint_in, ulong_in, binary_in, str_in, symbol_in, array_in};
     ghost use Rattle.amqp_perf.specs.FieldPlaces.{first, others};
     ghost use Rattle.amqp_perf.specs.FieldsLeft.{fields_left};
     ghost use Rattle.amqp_perf.specs.Fields.{first_fault};
@@ -36,14 +36,15 @@ impl<'a> Fields<'a> {
     ghost use Rattle.amqp_perf.specs.NestedViews.{state_view, terminus_view, target_view};
     ghost use Rattle.amqp_perf.specs.View.{seen_or_missing, fault_in};
 
-    pub(crate) fn new(items: Items<'a>) -> Fields<'a>
+    /// The items of a list as its fields.
+    pub fn new(items: Items<'a>) -> Fields<'a>
         ensures { result ≡ fields_left items.entry }
     {
         Fields { items }
     }
 
     /// The next field's value; none where it is missing.
-    pub(crate) fn next(&mut self) -> Option<Value<'a>>
+    pub fn next(&mut self) -> Option<Value<'a>>
         ensures value { seen_or_missing result ≡ first self.old }
         ensures left { self.new ≡ others self.old }
     {
@@ -76,6 +77,14 @@ impl<'a> Fields<'a> {
         }
     }
 
+    /// The next field, if it is an ubyte.
+    pub fn ubyte(&mut self) -> Option<u8>
+        ensures value { result ≡ ubyte_in (first self.old).part }
+        ensures left { self.new ≡ others self.old }
+    {
+        self.next()?.as_ubyte()
+    }
+
     pub(crate) fn ushort(&mut self) -> Option<u16>
         ensures value { result ≡ ushort_in (first self.old).part }
         ensures left { self.new ≡ others self.old }
@@ -97,7 +106,8 @@ impl<'a> Fields<'a> {
         self.next()?.as_ulong()
     }
 
-    pub(crate) fn binary(&mut self) -> Option<&'a [u8]>
+    /// The next field, if it is a binary.
+    pub fn binary(&mut self) -> Option<&'a [u8]>
         ensures value { option_copied result ≡ binary_in (first self.old).part }
         ensures left { self.new ≡ others self.old }
     {
@@ -112,11 +122,28 @@ impl<'a> Fields<'a> {
         self.uint().unwrap_or(0)
     }
 
-    fn text(&mut self) -> Option<&'a str>
+    /// The next field, if it is a string.
+    pub fn text(&mut self) -> Option<&'a str>
         ensures value { option_copied result ≡ str_in (first self.old).part }
         ensures left { self.new ≡ others self.old }
     {
         self.next()?.as_str()
+    }
+
+    /// The next field, if it is a symbol.
+    pub fn symbol(&mut self) -> Option<&'a str>
+        ensures value { option_copied result ≡ symbol_in (first self.old).part }
+        ensures left { self.new ≡ others self.old }
+    {
+        self.next()?.as_symbol()
+    }
+
+    /// The elements of the next field, if it is an array.
+    pub fn array(&mut self) -> Option<Items<'a>>
+        ensures value { option_map fields_left result ≡ array_in (first self.old).part }
+        ensures left { self.new ≡ others self.old }
+    {
+        self.next()?.as_array()
     }
 
     /// A mandatory text, which a check has found.
@@ -193,6 +220,38 @@ impl<'a> Fields<'a> {
     }
 }
 
+ghost use Rattle.std.specs.Prelude.{◌≡◌};
+ghost use Rattle.amqp_perf.specs.FieldsLeft.{fields_left};
+ghost use Rattle.amqp_perf.specs.Fields.{table_fault};
+ghost use Rattle.amqp_perf.specs.Tables.{are_symbols};
+ghost use Rattle.amqp_perf.specs.View.{fault_in};
+
+/// Whether the items of a list fit the table of its fields.
+///
+/// # Errors
+///
+/// `TooManyFields` where the table has fewer, then the fault of the lowest field that is missing or of a wrong type.
+pub fn check_fields(items: Items<'_>, table: &[Field]) -> Result<(), PerfFault>
+    ensures { fault_in result ≡ table_fault table.now (fields_left items.entry) }
+{
+    if items.len() > table.len() {
+        return Err(PerfFault::TooManyFields);
+    }
+    Fields::new(items).check(table)
+}
+
+/// Whether all that is left are symbols.
+fn are_symbols(items: Items<'_>) -> bool
+    ensures { result ≡ are_symbols (fields_left items.entry) }
+{
+    for value in items {
+        if value.as_symbol().is_none() {
+            return false;
+        }
+    }
+    true
+}
+
 impl Field {
     ghost use Rattle.std.specs.Prelude.{◌≡◌};
     ghost use Rattle.amqp_perf.specs.Fields.{field_fault};
@@ -230,10 +289,13 @@ impl FieldType {
         match self {
             FieldType::Any => true,
             FieldType::Boolean => value.as_bool().is_some(),
+            FieldType::Ubyte => value.as_ubyte().is_some(),
             FieldType::Ushort => value.as_ushort().is_some(),
             FieldType::Uint => value.as_uint().is_some(),
             FieldType::Binary => value.as_binary().is_some(),
             FieldType::Str => value.as_str().is_some(),
+            FieldType::Symbol => value.as_symbol().is_some(),
+            FieldType::Symbols => value.as_array().is_some_and(are_symbols),
             FieldType::SenderMode => value.as_ubyte().and_then(SenderSettleMode::of).is_some(),
             FieldType::ReceiverMode => value.as_ubyte().and_then(ReceiverSettleMode::of).is_some(),
             FieldType::State => State::of_value(value).is_some(),

@@ -44,6 +44,7 @@ pub use descriptor::Outcome;
 pub use detach::Detach;
 pub use disposition::Disposition;
 pub use fault::PerfFault;
+pub use fields::{Fields, check_fields};
 pub use flow::Flow;
 pub use opening::Open;
 pub use performative::Performative;
@@ -51,7 +52,9 @@ pub use router::{
     HIGHEST_CHANNEL, HIGHEST_HANDLE, INCOMING_WINDOW, LARGEST_FRAME, LARGEST_MESSAGE,
     OUTGOING_WINDOW,
 };
+pub use slot::{Slot, put_fields};
 pub use state::State;
+pub use table::{Field, FieldType};
 pub use terminus::{Address, Target, Terminus};
 pub use transfer::Transfer;
 pub use writing::{write_close, write_end};

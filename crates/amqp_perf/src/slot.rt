@@ -20,7 +20,7 @@ use std::alloc::AllocError;
 
 /// A field as it is written.
 #[derive(Clone, Copy, Debug, PartialEq, Eq)]
-pub(crate) enum Slot<'a> {
+pub enum Slot<'a> {
     Absent,
     Boolean(bool),
     Ubyte(u8),
@@ -138,7 +138,7 @@ impl<'a> Slot<'a> {
     }
 
     #[tactic(auto, using(crate::proofs::SlotValues::binary_can))]
-    pub(crate) fn binary(octets: Option<&'a [u8]>) -> Slot<'a>
+    pub fn binary(octets: Option<&'a [u8]>) -> Slot<'a>
         requires { IfThere IsShort (option_copied octets) }
         ensures value { slot_view result ≡ option_map (text_value texts.Binary) (option_copied octets.entry) }
         ensures can { (levels : ℕ) → CanStand (suc levels) (option_map (text_value texts.Binary) (option_copied octets.entry)) }
@@ -150,7 +150,7 @@ impl<'a> Slot<'a> {
     }
 
     #[tactic(auto, using(crate::proofs::SlotValues::text_can))]
-    pub(crate) fn text(text: &'a str) -> Slot<'a>
+    pub fn text(text: &'a str) -> Slot<'a>
         requires { IsShort text.now }
         ensures value { slot_view result ≡ Some (text_value texts.Str text.now) }
         ensures can { (levels : ℕ) → CanStand (suc levels) (Some (text_value texts.Str text.now)) }
@@ -219,7 +219,7 @@ impl<'a> Slot<'a> {
 }
 
 /// Appends a list that this code describes, with these fields up to the last that is there.
-pub(crate) fn put_fields(out: &mut Vec<u8>, code: u8, slots: &[Slot<'_>]) -> Result<(), AllocError>
+pub fn put_fields(out: &mut Vec<u8>, code: u8, slots: &[Slot<'_>]) -> Result<(), AllocError>
     requires fields { AllCanStand levels_in_described (slots_view slots.now) }
     requires few { AreShort (slots_view slots.now) }
     requires count { length slots.now < 256 }

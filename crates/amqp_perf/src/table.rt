@@ -5,15 +5,19 @@ ghost use Rattle.amqp_perf.specs.Tables.{table_of};
 
 use crate::descriptor::PerformativeKind;
 
-/// What a field holds. One of `Any` is passed over.
+/// What a field of a described list holds. One of `Any` is passed over.
 #[derive(Clone, Copy, Debug, PartialEq, Eq)]
 pub enum FieldType {
     Any,
     Boolean,
+    Ubyte,
     Ushort,
     Uint,
     Binary,
     Str,
+    Symbol,
+    /// An array of symbols.
+    Symbols,
     /// An ubyte from 0 to 2.
     SenderMode,
     /// An ubyte of 0 or 1.
@@ -25,8 +29,10 @@ pub enum FieldType {
     Target,
 }
 
+/// A field of a described list.
 #[derive(Clone, Copy, Debug, PartialEq, Eq)]
 pub struct Field {
+    /// It has to be there, and not null.
     pub is_mandatory: bool,
     pub field_type: FieldType,
 }

@@ -27,8 +27,8 @@ pub use fault::{ValueFault, ValueFaultKind};
 pub use sequence::Items;
 pub use value::Value;
 pub use writing::{
-    put_binary, put_bool, put_described_list, put_list, put_null, put_str, put_symbol, put_ubyte,
-    put_uint, put_ulong, put_ushort,
+    put_binary, put_bool, put_described_list, put_list, put_null, put_parts, put_str, put_symbol,
+    put_ubyte, put_uint, put_ulong, put_ushort,
 };
 
 #[cfg(test)]

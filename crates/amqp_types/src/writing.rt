@@ -12,8 +12,12 @@ ghost use Rattle.amqp_types.specs.Writing.{Puts, IsWritten, IsReadAs, IsShortest
 use crate::code::{Kind, SizeWidth, Text};
 use std::alloc::AllocError;
 
-/// Appends the parts, first to last: all of them or, where memory is refused, none.
-fn put_parts(out: &mut Vec<u8>, parts: &[&[u8]]) -> Result<(), AllocError>
+/// Appends the octets of the parts, first to last.
+///
+/// # Errors
+///
+/// Where memory is refused: then nothing was appended.
+pub fn put_parts(out: &mut Vec<u8>, parts: &[&[u8]]) -> Result<(), AllocError>
     ensures appended { Puts out.old.items out.new.items result (flat_map (λ part. part.now) parts.now) }
     ensures full { OnErr result (vec_capacity out.old < vec_len out.old + length (flat_map (λ part. part.now) parts.now)) }
 {

@@ -6,14 +6,10 @@ use Rattle.trace_law.specs.Windows.Event as events
 use Rattle.trace_law.specs.RemoteWindow as moves
 use Rattle.audit_core.specs.declared.window.WindowMove.{WindowMove}
 use Rattle.audit_core.specs.declared.window.WindowMove.TheVariants.{TheirFlow, Sent}
-use Rattle.audit_core.specs.declared.frame.Frame.{Frame}
 use Rattle.audit_core.specs.declared.frame.Spoken.{Spoken}
 use Rattle.audit_core.specs.declared.event.Event.{Event}
 use Rattle.audit_core.specs.declared.event.Moment.{Moment}
 use Rattle.audit_core.specs.declared.event.Moment.TheVariants.{Opened, In, Out, Lost, Broken}
-
-abbrev pub frame_view : Frame → law.FrameParts
-frame_view frame = record { channel = frame.channel; body = frame.body.now }
 
 abbrev pub spoken_view : Spoken → law.Spoken
 spoken_view spoken = record { channel = spoken.channel; meaning = performatives.view spoken.performative }

@@ -1,46 +1,7 @@
-//! What a record's octets are, as one whole frame (part 2 of the standard, section 2.3).
+//! The performative that a record's octets are, as one whole frame (part 2 of the standard, section 2.3).
 
+use amqp_frames::{FRAME_LIMIT, FrameKind, FrameView};
 use amqp_perf::{Begin, Performative};
-
-/// How long a frame's header is at least, in octets.
-const HEADER: usize = 8;
-
-/// The type of the frames of sessions and connections.
-const AMQP: u8 = 0;
-
-/// A whole frame of a session or connection.
-#[derive(Clone, Copy)]
-pub(crate) struct Frame<'a> {
-    pub channel: u16,
-    /// What stands behind the header.
-    pub body: &'a [u8],
-}
-
-impl<'a> Frame<'a> {
-    ghost use Rattle.std.specs.Prelude.{◌≡◌, option_map};
-    ghost use Rattle.trace_law.specs.Windows.Frame.{frame_parts};
-    ghost use Rattle.audit_core.specs.View.{frame_view};
-
-    /// The frame that all the octets are.
-    #[tactic(auto, unfolding(trace_law::specs::Windows::Frame::frame_parts))]
-    pub(crate) fn read(octets: &'a [u8]) -> Option<Frame<'a>>
-        ensures { option_map frame_view result ≡ frame_parts octets.now }
-    {
-        if octets.len() < HEADER {
-            return None;
-        }
-        let size = u32::from_be_bytes([octets[0], octets[1], octets[2], octets[3]]) as usize;
-        let start = 4 * octets[4] as usize;
-        let is_whole = size == octets.len() && HEADER <= start && start <= octets.len();
-        if !is_whole || octets[5] != AMQP {
-            return None;
-        }
-        Some(Frame {
-            channel: u16::from_be_bytes([octets[6], octets[7]]),
-            body: &octets[start..],
-        })
-    }
-}
 
 /// A performative on a channel.
 #[derive(Clone, Copy)]
@@ -62,12 +23,17 @@ impl<'a> Spoken<'a> {
     pub(crate) fn read(octets: &'a [u8]) -> Option<Spoken<'a>>
         ensures { option_map spoken_view result ≡ spoken octets.now }
     {
-        let frame = Frame::read(octets)?;
-        let (performative, _) = Performative::read(frame.body).ok()?;
-        Some(Spoken {
-            channel: frame.channel,
-            performative,
-        })
+        let frame = FrameView::whole(octets, FRAME_LIMIT)?;
+        match frame.kind() {
+            FrameKind::Amqp => {
+                let (performative, _) = Performative::read(frame.body()).ok()?;
+                Some(Spoken {
+                    channel: frame.channel(),
+                    performative,
+                })
+            }
+            FrameKind::Sasl => None,
+        }
     }
 
     /// The begin that it is on this channel.

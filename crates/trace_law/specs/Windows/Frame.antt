@@ -1,48 +1,33 @@
--- What a record's octets are, as one whole frame (part 2 of the standard, section 2.3).
-use Rattle.std.specs.Prelude.{ℕ, ◌*◌, Bool, ◌&&◌, List, length, take, drop, Option, Some, None, Result, Ok, Err, nat_le, slice_index, ◌==◌, if◌then◌else◌, option_and_then}
-use Rattle.std.specs.Int.{w16, w32, from_be_bytes}
+-- What a record's octets say, as one whole frame (part 2 of the standard, section 2.3).
+use Rattle.std.specs.Prelude.{ℕ, List, Option, Some, None, option_map, Result, Ok, Err}
+use Rattle.amqp_frames.specs.declared.frame.FrameKind.{FrameKind}
+use Rattle.amqp_frames.specs.declared.frame.FrameKind.TheVariants.{Amqp, Sasl}
+use Rattle.amqp_frames.specs.Frame.{Frame}
+use Rattle.amqp_frames.specs.Reading.{whole_frame}
+use Rattle.amqp_frames.specs.Stream.{frame_limit}
 use Rattle.amqp_perf.specs.declared.fault.PerfFault.{PerfFault}
 use Rattle.amqp_perf.specs.Meaning.{Meaning}
 use Rattle.amqp_perf.specs.Reading.{performative_at}
-
--- a frame of a session or connection: its channel, and what stands behind its header
-pub record FrameParts : Type 0 where
-  pub channel : ℕ
-  pub body : List ℕ
 
 -- a performative on a channel
 pub record Spoken : Type 0 where
   pub channel : ℕ
   pub meaning : Meaning
 
--- how long the frame says that it is, and its header (2.3.1)
-abbrev pub stated_size : List ℕ → ℕ
-stated_size octets = from_be_bytes w32 (take 4 octets)
-
--- the data offset counts words of four octets
-abbrev pub header_size : List ℕ → ℕ
-header_size octets = 4 * slice_index octets 4
-
--- the octets are one whole frame of type AMQP
-abbrev pub is_whole_frame : List ℕ → Bool
-is_whole_frame octets =
-    nat_le 8 (length octets) && (stated_size octets == length octets)
-    && nat_le 8 (header_size octets) && nat_le (header_size octets) (length octets)
-    && (slice_index octets 5 == 0)
-
-unfoldable pub frame_parts : List ℕ → Option FrameParts
-frame_parts octets =
-    if is_whole_frame octets then Some (record { channel = from_be_bytes w16 (take 2 (drop 6 octets)); body = drop (header_size octets) octets }) else None
-
 -- the performative at the front of a body
 abbrev pub read_meaning : Result (Meaning × List ℕ) PerfFault → Option Meaning
 read_meaning (Ok x) = Some x.0
 read_meaning (Err e) = None
 
-abbrev pub spoken_in : FrameParts → Option Meaning → Option Spoken
-spoken_in frame (Some meaning) = Some (record { channel = frame.channel; meaning = meaning })
-spoken_in frame None = None
+-- what a frame says: one of a SASL exchange says no performative (2.3.2; part 5, 5.3.1)
+abbrev pub spoken_by : FrameKind → ℕ → List ℕ → Option Spoken
+spoken_by Amqp channel body = option_map (λ meaning. record { channel = channel; meaning = meaning }) (read_meaning (performative_at body))
+spoken_by Sasl channel body = None
+
+abbrev pub spoken_in : Option Frame → Option Spoken
+spoken_in (Some frame) = spoken_by frame.kind frame.channel frame.body
+spoken_in None = None
 
 -- the performative that a record's octets are, on its channel; none where they are no frame of one
 unfoldable pub spoken : List ℕ → Option Spoken
-spoken octets = option_and_then (λ frame. spoken_in frame (read_meaning (performative_at frame.body))) (frame_parts octets)
+spoken octets = spoken_in (whole_frame frame_limit octets)

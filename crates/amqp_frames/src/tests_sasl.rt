@@ -1,0 +1,176 @@
+//! SASL frames of known octets.
+
+use super::*;
+use amqp_perf::PerfFault;
+use amqp_types::{ValueFault, ValueFaultKind};
+use std::process::Abort;
+use std::test::Fail;
+
+// A server offers ANONYMOUS.
+const MECHANISMS: [u8; 28] = [
+    0x00, 0x00, 0x00, 0x1C, 0x02, 0x01, 0x00, 0x00, 0x00, 0x53, 0x40, 0xC0, 0x0F, 0x01, 0xE0, 0x0C,
+    0x01, 0xA3, 0x09, 0x41, 0x4E, 0x4F, 0x4E, 0x59, 0x4D, 0x4F, 0x55, 0x53,
+];
+
+// A client chooses it.
+const INIT: [u8; 25] = [
+    0x00, 0x00, 0x00, 0x19, 0x02, 0x01, 0x00, 0x00, 0x00, 0x53, 0x41, 0xC0, 0x0C, 0x01, 0xA3, 0x09,
+    0x41, 0x4E, 0x4F, 0x4E, 0x59, 0x4D, 0x4F, 0x55, 0x53,
+];
+
+// It may go on.
+const OUTCOME: [u8; 16] = [
+    0x00, 0x00, 0x00, 0x10, 0x02, 0x01, 0x00, 0x00, 0x00, 0x53, 0x44, 0xC0, 0x03, 0x01, 0x50, 0x00,
+];
+
+// What a whole SASL frame says.
+fn said<'a>(rt: &impl Abort, octets: &'a [u8]) -> Result<SaslFrame<'a>, PerfFault> {
+    match FrameView::whole(octets, FRAME_LIMIT) {
+        Some(frame) => {
+            assert_eq!(rt; frame.kind(), FrameKind::Sasl);
+            sasl_read(frame.body())
+        }
+        None => panic!(rt; "these octets are no frame"),
+    }
+}
+
+#[test]
+fn the_frames_of_an_exchange(rt: HostRuntime) -> Result<(), Fail> {
+    let mechanisms = SaslFrame::Mechanisms { anonymous: true };
+    let init = SaslFrame::Init {
+        mechanism: "ANONYMOUS",
+        initial_response: None,
+        hostname: None,
+    };
+    let outcome = SaslFrame::Outcome { code: SASL_OK };
+    assert_eq!(rt; said(&rt, &MECHANISMS), Ok(mechanisms));
+    assert_eq!(rt; said(&rt, &INIT), Ok(init));
+    assert_eq!(rt; said(&rt, &OUTCOME), Ok(outcome));
+
+    let mut out = Vec::new(rt.alloc());
+    sasl_write(mechanisms, &mut out)?;
+    assert_eq!(rt; out.as_slice(), MECHANISMS.as_slice());
+    out.clear();
+    sasl_write(init, &mut out)?;
+    assert_eq!(rt; out.as_slice(), INIT.as_slice());
+    out.clear();
+    sasl_write(outcome, &mut out)?;
+    assert_eq!(rt; out.as_slice(), OUTCOME.as_slice());
+    Ok(())
+}
+
+#[test]
+fn other_spellings(rt: HostRuntime) {
+    // PLAIN with a response and a host, described by its name, in the long form of a list, and octets behind it
+    let plain =
+        b"\x00\xA3\x13amqp:sasl-init:list\xD0\x00\x00\x00\x16\x00\x00\x00\x03\xA3\x05PLAIN\xA0\x05\x00me\x00x\xA1\x02hi\x40";
+    let init = SaslFrame::Init {
+        mechanism: "PLAIN",
+        initial_response: Some(b"\x00me\x00x"),
+        hostname: Some("hi"),
+    };
+    assert_eq!(rt; sasl_read(plain), Ok(init));
+    // PLAIN and ANONYMOUS, then PLAIN alone, then an array of nothing
+    let both = b"\x00\x53\x40\xC0\x15\x01\xE0\x12\x02\xA3\x05PLAIN\x09ANONYMOUS";
+    assert_eq!(rt;
+        sasl_read(both),
+        Ok(SaslFrame::Mechanisms { anonymous: true })
+    );
+    let other = b"\x00\xA3\x19amqp:sasl-mechanisms:list\xC0\x0B\x01\xE0\x08\x01\xA3\x05PLAIN";
+    assert_eq!(rt;
+        sasl_read(other),
+        Ok(SaslFrame::Mechanisms { anonymous: false })
+    );
+    let none = b"\x00\x53\x40\xC0\x04\x01\xE0\x01\x00";
+    assert_eq!(rt;
+        sasl_read(none),
+        Ok(SaslFrame::Mechanisms { anonymous: false })
+    );
+    // a refusal, with additional data
+    let refused = b"\x00\xA3\x16amqp:sasl-outcome:list\xC0\x06\x02\x50\x01\xA0\x01\x07";
+    assert_eq!(rt;
+        sasl_read(refused),
+        Ok(SaslFrame::Outcome { code: SASL_AUTH })
+    );
+}
+
+#[test]
+fn faults_of_sasl_frames(rt: HostRuntime) {
+    let cut = ValueFault {
+        kind: ValueFaultKind::Short,
+        at: 1,
+    };
+    let table = [
+        ([0x00].as_slice(), PerfFault::Value(cut)),
+        // a list without a descriptor; a challenge; an init that is no list
+        ([0x45].as_slice(), PerfFault::NotPerformative),
+        (
+            [0x00, 0x53, 0x42, 0x45].as_slice(),
+            PerfFault::NotPerformative,
+        ),
+        (
+            [0x00, 0x53, 0x41, 0x43].as_slice(),
+            PerfFault::NotPerformative,
+        ),
+        // an outcome of three fields, an init of four, mechanisms of two: too many before one is missing
+        (
+            [0x00, 0x53, 0x44, 0xC0, 0x04, 0x03, 0x40, 0x40, 0x40].as_slice(),
+            PerfFault::TooManyFields,
+        ),
+        (
+            [0x00, 0x53, 0x41, 0xC0, 0x05, 0x04, 0x40, 0x40, 0x40, 0x40].as_slice(),
+            PerfFault::TooManyFields,
+        ),
+        (
+            [0x00, 0x53, 0x40, 0xC0, 0x03, 0x02, 0x40, 0x40].as_slice(),
+            PerfFault::TooManyFields,
+        ),
+        // nothing at all; a mechanism that is null
+        (
+            [0x00, 0x53, 0x44, 0x45].as_slice(),
+            PerfFault::MissingField(1),
+        ),
+        (
+            [0x00, 0x53, 0x41, 0xC0, 0x03, 0x02, 0x40, 0x43].as_slice(),
+            PerfFault::MissingField(1),
+        ),
+        // a code that is an uint; a mechanism that is a string; a response that is a string; a host that is a symbol
+        (
+            [0x00, 0x53, 0x44, 0xC0, 0x02, 0x01, 0x43].as_slice(),
+            PerfFault::WrongType(1),
+        ),
+        (
+            [0x00, 0x53, 0x41, 0xC0, 0x04, 0x01, 0xA1, 0x01, 0x61].as_slice(),
+            PerfFault::WrongType(1),
+        ),
+        (
+            [
+                0x00, 0x53, 0x41, 0xC0, 0x07, 0x02, 0xA3, 0x01, 0x61, 0xA1, 0x01, 0x61,
+            ]
+            .as_slice(),
+            PerfFault::WrongType(2),
+        ),
+        (
+            [
+                0x00, 0x53, 0x41, 0xC0, 0x08, 0x03, 0xA3, 0x01, 0x61, 0x40, 0xA3, 0x01, 0x61,
+            ]
+            .as_slice(),
+            PerfFault::WrongType(3),
+        ),
+        // one symbol in place of an array; an array of strings
+        (
+            [0x00, 0x53, 0x40, 0xC0, 0x04, 0x01, 0xA3, 0x01, 0x61].as_slice(),
+            PerfFault::WrongType(1),
+        ),
+        (
+            [
+                0x00, 0x53, 0x40, 0xC0, 0x07, 0x01, 0xE0, 0x04, 0x01, 0xA1, 0x01, 0x61,
+            ]
+            .as_slice(),
+            PerfFault::WrongType(1),
+        ),
+    ];
+    for (octets, fault) in table {
+        assert_eq!(rt; sasl_read(octets), Err(fault));
+    }
+}
