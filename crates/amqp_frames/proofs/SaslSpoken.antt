@@ -1,5 +1,5 @@
 -- What is read of a SASL frame stands there, and what stands there is read.
-use Rattle.std.proofs.Common.{◌≡◌, refl, sym, ap, subst, ◌∙◌, ℕ, ◌≤◌, Bool, true, false, List, [], ◌∷◌, ◌++◌, length, Option, Some, None, Result, Ok, Err}
+use Rattle.std.proofs.Common.{◌≡◌, refl, sym, ap, ◌∙◌, ℕ, ◌≤◌, Bool, true, false, List, length, Option, Some, None, Result, Ok, Err}
 use Rattle.std.specs.Prelude.{nat_lt, IfOk}
 use Rattle.std.proofs.lemmas.Bool.{ltb-false, le-ltb}
 use Rattle.amqp_types.specs.declared.code.Kind.TheVariants as kinds
@@ -12,7 +12,7 @@ use Rattle.amqp_types.proofs.Values.{seen_found, seen_again}
 use Rattle.amqp_types.proofs.Nested.{not_tagged, pair_holds, list_holds, value_is}
 use Rattle.amqp_perf.specs.declared.fault.PerfFault.{PerfFault}
 use Rattle.amqp_perf.specs.declared.fault.PerfFault.TheVariants.{TooManyFields}
-use Rattle.amqp_perf.specs.Fields.{first_fault, table_fault}
+use Rattle.amqp_perf.specs.Fields.{first_fault}
 use Rattle.amqp_perf.specs.Reading.{Gives}
 use Rattle.amqp_perf.specs.Grammar.{AreFields}
 use Rattle.amqp_perf.proofs.Fits.{are_fields, no_faults, not_too_many}

@@ -1,7 +1,5 @@
 -- What is written of a SASL frame says the same again.
 use Rattle.std.proofs.Common.{◌≡◌, refl, sym, ap, subst, ◌∙◌, ℕ, ◌<◌, ◌^◌, Bool, true, false, List, [], ◌∷◌, map, length, Option, Some, None, Ok, option_map, unwrap_or, IsAscii, arith}
-use Rattle.std.specs.Str.{bytes_eq}
-use Rattle.std.specs.List.{list_any, list_all}
 use Rattle.amqp_types.specs.declared.code.Text.TheVariants as texts
 use Rattle.amqp_types.specs.declared.code.Kind.TheVariants as kinds_of_lists
 use Rattle.amqp_types.specs.declared.code.SizeWidth.TheVariants.{One}
@@ -19,8 +17,7 @@ use Rattle.amqp_types.proofs.Nested.{value_is}
 use Rattle.amqp_types.proofs.Values.{seen_found}
 use Rattle.amqp_perf.specs.declared.table.FieldType.TheVariants as types
 use Rattle.amqp_perf.specs.Tables.{mandatory, optional}
-use Rattle.amqp_perf.specs.FieldPlaces.{field_at}
-use Rattle.amqp_perf.specs.Slots.{ubyte_value, text_value, kept_value, or_null, values_of, octets_of, IsShort, AreShort, CanStand, AllCanStand}
+use Rattle.amqp_perf.specs.Slots.{text_value, kept_value, or_null, values_of, octets_of, IsShort, AreShort, CanStand, AllCanStand}
 use Rattle.amqp_perf.proofs.Slots.{same_at, Suits, AllSuit, fit_values, AreAt, stand_values, are_items, values_long, fields_nested, descriptor_is}
 use Rattle.amqp_perf.proofs.Again.{are_values}
 use Rattle.amqp_frames.specs.declared.sasl.SaslKind.{SaslKind}

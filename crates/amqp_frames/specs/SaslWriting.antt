@@ -1,5 +1,5 @@
 -- What a SASL frame says as it is written (part 5 of the standard, section 5.3.3), and what may be written.
-use Rattle.std.specs.Prelude.{◌≡◌, ℕ, ◌+◌, ◌<◌, ◌^◌, Bool, true, false, List, [], ◌∷◌, ◌++◌, length, Option, Some, option_map, IsAscii}
+use Rattle.std.specs.Prelude.{ℕ, ◌<◌, ◌^◌, Bool, true, false, List, [], ◌∷◌, Option, Some, option_map, IsAscii}
 use Rattle.amqp_types.specs.declared.code.Text.TheVariants as texts
 use Rattle.amqp_types.specs.Part.{Seen}
 use Rattle.amqp_perf.specs.Slots.{ubyte_value, text_value, kept_value, fields_octets, IsShort, AreShort}

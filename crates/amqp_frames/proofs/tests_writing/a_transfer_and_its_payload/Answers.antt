@@ -1,5 +1,4 @@
 use Rattle.std.proofs.Common.{◌<◌, ◌≤◌, ◌^◌, ◌++◌, ℕ, List, [], ◌∷◌, length, false, sym, subst, arith}
-use Rattle.std.proofs.lemmas.List.{length-append}
 use Rattle.amqp_types.specs.Writing.{boolean_octets, uint_octets, text_octets, list_octets}
 use Rattle.amqp_perf.specs.Meaning.{ATransfer, TransferFields}
 use Rattle.amqp_perf.specs.Router.{first_transfer}
