@@ -1,0 +1,4 @@
+pub mod Refusals
+pub mod Picking
+pub mod Links
+pub mod Addresses

@@ -1,0 +1,25 @@
+//! Addresses: by which rule the messages of each are distributed, which links its consumers have, and which of them a
+//! delivery goes to.
+//!
+//! `Rules` are the rules of a router, and find the distribution of an address. `Table` keeps the links of consumers by
+//! their addresses, and picks one. Whatever happened on the links, it has come to what the definitions of `flow_counts`
+//! say of it, and each call counts one event more.
+//!
+//! In reading order: `fault` is why rules are refused; `rules`; `consumer` is one link; `table` keeps them
+//! all; `laws` says what the definitions come to.
+#![tactic(auto)]
+
+mod consumer;
+mod fault;
+mod laws;
+mod rules;
+mod table;
+
+pub use consumer::Consumer;
+pub use fault::RulesFault;
+pub use laws::laws_of_tables;
+pub use rules::{MAX_PREFIX, MAX_RULES, Rules};
+pub use table::Table;
+
+#[cfg(test)]
+mod tests;

@@ -1,0 +1,22 @@
+//! The deliveries of a session that are not settled yet, in both directions.
+//!
+//! `Inbound` puts together the deliveries that come in from a client, part by part, and knows which delivery-ids are in
+//! use. `Outstanding` keeps the deliveries that were sent to it, and finds those of which a disposition speaks. Whatever
+//! happened on the session, both have come to what the definitions of `flow_counts` say of it, and each call counts one
+//! event more.
+//!
+//! In reading order: `fault` is why a part is refused; `partial` is a delivery in progress; `inbound` and `outstanding`.
+#![tactic(auto)]
+
+mod fault;
+mod inbound;
+mod outstanding;
+mod partial;
+
+pub use fault::PartFault;
+pub use inbound::Inbound;
+pub use outstanding::{Covered, Outstanding};
+pub use partial::{MAX_MESSAGE_SIZE, Partial};
+
+#[cfg(test)]
+mod tests;
