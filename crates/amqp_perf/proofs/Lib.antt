@@ -9,3 +9,4 @@ pub mod Conditions
 pub mod Lengths
 pub mod Writable
 pub mod Within
+pub mod Opened

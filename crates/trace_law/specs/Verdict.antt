@@ -1,0 +1,36 @@
+-- What is to be said of a capture's records: which record breaks which clause first, or a tally.
+use Rattle.std.specs.Prelude.{ℕ, Bool, List, length, Option, Some, None, Result, Ok, Err, count_by}
+use Rattle.capture_form.specs.declared.records.Record.{Record}
+use Rattle.capture_form.specs.Rules.{RuleText}
+use Rattle.trace_law.specs.declared.clause.Clause.{Clause}
+use Rattle.trace_law.specs.Words.{is_some_and}
+use Rattle.trace_law.specs.Event.{Event}
+use Rattle.trace_law.specs.Said.{out_disposition}
+use Rattle.trace_law.specs.Link.{is_receiver}
+use Rattle.trace_law.specs.Credit.{begins_outgoing}
+use Rattle.trace_law.specs.History.{history}
+use Rattle.trace_law.specs.Clauses.{first_broken}
+
+-- how many records there are, how many transfers to clients begin a delivery, and how many outcomes are told
+pub record Tally : Type 0 where
+  pub records : ℕ
+  pub deliveries : ℕ
+  pub outcomes : ℕ
+
+abbrev pub tells_outcome : Event → Bool
+tells_outcome e = is_some_and (out_disposition e) (λ fields. is_receiver fields.role)
+
+abbrev pub tally_of : List Event → Tally
+tally_of past = record { records = length past; deliveries = count_by begins_outgoing past; outcomes = count_by tells_outcome past }
+
+abbrev pub tallied_or : Tally → Option (ℕ × Clause) → Result Tally (ℕ × Clause)
+tallied_or tally None = Ok tally
+tallied_or tally (Some broken) = Err broken
+
+-- of events
+abbrev pub judgement : List RuleText → List Event → Result Tally (ℕ × Clause)
+judgement rules past = tallied_or (tally_of past) (first_broken rules past)
+
+-- of a capture
+abbrev pub verdict : List RuleText → List Record → Result Tally (ℕ × Clause)
+verdict rules records = judgement rules (history rules records)
