@@ -1,3 +1,4 @@
 pub mod Lists
 pub mod Best
 pub mod RuleTests
+pub mod Histories

@@ -6,17 +6,19 @@
 //! say of it, and each call counts one event more.
 //!
 //! In reading order: `fault` is why rules are refused; `rules`; `consumer` is one link; `table` keeps them
-//! all; `laws` says what the definitions come to.
+//! all; `history` counts whole lists of events; `laws` says what the definitions come to.
 #![tactic(auto)]
 
 mod consumer;
 mod fault;
+mod history;
 mod laws;
 mod rules;
 mod table;
 
 pub use consumer::Consumer;
 pub use fault::RulesFault;
+pub use history::{TableEvent, table_after};
 pub use laws::laws_of_tables;
 pub use rules::{MAX_PREFIX, MAX_RULES, Rules};
 pub use table::Table;

@@ -119,40 +119,24 @@ fn rules_of_captures(rt: HostRuntime) -> Result<(), Fail> {
     Ok(())
 }
 
-/// What happens on the links of consumers.
-#[derive(Clone, Copy)]
-enum Step<'a> {
-    Attach(&'a str, u64, bool),
-    Detach(u64),
-    Begin(u64, u64),
-    Decide(u64),
+fn attach(address: &str, link: u64, pre_settled: bool) -> TableEvent<'_> {
+    TableEvent::Attached {
+        address,
+        link,
+        pre_settled,
+    }
 }
 
-use Step::{Attach, Begin, Decide, Detach};
+fn detach(link: u64) -> TableEvent<'static> {
+    TableEvent::Detached { link }
+}
 
-/// The table after the first so many steps.
-fn table_after(
-    rt: &impl Abort,
-    alloc: Global,
-    steps: &[Step<'_>],
-    count: usize,
-) -> Result<Table, AllocError> {
-    let mut table = Table::new(alloc);
-    for step in steps.iter().take(count) {
-        match *step {
-            Attach(address, link, pre_settled) => table.attach(address, link, pre_settled)?,
-            Detach(link) => table.detach(link),
-            Begin(link, number) => {
-                assert!(rt; table.undecided(link) < u64::MAX);
-                table.begun(link, number);
-            }
-            Decide(link) => {
-                assert!(rt; table.undecided(link) > 0);
-                table.decided(link);
-            }
-        }
-    }
-    Ok(table)
+fn begin(link: u64, number: u64) -> TableEvent<'static> {
+    TableEvent::Begun { link, number }
+}
+
+fn decide(link: u64) -> TableEvent<'static> {
+    TableEvent::Decided { link }
 }
 
 /// Every link may be sent a delivery.
@@ -168,15 +152,15 @@ fn all_but_27(link: u64) -> bool {
 #[test]
 fn consumers_in_order_of_attach(rt: HostRuntime) -> Result<(), Fail> {
     let steps = [
-        Attach("q", 13, false),
-        Attach("r", 20, false),
-        Attach("q", 27, true),
-        Attach("q", 34, false),
-        Attach("r", 27, false),
-        Detach(13),
-        Detach(13),
-        Detach(20),
-        Attach("q", 41, false),
+        attach("q", 13, false),
+        attach("r", 20, false),
+        attach("q", 27, true),
+        attach("q", 34, false),
+        attach("r", 27, false),
+        detach(13),
+        detach(13),
+        detach(20),
+        attach("q", 41, false),
     ];
     let lists: [(usize, &str, &[u64]); 5] = [
         (5, "q", &[13, 27, 34]),
@@ -186,7 +170,7 @@ fn consumers_in_order_of_attach(rt: HostRuntime) -> Result<(), Fail> {
         (9, "", &[]),
     ];
     for (count, address, links) in &lists {
-        let table = table_after(&rt, rt.alloc(), &steps, *count)?;
+        let table = table_after(rt.alloc(), &steps[..*count])?;
         assert_eq!(rt;
             table.consumers(address),
             *links,
@@ -200,13 +184,13 @@ fn consumers_in_order_of_attach(rt: HostRuntime) -> Result<(), Fail> {
 #[test]
 fn closest_pick(rt: HostRuntime) -> Result<(), Fail> {
     let steps = [
-        Attach("q", 13, false),
-        Attach("q", 20, false),
-        Attach("q", 27, false),
-        Begin(13, 0),
-        Begin(27, 30),
-        Begin(20, 31),
-        Begin(13, 32),
+        attach("q", 13, false),
+        attach("q", 20, false),
+        attach("q", 27, false),
+        begin(13, 0),
+        begin(27, 30),
+        begin(20, 31),
+        begin(13, 32),
     ];
     let picks = [
         (0, None),
@@ -216,7 +200,7 @@ fn closest_pick(rt: HostRuntime) -> Result<(), Fail> {
         (7, Some(27)),
     ];
     for (count, picked) in &picks {
-        let table = table_after(&rt, rt.alloc(), &steps, *count)?;
+        let table = table_after(rt.alloc(), &steps[..*count])?;
         assert_eq!(rt;
             table.pick("q", Closest, all),
             *picked,
@@ -229,12 +213,12 @@ fn closest_pick(rt: HostRuntime) -> Result<(), Fail> {
 #[test]
 fn links_that_pass_the_test(rt: HostRuntime) -> Result<(), Fail> {
     let steps = [
-        Attach("q", 27, false),
-        Attach("r", 34, false),
-        Attach("q", 41, false),
+        attach("q", 27, false),
+        attach("r", 34, false),
+        attach("q", 41, false),
     ];
     for (count, picked) in &[(1, None), (2, None), (3, Some(41))] {
-        let table = table_after(&rt, rt.alloc(), &steps, *count)?;
+        let table = table_after(rt.alloc(), &steps[..*count])?;
         assert_eq!(rt;
             table.pick("q", Closest, all_but_27),
             *picked,
@@ -248,17 +232,17 @@ fn links_that_pass_the_test(rt: HostRuntime) -> Result<(), Fail> {
 #[test]
 fn balanced_pick(rt: HostRuntime) -> Result<(), Fail> {
     let steps = [
-        Attach("q", 13, false),
-        Attach("q", 20, false),
-        Begin(13, 30),
-        Begin(20, 31),
-        Begin(13, 32),
-        Decide(20),
-        Attach("q", 27, true),
-        Begin(20, 33),
-        Begin(27, 34),
-        Begin(27, 35),
-        Detach(27),
+        attach("q", 13, false),
+        attach("q", 20, false),
+        begin(13, 30),
+        begin(20, 31),
+        begin(13, 32),
+        decide(20),
+        attach("q", 27, true),
+        begin(20, 33),
+        begin(27, 34),
+        begin(27, 35),
+        detach(27),
     ];
     let picks = [
         (2, 13),
@@ -270,7 +254,7 @@ fn balanced_pick(rt: HostRuntime) -> Result<(), Fail> {
         (11, 20),
     ];
     for (count, picked) in &picks {
-        let table = table_after(&rt, rt.alloc(), &steps, *count)?;
+        let table = table_after(rt.alloc(), &steps[..*count])?;
         assert_eq!(rt;
             table.pick("q", Balanced, all),
             Some(*picked),

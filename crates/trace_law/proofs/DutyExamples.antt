@@ -9,7 +9,7 @@ use Rattle.capture_form.specs.declared.note.Why.TheVariants.{C, S, M}
 use Rattle.capture_form.specs.declared.records.Record.{Record}
 use Rattle.capture_form.specs.declared.rules.Distribution.TheVariants.{Closest, Multicast}
 use Rattle.trace_law.specs.Written.{written_open, written_begin, written_close, written_end, written_detach, written_settling}
-use Rattle.trace_law.proofs.Captures.{rule, opened, lost, broken, neglected_of, is_window_left_behind}
+use Rattle.trace_law.proofs.Captures.{rule, opened, lost, broken, diligence_of, neglected_of, is_window_left_behind}
 use Rattle.trace_law.proofs.Duties.{Waiting, Progress, Outcome, Credit, Drain, Copies, Settling, Answer, Pick, NothingElse}
 use Rattle.trace_law.proofs.Made.{from, from_with, write, to, carry, tell, open_of, begin_of, bare, receives_from, session_flow, gives, shows, draining, echoing, first, next, with_more, as_settled, disposes, accepted, detach_of, q, hi, connect, join, producer, consumer, pair, sent, sent_by, written_to_consumer, written_refusal}
 
@@ -210,3 +210,45 @@ balanced_by_undecided = refl
 pre_settled : neglected_of [] (sent_by Settled ++ (carry 1 16 (as_settled (first 0)) hi ∷ tell 0 S (disposes Receiver 0 true accepted) ∷ []) ++ consumer 2 Mixed q ++ (from 2 (AFlow (gives 0 0 1)) ∷ from_with 0 (ATransfer (first 1)) hi ∷ carry 1 27 (as_settled (first 1)) hi ∷ tell 0 S (disposes Receiver 1 true accepted) ∷ [])) ≡ []
 unfolding neglected_of
 pre_settled = refl
+
+-- ---- which is not diligent
+
+not_sent-is_not_diligent : diligence_of [] sent ≡ false
+unfolding diligence_of
+not_sent-is_not_diligent = refl
+
+not_gone_on-is_not_diligent : diligence_of [] small_frames ≡ false
+unfolding diligence_of
+not_gone_on-is_not_diligent = refl
+
+not_told-is_not_diligent : diligence_of [] decided ≡ false
+unfolding diligence_of
+not_told-is_not_diligent = refl
+
+not_settled-is_not_diligent : diligence_of [] (decided ++ (tell 0 C (disposes Receiver 0 true accepted) ∷ [])) ≡ false
+unfolding diligence_of
+not_settled-is_not_diligent = refl
+
+not_topped_up-is_not_diligent : diligence_of [] (producer 0 q ++ consumer 1 Mixed q) ≡ false
+unfolding diligence_of
+not_topped_up-is_not_diligent = refl
+
+not_drained-is_not_diligent : diligence_of [] (pair ++ (from 1 (AFlow (draining (gives 0 0 5))) ∷ [])) ≡ false
+unfolding diligence_of
+not_drained-is_not_diligent = refl
+
+not_copied-is_not_diligent : diligence_of (rule Multicast q ∷ []) (all_q 1) ≡ false
+unfolding diligence_of
+not_copied-is_not_diligent = refl
+
+not_answered-is_not_diligent : diligence_of [] (connect 0 ++ (from 0 (begin_of None 100) ∷ [])) ≡ false
+unfolding diligence_of
+not_answered-is_not_diligent = refl
+
+not_picked-is_not_diligent : diligence_of [] (two_consumers ++ (carry 2 24 (first 0) hi ∷ [])) ≡ false
+unfolding diligence_of
+not_picked-is_not_diligent = refl
+
+flow_for_nothing-is_not_diligent : diligence_of [] (join 0 ++ (to 0 (AFlow (session_flow 0 2048 0 2147483647)) ∷ [])) ≡ false
+unfolding diligence_of
+flow_for_nothing-is_not_diligent = refl

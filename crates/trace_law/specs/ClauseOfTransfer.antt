@@ -5,6 +5,7 @@ use Rattle.std.specs.Bool.{beq}
 use Rattle.amqp_perf.specs.Meaning.{TransferFields, flag}
 use Rattle.capture_form.specs.declared.note.Note.{Note}
 use Rattle.capture_form.specs.declared.note.Note.TheVariants as notes
+use Rattle.capture_form.specs.Notes.{why_octet}
 use Rattle.capture_form.specs.Rules.{RuleText}
 use Rattle.trace_law.specs.Words.{is_some_and, is_none_or, is_number}
 use Rattle.trace_law.specs.Event.{Event, Session, Link, Incoming, Outgoing}
@@ -38,6 +39,7 @@ may_begin l fields past = nat_lt 0 (link_credit l past) && is_number fields.deli
 abbrev pub is_same_note : Note → Note → Bool
 is_same_note notes.None notes.None = true
 is_same_note (notes.Pair n) (notes.Pair m) = n == m
+is_same_note (notes.Told why) (notes.Told other) = why_octet why == why_octet other
 is_same_note _ _ = false
 
 abbrev pub goes_on_with : Outgoing → Note → TransferFields → Bool

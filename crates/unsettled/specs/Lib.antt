@@ -1,3 +1,4 @@
 pub mod Refusals
 pub mod Sent
 pub mod Deliveries
+pub mod History

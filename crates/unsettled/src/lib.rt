@@ -5,15 +5,18 @@
 //! happened on the session, both have come to what the definitions of `flow_counts` say of it, and each call counts one
 //! event more.
 //!
-//! In reading order: `fault` is why a part is refused; `partial` is a delivery in progress; `inbound` and `outstanding`.
+//! In reading order: `fault` is why a part is refused; `partial` is a delivery in progress; `inbound` and `outstanding`;
+//! `history` counts whole lists of events.
 #![tactic(auto)]
 
 mod fault;
+mod history;
 mod inbound;
 mod outstanding;
 mod partial;
 
 pub use fault::PartFault;
+pub use history::{InboundEvent, OutstandingEvent, inbound_after, outstanding_after};
 pub use inbound::Inbound;
 pub use outstanding::{Covered, Outstanding};
 pub use partial::{MAX_MESSAGE_SIZE, Partial};

@@ -110,3 +110,35 @@ fn ranges_wrap(rt: HostRuntime) -> Result<(), Fail> {
     assert_eq!(rt; sent.cover(2, 2).next(), None);
     Ok(())
 }
+
+/// Of two links, one is given up; the other one's parts are joined.
+#[test]
+fn whole_lists_of_events(rt: HostRuntime) -> Result<(), Fail> {
+    let part = |link, number, id, payload| InboundEvent::Part {
+        link,
+        number,
+        id,
+        payload,
+    };
+    let events = [
+        part(5, 16, Some(0), b"ab".as_slice()),
+        part(6, 17, Some(1), b"x".as_slice()),
+        InboundEvent::Completed { link: 7 },
+        InboundEvent::Aborted { link: 6 },
+        part(5, 18, None, b"cd".as_slice()),
+    ];
+    let mut inbound = inbound_after(rt.alloc(), &events)?;
+    assert!(rt; !inbound.is_in_progress(6));
+    assert!(rt; inbound.is_in_progress(5));
+    let (number, payload) = inbound.complete(5);
+    assert_eq!(rt; number, 16);
+    assert_eq!(rt; payload.as_slice(), b"abcd".as_slice());
+    let sent = [
+        OutstandingEvent::Added { number: 20, id: 0 },
+        OutstandingEvent::Added { number: 25, id: 1 },
+        OutstandingEvent::Removed { number: 20 },
+    ];
+    let outstanding = outstanding_after(rt.alloc(), &sent)?;
+    assert!(rt; outstanding.cover(0, 5).eq([(25, 1)]));
+    Ok(())
+}

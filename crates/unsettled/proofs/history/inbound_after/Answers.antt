@@ -1,0 +1,13 @@
+use Rattle.std.proofs.Common.{sym, subst, take}
+use Rattle.unsettled.specs.Deliveries.{IsCount}
+use Rattle.unsettled.specs.History.{parts_of}
+use Rattle.unsettled.proofs.Order.{parts_of-none, parts_of-next}
+use Rattle.unsettled.proofs.history.inbound_after.Goals as goal
+
+pub loop-event-init : goal.loop-event-init
+loop-event-init c = subst (IsCount c.new-inbound.result) (sym parts_of-none) c.new-inbound.ensures
+
+pub loop-event-preserved : goal.loop-event-preserved
+loop-event-preserved c =
+    subst (IsCount c.count.new.self) (sym (parts_of-next _ _ _ c.loop-event-test.true))
+    (c.in_ok-count.ensures (parts_of (take c.loop-event.event-index c.args.events.now)) c.loop-event.invariant)

@@ -1,0 +1,123 @@
+//! What happens to the deliveries of a session, and what they come to by it.
+
+ghost use Rattle.std.specs.Prelude.{◌≡◌, IfOk, OnOk};
+ghost use Rattle.flow_counts.specs.Parts.{Completed};
+ghost use Rattle.flow_counts.specs.Covers.{outstanding};
+ghost use Rattle.unsettled.specs.Deliveries as deliveries;
+ghost use Rattle.unsettled.specs.Deliveries.{IsCount};
+ghost use Rattle.unsettled.specs.Sent as sent;
+ghost use Rattle.unsettled.specs.History.{part_event, parts_of, sent_event, sent_of};
+
+use crate::fault::PartFault;
+use crate::inbound::Inbound;
+use crate::outstanding::Outstanding;
+use std::alloc::{AllocError, Global};
+
+/// What happens to the deliveries that come in from a client.
+#[derive(Clone, Copy, Debug, PartialEq, Eq)]
+pub enum InboundEvent<'a> {
+    /// A transfer comes on a link.
+    Part {
+        link: u64,
+        /// The record of the transfer.
+        number: u64,
+        id: Option<u32>,
+        payload: &'a [u8],
+    },
+    /// The delivery in progress on a link is aborted.
+    Aborted {
+        link: u64,
+    },
+    /// The last part of the delivery in progress on a link has come.
+    Completed {
+        link: u64,
+    },
+    /// The delivery of an id is decided.
+    Freed {
+        id: u32,
+    },
+}
+
+/// What happens to the deliveries that are sent to a client.
+#[derive(Clone, Copy, Debug, PartialEq, Eq)]
+pub enum OutstandingEvent {
+    /// A delivery begins with the transfer of this record.
+    Added { number: u64, id: u32 },
+    /// The delivery of this record is over.
+    Removed { number: u64 },
+}
+
+impl Inbound {
+    /// One event more. A completion without a delivery in progress changes nothing.
+    fn count(&mut self, event: InboundEvent<'_>) -> Result<(), PartFault>
+        ensures { OnOk result (deliveries.CountsOneMore self.old self.new (part_event event.entry)) }
+    {
+        match event {
+            InboundEvent::Part {
+                link,
+                number,
+                id,
+                payload,
+            } => self.part(link, number, id, payload)?,
+            InboundEvent::Aborted { link } => self.abort(link),
+            InboundEvent::Completed { link } => self.let_go(link),
+            InboundEvent::Freed { id } => self.freed(id),
+        }
+        Ok(())
+    }
+
+    /// The delivery in progress on the link is complete, if there is one.
+    fn let_go(&mut self, link: u64)
+        ensures { deliveries.CountsOneMore self.old self.new (Completed link) }
+    {
+        if self.is_in_progress(link) {
+            self.complete(link);
+        }
+    }
+}
+
+/// What the deliveries of a session come to, to which this happened, the oldest first.
+///
+/// # Errors
+///
+/// The fault of the first part that is refused, as `Inbound::part` tells it.
+pub fn inbound_after(alloc: Global, events: &[InboundEvent<'_>]) -> Result<Inbound, PartFault>
+    ensures { IfOk result (λ inbound. IsCount inbound (parts_of events.now)) }
+{
+    let mut inbound = Inbound::new(alloc);
+    for event in events {
+        inbound.count(*event)?;
+    }
+    Ok(inbound)
+}
+
+impl Outstanding {
+    /// One event more.
+    fn count(&mut self, event: OutstandingEvent) -> Result<(), AllocError>
+        ensures { OnOk result (sent.CountsOneMore self.old self.new (sent_event event)) }
+    {
+        match event {
+            OutstandingEvent::Added { number, id } => self.add(number, id)?,
+            OutstandingEvent::Removed { number } => self.remove(number),
+        }
+        Ok(())
+    }
+}
+
+/// The deliveries that are outstanding after this has happened, the oldest first.
+///
+/// # Errors
+///
+/// Where memory is refused.
+pub fn outstanding_after(
+    alloc: Global,
+    events: &[OutstandingEvent],
+) -> Result<Outstanding, AllocError>
+    ensures { IfOk result (λ left. left ≡ outstanding (sent_of events.now)) }
+{
+    let mut outstanding = Outstanding::new(alloc);
+    for event in events {
+        outstanding.count(*event)?;
+    }
+    Ok(outstanding)
+}
