@@ -139,3 +139,29 @@ fn each_fault(rt: HostRuntime) {
         assert_eq!(rt; fault.number(), number);
     }
 }
+
+/// A field of each plain kind that has another type or is missing, and one field too many in each table.
+#[test]
+fn each_kind_of_field(rt: HostRuntime) {
+    let table = [
+        // an open: its container-id is a number, or missing
+        (b"\x00\x53\x10\xC0\x02\x01\x43".as_slice(), WrongType(1)),
+        (b"\x00\x53\x10\x45".as_slice(), MissingField(1)),
+        // a begin: its remote-channel is an uint
+        (b"\x00\x53\x11\xC0\x05\x04\x43\x43\x43\x43", WrongType(1)),
+        // a transfer: its handle is a boolean, or missing; its delivery-tag is a string
+        (b"\x00\x53\x14\xC0\x02\x01\x41", WrongType(1)),
+        (b"\x00\x53\x14\x45", MissingField(1)),
+        (b"\x00\x53\x14\xC0\x05\x03\x43\x40\xA1\x00", WrongType(3)),
+        // a disposition: its role is a number, or missing
+        (b"\x00\x53\x15\xC0\x03\x02\x43\x43", WrongType(1)),
+        (b"\x00\x53\x15\x45", MissingField(1)),
+        // one field more than a begin, a detach and a close have
+        (b"\x00\x53\x11\xC0\x0A\x09@@@@@@@@@", TooManyFields),
+        (b"\x00\x53\x16\xC0\x05\x04@@@@", TooManyFields),
+        (b"\x00\x53\x18\xC0\x03\x02@@", TooManyFields),
+    ];
+    for (octets, fault) in table {
+        assert!(rt; matches!(Performative::read(octets), Err(read) if read == fault));
+    }
+}
