@@ -9,6 +9,7 @@ pub mod OneOutcome
 pub mod Within
 pub mod Carried
 pub mod Incomings
+pub mod Decided
 pub mod Along
 pub mod Sessions
 pub mod WithinWindow

@@ -104,7 +104,7 @@ module _ (rules : List RuleText) (e : Event) (past : List Event) (are : AreJudge
       inr (sym same ∙ (here ∙ judged-number rules e past are))
   found-by x begun false is found = inl found
 
-  found-at : (o : Option Incoming) → incoming_begun e ≡ o → find (λ x. x.number == n) (cons_option o (incoming_deliveries past)) ≡ Some d
+  pub found-at : (o : Option Incoming) → incoming_begun e ≡ o → find (λ x. x.number == n) (cons_option o (incoming_deliveries past)) ≡ Some d
       → (incoming_at n past ≡ Some d) ⊎ (n ≡ length past)
   found-at None begun found = inl found
   found-at (Some x) begun found = found-by x begun (x.number == n) refl found

@@ -84,7 +84,7 @@ pub and-right : (b c : Bool) → b && c ≡ true → c ≡ true
 and-right true c e = e
 and-right false c e = absurd cc
 
-number-some : (o : Option ℕ) (n : ℕ) → is_number o n ≡ true → o ≡ Some n
+pub number-some : (o : Option ℕ) (n : ℕ) → is_number o n ≡ true → o ≡ Some n
 number-some None n e = absurd cc
 number-some (Some m) n e = ap Some (eqb-true m n e)
 

@@ -9,8 +9,8 @@ ghost use Rattle.trace_law.specs.Session.{live_session};
 ghost use Rattle.trace_law.specs.Link.{session_link};
 ghost use Rattle.trace_law.specs.History.{history};
 ghost use Rattle.trace_law.specs.Clauses.{first_broken, is_lawful};
-ghost use Rattle.trace_law.specs.Delivery.{is_complete, payload};
-ghost use Rattle.trace_law.specs.Waiting.{is_waiting, is_gone};
+ghost use Rattle.trace_law.specs.Delivery.{incoming_at, is_complete, is_told, payload};
+ghost use Rattle.trace_law.specs.Waiting.{is_undecided, is_waiting, is_gone};
 ghost use Rattle.trace_law.specs.Laws.{session_at, IsWithinWindow, link_at, IsWithinCredit};
 ghost use Rattle.trace_law.specs.Kept.{AtEach, StoodWithin, HasCarried, IsOfRow, ReachesOne, ToldOnce};
 
@@ -32,6 +32,9 @@ pub fn laws_of_captures()
     ensures outcomes { (rules : List RuleText) (records : List Record) → IsTrue (is_lawful rules records) → AtEach (IsOfRow rules) (history rules records) }
     // Of each delivery at most one outcome was told.
     ensures once { (rules : List RuleText) (records : List Record) → IsTrue (is_lawful rules records) → ToldOnce (history rules records) }
+    // A delivery that was told is not undecided.
+    ensures decided { (rules : List RuleText) (records : List Record) → IsTrue (is_lawful rules records) → (n : ℕ) (delivery : Incoming)
+        → incoming_at n (history rules records) ≡ Some delivery → is_told delivery (history rules records) ≡ true → is_undecided rules delivery (history rules records) ≡ false }
     // The first records of a lawful capture are lawful.
     ensures before { (rules : List RuleText) (records more : List Record) → IsTrue (is_lawful rules (records ++ more)) → IsTrue (is_lawful rules records) }
     // What is broken first stays so, whatever is recorded later.

@@ -4,6 +4,7 @@ use Rattle.trace_law.proofs.Carried.{lawful-carried}
 use Rattle.trace_law.proofs.Incomings.{payload-stays, gone-for-good}
 use Rattle.trace_law.proofs.OneConsumer.{lawful-reaches-one}
 use Rattle.trace_law.proofs.OneOutcome.{lawful-told-once}
+use Rattle.trace_law.proofs.Decided.{told-decided}
 use Rattle.trace_law.proofs.Elsewhere.{live_session-other, session_link-other}
 use Rattle.trace_law.proofs.Fates.{not_both}
 use Rattle.trace_law.proofs.WithinWindow.{within_window}
@@ -51,3 +52,6 @@ returns-clause-sessions c = λ connection channel e past other. live_session-oth
 
 pub returns-clause-links : goal.returns-clause-links
 returns-clause-links c = λ connection handle s e past other of. session_link-other connection e past other s handle of
+
+pub returns-clause-decided : goal.returns-clause-decided
+returns-clause-decided c = λ rules records lawful. told-decided rules records (unbroken-of rules records lawful)
