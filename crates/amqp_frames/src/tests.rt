@@ -95,26 +95,14 @@ fn cut_frames(rt: HostRuntime) {
 #[test]
 fn faults(rt: HostRuntime) {
     let cases: [(&[u8], FrameFault); 8] = [
-        (&[0x00, 0x00, 0x00, 0x07], FrameFault::TooSmall),
-        (&[0x00, 0x00, 0x00, 0x00], FrameFault::TooSmall),
-        (&[0x00, 0x00, 0x40, 0x01], FrameFault::TooLarge),
-        (&[0xFF, 0xFF, 0xFF, 0xFF], FrameFault::TooLarge),
-        (
-            &[0x00, 0x00, 0x00, 0x08, 0x01, 0x00, 0x00, 0x00],
-            FrameFault::BadOffset,
-        ),
-        (
-            &[0x00, 0x00, 0x00, 0x08, 0x03, 0x00, 0x00, 0x00],
-            FrameFault::BadOffset,
-        ),
-        (
-            &[0x00, 0x00, 0x00, 0x08, 0x02, 0x02, 0x00, 0x00],
-            FrameFault::WrongType,
-        ),
-        (
-            &[0x00, 0x00, 0x40, 0x00, 0x02, 0x02, 0x00, 0x00],
-            FrameFault::WrongType,
-        ),
+        (b"\x00\x00\x00\x07", FrameFault::TooSmall),
+        (b"\x00\x00\x00\x00", FrameFault::TooSmall),
+        (b"\x00\x00\x40\x01", FrameFault::TooLarge),
+        (b"\xFF\xFF\xFF\xFF", FrameFault::TooLarge),
+        (b"\x00\x00\x00\x08\x01\x00\x00\x00", FrameFault::BadOffset),
+        (b"\x00\x00\x00\x08\x03\x00\x00\x00", FrameFault::BadOffset),
+        (b"\x00\x00\x00\x08\x02\x02\x00\x00", FrameFault::WrongType),
+        (b"\x00\x00\x40\x00\x02\x02\x00\x00", FrameFault::WrongType),
     ];
     for (octets, fault) in cases {
         assert_eq!(rt; length(octets), Err(fault));

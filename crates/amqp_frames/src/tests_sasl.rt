@@ -2,6 +2,7 @@
 
 use super::*;
 use amqp_perf::PerfFault;
+use amqp_perf::PerfFault::{MissingField, NotPerformative, TooManyFields, WrongType};
 use amqp_types::{ValueFault, ValueFaultKind};
 use std::process::Abort;
 use std::test::Fail;
@@ -101,73 +102,34 @@ fn faults_of_sasl_frames(rt: HostRuntime) {
         at: 1,
     };
     let table = [
-        ([0x00].as_slice(), PerfFault::Value(cut)),
+        (b"\x00".as_slice(), PerfFault::Value(cut)),
         // a list without a descriptor; a challenge; an init that is no list
-        ([0x45].as_slice(), PerfFault::NotPerformative),
-        (
-            [0x00, 0x53, 0x42, 0x45].as_slice(),
-            PerfFault::NotPerformative,
-        ),
-        (
-            [0x00, 0x53, 0x41, 0x43].as_slice(),
-            PerfFault::NotPerformative,
-        ),
+        (b"\x45", NotPerformative),
+        (b"\x00\x53\x42\x45", NotPerformative),
+        (b"\x00\x53\x41\x43", NotPerformative),
         // an outcome of three fields, an init of four, mechanisms of two: too many before one is missing
-        (
-            [0x00, 0x53, 0x44, 0xC0, 0x04, 0x03, 0x40, 0x40, 0x40].as_slice(),
-            PerfFault::TooManyFields,
-        ),
-        (
-            [0x00, 0x53, 0x41, 0xC0, 0x05, 0x04, 0x40, 0x40, 0x40, 0x40].as_slice(),
-            PerfFault::TooManyFields,
-        ),
-        (
-            [0x00, 0x53, 0x40, 0xC0, 0x03, 0x02, 0x40, 0x40].as_slice(),
-            PerfFault::TooManyFields,
-        ),
+        (b"\x00\x53\x44\xC0\x04\x03\x40\x40\x40", TooManyFields),
+        (b"\x00\x53\x41\xC0\x05\x04\x40\x40\x40\x40", TooManyFields),
+        (b"\x00\x53\x40\xC0\x03\x02\x40\x40", TooManyFields),
         // nothing at all; a mechanism that is null
-        (
-            [0x00, 0x53, 0x44, 0x45].as_slice(),
-            PerfFault::MissingField(1),
-        ),
-        (
-            [0x00, 0x53, 0x41, 0xC0, 0x03, 0x02, 0x40, 0x43].as_slice(),
-            PerfFault::MissingField(1),
-        ),
+        (b"\x00\x53\x44\x45", MissingField(1)),
+        (b"\x00\x53\x41\xC0\x03\x02\x40\x43", MissingField(1)),
         // a code that is an uint; a mechanism that is a string; a response that is a string; a host that is a symbol
+        (b"\x00\x53\x44\xC0\x02\x01\x43", WrongType(1)),
+        (b"\x00\x53\x41\xC0\x04\x01\xA1\x01\x61", WrongType(1)),
         (
-            [0x00, 0x53, 0x44, 0xC0, 0x02, 0x01, 0x43].as_slice(),
-            PerfFault::WrongType(1),
+            b"\x00\x53\x41\xC0\x07\x02\xA3\x01\x61\xA1\x01\x61",
+            WrongType(2),
         ),
         (
-            [0x00, 0x53, 0x41, 0xC0, 0x04, 0x01, 0xA1, 0x01, 0x61].as_slice(),
-            PerfFault::WrongType(1),
-        ),
-        (
-            [
-                0x00, 0x53, 0x41, 0xC0, 0x07, 0x02, 0xA3, 0x01, 0x61, 0xA1, 0x01, 0x61,
-            ]
-            .as_slice(),
-            PerfFault::WrongType(2),
-        ),
-        (
-            [
-                0x00, 0x53, 0x41, 0xC0, 0x08, 0x03, 0xA3, 0x01, 0x61, 0x40, 0xA3, 0x01, 0x61,
-            ]
-            .as_slice(),
-            PerfFault::WrongType(3),
+            b"\x00\x53\x41\xC0\x08\x03\xA3\x01\x61\x40\xA3\x01\x61",
+            WrongType(3),
         ),
         // one symbol in place of an array; an array of strings
+        (b"\x00\x53\x40\xC0\x04\x01\xA3\x01\x61", WrongType(1)),
         (
-            [0x00, 0x53, 0x40, 0xC0, 0x04, 0x01, 0xA3, 0x01, 0x61].as_slice(),
-            PerfFault::WrongType(1),
-        ),
-        (
-            [
-                0x00, 0x53, 0x40, 0xC0, 0x07, 0x01, 0xE0, 0x04, 0x01, 0xA1, 0x01, 0x61,
-            ]
-            .as_slice(),
-            PerfFault::WrongType(1),
+            b"\x00\x53\x40\xC0\x07\x01\xE0\x04\x01\xA1\x01\x61",
+            WrongType(1),
         ),
     ];
     for (octets, fault) in table {

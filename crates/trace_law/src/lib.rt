@@ -6,7 +6,8 @@
 //! Reading order in `specs/`: `Numbers`, `Frame`, `Event`, `Said`; `Connection`, `Session`, `Link`, `Window`, `Credit`,
 //! `Address`; `Disposition`, `Delivery`, `Sent`, `Waiting`, `Due`, `Settling`; `Heard`, `Fault`, `History`; `Written`,
 //! `Outcome`; `ClauseOfConnection`, `ClauseOfTransfer`, `ClauseOfFlow`, `Clauses`, `Verdict`; `Pick`, `Answer`,
-//! `Quiet`, `Diligent`. `docs/DEFINITIONS.md` says them in words. `Windows` is the part of them that is judged today.
+//! `Quiet`, `Diligent`; `Kept` at each event and `Laws` at every moment say what `laws` proves of lawful captures.
+//! `docs/DEFINITIONS.md` says them in words. `Windows` is the part of them that is judged today.
 //!
 //! `proofs/` has captures on which they are computed: `Worked*` octet by octet, `*Examples` one for each clause, fault
 //! and duty, and for what tells one reading of a rule from another.
