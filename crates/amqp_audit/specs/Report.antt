@@ -1,5 +1,5 @@
 use Rattle.std.specs.Prelude.{ℕ, List, ◌++◌, codes, decimal}
-use Rattle.audit_core.specs.declared.verdict.Tally.{Tally}
+use Rattle.audit_core.specs.Tallies.{Tally}
 use Rattle.audit_core.specs.declared.verdict.Verdict.{Verdict}
 use Rattle.audit_core.specs.declared.verdict.Verdict.TheVariants.{Accepted, Refused, Malformed, NoMemory, Unreadable}
 use Rattle.audit_core.specs.ClauseNames.{clause_name}

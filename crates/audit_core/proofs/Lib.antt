@@ -1,4 +1,3 @@
-pub mod Order
-pub mod Judged
 pub mod Verdicts
+pub mod Recorded
 pub mod Answered

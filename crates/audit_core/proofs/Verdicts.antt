@@ -5,75 +5,79 @@ use Rattle.std.proofs.lemmas.List.{length-take-le}
 use Rattle.capture_form.specs.declared.fault.FormFault.{FormFault}
 use Rattle.capture_form.specs.declared.records.Record.{Record}
 use Rattle.capture_form.specs.Frame.{AreOctets}
+use Rattle.capture_form.specs.Text.{Trace}
 use Rattle.capture_form.specs.Reading.{Reads, reading, head_at}
 use Rattle.capture_form.specs.Laws.{whole_reads, first_records, trace_of}
 use Rattle.capture_form.proofs.ReadingLaws.{reads_on, reads_whole, stands_in_front, spells_whole, headless}
 use Rattle.trace_law.specs.declared.clause.Clause.{Clause}
-use Rattle.trace_law.specs.Windows.History.{history}
-use Rattle.trace_law.specs.Windows.WindowClauses.{first_broken}
-use Rattle.trace_law.proofs.Histories.{continued-append, first_broken-continued, broken_at}
+use Rattle.trace_law.specs.History.{history}
+use Rattle.trace_law.specs.Clauses.{first_broken}
+use Rattle.trace_law.proofs.Lawful.{broken-stays}
+use Rattle.trace_law.proofs.Broken.{broken_at}
 use Rattle.audit_core.specs.declared.verdict.Verdict.{Verdict}
 use Rattle.audit_core.specs.declared.verdict.Verdict.TheVariants.{Accepted, Refused, Malformed, NoMemory, Unreadable}
-use Rattle.audit_core.specs.Tallying.{tally_of}
-use Rattle.audit_core.specs.Verdict.{Accepts, Refuses, Holds}
+use Rattle.audit_core.specs.Verdict.{broken_in, tally_in, Accepts, Refuses, Holds}
 
-abbrev verdict_by : List Record → Option (ℕ × Clause) → Option FormFault → Verdict
-verdict_by records (Some broken) fault = Refused broken.0 broken.1
-verdict_by records None (Some fault) = Malformed fault.offset fault.kind
-verdict_by records None None = Accepted (tally_of (history records))
+abbrev verdict_by : Trace → Option (ℕ × Clause) → Option FormFault → Verdict
+verdict_by trace (Some broken) fault = Refused broken.0 broken.1
+verdict_by trace None (Some fault) = Malformed fault.offset fault.kind
+verdict_by trace None None = Accepted (tally_in trace)
 
 -- the verdict of what was read
 verdict_at : Reads → Verdict
-verdict_at reads = verdict_by reads.records (first_broken (history reads.records)) reads.fault
+verdict_at reads = verdict_by (trace_of reads) (broken_in (trace_of reads)) reads.fault
 
 -- more records change nothing of what is broken
-pub broken-more : (records more all : List Record) (x : ℕ × Clause) → all ≡ records ++ more → first_broken (history records) ≡ Some x → first_broken (history all) ≡ Some x
-broken-more records more all x e broken =
-    ap (λ rs. first_broken (history rs)) e ∙ ap first_broken (continued-append [] records more) ∙ first_broken-continued (history records) more x broken
+pub broken-more : (capture all : Trace) (more : List Record) (x : ℕ × Clause) → all.rules ≡ capture.rules → all.records ≡ capture.records ++ more
+    → broken_in capture ≡ Some x → broken_in all ≡ Some x
+broken-more capture all more x rules records broken =
+    ap (λ rs. first_broken rs (history rs all.records)) rules ∙ ap (λ qs. first_broken capture.rules (history capture.rules qs)) records
+    ∙ broken-stays capture.rules capture.records more x broken
 
 refuses_at : (octets : List ℕ) (number : ℕ) (clause : Clause) (has : Bool) → is_ok (head_at octets) ≡ has → AreOctets octets
-    → first_broken (history (reading octets).records) ≡ Some (number, clause) → Refuses octets number clause
+    → broken_in (trace_of (reading octets)) ≡ Some (number, clause) → Refuses octets number clause
 refuses_at octets number clause true is fits e =
-    let b = broken_at [] (reading octets).records number clause refl e in
+    let b = broken_at (reading octets).rules [] (reading octets).records number clause refl e in
     let s = stands_in_front octets (b.place + 1) fits is in
     let last : length (take (b.place + 1) (reading octets).records) ≡ number + 1 = length-take-le (b.place + 1) (reading octets).records (omega (arith, b.within)) ∙ omega (arith, b.counted) in
     record { trace = first_records (b.place + 1) (reading octets); rest = s.front.0; bounds = s.capture; begins = s.front.1; last = last; broken = b.broken }
 refuses_at octets number clause false is fits e =
-    let none : first_broken (history (reading octets).records) ≡ None = ap (λ rs. first_broken (history rs)) (headless octets is).1 in
+    let none : broken_in (trace_of (reading octets)) ≡ None = ap (λ rs. first_broken (reading octets).rules (history (reading octets).rules rs)) (headless octets is).1 in
     absurd cc
 
 -- a broken record in front of the first fault
-pub refuses : (octets : List ℕ) (number : ℕ) (clause : Clause) → AreOctets octets → first_broken (history (reading octets).records) ≡ Some (number, clause) → Refuses octets number clause
+pub refuses : (octets : List ℕ) (number : ℕ) (clause : Clause) → AreOctets octets → broken_in (trace_of (reading octets)) ≡ Some (number, clause) → Refuses octets number clause
 refuses octets number clause fits e = refuses_at octets number clause (is_ok (head_at octets)) refl fits e
 
 -- no fault, and no broken record
-pub accepts : (octets : List ℕ) → AreOctets octets → (reading octets).fault ≡ None → first_broken (history (reading octets).records) ≡ None
-    → Accepts octets (tally_of (history (reading octets).records))
+pub accepts : (octets : List ℕ) → AreOctets octets → (reading octets).fault ≡ None → broken_in (trace_of (reading octets)) ≡ None
+    → Accepts octets (tally_in (trace_of (reading octets)))
 accepts octets fits none lawful =
     let s = spells_whole octets fits none in
     record { trace = trace_of (reading octets); bounds = s.0; whole = s.1; lawful = lawful; counted = refl }
 
-some_at : (octets : List ℕ) (broken : Option (ℕ × Clause)) (fault : Option FormFault) → AreOctets octets → first_broken (history (reading octets).records) ≡ broken
+some_at : (octets : List ℕ) (broken : Option (ℕ × Clause)) (fault : Option FormFault) → AreOctets octets → broken_in (trace_of (reading octets)) ≡ broken
     → (reading octets).fault ≡ fault → (verdict : Verdict) × Holds octets verdict
 some_at octets (Some x) fault fits is fault_is = (Refused x.0 x.1, refuses octets x.0 x.1 fits is)
-some_at octets None (Some f) fits is fault_is = (Malformed f.offset f.kind, record { fault = fault_is; lawful = is })
-some_at octets None None fits is fault_is = (Accepted (tally_of (history (reading octets).records)), accepts octets fits fault_is is)
+some_at octets None (Some fault) fits is fault_is = (Malformed fault.offset fault.kind, record { fault = fault_is; lawful = is })
+some_at octets None None fits is fault_is = (Accepted (tally_in (trace_of (reading octets))), accepts octets fits fault_is is)
 
 -- some verdict holds
 pub some_verdict : (octets : List ℕ) → AreOctets octets → (verdict : Verdict) × Holds octets verdict
-some_verdict octets fits = some_at octets (first_broken (history (reading octets).records)) (reading octets).fault fits refl refl
+some_verdict octets fits = some_at octets (broken_in (trace_of (reading octets))) (reading octets).fault fits refl refl
 
 -- what holds is the verdict of what was read
 is_verdict : (octets : List ℕ) (verdict : Verdict) → Holds octets verdict → verdict ≡ verdict_at (reading octets)
 unfolding verdict_at
 is_verdict octets (Accepted tally) a =
     let read : reading octets ≡ whole_reads a.trace = ap reading a.whole ∙ reads_whole a.trace a.bounds in
-    let found : verdict_at (whole_reads a.trace) ≡ Accepted (tally_of (history a.trace.records)) = rw a.lawful refl in
+    let found : verdict_at (whole_reads a.trace) ≡ Accepted (tally_in a.trace) = rw a.lawful refl in
     ap Accepted a.counted ∙ sym (ap verdict_at read ∙ found)
 is_verdict octets (Refused number clause) r =
     let on = reads_on r.trace r.rest r.bounds in
+    let rules : (reading octets).rules ≡ r.trace.rules = ap (λ o. (reading o).rules) r.begins ∙ on.rules in
     let read : (reading octets).records ≡ r.trace.records ++ on.records.0 = ap (λ o. (reading o).records) r.begins ∙ on.records.1 in
-    let broken : first_broken (history (reading octets).records) ≡ Some (number, clause) = broken-more r.trace.records on.records.0 (reading octets).records (number, clause) read r.broken in
+    let broken : broken_in (trace_of (reading octets)) ≡ Some (number, clause) = broken-more r.trace (trace_of (reading octets)) on.records.0 (number, clause) rules read r.broken in
     rw broken refl
 is_verdict octets (Malformed offset form_kind) m = rw (m.lawful, m.fault) refl
 is_verdict octets (NoMemory offset) h = absurd h

@@ -1,6 +1,3 @@
 pub use Rattle.trace_law.specs.ClauseNames
-pub mod View
-pub mod Room
-pub mod Tallying
-pub mod Judging
+pub use Rattle.trace_law.specs.declared.tally.Tally as Tallies
 pub mod Verdict

@@ -1,23 +1,52 @@
 -- What an auditor may say of octets.
-use Rattle.std.specs.Prelude.{◌≡◌, ℕ, ◌+◌, List, ◌++◌, length, Some, None}
+use Rattle.std.specs.Prelude.{◌≡◌, ℕ, ◌+◌, List, ◌++◌, length, Option, Some, None, Result, Ok, Err}
 use Rattle.capture_form.specs.declared.fault.FormKind.{FormKind}
 use Rattle.capture_form.specs.Text.{Trace, IsCapture, text}
 use Rattle.capture_form.specs.Reading.{reading}
+use Rattle.capture_form.specs.Laws.{trace_of}
 use Rattle.trace_law.specs.declared.clause.Clause.{Clause}
-use Rattle.trace_law.specs.Windows.History.{history}
-use Rattle.trace_law.specs.Windows.WindowClauses.{first_broken}
-use Rattle.audit_core.specs.Tallying.{tally_of}
-use Rattle.audit_core.specs.declared.verdict.Tally.{Tally}
+use Rattle.trace_law.specs.declared.tally.Tally.{Tally}
+use Rattle.trace_law.specs.History.{history}
+use Rattle.trace_law.specs.Clauses.{first_broken}
+use Rattle.trace_law.specs.Verdict.{tally_of, verdict}
 use Rattle.audit_core.specs.declared.verdict.Verdict.{Verdict}
 use Rattle.audit_core.specs.declared.verdict.Verdict.TheVariants.{Accepted, Refused, Malformed, NoMemory, Unreadable}
+use Rattle.audit_core.specs.declared.verdict.Refusal.{Refusal}
+use Rattle.audit_core.specs.declared.verdict.Refusal.TheVariants.{Broken, Memory}
+
+-- ---- captures
+
+-- the first record of a capture that breaks a clause, with the first clause that it breaks
+abbrev pub broken_in : Trace → Option (ℕ × Clause)
+broken_in capture = first_broken capture.rules (history capture.rules capture.records)
+
+-- what it holds
+abbrev pub tally_in : Trace → Tally
+tally_in capture = tally_of (history capture.rules capture.records)
+
+-- a judgement as an answer
+abbrev pub as_answer : Result Tally (ℕ × Clause) → Result Tally Refusal
+as_answer (Ok tally) = Ok tally
+as_answer (Err broken) = Err (Broken broken.0 broken.1)
+
+-- what is to be answered of a capture
+abbrev pub answer_of : Trace → Result Tally Refusal
+answer_of capture = as_answer (verdict capture.rules capture.records)
+
+-- a refusal as a verdict
+abbrev pub verdict_on : Refusal → Verdict
+verdict_on (Broken number clause) = Refused number clause
+verdict_on Memory = NoMemory 0
+
+-- ---- octets
 
 -- the octets are the text of a capture each of whose records meets the clauses
 pub record Accepts (octets : List ℕ) (tally : Tally) : Type 0 where
   pub trace : Trace
   pub bounds : IsCapture trace
   pub whole : octets ≡ text trace
-  pub lawful : first_broken (history trace.records) ≡ None
-  pub counted : tally ≡ tally_of (history trace.records)
+  pub lawful : broken_in trace ≡ None
+  pub counted : tally ≡ tally_in trace
 
 -- the octets begin with the text of a capture whose last record is the first that breaks a clause
 pub record Refuses (octets : List ℕ) (number : ℕ) (clause : Clause) : Type 0 where
@@ -26,12 +55,12 @@ pub record Refuses (octets : List ℕ) (number : ℕ) (clause : Clause) : Type 0
   pub bounds : IsCapture trace
   pub begins : octets ≡ text trace ++ rest
   pub last : length trace.records ≡ number + 1
-  pub broken : first_broken (history trace.records) ≡ Some (number, clause)
+  pub broken : broken_in trace ≡ Some (number, clause)
 
 -- the first fault of the octets stands there, and the whole records before it meet the clauses
 pub record IsMalformed (octets : List ℕ) (offset : ℕ) (kind : FormKind) : Type 0 where
   pub fault : (reading octets).fault ≡ Some (record { offset = offset; kind = kind })
-  pub lawful : first_broken (history (reading octets).records) ≡ None
+  pub lawful : broken_in (trace_of (reading octets)) ≡ None
 
 -- what a verdict says of the octets; want of memory says nothing of them, and octets that are there were read
 abbrev pub Holds : List ℕ → Verdict → Type 0

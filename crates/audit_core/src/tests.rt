@@ -1,6 +1,8 @@
 //! Captures with known verdicts, written record by record.
 
-use crate::{Clause, FormKind, Tally, Verdict, audit_bytes, one_verdict};
+use crate::tests_frames::*;
+use crate::{Clause, FormKind, Refusal, Tally, Verdict, audit, audit_bytes, one_verdict};
+use capture_form::read_capture;
 use std::alloc::{AllocError, Global};
 use std::test::Fail;
 
@@ -10,82 +12,10 @@ const IN: u8 = 1;
 
 const OUT: u8 = 2;
 
-const LOST: u8 = 3;
-
 /// The note octet of a transfer, and that of an outcome by the consumer's own disposition.
 const PAIR: u8 = 1;
 
 const BY_CONSUMER: u8 = 2;
-
-/// The router's open: container-id `amqp-router`, max-frame-size 16384, channel-max 255.
-const ROUTER_OPEN: &[u8] = &[
-    0x00, 0x00, 0x00, 0x24, 0x02, 0x00, 0x00, 0x00, 0x00, 0x53, 0x10, 0xC0, 0x17, 0x04, 0xA1, 0x0B,
-    0x61, 0x6D, 0x71, 0x70, 0x2D, 0x72, 0x6F, 0x75, 0x74, 0x65, 0x72, 0x40, 0x70, 0x00, 0x00, 0x40,
-    0x00, 0x60, 0x00, 0xFF,
-];
-
-/// The router's begin on channel 0: next-outgoing-id 0, windows 2048 and 2147483647.
-const ROUTER_BEGIN: &[u8] = &[
-    0x00, 0x00, 0x00, 0x21, 0x02, 0x00, 0x00, 0x00, 0x00, 0x53, 0x11, 0xC0, 0x14, 0x05, 0x60, 0x00,
-    0x00, 0x43, 0x70, 0x00, 0x00, 0x08, 0x00, 0x70, 0x7F, 0xFF, 0xFF, 0xFF, 0x70, 0x00, 0x00, 0x03,
-    0xFF,
-];
-
-/// A client's open: container `a`.
-const CLIENT_OPEN: &[u8] = &[
-    0x00, 0x00, 0x00, 0x11, 0x02, 0x00, 0x00, 0x00, 0x00, 0x53, 0x10, 0xC0, 0x04, 0x01, 0xA1, 0x01,
-    0x61,
-];
-
-/// The router's close.
-const ROUTER_CLOSE: &[u8] = &[
-    0x00, 0x00, 0x00, 0x0C, 0x02, 0x00, 0x00, 0x00, 0x00, 0x53, 0x18, 0x45,
-];
-
-/// A client's end on channel 0.
-const CLIENT_END: &[u8] = &[
-    0x00, 0x00, 0x00, 0x0C, 0x02, 0x00, 0x00, 0x00, 0x00, 0x53, 0x17, 0x45,
-];
-
-/// The first transfer of delivery 0: more follows, payload `a`.
-const FIRST_TRANSFER: &[u8] = &[
-    0x00, 0x00, 0x00, 0x1A, 0x02, 0x00, 0x00, 0x00, 0x00, 0x53, 0x14, 0xC0, 0x0C, 0x06, 0x43, 0x43,
-    0xA0, 0x04, 0x00, 0x00, 0x00, 0x00, 0x43, 0x42, 0x41, 0x61,
-];
-
-/// A next transfer: more follows, payload `b`.
-const NEXT_TRANSFER: &[u8] = &[
-    0x00, 0x00, 0x00, 0x15, 0x02, 0x00, 0x00, 0x00, 0x00, 0x53, 0x14, 0xC0, 0x07, 0x06, 0x43, 0x40,
-    0x40, 0x40, 0x40, 0x41, 0x62,
-];
-
-/// The last transfer: payload `c`.
-const LAST_TRANSFER: &[u8] = &[
-    0x00, 0x00, 0x00, 0x15, 0x02, 0x00, 0x00, 0x00, 0x00, 0x53, 0x14, 0xC0, 0x07, 0x06, 0x43, 0x40,
-    0x40, 0x40, 0x40, 0x42, 0x63,
-];
-
-/// An outcome: accepted, for delivery 0.
-const ACCEPTED: &[u8] = &[
-    0x00, 0x00, 0x00, 0x16, 0x02, 0x00, 0x00, 0x00, 0x00, 0x53, 0x15, 0xC0, 0x09, 0x05, 0x41, 0x43,
-    0x40, 0x41, 0x00, 0x53, 0x24, 0x45,
-];
-
-/// A client's begin on channel 0: next-outgoing-id 0, windows `window` and 100.
-fn begin(window: u8) -> [u8; 20] {
-    [
-        0x00, 0x00, 0x00, 0x14, 0x02, 0x00, 0x00, 0x00, 0x00, 0x53, 0x11, 0xC0, 0x07, 0x04, 0x40,
-        0x43, 0x52, window, 0x52, 0x64,
-    ]
-}
-
-/// A client's flow on channel 0, which expects transfer `next`: incoming-window `window`, no handle.
-fn flow(next: u8, window: u8) -> [u8; 21] {
-    [
-        0x00, 0x00, 0x00, 0x15, 0x02, 0x00, 0x00, 0x00, 0x00, 0x53, 0x13, 0xC0, 0x08, 0x04, 0x52,
-        next, 0x52, window, 0x43, 0x52, 0x64,
-    ]
-}
 
 /// The text of a capture without rules.
 #[derive(Drop)]
@@ -99,7 +29,7 @@ impl Text {
         Ok(Text { octets })
     }
 
-    /// Appends a record, whose note's index is 0 except for a pair note.
+    /// Appends a record with this note octet and index.
     fn record(
         &mut self,
         kind: u8,
@@ -128,18 +58,33 @@ impl Text {
         self.record(OUT, connection, (0, 0), frame)
     }
 
-    /// A transfer that carries the incoming delivery of record `delivery`.
-    fn sent(&mut self, connection: u8, delivery: u8, frame: &[u8]) -> Result<(), AllocError> {
-        self.record(OUT, connection, (PAIR, delivery), frame)
+    /// A client's connection with a session and a link: seven records.
+    fn joined(
+        &mut self,
+        connection: u8,
+        open: &[u8],
+        attach: &[u8],
+        answer: &[u8],
+    ) -> Result<(), AllocError> {
+        self.opened(connection)?;
+        self.received(connection, open)?;
+        self.written(connection, ROUTER_OPEN)?;
+        self.received(connection, CLIENT_BEGIN)?;
+        self.written(connection, ROUTER_BEGIN)?;
+        self.received(connection, attach)?;
+        self.written(connection, answer)
     }
 
-    /// A connection with a session, whose client's window is `window`: five records.
-    fn joined(&mut self, connection: u8, window: u8) -> Result<(), AllocError> {
-        self.opened(connection)?;
-        self.received(connection, CLIENT_OPEN)?;
-        self.written(connection, ROUTER_OPEN)?;
-        self.received(connection, &begin(window))?;
-        self.written(connection, ROUTER_BEGIN)
+    /// A producer and a consumer of one address, both with credit, and a delivery that is forwarded: records 0 to 17.
+    fn forwarded(alloc: Global) -> Result<Text, AllocError> {
+        let mut text = Text::new(alloc)?;
+        text.joined(0, PRODUCER_OPEN, PRODUCER_ATTACH, TO_PRODUCER)?;
+        text.joined(1, CONSUMER_OPEN, CONSUMER_ATTACH, TO_CONSUMER)?;
+        text.written(0, CREDIT_GIVEN)?;
+        text.received(1, CREDIT_TAKEN)?;
+        text.received(0, RECEIVED)?;
+        text.record(OUT, 1, (PAIR, 16), SENT)?;
+        Ok(text)
     }
 
     fn audit(&self, alloc: Global) -> Verdict {
@@ -164,71 +109,39 @@ fn an_empty_capture(rt: HostRuntime) -> Result<(), Fail> {
 }
 
 #[test]
-fn three_transfers_in_a_window_of_two_and_of_three(rt: HostRuntime) -> Result<(), Fail> {
-    for (window, verdict) in [(2, Verdict::Refused(7, Clause::L4)), (3, accepted(8, 1, 0))] {
-        let mut text = Text::new(rt.alloc())?;
-        text.joined(1, window)?;
-        text.sent(1, 9, FIRST_TRANSFER)?;
-        text.sent(1, 9, NEXT_TRANSFER)?;
-        text.sent(1, 9, LAST_TRANSFER)?;
-        assert_eq!(rt; text.audit(rt.alloc()), verdict, "in a window of {window}");
-    }
-    Ok(())
-}
-
-/// A flow that has not seen the first transfer counts it in its window.
-#[test]
-fn a_stale_flow(rt: HostRuntime) -> Result<(), Fail> {
-    for (seen, verdict) in [(0, Verdict::Refused(8, Clause::L4)), (1, accepted(9, 1, 0))] {
-        let mut text = Text::new(rt.alloc())?;
-        text.joined(1, 1)?;
-        text.sent(1, 9, FIRST_TRANSFER)?;
-        text.received(1, &flow(seen, 2))?;
-        text.sent(1, 9, NEXT_TRANSFER)?;
-        text.sent(1, 9, LAST_TRANSFER)?;
-        assert_eq!(rt; text.audit(rt.alloc()), verdict, "where {seen} was seen");
-    }
+fn an_outcome_behind_the_decision(rt: HostRuntime) -> Result<(), Fail> {
+    let mut text = Text::forwarded(rt.alloc())?;
+    assert_eq!(rt; text.audit(rt.alloc()), accepted(18, 1, 0));
+    text.received(1, DECIDED)?;
+    text.record(OUT, 0, (BY_CONSUMER, 0), TOLD)?;
+    assert_eq!(rt; text.audit(rt.alloc()), accepted(20, 1, 1));
+    text.record(OUT, 0, (BY_CONSUMER, 0), TOLD)?;
+    assert_eq!(rt; text.audit(rt.alloc()), Verdict::Refused(20, Clause::L11));
     Ok(())
 }
 
 #[test]
-fn what_may_not_be_written(rt: HostRuntime) -> Result<(), Fail> {
-    let mut unopened = Text::new(rt.alloc())?;
-    unopened.opened(1)?;
-    unopened.written(0, ROUTER_OPEN)?;
-    assert_eq!(rt; unopened.audit(rt.alloc()), Verdict::Refused(1, Clause::L1));
-
-    let mut lost = Text::new(rt.alloc())?;
-    lost.opened(0)?;
-    lost.record(LOST, 0, (0, 0), &[])?;
-    lost.written(0, ROUTER_OPEN)?;
-    assert_eq!(rt; lost.audit(rt.alloc()), Verdict::Refused(2, Clause::L1));
-
-    let mut closed = Text::new(rt.alloc())?;
-    closed.opened(0)?;
-    closed.written(0, ROUTER_CLOSE)?;
-    closed.written(0, ROUTER_CLOSE)?;
-    assert_eq!(rt; closed.audit(rt.alloc()), Verdict::Refused(2, Clause::L1));
-
-    let mut unasked = Text::new(rt.alloc())?;
-    unasked.joined(0, 9)?;
-    unasked.written(0, ROUTER_BEGIN)?;
-    assert_eq!(rt; unasked.audit(rt.alloc()), Verdict::Refused(5, Clause::L2));
-
-    let mut ended = Text::new(rt.alloc())?;
-    ended.joined(0, 9)?;
-    ended.received(0, CLIENT_END)?;
-    ended.sent(0, 9, FIRST_TRANSFER)?;
-    assert_eq!(rt; ended.audit(rt.alloc()), Verdict::Refused(6, Clause::L4));
+fn an_outcome_before_the_decision(rt: HostRuntime) -> Result<(), Fail> {
+    let mut text = Text::forwarded(rt.alloc())?;
+    text.record(OUT, 0, (BY_CONSUMER, 0), TOLD)?;
+    text.received(1, DECIDED)?;
+    assert_eq!(rt; text.audit(rt.alloc()), Verdict::Refused(18, Clause::L11));
     Ok(())
 }
 
 #[test]
-fn an_outcome_is_counted(rt: HostRuntime) -> Result<(), Fail> {
-    let mut text = Text::new(rt.alloc())?;
-    text.joined(0, 9)?;
-    text.record(OUT, 0, (BY_CONSUMER, 0), ACCEPTED)?;
-    assert_eq!(rt; text.audit(rt.alloc()), accepted(6, 0, 1));
+fn a_capture_is_judged_as_its_text(rt: HostRuntime) -> Result<(), Fail> {
+    let mut text = Text::forwarded(rt.alloc())?;
+    let capture = read_capture(rt.alloc(), text.octets.as_slice())?;
+    let tally = Tally {
+        records: 18,
+        deliveries: 1,
+        outcomes: 0,
+    };
+    assert_eq!(rt; audit(&capture), Ok(tally));
+    text.record(OUT, 1, (PAIR, 16), SENT)?;
+    let twice = read_capture(rt.alloc(), text.octets.as_slice())?;
+    assert_eq!(rt; audit(&twice), Err(Refusal::Broken(18, Clause::L5)));
     Ok(())
 }
 
@@ -237,7 +150,7 @@ fn an_outcome_is_counted(rt: HostRuntime) -> Result<(), Fail> {
 fn a_cut_capture(rt: HostRuntime) -> Result<(), Fail> {
     let mut text = Text::new(rt.alloc())?;
     text.opened(0)?;
-    text.received(0, CLIENT_OPEN)?;
+    text.received(0, PRODUCER_OPEN)?;
     assert_eq!(rt; text.octets.len(), 63);
     assert_eq!(rt; text.audit(rt.alloc()), accepted(2, 0, 0));
     for cut in 28..63 {

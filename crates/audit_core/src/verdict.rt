@@ -1,17 +1,16 @@
 //! What an auditor says of a capture.
 
 use capture_form::FormKind;
-use trace_law::Clause;
+use trace_law::{Clause, Tally};
 
-/// What an accepted capture holds.
+/// Why a capture is not accepted.
 #[derive(Clone, Copy, Debug, PartialEq, Eq)]
-pub struct Tally {
-    /// How many records.
-    pub records: u64,
-    /// How many transfers that the router has written begin a delivery: those with a delivery-id.
-    pub deliveries: u64,
-    /// How many records that the router has written tell an outcome: those with such a note.
-    pub outcomes: u64,
+pub enum Refusal {
+    /// The record of this number is the first that does not meet the clauses, and this is the first that it does not
+    /// meet.
+    Broken(u64, Clause),
+    /// The system had no memory left. The plain scans take none, so they never answer it.
+    Memory,
 }
 
 /// What octets are, as the text of a capture. Of any octets exactly one of the first three holds.

@@ -4,8 +4,8 @@ use Rattle.std.specs.Fmt.{digits}
 use Rattle.amqp_perf.proofs.Opened.{read, written}
 use Rattle.amqp_frames.specs.Writing.{frame_octets}
 use Rattle.amqp_frames.specs.Reading.{whole_frame, frame_at, sized_frame, headed_frame}
-use Rattle.capture_form.specs.declared.note.Note.TheVariants as notes
-use Rattle.capture_form.specs.declared.note.Why.{Why}
+use Rattle.pairing_cert.specs.declared.note.Note.TheVariants as notes
+use Rattle.pairing_cert.specs.declared.note.Why.{Why}
 use Rattle.capture_form.specs.declared.records.Record.{Record}
 use Rattle.capture_form.specs.declared.records.What.TheVariants as whats
 use Rattle.capture_form.specs.declared.rules.Distribution.{Distribution}

@@ -4,7 +4,7 @@ use Rattle.amqp_perf.specs.declared.attach.Role.TheVariants.{Sender, Receiver}
 use Rattle.amqp_perf.specs.declared.attach.SenderSettleMode.TheVariants.{Settled, Mixed}
 use Rattle.amqp_perf.specs.declared.attach.ReceiverSettleMode.TheVariants.{First}
 use Rattle.amqp_perf.specs.Meaning.{AnAttach, AFlow, ATransfer, ADisposition, AnEnd, AClose}
-use Rattle.capture_form.specs.declared.note.Why.TheVariants.{C, Z, N}
+use Rattle.pairing_cert.specs.declared.note.Why.TheVariants.{C, Z, N}
 use Rattle.capture_form.specs.declared.records.Record.{Record}
 use Rattle.capture_form.specs.declared.rules.Distribution.TheVariants.{Multicast}
 use Rattle.trace_law.specs.declared.clause.Clause.TheVariants.{L1, L2, L3, L4, L5, L6, L7, L8, L9, L10, L11, L12, L13, L14}
@@ -373,6 +373,15 @@ detach_owed_once = refl
 detach_without_link : broken_of [] (join 0 ++ (from 0 (detach_of true) ∷ write 0 (written_detach 0 0 true None) ∷ [])) ≡ Some (6, L13)
 unfolding broken_of
 detach_without_link = refl
+
+-- a refusal owes its detach from the Out attach on, once
+detach_before_refusal : broken_of [] (join 0 ++ (from 0 (AnAttach (bare Sender (Some 0))) ∷ write 0 (written_detach 0 0 true None) ∷ write 0 (written_refusal 0 (codes "l") 0 Receiver) ∷ [])) ≡ Some (6, L13)
+unfolding broken_of
+detach_before_refusal = refl
+
+refusal_detached_twice : broken_of [] (join 0 ++ (from 0 (AnAttach (bare Sender (Some 0))) ∷ write 0 (written_refusal 0 (codes "l") 0 Receiver) ∷ write 0 (written_detach 0 0 true None) ∷ write 0 (written_detach 0 0 true None) ∷ [])) ≡ Some (8, L13)
+unfolding broken_of
+refusal_detached_twice = refl
 
 end_without_session : broken_of [] (connect 0 ++ (write 0 (written_end 0 None) ∷ [])) ≡ Some (3, L13)
 unfolding broken_of

@@ -2,10 +2,10 @@
 use Rattle.std.proofs.Common.{◌≡◌, refl, sym, ap, ◌∙◌, subst, ℕ, suc, ◌<◌, List, [], ◌∷◌, length, Bool, true, false, cond, not, ◌&&◌, ◌||◌, Option, Some, None, IfSome, is_some, inl, inr, ◌⊎◌, arith}
 use Rattle.std.specs.Prelude.{option_and_then, find, if◌then◌else◌}
 use Rattle.std.specs.List.{cons_option, list_any}
-use Rattle.capture_form.specs.declared.note.Note.{Note}
-use Rattle.capture_form.specs.declared.note.Note.TheVariants as notes
-use Rattle.capture_form.specs.declared.note.Why.{Why}
-use Rattle.capture_form.specs.declared.note.Why.TheVariants.{C, Z, S, L, N, M}
+use Rattle.pairing_cert.specs.declared.note.Note.{Note}
+use Rattle.pairing_cert.specs.declared.note.Note.TheVariants as notes
+use Rattle.pairing_cert.specs.declared.note.Why.{Why}
+use Rattle.pairing_cert.specs.declared.note.Why.TheVariants.{C, Z, S, L, N, M}
 use Rattle.capture_form.specs.declared.records.Record.{Record}
 use Rattle.capture_form.specs.Rules.{RuleText}
 use Rattle.trace_law.specs.Words.{is_number, is_some_and, are_same_octets}

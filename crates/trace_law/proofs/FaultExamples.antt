@@ -6,7 +6,7 @@ use Rattle.amqp_perf.specs.declared.attach.ReceiverSettleMode.TheVariants.{First
 use Rattle.amqp_perf.specs.declared.condition.ErrorCondition.TheVariants.{FramingError, DecodeError, NotAllowed, InvalidField, HandleInUse, ResourceLimitExceeded, NotImplemented, WindowViolation, UnattachedHandle, TransferLimitExceeded, MessageSizeExceeded}
 use Rattle.amqp_perf.specs.Nested.{AnOther, ATerminus, ACoordinator}
 use Rattle.amqp_perf.specs.Meaning.{AnAttach, AFlow, ATransfer, AnEnd, AClose}
-use Rattle.capture_form.specs.declared.note.Why.TheVariants.{C}
+use Rattle.pairing_cert.specs.declared.note.Why.TheVariants.{C}
 use Rattle.capture_form.specs.declared.records.Record.{Record}
 use Rattle.trace_law.specs.declared.fault.Fault.TheVariants.{Close, End, Refuse, Detach}
 use Rattle.trace_law.specs.Fault.{size_fault}

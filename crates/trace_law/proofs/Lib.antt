@@ -1,4 +1,3 @@
-pub mod Histories
 pub mod Lawful
 pub mod Elsewhere
 pub mod Fates
@@ -11,10 +10,16 @@ pub mod Carried
 pub mod Incomings
 pub mod Decided
 pub mod Along
+pub mod Decimals
+pub mod Checking
+pub mod Broken
 pub mod Sessions
 pub mod WithinWindow
 pub mod Links
 pub mod WithinCredit
+pub mod Earliest
+pub mod Payloads
+pub mod OutcomeSizes
 mod Captures
 mod WorkedFrames
 mod WorkedCredit
@@ -26,3 +31,19 @@ mod FaultExamples
 mod Duties
 mod DutyExamples
 mod ReadingExamples
+mod Counts
+mod Prefixes
+mod Copies
+pub mod StepWords
+pub mod EventKinds
+pub mod ConnectionSteps
+pub mod SessionSteps
+pub mod LinkSteps
+pub mod ListSteps
+pub mod CountSteps
+pub mod IncomingSteps
+pub mod OutgoingSteps
+pub mod WaitingSteps
+pub mod IdleSteps
+pub mod HistorySteps
+pub mod Steps

@@ -8,7 +8,7 @@ use Rattle.amqp_perf.specs.declared.attach.ReceiverSettleMode.TheVariants.{First
 use Rattle.amqp_perf.specs.declared.flow.Flow.{Flow}
 use Rattle.amqp_perf.specs.Nested.{AText, TerminusFields, ATerminus}
 use Rattle.amqp_perf.specs.Meaning.{Meaning, AnOpen, ABegin, AnAttach, AFlow, ATransfer, ADisposition, ADetach, AttachFields, TransferFields, DispositionFields}
-use Rattle.capture_form.specs.declared.note.Why.{Why}
+use Rattle.pairing_cert.specs.declared.note.Why.{Why}
 use Rattle.capture_form.specs.declared.records.Record.{Record}
 use Rattle.trace_law.specs.Frame.{Spoken}
 use Rattle.trace_law.specs.Written.{spoken_octets, says, state_of, written_open, written_begin}

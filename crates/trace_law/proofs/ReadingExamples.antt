@@ -4,7 +4,7 @@ use Rattle.amqp_perf.specs.declared.attach.Role.TheVariants.{Sender, Receiver}
 use Rattle.amqp_perf.specs.declared.attach.SenderSettleMode.TheVariants.{Settled, Mixed}
 use Rattle.amqp_perf.specs.declared.attach.ReceiverSettleMode.TheVariants.{First, Second}
 use Rattle.amqp_perf.specs.Meaning.{ABegin, AnAttach, AFlow, ATransfer, ADisposition, ADetach, AClose}
-use Rattle.capture_form.specs.declared.note.Why.TheVariants.{C, Z, S}
+use Rattle.pairing_cert.specs.declared.note.Why.TheVariants.{C, Z, S}
 use Rattle.capture_form.specs.declared.records.Record.{Record}
 use Rattle.capture_form.specs.declared.rules.Distribution.TheVariants.{Closest, Balanced, Multicast}
 use Rattle.trace_law.specs.declared.clause.Clause.TheVariants.{L3, L4, L5, L7, L10, L11}

@@ -3,8 +3,8 @@ use Rattle.std.proofs.Common.{◌≡◌, refl, sym, ap, ◌∙◌, ℕ, ◌≤�
 use Rattle.amqp_perf.specs.declared.attach.Role.{Role}
 use Rattle.amqp_perf.specs.declared.attach.Role.TheVariants.{Sender, Receiver}
 use Rattle.amqp_perf.specs.Meaning.{DispositionFields, Meaning, AnOpen, ABegin, AnAttach, AFlow, ATransfer, ADisposition, ADetach, AnEnd, AClose, TransferFields, flag}
-use Rattle.capture_form.specs.declared.note.Note.{Note}
-use Rattle.capture_form.specs.declared.note.Note.TheVariants as notes
+use Rattle.pairing_cert.specs.declared.note.Note.{Note}
+use Rattle.pairing_cert.specs.declared.note.Note.TheVariants as notes
 use Rattle.capture_form.specs.declared.records.Record.{Record}
 use Rattle.capture_form.specs.Rules.{RuleText}
 use Rattle.trace_law.specs.declared.clause.Clause.TheVariants.{L4, L5, L11}

@@ -32,10 +32,14 @@ was_finished c past = has_event c (λ e. is_lost e.moment || is_out_close e) pas
 abbrev pub was_stopped : ℕ → List Event → Bool
 was_stopped c past = has_event c (λ e. is_broken e.moment || is_in_close e) past
 
+-- a frame was written
+abbrev pub has_out_frame : ℕ → List Event → Bool
+has_out_frame c past = has_event c (λ e. is_out e.moment) past
+
 -- the first frame that is written is an open, and no other is (part 2 of the standard, section 2.4.1)
 abbrev pub is_open_in_place : ℕ → Meaning → List Event → Bool
 is_open_in_place c meaning past =
-    if has_event c (λ e. is_out e.moment) past then is_none (as_open meaning) else is_some (as_open meaning)
+    if has_out_frame c past then is_none (as_open meaning) else is_some (as_open meaning)
 
 -- the connection was opened, and is neither lost nor closed by the router; behind the client's close, or octets that
 -- are no frames, stands an open or a close alone

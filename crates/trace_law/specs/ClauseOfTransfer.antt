@@ -3,9 +3,9 @@ use Rattle.std.specs.Prelude.{ℕ, Bool, true, false, ◌&&◌, ◌||◌, not, L
 use Rattle.std.specs.List.{starts_with}
 use Rattle.std.specs.Bool.{beq}
 use Rattle.amqp_perf.specs.Meaning.{TransferFields, flag}
-use Rattle.capture_form.specs.declared.note.Note.{Note}
-use Rattle.capture_form.specs.declared.note.Note.TheVariants as notes
-use Rattle.capture_form.specs.Notes.{why_octet}
+use Rattle.pairing_cert.specs.declared.note.Note.{Note}
+use Rattle.pairing_cert.specs.declared.note.Note.TheVariants as notes
+use Rattle.pairing_cert.specs.Notes.{why_octet}
 use Rattle.capture_form.specs.Rules.{RuleText}
 use Rattle.trace_law.specs.Words.{is_some_and, is_none_or, is_number}
 use Rattle.trace_law.specs.Event.{Event, Session, Link, Incoming, Outgoing}

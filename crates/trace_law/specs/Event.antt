@@ -1,20 +1,13 @@
 -- A record of a capture, with what the records before it say of it.
 use Rattle.std.specs.Prelude.{ℕ, Bool, true, false, ◌&&◌, List, Option, Some, None, ◌==◌}
 use Rattle.amqp_perf.specs.declared.attach.Role.{Role}
-use Rattle.capture_form.specs.declared.note.Note.{Note}
+use Rattle.pairing_cert.specs.declared.note.Note.{Note}
 use Rattle.trace_law.specs.declared.fault.Fault.{Fault}
-use Rattle.trace_law.specs.Words.{is_some_and, is_number}
-use Rattle.trace_law.specs.Frame.{Frame, channel_in}
-
 -- A session, named by the record of its Out begin. The ids are those with which either side began; their window is
 -- that of the client's begin (part 2 of the standard, section 2.5).
-pub record Session : Type 0 where
-  pub number : ℕ
-  pub connection : ℕ
-  pub channel : ℕ
-  pub our_first_id : ℕ
-  pub their_first_id : ℕ
-  pub their_window : ℕ
+pub use Rattle.trace_law.specs.declared.event.Session.{Session}
+use Rattle.trace_law.specs.Words.{is_some_and, is_number}
+use Rattle.trace_law.specs.Frame.{Frame, channel_in}
 
 -- A link, named by the record of its Out attach, whose role it has: a receiver's is a producer's link, a sender's a
 -- consumer's. The counts are the initial-delivery-counts of either side (part 2, section 2.6).

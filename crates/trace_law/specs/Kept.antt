@@ -1,9 +1,9 @@
 -- What a lawful capture keeps, in plain words: laws above the clauses.
 use Rattle.std.specs.Prelude.{◌≡◌, ℕ, ◌≤◌, true, false, List, [], ◌∷◌, length, filter, take, Option, Some, None, IfSome, IsSomeAnd, option_map}
 use Rattle.amqp_perf.specs.Meaning.{DispositionFields, flag}
-use Rattle.capture_form.specs.declared.note.Note.{Note}
-use Rattle.capture_form.specs.declared.note.Note.TheVariants as notes
-use Rattle.capture_form.specs.declared.note.Why.{Why}
+use Rattle.pairing_cert.specs.declared.note.Note.{Note}
+use Rattle.pairing_cert.specs.declared.note.Note.TheVariants as notes
+use Rattle.pairing_cert.specs.declared.note.Why.{Why}
 use Rattle.capture_form.specs.Rules.{RuleText}
 use Rattle.trace_law.specs.Words.{is_number, are_same_octets}
 use Rattle.trace_law.specs.Event.{Event, Incoming, Outgoing}

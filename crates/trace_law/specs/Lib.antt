@@ -1,4 +1,3 @@
-pub use Rattle.flow_counts.specs.Window as RemoteWindow
 pub mod Words
 pub mod Numbers
 pub mod Frame
@@ -21,8 +20,10 @@ pub mod Fault
 pub mod History
 pub mod Written
 pub mod Outcome
+pub mod OutcomeSize
 pub mod ClauseOfConnection
 pub mod ClauseOfTransfer
+pub mod Payloads
 pub mod ClauseOfFlow
 pub mod Clauses
 pub mod Verdict
@@ -32,5 +33,7 @@ pub mod Quiet
 pub mod Diligent
 pub mod Kept
 pub mod Laws
-pub mod Windows
 pub mod ClauseNames
+pub mod View
+pub mod Checked
+pub mod Moves

@@ -5,8 +5,8 @@ use Rattle.amqp_perf.specs.declared.descriptor.Outcome.{Outcome}
 use Rattle.amqp_perf.specs.declared.descriptor.Outcome.TheVariants.{Accepted, Released}
 use Rattle.amqp_perf.specs.Meaning.{DispositionFields}
 use Rattle.amqp_perf.specs.Router.{bare_state, delivery_failed}
-use Rattle.capture_form.specs.declared.note.Why.{Why}
-use Rattle.capture_form.specs.declared.note.Why.TheVariants.{C, Z, S, L, N, M}
+use Rattle.pairing_cert.specs.declared.note.Why.{Why}
+use Rattle.pairing_cert.specs.declared.note.Why.TheVariants.{C, Z, S, L, N, M}
 use Rattle.capture_form.specs.Rules.{RuleText}
 use Rattle.trace_law.specs.Event.{Event, Incoming, Outgoing}
 use Rattle.trace_law.specs.Connection.{frame_limit}

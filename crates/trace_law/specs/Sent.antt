@@ -3,8 +3,8 @@
 use Rattle.std.specs.Prelude.{ℕ, ◌%◌, ◌^◌, Bool, false, ◌&&◌, ◌||◌, not, List, [], ◌∷◌, ◌++◌, Option, None, is_some, filter_map, find, count_by, nat_lt, ◌==◌, if◌then◌else◌}
 use Rattle.std.specs.List.{list_any}
 use Rattle.amqp_perf.specs.Meaning.{DispositionFields, flag}
-use Rattle.capture_form.specs.declared.note.Note.{Note}
-use Rattle.capture_form.specs.declared.note.Note.TheVariants as notes
+use Rattle.pairing_cert.specs.declared.note.Note.{Note}
+use Rattle.pairing_cert.specs.declared.note.Note.TheVariants as notes
 use Rattle.trace_law.specs.Words.{is_some_and, is_number, or_else, where_passes}
 use Rattle.trace_law.specs.Event.{Event, Session, Link, Incoming, Outgoing, is_on_session, is_on_link}
 use Rattle.trace_law.specs.Said.{out_spoken, out_transfer, in_disposition}

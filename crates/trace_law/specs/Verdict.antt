@@ -3,6 +3,8 @@ use Rattle.std.specs.Prelude.{ℕ, Bool, List, length, Option, Some, None, Resul
 use Rattle.capture_form.specs.declared.records.Record.{Record}
 use Rattle.capture_form.specs.Rules.{RuleText}
 use Rattle.trace_law.specs.declared.clause.Clause.{Clause}
+-- how many records there are, how many transfers to clients begin a delivery, and how many outcomes are told
+pub use Rattle.trace_law.specs.declared.tally.Tally.{Tally}
 use Rattle.trace_law.specs.Words.{is_some_and}
 use Rattle.trace_law.specs.Event.{Event}
 use Rattle.trace_law.specs.Said.{out_disposition}
@@ -10,12 +12,6 @@ use Rattle.trace_law.specs.Link.{is_receiver}
 use Rattle.trace_law.specs.Credit.{begins_outgoing}
 use Rattle.trace_law.specs.History.{history}
 use Rattle.trace_law.specs.Clauses.{first_broken}
-
--- how many records there are, how many transfers to clients begin a delivery, and how many outcomes are told
-pub record Tally : Type 0 where
-  pub records : ℕ
-  pub deliveries : ℕ
-  pub outcomes : ℕ
 
 abbrev pub tells_outcome : Event → Bool
 tells_outcome e = is_some_and (out_disposition e) (λ fields. is_receiver fields.role)

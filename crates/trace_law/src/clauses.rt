@@ -1,0 +1,251 @@
+//! The law: the clauses that each record which the router has written must meet.
+
+ghost use Rattle.std.specs.Prelude.{◌≡◌, Some, None, if◌then◌else◌};
+ghost use Rattle.amqp_perf.specs.View.{disposition_fields};
+ghost use Rattle.trace_law.specs.declared.clause.Clause.TheVariants as clauses;
+ghost use Rattle.trace_law.specs.Clauses as law;
+
+use crate::clause::Clause;
+use crate::event::{Event, Incoming, Moment, Past};
+use crate::frame::{Frame, Spoken};
+use crate::transfer_clause::goes_on_with;
+use amqp_perf::{Attach, Disposition, Performative, Role, Transfer};
+use capture_form::Rule;
+use pairing_cert::Note;
+
+/// Settled, and of one id.
+fn settles_one(disposition: &Disposition) -> bool
+    ensures { result ≡ law.settles_one (disposition_fields disposition.now) }
+{
+    disposition.is_settled() && disposition.last_id() == disposition.first
+}
+
+/// L14: no note.
+fn has_no_note(note: Note) -> bool
+    ensures { result ≡ law.has_no_note note }
+{
+    matches!(note, Note::None)
+}
+
+/// The clause, unless it is met.
+fn unless_met(clause: Clause, is_met: bool) -> Option<Clause>
+    ensures { result ≡ (if is_met then None else Some clause) }
+{
+    if is_met { None } else { Some(clause) }
+}
+
+/// This clause, unless it is met; then L14, unless there is no note.
+fn first_broken(clause: Clause, is_met: bool, note: Note) -> Option<Clause>
+    ensures { result ≡ (if is_met then (if law.has_no_note note then None else Some clauses.L14) else Some clause) }
+{
+    if is_met {
+        unless_met(Clause::L14, has_no_note(note))
+    } else {
+        Some(clause)
+    }
+}
+
+/// Dispositions (part 2 of the standard, section 2.7.6).
+impl<'p, 'a> Past<'p, 'a> {
+    ghost use Rattle.std.specs.Prelude.{◌≡◌, option_map};
+    ghost use Rattle.amqp_perf.specs.View.{disposition_fields};
+    ghost use Rattle.trace_law.specs.Clauses as law;
+    ghost use Rattle.trace_law.specs.View.{event_view, incoming_view, events};
+
+    /// The row of the note applies to the delivery, with the state that is told.
+    fn tells_by(
+        &self,
+        rules: &[Rule],
+        delivery: &Incoming,
+        note: Note,
+        disposition: &Disposition,
+    ) -> bool
+        ensures { result ≡ law.tells_by rules.now (incoming_view delivery.now) note
+            (option_map (λ s. s.octets) (disposition_fields disposition.now).state) (events self.now) }
+    {
+        let Note::Told(why) = note else {
+            return false;
+        };
+        match (self.row(rules, delivery, why), disposition.state) {
+            (Some(told), Some(state)) => told.has_octets(Some(state.raw())),
+            (Some(told), None) => told.has_octets(None),
+            (None, _) => false,
+        }
+    }
+
+    /// L11: an outcome, of a delivery that may be told one.
+    fn is_outcome(&self, rules: &[Rule], event: &Event, disposition: &Disposition) -> bool
+        ensures { result ≡ law.is_outcome rules.now (event_view event.now) (disposition_fields disposition.now) (events self.now) }
+    {
+        if !settles_one(disposition) {
+            return false;
+        }
+        let Some(number) = event.told else {
+            return false;
+        };
+        match self.incoming_at(number) {
+            Some(delivery) => {
+                self.may_be_told(&delivery)
+                    && self.tells_by(rules, &delivery, event.note, disposition)
+            }
+            None => false,
+        }
+    }
+}
+
+/// The first clause that is broken, by what is written.
+impl<'p, 'a> Past<'p, 'a> {
+    ghost use Rattle.std.specs.Prelude.{◌≡◌, ◌<◌, ◌^◌, length, find, not, Some};
+    ghost use Rattle.amqp_perf.specs.View.{attach_fields, transfer_fields, disposition_fields};
+    ghost use Rattle.trace_law.specs.Words.{is_some_and};
+    ghost use Rattle.trace_law.specs.ClauseOfConnection.{answers_attach};
+    ghost use Rattle.trace_law.specs.Clauses as law;
+    ghost use Rattle.trace_law.specs.View.{spoken_view, frame_view, event_view, events};
+
+    fn broken_by_transfer(
+        &self,
+        rules: &[Rule],
+        event: &Event,
+        transfer: &Transfer,
+        payload: &'a [u8],
+    ) -> Option<Clause>
+        requires few { length (events self.now) < 2 ^ 64 }
+        ensures { result ≡ find (λ clause. not (law.transfer_meets rules.now (event_view event.now) (transfer_fields transfer.now) payload.now (events self.now) clause)) law.clauses }
+    {
+        let begins = event.begins_outgoing();
+        if !self.may_be_sent(event, transfer) {
+            return Some(Clause::L4);
+        }
+        let Some(link) = event.link else {
+            return Some(Clause::L4);
+        };
+        if begins && !self.may_begin(&link, transfer) {
+            return Some(Clause::L5);
+        }
+        if !begins && !goes_on(event, transfer) {
+            return Some(Clause::L6);
+        }
+        if !self.names_carried(rules, event, transfer, &link) {
+            return Some(Clause::L7);
+        }
+        if !self.carries_noted(event, transfer, payload) {
+            return Some(Clause::L8);
+        }
+        unless_met(Clause::L9, !begins || self.may_go_to(rules, event, &link))
+    }
+
+    fn broken_by_disposition(
+        &self,
+        rules: &[Rule],
+        event: &Event,
+        disposition: &Disposition,
+    ) -> Option<Clause>
+        ensures { result ≡ find (λ clause. not (law.disposition_meets rules.now (event_view event.now) (disposition_fields disposition.now) (events self.now)
+            (disposition_fields disposition.now).role clause)) law.clauses }
+    {
+        match disposition.role {
+            Role::Receiver => unless_met(Clause::L11, self.is_outcome(rules, event, disposition)),
+            Role::Sender if settles_one(disposition) && event.settled.is_some() => {
+                unless_met(Clause::L14, has_no_note(event.note))
+            }
+            Role::Sender => Some(Clause::L12),
+        }
+    }
+
+    /// The clause of what is neither a transfer nor a disposition, apart from its note.
+    fn broken_by_other(&self, rules: &[Rule], event: &Event, spoken: &Spoken) -> Option<Clause>
+        requires few { length (events self.now) < 2 ^ 64 }
+        ensures { result ≡ find (λ clause. not (law.other_meets rules.now (event_view event.now) (spoken_view spoken.now).channel (events self.now)
+            (spoken_view spoken.now).meaning clause)) law.clauses }
+    {
+        let note = event.note;
+        match spoken.performative {
+            Performative::Begin(begin) => {
+                let is_met = self.answers_begin(event.connection, spoken.channel, &begin);
+                first_broken(Clause::L2, is_met, note)
+            }
+            Performative::Attach(attach) => {
+                first_broken(Clause::L3, self.answers_live(rules, event, &attach), note)
+            }
+            Performative::Flow(flow) => {
+                first_broken(Clause::L10, self.tells_counts(rules, event, &flow), note)
+            }
+            Performative::Detach(detach) => {
+                first_broken(Clause::L13, self.may_detach(event, &detach), note)
+            }
+            Performative::End(_) => {
+                first_broken(Clause::L13, self.may_end(event, spoken.channel), note)
+            }
+            _ => unless_met(Clause::L14, has_no_note(note)),
+        }
+    }
+
+    /// On a live session, the answer to the client's attach.
+    fn answers_live(&self, rules: &[Rule], event: &Event, attach: &Attach) -> bool
+        ensures { result ≡ is_some_and (event_view event.now).session (answers_attach rules.now (attach_fields attach.now) (events self.now)) }
+    {
+        match event.session {
+            Some(session) => self.answers_attach(rules, attach, session),
+            None => false,
+        }
+    }
+
+    /// A performative: L1 speaks of each.
+    fn broken_by_spoken(
+        &self,
+        rules: &[Rule],
+        event: &Event<'a>,
+        frame: &Frame,
+        spoken: &Spoken<'a>,
+    ) -> Option<Clause>
+        requires few { length (events self.now) < 2 ^ 64 }
+        ensures { result ≡ law.broken_by rules.now (event_view event.now) (frame_view frame.now) (events self.now) (Some (spoken_view spoken.now)) }
+    {
+        if !self.may_be_written(event.connection, spoken)
+            || !self.fits_limit(event.connection, frame)
+        {
+            return Some(Clause::L1);
+        }
+        match spoken.performative {
+            Performative::Transfer(transfer) => {
+                self.broken_by_transfer(rules, event, &transfer, spoken.payload)
+            }
+            Performative::Disposition(disposition) => self.broken_by_disposition(
+                rules,
+                event,
+                &disposition,
+            ),
+            _ => self.broken_by_other(rules, event, spoken),
+        }
+    }
+
+    /// The first clause that an event breaks. A frame that is no performative breaks L1.
+    pub(crate) fn broken_clause(&self, rules: &[Rule], event: &Event<'a>) -> Option<Clause>
+        requires few { length (events self.now) < 2 ^ 64 }
+        ensures { result ≡ law.broken_clause rules.now (event_view event.now) (events self.now) }
+    {
+        let Moment::Out(frame) = event.moment else {
+            return None;
+        };
+        match frame.spoken() {
+            Some(spoken) => self.broken_by_spoken(rules, event, &frame, &spoken),
+            None => Some(Clause::L1),
+        }
+    }
+}
+
+ghost use Rattle.amqp_perf.specs.View.{transfer_fields};
+ghost use Rattle.trace_law.specs.Words.{is_some_and};
+ghost use Rattle.trace_law.specs.ClauseOfTransfer as transfers;
+ghost use Rattle.trace_law.specs.View.{event_view};
+
+/// A later transfer goes on with its delivery.
+fn goes_on(event: &Event, transfer: &Transfer) -> bool
+    ensures { let e = event_view event.now in
+        result ≡ is_some_and e.outgoing (λ j. transfers.goes_on_with j e.note (transfer_fields transfer.now)) }
+{
+    match event.outgoing {
+        Some(delivery) => goes_on_with(&delivery, event.note, transfer),
+        None => false,
+    }
+}
