@@ -29,6 +29,10 @@ lawful-by : (tally given : Tally) (o : Option (ℕ × Clause)) → as_answer (ta
 lawful-by tally given None e = (refl, cc)
 lawful-by tally given (Some x) e = absurd cc
 
+never_memory-by : (tally : Tally) (o : Option (ℕ × Clause)) → as_answer (tallied_or tally o) ≡ Err Memory → ⊥
+never_memory-by tally None e = absurd cc
+never_memory-by tally (Some x) e = absurd cc
+
 -- ---- what reading gives
 
 abbrev Stopped : List ℕ → Trace → FormFault → Type 0
@@ -66,7 +70,7 @@ module _ (octets : List ℕ) (capture : Trace) where
     pub refused_so : (refusal : Refusal) → answer_of capture ≡ Err refusal
         → IfSome fault (λ f. is_refusal f.kind ≡ true → Stopped octets capture f) → Answers octets (verdict_on refusal)
     refused_so (Broken number clause) is at = refused number clause is at
-    refused_so Memory is at = tt
+    refused_so Memory is at = absurd (never_memory-by (tally_in capture) (broken_in capture) is)
 
     -- no fault, and no broken record
     pub accepted : (tally : Tally) → answer_of capture ≡ Ok tally → fault ≡ None → Accepts octets tally
@@ -76,7 +80,3 @@ module _ (octets : List ℕ) (capture : Trace) where
         let a = accepts octets fits (ap (λ (r : Reads). r.fault) (sym all) ∙ none) (ap (λ (r : Reads). broken_in (trace_of r)) (sym all) ∙ found.0) in
         let counted : tally ≡ tally_in (trace_of (reading octets)) = found.1 ∙ ap (λ (r : Reads). tally_in (trace_of r)) all in
         subst (λ t. Accepts octets t) (sym counted) a
-
-    -- a fault, and no broken record before it
-    pub unbroken : (tally : Tally) → answer_of capture ≡ Ok tally → was_refused fault ≡ false → broken_in (trace_of (reading octets)) ≡ None
-    unbroken tally is not = whole fault not exact ∙ (lawful-by (tally_in capture) tally (broken_in capture) is).0

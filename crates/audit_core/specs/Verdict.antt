@@ -1,9 +1,10 @@
 -- What an auditor may say of octets.
-use Rattle.std.specs.Prelude.{◌≡◌, ℕ, ◌+◌, List, ◌++◌, length, Option, Some, None, Result, Ok, Err}
+use Rattle.std.specs.Prelude.{◌≡◌, ℕ, ◌+◌, List, ◌++◌, length, Option, Some, None, Result, Ok, Err, ◌⊎◌}
 use Rattle.capture_form.specs.declared.fault.FormKind.{FormKind}
 use Rattle.capture_form.specs.Text.{Trace, IsCapture, text}
 use Rattle.capture_form.specs.Reading.{reading}
 use Rattle.capture_form.specs.Laws.{trace_of}
+use Rattle.capture_form.specs.Gives.{IsRefusedRule, IsRefusedRecord}
 use Rattle.trace_law.specs.declared.clause.Clause.{Clause}
 use Rattle.trace_law.specs.declared.tally.Tally.{Tally}
 use Rattle.trace_law.specs.History.{history}
@@ -62,6 +63,13 @@ pub record IsMalformed (octets : List ℕ) (offset : ℕ) (kind : FormKind) : Ty
   pub fault : (reading octets).fault ≡ Some (record { offset = offset; kind = kind })
   pub lawful : broken_in (trace_of (reading octets)) ≡ None
 
+-- memory was refused for a rule, or for a record, that stands there and can be read, and the records before it meet the
+-- clauses
+pub record IsRefusedAt (octets : List ℕ) (offset : ℕ) : Type 0 where
+  pub trace : Trace
+  pub place : IsRefusedRule octets trace offset ⊎ IsRefusedRecord octets trace offset
+  pub lawful : broken_in trace ≡ None
+
 -- what a verdict says of the octets; want of memory says nothing of them, and octets that are there were read
 abbrev pub Holds : List ℕ → Verdict → Type 0
 Holds octets (Accepted tally) = Accepts octets tally
@@ -75,5 +83,5 @@ abbrev pub Answers : List ℕ → Verdict → Type 0
 Answers octets (Accepted tally) = Accepts octets tally
 Answers octets (Refused number clause) = Refuses octets number clause
 Answers octets (Malformed offset form_kind) = IsMalformed octets offset form_kind
-Answers octets (NoMemory offset) = Unit {0}
+Answers octets (NoMemory offset) = IsRefusedAt octets offset
 Answers octets (Unreadable offset) = ⊥
