@@ -1,8 +1,8 @@
 //! What the plain checker says of deliveries that wait, that are split, and that go to many consumers.
 
-use crate::Clause;
 use crate::tests::{assert_checked, assert_credits, assert_waits, assert_windows};
 use crate::tests_captures::*;
+use crate::{Clause, Tally, tally_capture};
 use std::alloc::{AllocError, Global};
 use std::test::Fail;
 
@@ -110,9 +110,9 @@ fn fragments_carry_the_payload_to_its_last_octet(rt: HostRuntime) -> Result<(), 
     Ok(())
 }
 
-#[test]
-fn copies_go_to_consumers_with_credit(rt: HostRuntime) -> Result<(), Fail> {
-    let mut text = Text::of_news(rt.alloc())?;
+/// A delivery to a multicast address with three consumers, of which two gave credit.
+fn copied(alloc: Global) -> Result<Text, AllocError> {
+    let mut text = Text::of_news(alloc)?;
     text.joined(0, PRODUCER_OPEN, 100)?;
     text.all(&[
         Entry::In(0, NEWS_PRODUCER_ATTACH),
@@ -132,8 +132,20 @@ fn copies_go_to_consumers_with_credit(rt: HostRuntime) -> Result<(), Fail> {
         Entry::Sent(1, 31, SENT_0_SETTLED),
         Entry::Sent(2, 31, SENT_0_SETTLED),
     ])?;
+    Ok(text)
+}
+
+#[test]
+fn copies_go_to_consumers_with_credit(rt: HostRuntime) -> Result<(), Fail> {
+    let text = copied(rt.alloc())?;
     let capture = text.capture(rt.alloc())?;
     assert_checked(&rt, &capture, 35, Ok(()));
+    let tally = Tally {
+        records: 35,
+        deliveries: 2,
+        outcomes: 1,
+    };
+    assert_eq!(rt; tally_capture(&capture), tally);
     // a multicast delivery never waits
     assert_waits(
         &rt,
