@@ -3,14 +3,7 @@
 use Rattle.std.specs.Prelude.{ℕ, suc, ◌-◌, List, [], ◌∷◌, Some}
 use Rattle.flow_counts.specs.Serial.{serial_add}
 use Rattle.flow_counts.specs.Credit.{LinkEvent, OurFlow, Begun}
-
--- to how many deliveries credit and undecided deliveries together are filled up (own rule)
-abbrev pub capacity : ℕ
-capacity = 250
-
--- at how many or fewer of both together that is due (own rule)
-abbrev pub low_mark : ℕ
-low_mark = 125
+pub use Rattle.flow_counts.specs.declared.profile.TheConstants.{CAPACITY as capacity, LOW_MARK as low_mark}
 
 -- how many deliveries began
 abbrev pub begun_count : List LinkEvent → ℕ

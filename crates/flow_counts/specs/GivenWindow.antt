@@ -3,14 +3,8 @@
 use Rattle.std.specs.Prelude.{ℕ, suc, ◌-◌, List, [], ◌∷◌}
 use Rattle.flow_counts.specs.Serial.{serial_add}
 use Rattle.flow_counts.specs.Window.{WindowEvent, OurFlow, Received}
-
--- how many transfers a begin or a flow to the client gives (own rule)
-abbrev pub incoming_window : ℕ
-incoming_window = 2048
-
--- at how many transfers or fewer it is to be given anew (own rule)
-abbrev pub renewal_mark : ℕ
-renewal_mark = 1024
+use Rattle.flow_counts.specs.declared.profile.TheConstants.{INCOMING_WINDOW}
+pub use Rattle.flow_counts.specs.declared.profile.TheConstants.{INCOMING_WINDOW as incoming_window, RENEWAL_MARK as renewal_mark}
 
 -- how many transfers were received
 abbrev pub received_count : List WindowEvent → ℕ
@@ -31,4 +25,4 @@ next_incoming_id first past = serial_add first (received_count past)
 
 -- how many transfers the client may still send
 abbrev pub given_window : List WindowEvent → ℕ
-given_window past = incoming_window - received_since_flow past
+given_window past = INCOMING_WINDOW - received_since_flow past
