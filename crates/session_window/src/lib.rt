@@ -12,7 +12,7 @@ mod history;
 mod window;
 
 pub use history::{SessionEvent, window_after};
-pub use window::{INCOMING_WINDOW, RENEWAL_MARK, Violation, Window};
+pub use window::{Violation, Window};
 
 #[cfg(test)]
 mod tests;

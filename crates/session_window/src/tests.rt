@@ -3,11 +3,6 @@
 use super::*;
 use SessionEvent::{OurFlow, Received, Sent, TheirFlow};
 
-#[test]
-fn profile(rt: HostRuntime) {
-    assert_eq!(rt; (INCOMING_WINDOW, RENEWAL_MARK), (2048, 1024));
-}
-
 /// A window of two takes two transfers, and each flow counts what it has not seen.
 #[test]
 fn lag_is_taken_off(rt: HostRuntime) {

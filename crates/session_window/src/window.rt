@@ -1,14 +1,9 @@
 //! The counters of a session's windows, in transfers.
 
+use flow_counts::INCOMING_WINDOW;
 use std::error::Error;
 use std::fmt;
 use std::marker::Model;
-
-/// The window that the client is given by the begin and by each flow that is written to it, in transfers.
-pub const INCOMING_WINDOW: u32 = 2048;
-
-/// A given window is to be renewed by a flow when so many transfers, or fewer, are left of it.
-pub const RENEWAL_MARK: u32 = 1024;
 
 /// A transfer found nothing left of the window that it takes from.
 #[derive(Clone, Copy, Debug, PartialEq, Eq)]
@@ -60,7 +55,6 @@ impl Model for Window {
 impl Window {
     ghost use Rattle.std.specs.Prelude.{◌≡◌, ◌<◌, ◌↔◌, [], IsTrue, IsErr, OnOk, OnErr};
     ghost use Rattle.flow_counts.specs.Window.{TheirFlow, Sent, OurFlow, Received};
-    ghost use Rattle.flow_counts.specs.GivenWindow as profile;
     ghost use Rattle.session_window.specs.Counters.{opening, counted, next_outgoing, next_incoming, remote_window, given_left, CountsOneMore, IsCount};
 
     /// The windows of a session as it begins: `next_out` is the next-outgoing-id of the begin to the client, `next_in`
@@ -122,7 +116,7 @@ impl Window {
 
     /// A flow is written to the client, and gives it `INCOMING_WINDOW` anew.
     pub fn told(&mut self)
-        ensures anew { self.new.given ≡ profile.incoming_window }
+        ensures anew { self.new.given ≡ INCOMING_WINDOW }
         ensures counted { CountsOneMore self.old self.new OurFlow }
     {
         self.given = INCOMING_WINDOW;
