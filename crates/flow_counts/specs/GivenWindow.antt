@@ -3,8 +3,14 @@
 use Rattle.std.specs.Prelude.{ℕ, suc, ◌-◌, List, [], ◌∷◌}
 use Rattle.flow_counts.specs.Serial.{serial_add}
 use Rattle.flow_counts.specs.Window.{WindowEvent, OurFlow, Received}
-use Rattle.flow_counts.specs.declared.profile.TheConstants.{INCOMING_WINDOW}
-pub use Rattle.flow_counts.specs.declared.profile.TheConstants.{INCOMING_WINDOW as incoming_window, RENEWAL_MARK as renewal_mark}
+use Rattle.flow_counts.specs.declared.profile.TheConstants.{INCOMING_WINDOW, RENEWAL_MARK}
+
+-- the numbers under the names that the law of captures cites
+abbrev pub incoming_window : ℕ
+incoming_window = INCOMING_WINDOW
+
+abbrev pub renewal_mark : ℕ
+renewal_mark = RENEWAL_MARK
 
 -- how many transfers were received
 abbrev pub received_count : List WindowEvent → ℕ
