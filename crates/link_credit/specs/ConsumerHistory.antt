@@ -7,7 +7,7 @@ use Rattle.link_credit.specs.declared.history.ConsumerEvent.{ConsumerEvent}
 use Rattle.link_credit.specs.declared.history.ConsumerEvent.TheVariants.{TheirFlow, Begun, Told, DrainAnswer}
 use Rattle.link_credit.specs.SenderCounts.{Counters, counted}
 
--- the link's event that it is behind these: a flow to the client has the numbers that the link has come to, and a drain
+-- the link's event that it is after these: a flow to the client has the numbers that the link has come to, and a drain
 -- answer those to which the credit left would take it (part 2 of the standard, section 2.6.7)
 abbrev pub link_event : ℕ → List LinkEvent → ConsumerEvent → LinkEvent
 link_event first past (TheirFlow known given drain) = links.TheirFlow known given drain

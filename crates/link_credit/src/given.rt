@@ -1,15 +1,9 @@
 //! The counters of a producer's link, in deliveries.
 
+use flow_counts::{CAPACITY, LOW_MARK};
 use std::error::Error;
 use std::fmt;
 use std::marker::Model;
-
-/// The capacity of a producer's link: credit left and undecided deliveries together come to so many when credit is
-/// given.
-pub const CAPACITY: u32 = 250;
-
-/// Credit is given again when credit left and undecided deliveries together come to so many or fewer.
-pub const LOW_MARK: u32 = 125;
 
 /// A delivery began on a producer's link, and no credit was left for it.
 #[derive(Clone, Copy, Debug, PartialEq, Eq)]
@@ -44,7 +38,6 @@ impl Model for GivenCredit {
 impl GivenCredit {
     ghost use Rattle.std.specs.Prelude.{◌≡◌, ◌+◌, ◌-◌, ◌≤◌, ◌↔◌, [], IsErr, OnOk, OnErr, IsSome, IfSome, IfNone, Some, false};
     ghost use Rattle.flow_counts.specs.Credit.{OurFlow, Begun};
-    ghost use Rattle.flow_counts.specs.GivenCredit.{capacity, low_mark};
     ghost use Rattle.link_credit.specs.GivenCounts.{counted, credit_left, received_count, CountsOneMore, IsCount};
 
     /// A link as it is attached, with the initial delivery-count of the client's attach (0 where it has none), and
@@ -76,8 +69,8 @@ impl GivenCredit {
     /// link-credit of the flow that is to be written now, and that is left from here on. `None` where enough is left;
     /// then nothing changes.
     pub fn top_up(&mut self, undecided: u32) -> Option<u32>
-        ensures due { IsSome result ↔ (self.old.left + undecided ≤ low_mark) }
-        ensures fills { IfSome result (λ credit. credit ≡ capacity - undecided) }
+        ensures due { IsSome result ↔ (self.old.left + undecided ≤ LOW_MARK) }
+        ensures fills { IfSome result (λ credit. credit ≡ CAPACITY - undecided) }
         ensures left { IfSome result (λ credit. self.new.left ≡ credit) }
         ensures never_less { IfSome result (λ credit. self.old.left ≤ credit) }
         ensures counted { IfSome result (λ credit. CountsOneMore self.old self.new (OurFlow (Some self.old.rcv) (Some credit) false)) }

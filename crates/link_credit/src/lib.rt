@@ -16,7 +16,7 @@ mod history;
 mod laws;
 mod sender;
 
-pub use given::{CAPACITY, GivenCredit, LOW_MARK, Over};
+pub use given::{GivenCredit, Over};
 pub use history::{ConsumerEvent, ProducerEvent, given_credit_after, sender_credit_after};
 pub use laws::laws_of_flows;
 pub use sender::SenderCredit;

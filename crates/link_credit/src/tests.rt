@@ -11,11 +11,6 @@ fn credit_flow(delivery_count: u32, link_credit: u32, drain: bool) -> ConsumerEv
     }
 }
 
-#[test]
-fn profile(rt: HostRuntime) {
-    assert_eq!(rt; (CAPACITY, LOW_MARK), (250, 125));
-}
-
 /// The flow behind two deliveries knows of neither, so one of its three is left.
 #[test]
 fn stale_flow_across_the_wrap(rt: HostRuntime) {
