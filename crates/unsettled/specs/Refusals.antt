@@ -1,6 +1,7 @@
 -- Why a part of a delivery is refused.
 use Rattle.std.specs.Prelude.{ℕ, ◌≡◌, ◌+◌, Bool, List, [], length, Option, Some, None, Result, Ok, Err, nat_lt, if◌then◌else◌}
 use Rattle.flow_counts.specs.Parts.{Partial, is_id}
+use Rattle.flow_counts.specs.declared.profile.TheConstants.{MAX_MESSAGE_SIZE}
 use Rattle.unsettled.specs.declared.fault.PartFault.{PartFault}
 use Rattle.unsettled.specs.declared.fault.PartFault.TheVariants.{Memory, TooLarge, IdChanged, NoId, IdInUse}
 
@@ -20,19 +21,15 @@ admission None in_use (Some id) = if in_use id then Some IdInUse else None
 admission (Some partial) in_use None = None
 admission (Some partial) in_use (Some id) = if is_id id partial.id then None else Some IdChanged
 
--- the most octets of payload (own rule)
-abbrev pub max_message_size : ℕ
-max_message_size = 16777216
-
 -- the octets of the parts so far
 abbrev pub payload_so_far : Option Partial → List ℕ
 payload_so_far None = []
 payload_so_far (Some partial) = partial.payload
 
--- the fault of a payload behind these parts
+-- the fault of a payload after these parts
 abbrev pub size_fault : Option Partial → List ℕ → Option PartFault
 size_fault earlier payload =
-    if nat_lt max_message_size (length (payload_so_far earlier) + length payload) then Some TooLarge else None
+    if nat_lt MAX_MESSAGE_SIZE (length (payload_so_far earlier) + length payload) then Some TooLarge else None
 
 abbrev pub or_else : Option PartFault → Option PartFault → Option PartFault
 or_else None later = later

@@ -13,7 +13,7 @@ use std::fmt;
 pub enum PartFault {
     /// Memory for the part was refused.
     Memory = 1,
-    /// The payloads of the delivery's parts would have more than 16777216 octets.
+    /// The payloads of the delivery's parts would have more than `MAX_MESSAGE_SIZE` octets.
     TooLarge,
     /// A later part has another delivery-id than the first.
     IdChanged,

@@ -19,7 +19,7 @@ pub use fault::PartFault;
 pub use history::{InboundEvent, OutstandingEvent, inbound_after, outstanding_after};
 pub use inbound::Inbound;
 pub use outstanding::{Covered, Outstanding};
-pub use partial::{MAX_MESSAGE_SIZE, Partial};
+pub use partial::Partial;
 
 #[cfg(test)]
 mod tests;

@@ -2,15 +2,13 @@
 
 ghost use Rattle.std.specs.Prelude.{◌≡◌, ℕ, ◌+◌, ◌<◌, ◌≤◌, ◌++◌, length, Some, None, OnOk, OnErr, IfOk, IfErr};
 ghost use Rattle.flow_counts.specs.Parts.{joined, is_id};
-ghost use Rattle.unsettled.specs.Refusals.{max_message_size, IsAnswer, size_fault};
+ghost use Rattle.unsettled.specs.Refusals.{IsAnswer, size_fault};
 
 use crate::fault::PartFault;
 use bytes::BytesMut;
+use flow_counts::MAX_MESSAGE_SIZE;
 use std::alloc::{AllocError, Global};
 use std::marker::Model;
-
-/// The most octets of payload that a delivery may have.
-pub const MAX_MESSAGE_SIZE: usize = 16777216;
 
 /// A delivery in progress: the record number and the delivery-id of its first transfer, and its payload so far.
 #[doc(hidden)]
@@ -41,7 +39,7 @@ impl Partial {
         ensures begun { IfOk result (λ partial. partial ≡ joined None number (Some id) payload.now) }
         ensures answer { IsAnswer (size_fault None payload.now) result }
     {
-        if payload.len() > MAX_MESSAGE_SIZE {
+        if payload.len() as u64 > MAX_MESSAGE_SIZE {
             return Err(PartFault::TooLarge);
         }
         Ok(Partial {
@@ -57,7 +55,7 @@ impl Partial {
         ensures answer { IsAnswer (size_fault (Some self.old) payload.now) result }
         ensures unchanged { OnErr result (self.new ≡ self.old) }
     {
-        if self.payload.len().saturating_add(payload.len()) > MAX_MESSAGE_SIZE {
+        if self.payload.len().saturating_add(payload.len()) as u64 > MAX_MESSAGE_SIZE {
             return Err(PartFault::TooLarge);
         }
         self.payload.extend_from_slice(payload)?;
