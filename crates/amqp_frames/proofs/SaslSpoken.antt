@@ -4,7 +4,8 @@ use Rattle.std.specs.Prelude.{nat_lt, IfOk}
 use Rattle.std.proofs.lemmas.Bool.{ltb-false, le-ltb}
 use Rattle.amqp_types.specs.declared.code.Kind.TheVariants as kinds
 use Rattle.amqp_types.specs.Part.{Part, Seen, Nested, Described, Tagged}
-use Rattle.amqp_types.specs.Reading.{Read, seen_at, levels_allowed}
+use Rattle.amqp_types.specs.Reading.{Read, seen_at}
+use Rattle.flow_counts.specs.declared.profile.TheConstants.{MAX_DEPTH}
 use Rattle.amqp_types.specs.Items.{seen_in, seen_of}
 use Rattle.amqp_types.specs.Grammar.{IsValue}
 use Rattle.amqp_types.specs.Typed.{list_in}
@@ -50,8 +51,8 @@ checked_again kind fields fit =
 -- ---- a value
 
 -- a described list, where its parts are known
-parts_found : (octets descriptor described : List ℕ) (d v : Part) (saying : Saying) (names : Option SaslKind) → IsValue levels_allowed octets (Described descriptor described)
-    → IsValue levels_allowed descriptor d → IsValue levels_allowed described v → kind_named d ≡ names → said_of (both_of names (list_in v)) ≡ Ok saying
+parts_found : (octets descriptor described : List ℕ) (d v : Part) (saying : Saying) (names : Option SaslKind) → IsValue MAX_DEPTH octets (Described descriptor described)
+    → IsValue MAX_DEPTH descriptor d → IsValue MAX_DEPTH described v → kind_named d ≡ names → said_of (both_of names (list_in v)) ≡ Ok saying
     → IsSasl octets saying
 parts_found octets descriptor described d (Nested kinds.List count body) saying (Some kind) whole says list names e =
     let fit = checked_found kind (seen_in count body) saying e in
@@ -74,7 +75,7 @@ parts_found octets descriptor described d (Nested kinds.List count body) saying 
 parts_found octets descriptor described d _ saying None whole says list names e = absurd cc
 parts_found octets descriptor described d _ saying (Some _) whole says list names e = absurd cc
 
-said_found : (octets : List ℕ) (part : Part) (saying : Saying) → IsValue levels_allowed octets part → said part ≡ Ok saying → IsSasl octets saying
+said_found : (octets : List ℕ) (part : Part) (saying : Saying) → IsValue MAX_DEPTH octets part → said part ≡ Ok saying → IsSasl octets saying
 said_found octets (Described descriptor described) saying whole e =
     let holds = pair_holds octets descriptor described whole in
     let d = ap (λ (x : Seen). x.part) (value_is descriptor holds.0.says holds.0.is) in
@@ -96,23 +97,23 @@ said_again octets saying is =
 
 -- ---- octets
 
-found_by : (body : List ℕ) (read : Read Seen) (saying : Saying) → seen_at levels_allowed 0 body ≡ read → said_by read ≡ Ok saying → IsSaslFront body saying
+found_by : (body : List ℕ) (read : Read Seen) (saying : Saying) → seen_at MAX_DEPTH 0 body ≡ read → said_by read ≡ Ok saying → IsSaslFront body saying
 found_by body (Ok x) saying is e =
-    let front = seen_found levels_allowed 0 body x is in
+    let front = seen_found MAX_DEPTH 0 body x is in
     record { front = x.0.octets; rest = x.1; parts = front.parts; is = said_found x.0.octets x.0.part saying front.is e }
 found_by body (Err fault) saying is e = absurd cc
 
 -- what is read stands at the front
 pub sasl_found : (body : List ℕ) (saying : Saying) → sasl_at body ≡ Ok saying → IsSaslFront body saying
 unfolding sasl_at
-sasl_found body saying e = found_by body (seen_at levels_allowed 0 body) saying refl e
+sasl_found body saying e = found_by body (seen_at MAX_DEPTH 0 body) saying refl e
 
 -- what stands at the front is read
 pub sasl_again : (body : List ℕ) (saying : Saying) → IsSaslFront body saying → sasl_at body ≡ Ok saying
 unfolding sasl_at
 sasl_again body saying front =
     let part = Described front.is.descriptor front.is.described in
-    let read : seen_at levels_allowed 0 body ≡ Ok (record { octets = front.front; part = part }, front.rest) = ap (seen_at levels_allowed 0) front.parts ∙ seen_again levels_allowed 0 front.front front.rest part front.is.whole in
+    let read : seen_at MAX_DEPTH 0 body ≡ Ok (record { octets = front.front; part = part }, front.rest) = ap (seen_at MAX_DEPTH 0) front.parts ∙ seen_again MAX_DEPTH 0 front.front front.rest part front.is.whole in
     rw read (said_again front.front saying front.is)
 
 -- ---- what a function returned

@@ -9,7 +9,8 @@ use Rattle.amqp_types.specs.Part.{Part, Ulong, Nested, Array, Seen, code_alone}
 use Rattle.amqp_types.specs.Items.{items_in}
 use Rattle.amqp_types.specs.Typed.{ubyte_in, binary_in, str_in, symbol_in, array_in}
 use Rattle.amqp_types.specs.Grammar.{IsValue}
-use Rattle.amqp_types.specs.Reading.{octets_at, sized_at, is_text, text_at, counted_at, items_at, elements_at, array_at, coded_at, value_by, seen_by, data_by, element_by, constructor_by, data_at, constructor_at, value_at, seen_at, element_at, item_at, levels_allowed}
+use Rattle.amqp_types.specs.Reading.{octets_at, sized_at, is_text, text_at, counted_at, items_at, elements_at, array_at, coded_at, value_by, seen_by, data_by, element_by, constructor_by, data_at, constructor_at, value_at, seen_at, element_at, item_at}
+use Rattle.flow_counts.specs.declared.profile.TheConstants.{MAX_DEPTH}
 use Rattle.amqp_types.specs.Writing.{levels_in_described, ubyte_octets, list_octets, descriptor_octets}
 use Rattle.amqp_types.proofs.Deeper.{value_deeper}
 use Rattle.amqp_types.proofs.Written.{list_nested, text_written, ubyte_written}
@@ -62,7 +63,7 @@ again_by s can few suit means =
       names = named kind;
       count = length vs;
       body = octets_of vs;
-      list = value_deeper 31 levels_allowed (list_octets (length vs) (octets_of vs)) (Nested kinds_of_lists.List (length vs) (octets_of vs)) (omega arith) list;
+      list = value_deeper 31 MAX_DEPTH (list_octets (length vs) (octets_of vs)) (Nested kinds_of_lists.List (length vs) (octets_of vs)) (omega arith) list;
       values = vs;
       items = are_values 30 vs (omega arith) at;
       fit = fit_values (sasl_table kind) (sasl_slots s) suit;
@@ -90,7 +91,7 @@ mechanisms_is anonymous = (seen_found levels_in_described 0 (mechanisms_octets a
 mechanisms_kept : (anonymous : Bool) → kept_value (mechanisms_octets anonymous) ≡ mechanisms_seen anonymous
 mechanisms_kept anonymous =
     ap (λ (x : Seen). record { octets = mechanisms_octets anonymous; part = x.part })
-    (value_is (mechanisms_octets anonymous) (mechanisms_part anonymous) (value_deeper levels_in_described levels_allowed (mechanisms_octets anonymous) (mechanisms_part anonymous) (omega arith) (mechanisms_is anonymous)))
+    (value_is (mechanisms_octets anonymous) (mechanisms_part anonymous) (value_deeper levels_in_described MAX_DEPTH (mechanisms_octets anonymous) (mechanisms_part anonymous) (omega arith) (mechanisms_is anonymous)))
 
 part_stands : (anonymous : Bool) → CanStand levels_in_described (Some (mechanisms_seen anonymous))
 part_stands true = (mechanisms_is true, tt)

@@ -7,7 +7,8 @@ use Rattle.std.specs.List.{concat}
 use Rattle.amqp_frames.specs.declared.fault.FrameFault.{FrameFault}
 use Rattle.amqp_frames.specs.Frame.{Frame}
 use Rattle.amqp_frames.specs.Reading.{ReadFrame, frame_at}
-use Rattle.amqp_frames.specs.Stream.{frame_limit, IsWhole, IsEnd, AreFramesOf, Ahead, Octets, Broken, IsAfter, answer_of, behind, next_answer, next_ahead, Tells}
+use Rattle.flow_counts.specs.declared.profile.TheConstants.{MAX_FRAME_SIZE}
+use Rattle.amqp_frames.specs.Stream.{IsWhole, IsEnd, AreFramesOf, Ahead, Octets, Broken, IsAfter, answer_of, behind, next_answer, next_ahead, Tells}
 use Rattle.amqp_frames.specs.Held.{ahead_of, length_of, length_answer, seen_ahead, looked_ahead}
 use Rattle.amqp_frames.proofs.Steps.{one_read}
 use Rattle.amqp_frames.proofs.Fronts.{frame_long, found_front, front_read, fault_found, fault_read, partial_found, partial_read}
@@ -16,28 +17,28 @@ use Rattle.amqp_frames.proofs.Fronts.{frame_long, found_front, front_read, fault
 concat_more : (given : List (List ℕ)) (frame rest : List ℕ) → concat given ++ (frame ++ rest) ≡ concat (given ++ frame ∷ []) ++ rest
 concat_more given frame rest = sym (append_assoc (concat given) frame rest) ∙ ap (λ (t : List ℕ). t ++ rest) (ap (λ (t : List ℕ). concat given ++ t) (sym (append-nil frame)) ∙ sym (concat-append given (frame ∷ [])))
 
-read_tells : (stream : List ℕ) (given : List (List ℕ)) (octets : List ℕ) → IsAfter stream given (Octets octets) → (read : ReadFrame) → frame_at frame_limit octets ≡ read
+read_tells : (stream : List ℕ) (given : List (List ℕ)) (octets : List ℕ) → IsAfter stream given (Octets octets) → (read : ReadFrame) → frame_at MAX_FRAME_SIZE octets ≡ read
     → Tells stream given (answer_of read) (behind octets read)
 read_tells stream given octets after (Ok None) e =
-    (after, record { rest = octets; parts = after.parts ∙ ap (λ (t : List ℕ). concat given ++ t) after.left; each = after.each; end = partial_found frame_limit octets e })
+    (after, record { rest = octets; parts = after.parts ∙ ap (λ (t : List ℕ). concat given ++ t) after.left; each = after.each; end = partial_found MAX_FRAME_SIZE octets e })
 read_tells stream given octets after (Ok (Some frame)) e =
-    let front = found_front frame_limit octets frame e in
+    let front = found_front MAX_FRAME_SIZE octets frame e in
     let rest = drop (length frame.octets) octets in
-    let whole : IsWhole frame_limit frame.octets = (frame, refl, front.is) in
+    let whole : IsWhole MAX_FRAME_SIZE frame.octets = (frame, refl, front.is) in
     record {
       rest = rest;
       parts = after.parts ∙ ap (λ (t : List ℕ). concat given ++ t) (after.left ∙ front.parts) ∙ concat_more given frame.octets rest;
-      each = All-push (IsWhole frame_limit) given frame.octets after.each whole;
+      each = All-push (IsWhole MAX_FRAME_SIZE) given frame.octets after.each whole;
       left = refl;
     }
 read_tells stream given octets after (Err fault) e =
     let parts : stream ≡ concat given ++ octets = after.parts ∙ ap (λ (t : List ℕ). concat given ++ t) after.left in
-    let is = fault_found frame_limit octets fault e in
+    let is = fault_found MAX_FRAME_SIZE octets fault e in
     (record { rest = octets; parts = parts; each = after.each; left = is }, record { rest = octets; parts = parts; each = after.each; end = is })
 
 -- what the next answer says of the stream
 pub next_tells : (stream : List ℕ) (given : List (List ℕ)) (ahead : Ahead) → IsAfter stream given ahead → Tells stream given (next_answer ahead) (next_ahead ahead)
-next_tells stream given (Octets octets) after = read_tells stream given octets after (frame_at frame_limit octets) refl
+next_tells stream given (Octets octets) after = read_tells stream given octets after (frame_at MAX_FRAME_SIZE octets) refl
 next_tells stream given (Broken fault) after = (after, record { rest = after.rest; parts = after.parts; each = after.each; end = after.left })
 
 -- the same of an answer and of what is ahead then
@@ -54,7 +55,7 @@ err_of octets (Ok (Some frame)) fault e = absurd cc
 err_of octets (Err other) fault e = (cc, refl)
 
 pub err_next : (ahead : Ahead) (fault : FrameFault) → length_answer ahead ≡ Err fault → (next_answer ahead ≡ Err fault) × (next_ahead ahead ≡ looked_ahead ahead)
-err_next (Octets octets) fault e = err_of octets (frame_at frame_limit octets) fault e
+err_next (Octets octets) fault e = err_of octets (frame_at MAX_FRAME_SIZE octets) fault e
 err_next (Broken other) fault e = (cc, refl)
 
 none_of : (octets : List ℕ) (read : ReadFrame) → length_of read ≡ Ok None → (answer_of read ≡ Ok None) × (behind octets read ≡ seen_ahead octets read)
@@ -63,7 +64,7 @@ none_of octets (Ok (Some frame)) e = absurd cc
 none_of octets (Err other) e = absurd cc
 
 pub none_next : (ahead : Ahead) → length_answer ahead ≡ Ok None → (next_answer ahead ≡ Ok None) × (next_ahead ahead ≡ looked_ahead ahead)
-none_next (Octets octets) e = none_of octets (frame_at frame_limit octets) e
+none_next (Octets octets) e = none_of octets (frame_at MAX_FRAME_SIZE octets) e
 none_next (Broken other) e = absurd cc
 
 -- a frame of so many octets is given from those that are kept
@@ -72,11 +73,11 @@ pub record IsGiven (kept : List ℕ) (given : ℕ) (fault : Option FrameFault) (
   pub answer : next_answer old ≡ Ok (Some (take count (drop given kept)))
   pub ahead : next_ahead old ≡ ahead_of kept (given + count) fault
 
-given_of : (kept : List ℕ) (given count : ℕ) (read : ReadFrame) → frame_at frame_limit (drop given kept) ≡ read → given ≤ length kept → length_of read ≡ Ok (Some count)
+given_of : (kept : List ℕ) (given count : ℕ) (read : ReadFrame) → frame_at MAX_FRAME_SIZE (drop given kept) ≡ read → given ≤ length kept → length_of read ≡ Ok (Some count)
     → (given + count ≤ length kept) × (answer_of read ≡ Ok (Some (take count (drop given kept)))) × (behind (drop given kept) read ≡ Octets (drop (given + count) kept))
 given_of kept given count (Ok None) e within len = absurd cc
 given_of kept given count (Ok (Some frame)) e within len =
-    let front = found_front frame_limit (drop given kept) frame e in
+    let front = found_front MAX_FRAME_SIZE (drop given kept) frame e in
     let same : length frame.octets ≡ count = cc in
     let rest = drop (length frame.octets) (drop given kept) in
     let room : given + count ≤ length kept = omega (arith, ap length front.parts, length-append frame.octets rest, length-drop given kept, same, within) in
@@ -95,8 +96,8 @@ octets_ahead kept given (Some other) octets e = absurd cc
 
 -- where a frame is ahead, its octets are kept
 ahead_octets : (old : Ahead) (count : ℕ) → length_answer old ≡ Ok (Some count)
-    → (octets : List ℕ) × (old ≡ Octets octets) × (length_of (frame_at frame_limit octets) ≡ Ok (Some count)) × (looked_ahead old ≡ Octets octets)
-ahead_octets (Octets octets) count e = (octets, refl, e, seen_of octets (frame_at frame_limit octets) count e)
+    → (octets : List ℕ) × (old ≡ Octets octets) × (length_of (frame_at MAX_FRAME_SIZE octets) ≡ Ok (Some count)) × (looked_ahead old ≡ Octets octets)
+ahead_octets (Octets octets) count e = (octets, refl, e, seen_of octets (frame_at MAX_FRAME_SIZE octets) count e)
 ahead_octets (Broken fault) count e = absurd cc
 
 pub given_next : (kept : List ℕ) (given : ℕ) (fault : Option FrameFault) (old : Ahead) (count : ℕ) → given ≤ length kept → ahead_of kept given fault ≡ looked_ahead old → length_answer old ≡ Ok (Some count)
@@ -105,8 +106,8 @@ given_next kept given fault old count within view len =
     let read = ahead_octets old count len in
     let octets = read.0 in
     let is = octets_ahead kept given fault octets (view ∙ read.3) in
-    let Read : List ℕ → Type 0 = λ t. length_of (frame_at frame_limit t) ≡ Ok (Some count) in
-    let got = given_of kept given count (frame_at frame_limit (drop given kept)) refl within (subst Read (sym is.1) read.2) in
+    let Read : List ℕ → Type 0 = λ t. length_of (frame_at MAX_FRAME_SIZE t) ≡ Ok (Some count) in
+    let got = given_of kept given count (frame_at MAX_FRAME_SIZE (drop given kept)) refl within (subst Read (sym is.1) read.2) in
     let old_is : old ≡ Octets (drop given kept) = read.1 ∙ ap Octets (sym is.1) in
     record { room = got.0; answer = ap next_answer old_is ∙ got.1; ahead = ap next_ahead old_is ∙ got.2 ∙ ap (ahead_of kept (given + count)) (sym is.0) }
 
@@ -173,16 +174,16 @@ abbrev pub left_count : Ahead → ℕ
 left_count (Octets octets) = length octets
 left_count (Broken fault) = 0
 
-fewer_of : (octets frame : List ℕ) (read : ReadFrame) → frame_at frame_limit octets ≡ read → answer_of read ≡ Ok (Some frame) → left_count (behind octets read) < length octets
+fewer_of : (octets frame : List ℕ) (read : ReadFrame) → frame_at MAX_FRAME_SIZE octets ≡ read → answer_of read ≡ Ok (Some frame) → left_count (behind octets read) < length octets
 fewer_of octets frame (Ok None) e given = absurd cc
 fewer_of octets frame (Ok (Some read)) e given =
-    let front = found_front frame_limit octets read e in
+    let front = found_front MAX_FRAME_SIZE octets read e in
     let is = front.is in
     let rest = drop (length read.octets) octets in
-    omega (arith, ap length front.parts, length-append read.octets rest, frame_long frame_limit read is)
+    omega (arith, ap length front.parts, length-append read.octets rest, frame_long MAX_FRAME_SIZE read is)
 fewer_of octets frame (Err fault) e given = absurd cc
 
 -- each frame that is given leaves fewer
 pub fewer_left : (ahead : Ahead) (frame : List ℕ) → next_answer ahead ≡ Ok (Some frame) → left_count (next_ahead ahead) < left_count ahead
-fewer_left (Octets octets) frame given = fewer_of octets frame (frame_at frame_limit octets) refl given
+fewer_left (Octets octets) frame given = fewer_of octets frame (frame_at MAX_FRAME_SIZE octets) refl given
 fewer_left (Broken fault) frame given = absurd cc

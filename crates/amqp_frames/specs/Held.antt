@@ -4,7 +4,8 @@ use Rattle.std.specs.Borrow.{Bor}
 use Rattle.std.specs.Global.{Vec}
 use Rattle.amqp_frames.specs.declared.fault.FrameFault.{FrameFault}
 use Rattle.amqp_frames.specs.Reading.{ReadFrame, frame_at}
-use Rattle.amqp_frames.specs.Stream.{Ahead, Octets, Broken, frame_limit}
+use Rattle.flow_counts.specs.declared.profile.TheConstants.{MAX_FRAME_SIZE}
+use Rattle.amqp_frames.specs.Stream.{Ahead, Octets, Broken}
 
 -- what is ahead where so many of the octets that are kept were given
 abbrev pub ahead_of : List ℕ → ℕ → Option FrameFault → Ahead
@@ -25,7 +26,7 @@ length_of (Err fault) = Err fault
 
 -- how many octets the next frame has
 abbrev pub length_answer : Ahead → Result (Option ℕ) FrameFault
-length_answer (Octets octets) = length_of (frame_at frame_limit octets)
+length_answer (Octets octets) = length_of (frame_at MAX_FRAME_SIZE octets)
 length_answer (Broken fault) = Err fault
 
 -- what is ahead once a fault was seen, if there is one
@@ -35,7 +36,7 @@ seen_ahead octets (Err fault) = Broken fault
 
 -- what is ahead once the next frame was looked for
 abbrev pub looked_ahead : Ahead → Ahead
-looked_ahead (Octets octets) = seen_ahead octets (frame_at frame_limit octets)
+looked_ahead (Octets octets) = seen_ahead octets (frame_at MAX_FRAME_SIZE octets)
 looked_ahead (Broken fault) = Broken fault
 
 -- the octets of each frame

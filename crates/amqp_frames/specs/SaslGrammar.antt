@@ -4,7 +4,7 @@ use Rattle.std.specs.Prelude.{◌≡◌, ℕ, List, ◌++◌, Some}
 use Rattle.amqp_types.specs.declared.code.Kind.TheVariants as kinds
 use Rattle.amqp_types.specs.Part.{Part, Seen, Nested, Described}
 use Rattle.amqp_types.specs.Grammar.{IsValue, AreValuesOf}
-use Rattle.amqp_types.specs.Reading.{levels_allowed}
+use Rattle.flow_counts.specs.declared.profile.TheConstants.{MAX_DEPTH}
 use Rattle.amqp_perf.specs.Grammar.{AreFields}
 use Rattle.amqp_frames.specs.declared.sasl.SaslKind.{SaslKind}
 use Rattle.amqp_frames.specs.Sasl.{Saying, kind_named, sasl_table, saying_of}
@@ -13,14 +13,14 @@ use Rattle.amqp_frames.specs.Sasl.{Saying, kind_named, sasl_table, saying_of}
 pub record IsSasl (octets : List ℕ) (saying : Saying) : Type 0 where
   pub descriptor : List ℕ
   pub described : List ℕ
-  pub whole : IsValue levels_allowed octets (Described descriptor described)
+  pub whole : IsValue MAX_DEPTH octets (Described descriptor described)
   pub says : Part
-  pub descriptor_is : IsValue levels_allowed descriptor says
+  pub descriptor_is : IsValue MAX_DEPTH descriptor says
   pub kind : SaslKind
   pub names : kind_named says ≡ Some kind
   pub count : ℕ
   pub body : List ℕ
-  pub list : IsValue levels_allowed described (Nested kinds.List count body)
+  pub list : IsValue MAX_DEPTH described (Nested kinds.List count body)
   pub values : List Seen
   pub items : AreValuesOf count body values
   pub fit : AreFields (sasl_table kind) values

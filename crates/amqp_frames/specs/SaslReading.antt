@@ -3,7 +3,8 @@ use Rattle.std.specs.Prelude.{ℕ, List, Option, Some, None, option_and_then, Re
 use Rattle.amqp_types.specs.Part.{Part, Seen}
 use Rattle.amqp_types.specs.Items.{descriptor_of, described_of}
 use Rattle.amqp_types.specs.Typed.{list_in}
-use Rattle.amqp_types.specs.Reading.{Read, seen_at, levels_allowed}
+use Rattle.amqp_types.specs.Reading.{Read, seen_at}
+use Rattle.flow_counts.specs.declared.profile.TheConstants.{MAX_DEPTH}
 use Rattle.amqp_perf.specs.declared.fault.PerfFault.{PerfFault}
 use Rattle.amqp_perf.specs.declared.fault.PerfFault.TheVariants.{Value, NotPerformative}
 use Rattle.amqp_perf.specs.Fields.{table_fault}
@@ -46,4 +47,4 @@ said_by (Err fault) = Err (Value fault)
 
 -- what the body of a SASL frame says
 unfoldable pub sasl_at : List ℕ → Result Saying PerfFault
-sasl_at body = said_by (seen_at levels_allowed 0 body)
+sasl_at body = said_by (seen_at MAX_DEPTH 0 body)

@@ -1,19 +1,16 @@
 -- The frames of a stream, and what a splitter knows of it.
 use Rattle.std.specs.Prelude.{◌≡◌, ℕ, List, [], ◌∷◌, ◌++◌, length, drop, All, Option, Some, None, Result, Ok, Err}
 use Rattle.std.specs.List.{concat}
+use Rattle.flow_counts.specs.declared.profile.TheConstants.{MAX_FRAME_SIZE}
 use Rattle.amqp_frames.specs.declared.fault.FrameFault.{FrameFault}
 use Rattle.amqp_frames.specs.Frame.{Frame, IsFrame, IsFault, IsPartial}
 use Rattle.amqp_frames.specs.Reading.{ReadFrame, frame_at}
-
--- how many octets a frame may have (own rule: the router's max-frame-size, part 2, 2.7.1)
-abbrev pub frame_limit : ℕ
-frame_limit = 16384
 
 -- all octets of a frame
 abbrev pub IsWhole : ℕ → List ℕ → Type 0
 IsWhole limit octets = (frame : Frame) × (frame.octets ≡ octets) × IsFrame limit frame
 
--- what is behind the last frame of a stream: less than a frame, or a fault
+-- what is after the last frame of a stream: less than a frame, or a fault
 abbrev pub IsEnd : ℕ → List ℕ → Option FrameFault → Type 0
 IsEnd limit rest None = IsPartial limit rest
 IsEnd limit rest (Some fault) = IsFault limit rest fault
@@ -38,13 +35,13 @@ IsBroken (Broken fault) = Unit {0}
 -- what is ahead, by what was not given
 abbrev pub IsAhead : List ℕ → Ahead → Type 0
 IsAhead rest (Octets octets) = rest ≡ octets
-IsAhead rest (Broken fault) = IsFault frame_limit rest fault
+IsAhead rest (Broken fault) = IsFault MAX_FRAME_SIZE rest fault
 
 -- a splitter was fed this stream, has given these frames, and has this ahead
 pub record IsAfter (stream : List ℕ) (given : List (List ℕ)) (ahead : Ahead) : Type 0 where
   pub rest : List ℕ
   pub parts : stream ≡ concat given ++ rest
-  pub each : All (IsWhole frame_limit) given
+  pub each : All (IsWhole MAX_FRAME_SIZE) given
   pub left : IsAhead rest ahead
 
 -- what is ahead once a piece was fed: behind a fault nothing is kept
@@ -66,16 +63,16 @@ behind octets (Err fault) = Broken fault
 
 -- what is given next
 abbrev pub next_answer : Ahead → Result (Option (List ℕ)) FrameFault
-next_answer (Octets octets) = answer_of (frame_at frame_limit octets)
+next_answer (Octets octets) = answer_of (frame_at MAX_FRAME_SIZE octets)
 next_answer (Broken fault) = Err fault
 
 -- what is ahead then
 abbrev pub next_ahead : Ahead → Ahead
-next_ahead (Octets octets) = behind octets (frame_at frame_limit octets)
+next_ahead (Octets octets) = behind octets (frame_at MAX_FRAME_SIZE octets)
 next_ahead (Broken fault) = Broken fault
 
 -- what an answer says of the stream: one more of its frames, or that there is none, or a fault that ends it
 abbrev pub Tells : List ℕ → List (List ℕ) → Result (Option (List ℕ)) FrameFault → Ahead → Type 0
 Tells stream given (Ok (Some frame)) ahead = IsAfter stream (given ++ frame ∷ []) ahead
-Tells stream given (Ok None) ahead = IsAfter stream given ahead × AreFramesOf frame_limit stream given None
-Tells stream given (Err fault) ahead = IsAfter stream given ahead × AreFramesOf frame_limit stream given (Some fault)
+Tells stream given (Ok None) ahead = IsAfter stream given ahead × AreFramesOf MAX_FRAME_SIZE stream given None
+Tells stream given (Err fault) ahead = IsAfter stream given ahead × AreFramesOf MAX_FRAME_SIZE stream given (Some fault)

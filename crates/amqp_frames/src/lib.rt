@@ -26,7 +26,7 @@ pub use header::ProtocolHeader;
 pub use pieces::{CutStream, cut_stream};
 pub use sasl::{SASL_AUTH, SASL_OK, SaslFrame, sasl_read};
 pub use sasl_writing::sasl_write;
-pub use splitter::{FRAME_LIMIT, Splitter};
+pub use splitter::Splitter;
 pub use writing::put_frame;
 
 #[cfg(test)]

@@ -3,7 +3,8 @@
 ghost use Rattle.std.specs.Prelude.{◌≡◌, ℕ, List, Option, IfOk};
 ghost use Rattle.std.specs.List.{flat_map};
 ghost use Rattle.amqp_frames.specs.declared.fault.FrameFault.{FrameFault};
-ghost use Rattle.amqp_frames.specs.Stream.{frame_limit, AreFramesOf, IsAfter};
+ghost use Rattle.flow_counts.specs.declared.profile.TheConstants.{MAX_FRAME_SIZE};
+ghost use Rattle.amqp_frames.specs.Stream.{AreFramesOf, IsAfter};
 ghost use Rattle.amqp_frames.specs.Held.{octets_of};
 
 use crate::fault::FrameFault;
@@ -26,10 +27,10 @@ pub struct CutStream {
 /// Where the memory for the frames is refused.
 pub fn cut_stream(alloc: Global, pieces: &[&[u8]]) -> Result<CutStream, AllocError>
     // The pieces joined are these frames, and behind them less than a frame, or the fault.
-    ensures found { IfOk result (λ cut. AreFramesOf frame_limit (flat_map (λ piece. piece.now) pieces.now) (octets_of cut.frames) cut.fault) }
+    ensures found { IfOk result (λ cut. AreFramesOf MAX_FRAME_SIZE (flat_map (λ piece. piece.now) pieces.now) (octets_of cut.frames) cut.fault) }
     // They are no other frames, with no other end.
     ensures only { IfOk result (λ cut. (others : List (List ℕ)) (end : Option FrameFault)
-        → AreFramesOf frame_limit (flat_map (λ piece. piece.now) pieces.now) others end
+        → AreFramesOf MAX_FRAME_SIZE (flat_map (λ piece. piece.now) pieces.now) others end
         → (octets_of cut.frames ≡ others) × (cut.fault ≡ end)) }
 {
     let mut splitter = Splitter::new(alloc);
@@ -52,7 +53,7 @@ fn take_frames(
 ) -> Result<Option<FrameFault>, AllocError>
     ensures { (stream : List ℕ) → IsAfter stream (octets_of frames.old) splitter.old
         → IfOk result (λ fault. IsAfter stream (octets_of frames.new) splitter.new
-        × AreFramesOf frame_limit stream (octets_of frames.new) fault) }
+        × AreFramesOf MAX_FRAME_SIZE stream (octets_of frames.new) fault) }
 {
     loop {
         match splitter.next() {

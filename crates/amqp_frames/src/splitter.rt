@@ -9,15 +9,13 @@ ghost use Rattle.amqp_frames.specs.contracts.splitter.Splitter.{the_row};
 
 use crate::fault::FrameFault;
 use crate::frame::FrameView;
+use flow_counts::MAX_FRAME_SIZE;
 use std::alloc::{AllocError, Global};
 use std::marker::Model;
 
-/// How many octets a frame of a stream may have: the max-frame-size that the router tells its clients.
-pub const FRAME_LIMIT: u32 = 16384;
-
-/// Cuts a stream into its frames.
+/// Cuts a stream into its frames, each of at most `MAX_FRAME_SIZE` octets.
 ///
-/// It keeps the octets that were fed and not yet given, and behind a fault none. Those that were given
+/// It keeps the octets that were fed and not yet given, and after a fault none. Those that were given
 /// are let go once no whole frame is left, and before a piece where they are half of what is kept or
 /// more. So to let go takes time by the length of the stream, however small its frames and pieces.
 #[derive(Debug, Drop)]
@@ -53,7 +51,7 @@ impl Splitter {
         }
     }
 
-    /// Takes the next octets of the stream. Behind a fault they are passed over.
+    /// Takes the next octets of the stream. After a fault they are passed over.
     ///
     /// # Errors
     ///
@@ -103,7 +101,7 @@ impl Splitter {
         if let Some(fault) = self.fault {
             return Err(fault);
         }
-        match FrameView::read(&self.kept[self.given..], FRAME_LIMIT) {
+        match FrameView::read(&self.kept[self.given..], MAX_FRAME_SIZE) {
             Ok(Some((_, count))) => Ok(Some(count)),
             Ok(None) => {
                 self.let_go();

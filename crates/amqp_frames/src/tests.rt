@@ -1,5 +1,6 @@
 use super::*;
 use crate::splitter::tests::gives;
+use flow_counts::MAX_FRAME_SIZE;
 use std::alloc::{AllocError, Global};
 use std::process::Abort;
 use std::test::Fail;
@@ -32,7 +33,7 @@ const SASL_INIT: [u8; 25] = [
 
 // What `read` makes of octets: the length of a frame, none yet, or a fault.
 fn length(octets: &[u8]) -> Result<Option<usize>, FrameFault> {
-    match FrameView::read(octets, FRAME_LIMIT) {
+    match FrameView::read(octets, MAX_FRAME_SIZE) {
         Ok(Some((_, length))) => Ok(Some(length)),
         Ok(None) => Ok(None),
         Err(fault) => Err(fault),
@@ -40,7 +41,7 @@ fn length(octets: &[u8]) -> Result<Option<usize>, FrameFault> {
 }
 
 fn view<'a>(rt: &impl Abort, octets: &'a [u8]) -> FrameView<'a> {
-    match FrameView::read(octets, FRAME_LIMIT) {
+    match FrameView::read(octets, MAX_FRAME_SIZE) {
         Ok(Some((view, _))) => view,
         _ => panic!(rt; "no frame is at the front of these octets"),
     }
@@ -56,9 +57,9 @@ fn whole_frames(rt: HostRuntime) {
         assert_eq!(rt; frame.octets(), octets);
         assert!(rt; octets.ends_with(frame.body()));
         assert_eq!(rt; frame.body().len() + 8, octets.len());
-        assert!(rt; FrameView::whole(octets, FRAME_LIMIT).is_some());
+        assert!(rt; FrameView::whole(octets, MAX_FRAME_SIZE).is_some());
     }
-    assert!(rt; FrameView::whole(&LONG_OPEN[..36], FRAME_LIMIT).is_none());
+    assert!(rt; FrameView::whole(&LONG_OPEN[..36], MAX_FRAME_SIZE).is_none());
     assert_eq!(rt; view(&rt, &SASL_INIT).kind(), FrameKind::Sasl);
     // the payload is the slice of octets 21 to 27
     assert_eq!(rt;
@@ -81,7 +82,7 @@ fn frames_with_more_to_their_header(rt: HostRuntime) {
         0x00, 0x00, 0x00, 0x08, 0x02, 0x00, 0x00, 0x00, 0x00, 0x00, 0x00, 0x07,
     ];
     assert_eq!(rt; length(&empty), Ok(Some(8)));
-    assert!(rt; FrameView::whole(&empty, FRAME_LIMIT).is_none());
+    assert!(rt; FrameView::whole(&empty, MAX_FRAME_SIZE).is_none());
     assert!(rt; view(&rt, &empty).body().is_empty());
 }
 

@@ -4,6 +4,7 @@ use super::*;
 use amqp_perf::PerfFault;
 use amqp_perf::PerfFault::{MissingField, NotPerformative, TooManyFields, WrongType};
 use amqp_types::{ValueFault, ValueFaultKind};
+use flow_counts::MAX_FRAME_SIZE;
 use std::process::Abort;
 use std::test::Fail;
 
@@ -26,7 +27,7 @@ const OUTCOME: [u8; 16] = [
 
 // What a whole SASL frame says.
 fn said<'a>(rt: &impl Abort, octets: &'a [u8]) -> Result<SaslFrame<'a>, PerfFault> {
-    match FrameView::whole(octets, FRAME_LIMIT) {
+    match FrameView::whole(octets, MAX_FRAME_SIZE) {
         Some(frame) => {
             assert_eq!(rt; frame.kind(), FrameKind::Sasl);
             sasl_read(frame.body())

@@ -6,7 +6,7 @@ use Rattle.amqp_types.specs.declared.code.Kind.TheVariants as kinds_of_lists
 use Rattle.amqp_types.specs.Part.{Ulong, Nested, Seen}
 use Rattle.amqp_types.specs.Typed.{boolean_in, ushort_in, uint_in, ulong_in, binary_in, str_in}
 use Rattle.amqp_types.specs.Grammar.{IsValue, AreValuesOf}
-use Rattle.amqp_types.specs.Reading.{levels_allowed}
+use Rattle.flow_counts.specs.declared.profile.TheConstants.{MAX_DEPTH}
 use Rattle.amqp_types.specs.Writing.{levels_in_described, list_octets, descriptor_octets}
 use Rattle.amqp_types.proofs.Deeper.{value_deeper}
 use Rattle.amqp_types.proofs.Written.{list_nested}
@@ -131,9 +131,9 @@ deeper few many [] le at = tt
 deeper few many (v ∷ vs) le at = (value_deeper few many v.octets v.part le at.0, deeper few many vs le at.1)
 
 -- values that lie one after the other
-pub are_values : (few : ℕ) (vs : List Seen) → few ≤ levels_allowed → AreAt few vs → AreValuesOf (length vs) (octets_of vs) vs
+pub are_values : (few : ℕ) (vs : List Seen) → few ≤ MAX_DEPTH → AreAt few vs → AreValuesOf (length vs) (octets_of vs) vs
 are_values few vs le at =
-    record { count = refl; joined = refl; each = All-from_recursion (λ value. IsValue levels_allowed value.octets value.part) vs (deeper few levels_allowed vs le at) }
+    record { count = refl; joined = refl; each = All-from_recursion (λ value. IsValue MAX_DEPTH value.octets value.part) vs (deeper few MAX_DEPTH vs le at) }
 
 -- fields that fit the table of their kind and say its meaning are read again
 pub again_by : (m : Meaning) → AllCanStand levels_in_described (slots_of m) → AreShort (slots_of m) → AllSuit (table_of (kind_of m)) (slots_of m)
@@ -155,7 +155,7 @@ again_by m can few suit means =
       names = named kind;
       count = length vs;
       body = octets_of vs;
-      list = value_deeper 31 levels_allowed (list_octets (length vs) (octets_of vs)) (Nested kinds_of_lists.List (length vs) (octets_of vs)) (omega arith) list;
+      list = value_deeper 31 MAX_DEPTH (list_octets (length vs) (octets_of vs)) (Nested kinds_of_lists.List (length vs) (octets_of vs)) (omega arith) list;
       values = vs;
       items = are_values 30 vs (omega arith) at;
       fit = fit_values (table_of kind) (slots_of m) suit;

@@ -6,7 +6,7 @@ use Rattle.amqp_types.specs.Part.{Part, Null, Ulong, Sized, Nested, Seen}
 use Rattle.amqp_types.specs.Items.{seen_of}
 use Rattle.amqp_types.specs.Typed.{says_null, list_in, ulong_in, boolean_in}
 use Rattle.amqp_types.specs.Grammar.{IsValue}
-use Rattle.amqp_types.specs.Reading.{levels_allowed}
+use Rattle.flow_counts.specs.declared.profile.TheConstants.{MAX_DEPTH}
 use Rattle.amqp_types.specs.Writing.{levels_in_described, list_octets, descriptor_octets}
 use Rattle.amqp_types.proofs.Deeper.{value_deeper}
 use Rattle.amqp_types.proofs.Written.{list_nested, text_written}
@@ -37,7 +37,7 @@ use Rattle.amqp_perf.proofs.Again.{are_values, again_by, uint_again, flag_again,
 -- a described list that was written is seen as one
 pub seen_again : (code : ℕ) (ss : List (Option Seen)) → AllCanStand 28 ss → AreShort ss → kept_value (fields_octets code ss) ≡ record { octets = fields_octets code ss; part = says_fields code ss }
 seen_again code ss can few =
-    let is : IsValue levels_allowed (fields_octets code ss) (says_fields code ss) = value_deeper 30 levels_allowed (fields_octets code ss) (says_fields code ss) (omega arith) (fields_nested 27 code ss can few) in
+    let is : IsValue MAX_DEPTH (fields_octets code ss) (says_fields code ss) = value_deeper 30 MAX_DEPTH (fields_octets code ss) (says_fields code ss) (omega arith) (fields_nested 27 code ss can few) in
     ap (λ (x : Seen). record { octets = fields_octets code ss; part = x.part }) (value_is (fields_octets code ss) (says_fields code ss) is)
 
 nested_can : (code : ℕ) (ss : List (Option Seen)) → AllCanStand 28 ss → AreShort ss → CanStand levels_in_described (Some (kept_value (fields_octets code ss)))
@@ -54,7 +54,7 @@ described_again code ss can few =
     let list : IsValue 29 l (Nested kinds_of_lists.List (length vs) (octets_of vs)) = list_nested (length vs) (octets_of vs) few fits 28 (are_items 28 vs at) in
     let dv : (seen_of d).part ≡ Ulong code = ap (λ (x : Seen). x.part) (value_is d (Ulong code) (descriptor_is 31 code)) in
     let lv : (seen_of l).part ≡ Nested kinds_of_lists.List (length vs) (octets_of vs) =
-    ap (λ (x : Seen). x.part) (value_is l (Nested kinds_of_lists.List (length vs) (octets_of vs)) (value_deeper 29 levels_allowed l (Nested kinds_of_lists.List (length vs) (octets_of vs)) (omega arith) list)) in
+    ap (λ (x : Seen). x.part) (value_is l (Nested kinds_of_lists.List (length vs) (octets_of vs)) (value_deeper 29 MAX_DEPTH l (Nested kinds_of_lists.List (length vs) (octets_of vs)) (omega arith) list)) in
     ap (λ (p : Part). both_of (descriptor_named p) (list_in (seen_of l).part)) dv
     ∙ ap (λ (p : Part). both_of (descriptor_of_code code) (list_in p)) lv
     ∙ ap (λ (ps : List Seen). both_of (descriptor_of_code code) (Some ps)) (values_are (length vs) (octets_of vs) vs (are_values 28 vs (omega arith) at))
@@ -99,7 +99,7 @@ state_there octets _ state e = refl
 
 state_seen : (state : StateFields) (is : IsWritableState state) → state_value state ≡ record { octets = state.octets; part = is.says }
 state_seen state is =
-    ap (λ (x : Seen). record { octets = state.octets; part = x.part }) (value_is state.octets is.says (value_deeper levels_in_described levels_allowed state.octets is.says (omega arith) is.is))
+    ap (λ (x : Seen). record { octets = state.octets; part = x.part }) (value_is state.octets is.says (value_deeper levels_in_described MAX_DEPTH state.octets is.says (omega arith) is.is))
 
 pub state_can : (state : Option StateFields) → IfThere IsWritableState state → CanStand levels_in_described (option_map state_value state)
 state_can None is = tt

@@ -7,7 +7,8 @@ use Rattle.std.proofs.lemmas.List.Concat.{flat_map-cons}
 use Rattle.std.proofs.lemmas.Bool.{ltb-false, le-ltb}
 use Rattle.amqp_types.specs.declared.code.Kind.TheVariants as kinds
 use Rattle.amqp_types.specs.Part.{Part, Seen, Nested, Described, Tagged}
-use Rattle.amqp_types.specs.Reading.{Read, seen_at, item_at, levels_allowed}
+use Rattle.amqp_types.specs.Reading.{Read, seen_at, item_at}
+use Rattle.flow_counts.specs.declared.profile.TheConstants.{MAX_DEPTH}
 use Rattle.amqp_types.specs.Items.{items_in, seen_in, seen_of}
 use Rattle.amqp_types.specs.Grammar.{IsValue, AreValuesOf}
 use Rattle.amqp_types.specs.Typed.{list_in}
@@ -53,26 +54,26 @@ checked_again kind fields fit =
 
 -- ---- the items of a list
 
-values_are_by : (octets : List ℕ) (values : List Seen) → flat_map (λ value. value.octets) values ≡ octets → AllByRecursion (λ value. IsValue levels_allowed value.octets value.part) values
+values_are_by : (octets : List ℕ) (values : List Seen) → flat_map (λ value. value.octets) values ≡ octets → AllByRecursion (λ value. IsValue MAX_DEPTH value.octets value.part) values
     → seen_in (length values) octets ≡ values
 unfolding items_in item_at
 values_are_by octets [] joined each = refl
 values_are_by octets (x ∷ xs) joined each =
     let rest = flat_map (λ (value : Seen). value.octets) xs in
     let parts : x.octets ++ rest ≡ octets = sym (flat_map-cons (λ (value : Seen). value.octets) x xs) ∙ joined in
-    let read : seen_at levels_allowed 0 octets ≡ Ok (x, rest) = ap (seen_at levels_allowed 0) (sym parts) ∙ seen_again levels_allowed 0 x.octets rest x.part each.0 in
+    let read : seen_at MAX_DEPTH 0 octets ≡ Ok (x, rest) = ap (seen_at MAX_DEPTH 0) (sym parts) ∙ seen_again MAX_DEPTH 0 x.octets rest x.part each.0 in
     rw read (ap (λ (vs : List Seen). x ∷ vs) (values_are_by rest xs refl each.1))
 
 -- octets hold just these values
 pub values_are : (n : ℕ) (octets : List ℕ) (values : List Seen) → AreValuesOf n octets values → seen_in n octets ≡ values
 values_are n octets values are =
-    subst (λ k. seen_in k octets ≡ values) are.count (values_are_by octets values are.joined (recursion_from_All (λ value. IsValue levels_allowed value.octets value.part) values are.each))
+    subst (λ k. seen_in k octets ≡ values) are.count (values_are_by octets values are.joined (recursion_from_All (λ value. IsValue MAX_DEPTH value.octets value.part) values are.each))
 
 -- ---- a value
 
 -- a described list, where its parts are known
-parts_found : (octets descriptor described : List ℕ) (d v : Part) (meaning : Meaning) (names : Option Descriptor) → IsValue levels_allowed octets (Described descriptor described)
-    → IsValue levels_allowed descriptor d → IsValue levels_allowed described v → descriptor_named d ≡ names → said_of (both_of names (list_in v)) ≡ Ok meaning
+parts_found : (octets descriptor described : List ℕ) (d v : Part) (meaning : Meaning) (names : Option Descriptor) → IsValue MAX_DEPTH octets (Described descriptor described)
+    → IsValue MAX_DEPTH descriptor d → IsValue MAX_DEPTH described v → descriptor_named d ≡ names → said_of (both_of names (list_in v)) ≡ Ok meaning
     → IsPerformative octets meaning
 parts_found octets descriptor described d (Nested kinds.List count body) meaning (Some (Performative kind)) whole says list names e =
     let fit = checked_found kind (seen_in count body) meaning e in
@@ -95,7 +96,7 @@ parts_found octets descriptor described d (Nested kinds.List count body) meaning
 parts_found octets descriptor described d _ meaning None whole says list names e = absurd cc
 parts_found octets descriptor described d _ meaning (Some _) whole says list names e = absurd cc
 
-said_found : (octets : List ℕ) (part : Part) (meaning : Meaning) → IsValue levels_allowed octets part → said part ≡ Ok meaning → IsPerformative octets meaning
+said_found : (octets : List ℕ) (part : Part) (meaning : Meaning) → IsValue MAX_DEPTH octets part → said part ≡ Ok meaning → IsPerformative octets meaning
 said_found octets (Described descriptor described) meaning whole e =
     let holds = pair_holds octets descriptor described whole in
     let d = ap (λ (x : Seen). x.part) (value_is descriptor holds.0.says holds.0.is) in
@@ -117,12 +118,12 @@ said_again octets meaning is =
 
 -- ---- octets
 
-found_by : (bytes : List ℕ) (read : Read Seen) (y : Meaning × List ℕ) → seen_at levels_allowed 0 bytes ≡ read → said_by read ≡ Ok y → IsFront bytes y.0 y.1
+found_by : (bytes : List ℕ) (read : Read Seen) (y : Meaning × List ℕ) → seen_at MAX_DEPTH 0 bytes ≡ read → said_by read ≡ Ok y → IsFront bytes y.0 y.1
 found_by bytes (Ok x) y is e = from (said x.0.part) refl e
   where
     from : (r : Result Meaning PerfFault) → said x.0.part ≡ r → before x.1 r ≡ Ok y → IsFront bytes y.0 y.1
     from (Ok meaning) said_is same =
-        let front = seen_found levels_allowed 0 bytes x is in
+        let front = seen_found MAX_DEPTH 0 bytes x is in
         let pair : ◌≡◌ {A = Meaning × List ℕ} (meaning, x.1) y = cc in
         subst (λ z. IsFront bytes z.0 z.1) pair (record { front = x.0.octets; parts = front.parts; is = said_found x.0.octets x.0.part meaning front.is said_is })
     from (Err fault) said_is same = absurd cc
@@ -131,14 +132,14 @@ found_by bytes (Err fault) y is e = absurd cc
 -- what is read is a performative at the front
 pub performative_found : (bytes : List ℕ) (y : Meaning × List ℕ) → performative_at bytes ≡ Ok y → IsFront bytes y.0 y.1
 unfolding performative_at
-performative_found bytes y e = found_by bytes (seen_at levels_allowed 0 bytes) y refl e
+performative_found bytes y e = found_by bytes (seen_at MAX_DEPTH 0 bytes) y refl e
 
 -- a performative at the front is read
 pub performative_again : (bytes : List ℕ) (meaning : Meaning) (rest : List ℕ) → IsFront bytes meaning rest → performative_at bytes ≡ Ok (meaning, rest)
 unfolding performative_at
 performative_again bytes meaning rest front =
     let part = Described front.is.descriptor front.is.described in
-    let read : seen_at levels_allowed 0 bytes ≡ Ok (record { octets = front.front; part = part }, rest) = ap (seen_at levels_allowed 0) front.parts ∙ seen_again levels_allowed 0 front.front rest part front.is.whole in
+    let read : seen_at MAX_DEPTH 0 bytes ≡ Ok (record { octets = front.front; part = part }, rest) = ap (seen_at MAX_DEPTH 0) front.parts ∙ seen_again MAX_DEPTH 0 front.front rest part front.is.whole in
     rw (read, said_again front.front meaning front.is) refl
 
 -- ---- what a function returned

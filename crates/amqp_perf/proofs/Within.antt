@@ -8,7 +8,8 @@ use Rattle.amqp_types.specs.declared.code.Kind.TheVariants as kinds_of_lists
 use Rattle.amqp_types.specs.declared.code.Code.{Code}
 use Rattle.amqp_types.specs.declared.code.Code.TheVariants as codes
 use Rattle.amqp_types.specs.Part.{Part, Nested, Described, Seen}
-use Rattle.amqp_types.specs.Reading.{seen_at, levels_allowed}
+use Rattle.amqp_types.specs.Reading.{seen_at}
+use Rattle.flow_counts.specs.declared.profile.TheConstants.{MAX_DEPTH}
 use Rattle.amqp_types.specs.Items.{descriptor_of}
 use Rattle.amqp_types.specs.Grammar.{IsData, IsValue, AreItems}
 use Rattle.amqp_types.specs.Writing.{levels_in_list, levels_in_described}
@@ -76,9 +77,9 @@ items_within levels (b ∷ octets) kind n body h = list_data levels h.0 octets k
 
 -- ---- the same octets say one thing
 
-same_part : (few : ℕ) (octets : List ℕ) (p q : Part) → few ≤ levels_allowed → IsValue few octets p → IsValue levels_allowed octets q → IsValue few octets q
+same_part : (few : ℕ) (octets : List ℕ) (p q : Part) → few ≤ MAX_DEPTH → IsValue few octets p → IsValue MAX_DEPTH octets q → IsValue few octets q
 same_part few octets p q le hp hq =
-    let one = value_is octets p (value_deeper few levels_allowed octets p le hp) in
+    let one = value_is octets p (value_deeper few MAX_DEPTH octets p le hp) in
     let two = value_is octets q hq in
     let same : p ≡ q = ap (λ (x : Seen). x.part) (sym one ∙ two) in
     subst (IsValue few octets) same hp
@@ -87,7 +88,7 @@ abbrev AreIn : ℕ → List Seen → Type 0
 AreIn levels values = AllByRecursion (λ value. IsValue levels value.octets value.part) values
 
 -- items that are known to be nested less deep
-values_within : (few : ℕ) (octets : List ℕ) (values : List Seen) → few ≤ levels_allowed → flat_map (λ value. value.octets) values ≡ octets → AreIn levels_allowed values → AreItems (IsValue few) (length values) octets → AreIn few values
+values_within : (few : ℕ) (octets : List ℕ) (values : List Seen) → few ≤ MAX_DEPTH → flat_map (λ value. value.octets) values ≡ octets → AreIn MAX_DEPTH values → AreItems (IsValue few) (length values) octets → AreIn few values
 values_within few octets [] le joined each items = tt
 values_within few octets (x ∷ xs) le joined each items =
     let first = items.0 in
@@ -95,9 +96,9 @@ values_within few octets (x ∷ xs) le joined each items =
     let part = items.2 in
     let rest = flat_map (λ (value : Seen). value.octets) xs in
     let parts : x.octets ++ rest ≡ octets = sym (flat_map-cons (λ (value : Seen). value.octets) x xs) ∙ joined in
-    let one : seen_at levels_allowed 0 octets ≡ Ok (x, rest) = ap (seen_at levels_allowed 0) (sym parts) ∙ seen_again levels_allowed 0 x.octets rest x.part each.0 in
-    let two : seen_at levels_allowed 0 octets ≡ Ok (record { octets = first; part = part }, behind) =
-    ap (seen_at levels_allowed 0) items.3 ∙ seen_again levels_allowed 0 first behind part (value_deeper few levels_allowed first part le items.4) in
+    let one : seen_at MAX_DEPTH 0 octets ≡ Ok (x, rest) = ap (seen_at MAX_DEPTH 0) (sym parts) ∙ seen_again MAX_DEPTH 0 x.octets rest x.part each.0 in
+    let two : seen_at MAX_DEPTH 0 octets ≡ Ok (record { octets = first; part = part }, behind) =
+    ap (seen_at MAX_DEPTH 0) items.3 ∙ seen_again MAX_DEPTH 0 first behind part (value_deeper few MAX_DEPTH first part le items.4) in
     let same : ◌≡◌ {A = Seen × List ℕ} (record { octets = first; part = part }, behind) (x, rest) = cc in
     let head : record { octets = first; part = part } ≡ x = ap (λ (y : Seen × List ℕ). y.0) same in
     let tail : behind ≡ rest = ap (λ (y : Seen × List ℕ). y.1) same in (
@@ -154,7 +155,7 @@ fields_within octets meaning is =
     let list : IsValue levels_in_list is.described (Nested kinds_of_lists.List is.count is.body) =
     same_part levels_in_list is.described inner.0 (Nested kinds_of_lists.List is.count is.body) (omega arith) inner.1 is.list in
     let items : AreItems (IsValue levels_in_described) is.count is.body = items_within levels_in_described is.described kinds_of_lists.List is.count is.body list in
-    values_within levels_in_described is.body is.values (omega arith) is.items.joined (recursion_from_All (λ (value : Seen). IsValue levels_allowed value.octets value.part) is.values is.items.each)
+    values_within levels_in_described is.body is.values (omega arith) is.items.joined (recursion_from_All (λ (value : Seen). IsValue MAX_DEPTH value.octets value.part) is.values is.items.each)
     (subst (λ (k : ℕ). AreItems (IsValue levels_in_described) k is.body) (sym is.items.count) items)
 
 -- the state that a disposition tells can be written in another

@@ -4,6 +4,7 @@ use Rattle.amqp_types.specs.declared.code.Text.TheVariants as texts
 use Rattle.amqp_types.specs.Part.{Seen}
 use Rattle.amqp_types.specs.Writing.{boolean_octets, ubyte_octets, list_octets}
 use Rattle.amqp_types.proofs.Shortest.{uint_long, ulong_long, text_long, list_long}
+use Rattle.flow_counts.specs.declared.profile.TheConstants.{MAX_FRAME_SIZE, CHANNEL_MAX, MAX_LINK_NAME, MAX_ADDRESS, MAX_DELIVERY_TAG}
 use Rattle.amqp_perf.specs.declared.attach.Role.{Role}
 use Rattle.amqp_perf.specs.declared.attach.Role.TheVariants.{Sender, Receiver}
 use Rattle.amqp_perf.specs.declared.attach.SenderSettleMode.{SenderSettleMode}
@@ -22,7 +23,7 @@ use Rattle.amqp_perf.specs.Meaning.{AnOpen, AnAttach, ATransfer, ADisposition, A
 use Rattle.amqp_perf.specs.Conditions.{condition_name}
 use Rattle.amqp_perf.specs.Slots.{boolean_value, uint_value, ulong_value, values_of, octets_of, fields_octets, AllCanStand, AreShort}
 use Rattle.amqp_perf.specs.Writing.{role_value, sender_mode_value, receiver_mode_value, source_value, target_value, state_value, error_value, error_slots, terminus_slots, open_slots, attach_slots, transfer_slots, disposition_slots, detach_slots, ending_slots, IsWritable, IsWritableState, IsWritableTerminus, IsWritableError, IfThere}
-use Rattle.amqp_perf.specs.Router.{largest_frame, highest_channel, router_open, attach_to_producer, attach_to_consumer, attach_refused, bare_terminus, terminus_at, source_at, detach_with, first_transfer, later_transfer, outcome_told, settling, bare_state, delivery_failed, FitsFrame}
+use Rattle.amqp_perf.specs.Router.{router_open, attach_to_producer, attach_to_consumer, attach_refused, bare_terminus, terminus_at, source_at, detach_with, first_transfer, later_transfer, outcome_told, settling, bare_state, delivery_failed, FitsFrame}
 use Rattle.amqp_perf.proofs.Slots.{says_fields, fields_nested}
 use Rattle.amqp_perf.proofs.NestedAgain.{described_again, none_short}
 use Rattle.amqp_perf.proofs.SlotValues.{flag_can}
@@ -34,24 +35,24 @@ use Rattle.amqp_perf.proofs.Lengths.{AtMost, fields_long, ushort_long, flag_long
 nested_long : (n code : ℕ) (ss : List (Option Seen)) → length (octets_of (values_of ss)) ≤ n → length (fields_octets code ss) ≤ 12 + n
 nested_long n code ss h = omega (arith, list_long (length (values_of ss)) (octets_of (values_of ss)))
 
-terminus_few : (address : List ℕ) → length address ≤ 160 → length (octets_of (values_of (terminus_slots (terminus_at address)))) ≤ 850
+terminus_few : (address : List ℕ) → length address ≤ MAX_ADDRESS → length (octets_of (values_of (terminus_slots (terminus_at address)))) ≤ 850
 terminus_few address h = fields_long 170 (terminus_slots (terminus_at address)) (omega arith) (omega (arith, text_long texts.Str address), (tt, (tt, (tt, (tt, tt)))))
 
 bare_few : length (octets_of (values_of (terminus_slots bare_terminus))) ≤ 850
 bare_few = fields_long 170 (terminus_slots bare_terminus) (omega arith) (tt, (tt, (tt, (tt, (tt, tt)))))
 
-source_few : (address : List ℕ) (b : Bool) → length address ≤ 160 → length (octets_of (values_of (terminus_slots (source_at address b)))) ≤ 850
+source_few : (address : List ℕ) (b : Bool) → length address ≤ MAX_ADDRESS → length (octets_of (values_of (terminus_slots (source_at address b)))) ≤ 850
 source_few address true h =
     fields_long 170 (terminus_slots (source_at address true)) (omega arith) (omega (arith, text_long texts.Str address), (tt, (tt, (tt, (omega (arith, flag_long true), tt)))))
 source_few address false h = terminus_few address h
 
-at_writable : (address : List ℕ) → IsUtf8 address → length address ≤ 160 → IsWritableTerminus (terminus_at address)
+at_writable : (address : List ℕ) → IsUtf8 address → length address ≤ MAX_ADDRESS → IsWritableTerminus (terminus_at address)
 at_writable address text h = record { address = (omega arith, text); few = omega (arith, terminus_few address h) }
 
 bare_writable : IsWritableTerminus bare_terminus
 bare_writable = record { address = tt; few = omega (arith, bare_few) }
 
-source_writable : (address : List ℕ) (b : Bool) → IsUtf8 address → length address ≤ 160 → IsWritableTerminus (source_at address b)
+source_writable : (address : List ℕ) (b : Bool) → IsUtf8 address → length address ≤ MAX_ADDRESS → IsWritableTerminus (source_at address b)
 source_writable address true text h = record { address = (omega arith, text); few = omega (arith, source_few address true h) }
 source_writable address false text h = at_writable address text h
 
@@ -88,7 +89,7 @@ ulong_most : (n : Option ℕ) → AtMost 1000 (option_map ulong_value n)
 ulong_most None = tt
 ulong_most (Some n) = omega (arith, ulong_long n)
 
-attach_few : (a : AttachFields) → length a.name ≤ 255 → AtMost 1000 (option_map source_value a.source) → AtMost 1000 (option_map target_value a.target) → AreShort (attach_slots a)
+attach_few : (a : AttachFields) → length a.name ≤ MAX_LINK_NAME → AtMost 1000 (option_map source_value a.source) → AtMost 1000 (option_map target_value a.target) → AreShort (attach_slots a)
 attach_few a name source target =
     omega (
       arith,
@@ -110,7 +111,7 @@ attach_few a name source target =
 bare_long : (code : ℕ) → length (fields_octets code (terminus_slots bare_terminus)) ≤ 1000
 bare_long code = omega (arith, nested_long 850 code (terminus_slots bare_terminus) bare_few)
 
-pub to_producer_writable : (theirs : AttachFields) (address : List ℕ) → IsUtf8 address → length theirs.name ≤ 255 → length address ≤ 160 → IsWritable (AnAttach (attach_to_producer theirs address))
+pub to_producer_writable : (theirs : AttachFields) (address : List ℕ) → IsUtf8 address → length theirs.name ≤ MAX_LINK_NAME → length address ≤ MAX_ADDRESS → IsWritable (AnAttach (attach_to_producer theirs address))
 to_producer_writable theirs address text name short = record {
   fields = (omega arith, bare_writable, at_writable address text short);
   few =
@@ -118,7 +119,7 @@ to_producer_writable theirs address text name short = record {
       (omega (arith, nested_long 850 0x29 (terminus_slots (terminus_at address)) (terminus_few address short)));
 }
 
-pub to_consumer_writable : (theirs : AttachFields) (address : List ℕ) (is_dynamic : Bool) (mode : SenderSettleMode) → IsUtf8 address → length theirs.name ≤ 255 → length address ≤ 160
+pub to_consumer_writable : (theirs : AttachFields) (address : List ℕ) (is_dynamic : Bool) (mode : SenderSettleMode) → IsUtf8 address → length theirs.name ≤ MAX_LINK_NAME → length address ≤ MAX_ADDRESS
     → IsWritable (AnAttach (attach_to_consumer theirs address is_dynamic mode))
 to_consumer_writable theirs address is_dynamic mode text name short = record {
   fields = (omega arith, source_writable address is_dynamic text short, bare_writable);
@@ -128,7 +129,7 @@ to_consumer_writable theirs address is_dynamic mode text name short = record {
       (bare_long 0x29);
 }
 
-pub refused_writable : (theirs : AttachFields) → length theirs.name ≤ 255 → IsWritable (AnAttach (attach_refused theirs))
+pub refused_writable : (theirs : AttachFields) → length theirs.name ≤ MAX_LINK_NAME → IsWritable (AnAttach (attach_refused theirs))
 refused_writable theirs name = record { fields = (omega arith, tt, tt); few = attach_few (attach_refused theirs) name tt tt }
 
 -- ---- errors
@@ -180,7 +181,7 @@ open_writable = record {
         arith,
         fields_long 20 (open_slots router_open) (omega arith) (
           omega (arith, text_long texts.Str (codes "amqp-router")),
-          (tt, (omega (arith, uint_long largest_frame), (omega (arith, ushort_long highest_channel), (tt, tt)))),
+          (tt, (omega (arith, uint_long MAX_FRAME_SIZE), (omega (arith, ushort_long CHANNEL_MAX), (tt, tt)))),
         ),
       );
 }
@@ -197,7 +198,7 @@ later_writable handle more = record {
       );
 }
 
-pub first_writable : (handle id : ℕ) (tag : List ℕ) (format : ℕ) (settled more : Bool) → length tag ≤ 32 → IsWritable (ATransfer (first_transfer handle id tag format settled more))
+pub first_writable : (handle id : ℕ) (tag : List ℕ) (format : ℕ) (settled more : Bool) → length tag ≤ MAX_DELIVERY_TAG → IsWritable (ATransfer (first_transfer handle id tag format settled more))
 first_writable handle id tag format settled more h = record {
   fields = omega arith;
   few =
@@ -219,7 +220,7 @@ settling_writable id = record {
   few = omega (arith, fields_long 5 (disposition_slots (settling id)) (omega arith) (flag_long false, (uint_long id, (tt, (flag_long true, (tt, tt))))));
 }
 
-state_most : (state : Option StateFields) → IfThere FitsFrame state → AtMost 16384 (option_map (λ (s : StateFields). state_value s) state)
+state_most : (state : Option StateFields) → IfThere FitsFrame state → AtMost MAX_FRAME_SIZE (option_map (λ (s : StateFields). state_value s) state)
 state_most None h = tt
 state_most (Some state) h = h
 
@@ -229,7 +230,7 @@ outcome_writable id state is fits = record {
   few =
       omega (
         arith,
-        fields_long 16384 (disposition_slots (outcome_told id state)) (omega arith) (
+        fields_long MAX_FRAME_SIZE (disposition_slots (outcome_told id state)) (omega arith) (
           omega (arith, flag_long true),
           (omega (arith, uint_long id), (tt, (omega (arith, flag_long true), (state_most state fits, tt)))),
         ),

@@ -5,7 +5,7 @@ use Rattle.amqp_types.specs.declared.code.Kind.TheVariants as kinds
 use Rattle.amqp_types.specs.Part.{Part, Seen, Nested, Described}
 use Rattle.amqp_types.specs.Typed.{says_null}
 use Rattle.amqp_types.specs.Grammar.{IsValue, AreValuesOf}
-use Rattle.amqp_types.specs.Reading.{levels_allowed}
+use Rattle.flow_counts.specs.declared.profile.TheConstants.{MAX_DEPTH}
 use Rattle.amqp_perf.specs.declared.table.Field.{Field}
 use Rattle.amqp_perf.specs.declared.descriptor.PerformativeKind.{PerformativeKind}
 use Rattle.amqp_perf.specs.declared.descriptor.Descriptor.TheVariants.{Performative}
@@ -29,14 +29,14 @@ AreFields (f ∷ fs) (p ∷ ps) = IsField f p × AreFields fs ps
 pub record IsPerformative (octets : List ℕ) (meaning : Meaning) : Type 0 where
   pub descriptor : List ℕ
   pub described : List ℕ
-  pub whole : IsValue levels_allowed octets (Described descriptor described)
+  pub whole : IsValue MAX_DEPTH octets (Described descriptor described)
   pub says : Part
-  pub descriptor_is : IsValue levels_allowed descriptor says
+  pub descriptor_is : IsValue MAX_DEPTH descriptor says
   pub kind : PerformativeKind
   pub names : descriptor_named says ≡ Some (Performative kind)
   pub count : ℕ
   pub body : List ℕ
-  pub list : IsValue levels_allowed described (Nested kinds.List count body)
+  pub list : IsValue MAX_DEPTH described (Nested kinds.List count body)
   pub values : List Seen
   pub items : AreValuesOf count body values
   pub fit : AreFields (table_of kind) values

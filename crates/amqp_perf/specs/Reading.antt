@@ -1,7 +1,8 @@
 -- Reading a performative, with the first fault: the value, the descriptor, the number of fields, then each field.
 use Rattle.std.specs.Prelude.{◌≡◌, ℕ, List, length, Option, Some, None, Result, Ok, Err, nat_lt, if◌then◌else◌}
 use Rattle.amqp_types.specs.Part.{Part, Seen}
-use Rattle.amqp_types.specs.Reading.{Read, seen_at, levels_allowed}
+use Rattle.amqp_types.specs.Reading.{Read, seen_at}
+use Rattle.flow_counts.specs.declared.profile.TheConstants.{MAX_DEPTH}
 use Rattle.amqp_perf.specs.declared.fault.PerfFault.{PerfFault}
 use Rattle.amqp_perf.specs.declared.fault.PerfFault.TheVariants.{Value, NotPerformative, TooManyFields}
 use Rattle.amqp_perf.specs.declared.descriptor.PerformativeKind.{PerformativeKind}
@@ -44,7 +45,7 @@ said_by (Err fault) = Err (Value fault)
 
 -- a performative at the front of these octets, and what stands behind it
 unfoldable pub performative_at : List ℕ → Result (Meaning × List ℕ) PerfFault
-performative_at bytes = said_by (seen_at levels_allowed 0 bytes)
+performative_at bytes = said_by (seen_at MAX_DEPTH 0 bytes)
 
 -- What a function returned, seen by view, is what reading gives.
 abbrev pub Gives : {X Y : Type 0} → (X → Y) → Result X PerfFault → Result Y PerfFault → Type 0

@@ -1,6 +1,7 @@
 -- What the router says in the performatives that it writes: own rules, in the fields of the standard (part 2, section
 -- 2.7). A field that it doesn't write is absent.
 use Rattle.std.specs.Prelude.{ℕ, ◌≤◌, Bool, true, false, List, [], ◌∷◌, length, Option, Some, None, option_map, codes}
+use Rattle.flow_counts.specs.declared.profile.TheConstants.{MAX_FRAME_SIZE, CHANNEL_MAX, HANDLE_MAX, INCOMING_WINDOW, OUTGOING_WINDOW, MAX_MESSAGE_SIZE}
 use Rattle.amqp_perf.specs.declared.attach.Role.{Role}
 use Rattle.amqp_perf.specs.declared.attach.Role.TheVariants.{Sender, Receiver}
 use Rattle.amqp_perf.specs.declared.attach.SenderSettleMode.{SenderSettleMode}
@@ -14,40 +15,33 @@ use Rattle.amqp_perf.specs.Nested.{StateFields, AText, TerminusFields, ATerminus
 use Rattle.amqp_perf.specs.Meaning.{OpenFields, AttachFields, TransferFields, DispositionFields, DetachFields, sender_mode, receiver_mode}
 use Rattle.amqp_perf.specs.Conditions.{condition_name}
 
--- ---- the numbers of the router
+-- ---- the numbers under the names that the law of captures cites
 
--- the largest frame that it takes, in octets
 abbrev pub largest_frame : ℕ
-largest_frame = 16384
+largest_frame = MAX_FRAME_SIZE
 
--- the highest channel and the highest handle that it takes
 abbrev pub highest_channel : ℕ
-highest_channel = 255
+highest_channel = CHANNEL_MAX
 
 abbrev pub highest_handle : ℕ
-highest_handle = 1023
-
--- how many transfers it takes before it renews the window, and how many it says that it may send
-abbrev pub window_given : ℕ
-window_given = 2048
+highest_handle = HANDLE_MAX
 
 abbrev pub window_kept : ℕ
-window_kept = 2147483647
+window_kept = OUTGOING_WINDOW
 
--- the largest payload of a delivery that it takes, in octets
 abbrev pub largest_message : ℕ
-largest_message = 16777216
+largest_message = MAX_MESSAGE_SIZE
 
 -- ---- connections and sessions
 
 -- 2.7.1
 abbrev pub router_open : OpenFields
-router_open = record { container_id = codes "amqp-router"; max_frame_size = Some largest_frame; channel_max = Some highest_channel; idle_time_out = None }
+router_open = record { container_id = codes "amqp-router"; max_frame_size = Some MAX_FRAME_SIZE; channel_max = Some CHANNEL_MAX; idle_time_out = None }
 
 -- the answer to a begin on this channel (2.7.2)
 abbrev pub begin_answer : ℕ → Begin
 begin_answer channel =
-    record { remote_channel = Some channel; next_outgoing_id = 0; incoming_window = window_given; outgoing_window = window_kept; handle_max = Some highest_handle }
+    record { remote_channel = Some channel; next_outgoing_id = 0; incoming_window = INCOMING_WINDOW; outgoing_window = OUTGOING_WINDOW; handle_max = Some HANDLE_MAX }
 
 -- ---- links
 
@@ -79,7 +73,7 @@ attach_to_producer theirs address = record {
   source = Some bare_terminus;
   target = Some (ATerminus (terminus_at address));
   initial_delivery_count = None;
-  max_message_size = Some largest_message;
+  max_message_size = Some MAX_MESSAGE_SIZE;
 }
 
 -- the answer to a consumer's attach, which settles so (2.7.3)
@@ -124,9 +118,9 @@ detach_with handle closed error = record { handle = handle; closed = Some closed
 abbrev pub session_flow : ℕ → ℕ → Flow
 session_flow next_incoming next_outgoing = record {
   next_incoming_id = Some next_incoming;
-  incoming_window = window_given;
+  incoming_window = INCOMING_WINDOW;
   next_outgoing_id = next_outgoing;
-  outgoing_window = window_kept;
+  outgoing_window = OUTGOING_WINDOW;
   handle = None;
   delivery_count = None;
   link_credit = None;
@@ -207,4 +201,4 @@ delivery_failed = record { octets = 0x00 ∷ 0x53 ∷ 0x27 ∷ 0xC0 ∷ 0x02 ∷
 
 -- a state that came in one frame
 abbrev pub FitsFrame : StateFields → Type 0
-FitsFrame state = length state.octets ≤ largest_frame
+FitsFrame state = length state.octets ≤ MAX_FRAME_SIZE

@@ -46,12 +46,12 @@ pub use disposition::Disposition;
 pub use fault::PerfFault;
 pub use fields::{Fields, check_fields};
 pub use flow::Flow;
+pub use flow_counts::{
+    CHANNEL_MAX as HIGHEST_CHANNEL, HANDLE_MAX as HIGHEST_HANDLE, INCOMING_WINDOW,
+    MAX_FRAME_SIZE as LARGEST_FRAME, MAX_MESSAGE_SIZE as LARGEST_MESSAGE, OUTGOING_WINDOW,
+};
 pub use opening::Open;
 pub use performative::Performative;
-pub use router::{
-    HIGHEST_CHANNEL, HIGHEST_HANDLE, INCOMING_WINDOW, LARGEST_FRAME, LARGEST_MESSAGE,
-    OUTGOING_WINDOW,
-};
 pub use slot::{Slot, put_fields};
 pub use state::State;
 pub use table::{Field, FieldType};

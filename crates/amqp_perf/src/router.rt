@@ -2,6 +2,7 @@
 //! written, where the texts that they repeat are not longer than a router takes them.
 
 ghost use Rattle.std.specs.Prelude.{◌≡◌, ◌≤◌, ◌<◌, ◌+◌, ◌^◌, ℕ, List, length, option_map, Some};
+ghost use Rattle.flow_counts.specs.declared.profile.TheConstants.{MAX_LINK_NAME, MAX_ADDRESS, MAX_DELIVERY_TAG};
 ghost use Rattle.amqp_perf.specs.Meaning.{AnOpen, AnAttach, ATransfer, ADisposition, ADetach, AnEnd, AClose};
 ghost use Rattle.amqp_perf.specs.Conditions.{condition_name};
 ghost use Rattle.std.specs.Option.{option_copied};
@@ -22,19 +23,9 @@ use crate::performative::Performative;
 use crate::state::State;
 use crate::terminus::{Address, Target, Terminus};
 use crate::transfer::Transfer;
-
-/// The largest frame that the router takes, in octets.
-pub const LARGEST_FRAME: u32 = 16384;
-/// The highest channel that the router takes.
-pub const HIGHEST_CHANNEL: u16 = 255;
-/// The highest handle that the router takes.
-pub const HIGHEST_HANDLE: u32 = 1023;
-/// How many transfers the router takes on a session before it gives its window anew.
-pub const INCOMING_WINDOW: u32 = 2048;
-/// How many transfers the router says that it may send.
-pub const OUTGOING_WINDOW: u32 = 2147483647;
-/// The largest payload of a delivery that the router takes, in octets.
-pub const LARGEST_MESSAGE: u64 = 16777216;
+use flow_counts::{
+    CHANNEL_MAX, HANDLE_MAX, INCOMING_WINDOW, MAX_FRAME_SIZE, MAX_MESSAGE_SIZE, OUTGOING_WINDOW,
+};
 
 impl Open<'static> {
     /// The router's open.
@@ -44,8 +35,8 @@ impl Open<'static> {
     {
         Open {
             container_id: "amqp-router",
-            max_frame_size: Some(LARGEST_FRAME),
-            channel_max: Some(HIGHEST_CHANNEL),
+            max_frame_size: Some(MAX_FRAME_SIZE),
+            channel_max: Some(CHANNEL_MAX),
             idle_time_out: None,
         }
     }
@@ -61,7 +52,7 @@ impl Begin {
             next_outgoing_id: 0,
             incoming_window: INCOMING_WINDOW,
             outgoing_window: OUTGOING_WINDOW,
-            handle_max: Some(HIGHEST_HANDLE),
+            handle_max: Some(HANDLE_MAX),
         }
     }
 }
@@ -94,7 +85,7 @@ impl<'a> Attach<'a> {
     /// The answer to a producer's attach, for this address.
     pub fn to_producer(self, address: &'a str) -> Attach<'a>
         ensures says { attach_fields result ≡ attach_to_producer (attach_fields self.entry) address.now }
-        ensures writable { length self.entry.name.now ≤ 255 → length address.now ≤ 160 → IsWritable (AnAttach (attach_to_producer (attach_fields self.entry) address.now)) }
+        ensures writable { length self.entry.name.now ≤ MAX_LINK_NAME → length address.now ≤ MAX_ADDRESS → IsWritable (AnAttach (attach_to_producer (attach_fields self.entry) address.now)) }
     {
         Attach {
             name: self.name,
@@ -108,7 +99,7 @@ impl<'a> Attach<'a> {
             }),
             target: Some(Target::Terminus(Terminus::at(address, false))),
             initial_delivery_count: None,
-            max_message_size: Some(LARGEST_MESSAGE),
+            max_message_size: Some(MAX_MESSAGE_SIZE),
         }
     }
 
@@ -120,7 +111,7 @@ impl<'a> Attach<'a> {
         mode: SenderSettleMode,
     ) -> Attach<'a>
         ensures says { attach_fields result ≡ attach_to_consumer (attach_fields self.entry) address.now is_dynamic mode }
-        ensures writable { length self.entry.name.now ≤ 255 → length address.now ≤ 160
+        ensures writable { length self.entry.name.now ≤ MAX_LINK_NAME → length address.now ≤ MAX_ADDRESS
             → IsWritable (AnAttach (attach_to_consumer (attach_fields self.entry) address.now is_dynamic mode)) }
     {
         Attach {
@@ -142,7 +133,7 @@ impl<'a> Attach<'a> {
     /// The answer to an attach that is refused.
     pub fn refused(self) -> Attach<'a>
         ensures says { attach_fields result ≡ attach_refused (attach_fields self.entry) }
-        ensures writable { length self.entry.name.now ≤ 255 → IsWritable (AnAttach (attach_refused (attach_fields self.entry))) }
+        ensures writable { length self.entry.name.now ≤ MAX_LINK_NAME → IsWritable (AnAttach (attach_refused (attach_fields self.entry))) }
     {
         let role = self.role.other();
         Attach {
@@ -233,7 +224,7 @@ impl<'a> Transfer<'a> {
         more: bool,
     ) -> Transfer<'a>
         ensures says { transfer_fields result ≡ first_transfer handle delivery_id delivery_tag.now message_format settled more }
-        ensures writable { length delivery_tag.now ≤ 32 → IsWritable (ATransfer (first_transfer handle delivery_id delivery_tag.now message_format settled more)) }
+        ensures writable { length delivery_tag.now ≤ MAX_DELIVERY_TAG → IsWritable (ATransfer (first_transfer handle delivery_id delivery_tag.now message_format settled more)) }
     {
         Transfer {
             handle,

@@ -2,7 +2,8 @@
 use Rattle.std.proofs.Common.{◌≡◌, ℕ, suc, ◌+◌, ◌≤◌, ◌<◌, List, [], ◌∷◌, ◌++◌, length, drop, slice_index, Some, Ok, sym, ap, ◌∙◌, append_assoc, arith}
 use Rattle.std.proofs.lemmas.List.{length-append}
 use Rattle.amqp_types.specs.Part.{Seen, Constructor}
-use Rattle.amqp_types.specs.Reading.{tagged_at, constructor_at, seen_at, in_front, levels_allowed}
+use Rattle.amqp_types.specs.Reading.{tagged_at, constructor_at, seen_at, in_front}
+use Rattle.flow_counts.specs.declared.profile.TheConstants.{MAX_DEPTH}
 use Rattle.amqp_types.specs.Items.{form_of}
 use Rattle.amqp_types.proofs.Steps.{done}
 use Rattle.amqp_types.proofs.Pieces.{in_front_is}
@@ -20,7 +21,7 @@ pub constructor_tags : (levels at : ℕ) (bytes : List ℕ) (x : Constructor × 
 constructor_tags levels at bytes x e = constructor_shallow levels x.0.octets x.0 (constructor_found levels at bytes x e).1
 
 -- its octets say its descriptors and its code
-pub constructor_form : (levels at : ℕ) (bytes : List ℕ) (x : Constructor × List ℕ) → levels ≤ levels_allowed → constructor_at levels at bytes ≡ Ok x → form_of x.0.octets ≡ Some (x.0.tags, x.0.code)
+pub constructor_form : (levels at : ℕ) (bytes : List ℕ) (x : Constructor × List ℕ) → levels ≤ MAX_DEPTH → constructor_at levels at bytes ≡ Ok x → form_of x.0.octets ≡ Some (x.0.tags, x.0.code)
 constructor_form levels at bytes x le e = constructor_held levels x.0.octets x.0 le (constructor_found levels at bytes x e).1
 
 one_more : (n : ℕ) → suc n ≡ n + 1

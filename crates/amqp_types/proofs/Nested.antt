@@ -7,7 +7,8 @@ use Rattle.amqp_types.specs.declared.code.Kind.{Kind}
 use Rattle.amqp_types.specs.declared.code.Code.{Code}
 use Rattle.amqp_types.specs.declared.code.Code.TheVariants as codes
 use Rattle.amqp_types.specs.Part.{Part, Nested, Array, Described, Tagged}
-use Rattle.amqp_types.specs.Reading.{seen_at, levels_allowed}
+use Rattle.amqp_types.specs.Reading.{seen_at}
+use Rattle.flow_counts.specs.declared.profile.TheConstants.{MAX_DEPTH}
 use Rattle.amqp_types.specs.Items.{seen_in, seen_of, are_items}
 use Rattle.amqp_types.specs.Grammar.{IsScalar, IsData, IsValue, AreValuesOf}
 use Rattle.amqp_types.proofs.Values.{seen_again}
@@ -17,7 +18,7 @@ use Rattle.amqp_types.proofs.Held.{whole_is, are_from_items, are_values_of}
 -- a value that octets are, nested no deeper than allowed
 pub record HasValue (octets : List ℕ) : Type 0 where
   pub says : Part
-  pub is : IsValue levels_allowed octets says
+  pub is : IsValue MAX_DEPTH octets says
 
 -- whether a value holds no other
 abbrev is_alone : Part → Bool
@@ -56,11 +57,11 @@ scalar_is_no_pair scalar octets descriptor described h = let e : false ≡ true 
 pub scalar_is_no_list : (scalar : Scalar) (octets : List ℕ) (kind : Kind) (n : ℕ) (body : List ℕ) → IsScalar scalar octets (Nested kind n body) → ⊥
 scalar_is_no_list scalar octets kind n body h = let e : false ≡ true = scalar_alone scalar octets (Nested kind n body) h in cc
 
-has_value : (levels : ℕ) (octets whole : List ℕ) (part : Part) → levels ≤ levels_allowed → octets ≡ whole → IsValue levels octets part → HasValue whole
+has_value : (levels : ℕ) (octets whole : List ℕ) (part : Part) → levels ≤ MAX_DEPTH → octets ≡ whole → IsValue levels octets part → HasValue whole
 has_value levels octets whole part le same is =
-    record { says = part; is = subst (λ o. IsValue levels_allowed o part) same (value_deeper levels levels_allowed octets part le is) }
+    record { says = part; is = subst (λ o. IsValue MAX_DEPTH o part) same (value_deeper levels MAX_DEPTH octets part le is) }
 
-pair_data : (levels : ℕ) (code : Code) (octets descriptor described : List ℕ) → levels ≤ levels_allowed → IsData levels zero code octets (Described descriptor described) → HasValue descriptor × HasValue described
+pair_data : (levels : ℕ) (code : Code) (octets descriptor described : List ℕ) → levels ≤ MAX_DEPTH → IsData levels zero code octets (Described descriptor described) → HasValue descriptor × HasValue described
 unfolding IsData IsValue
 pair_data zero code octets descriptor described le h = absurd h
 pair_data (suc levels) (codes.Fixed scalar) octets descriptor described le h = absurd (scalar_is_no_pair scalar octets descriptor described h)
@@ -77,7 +78,7 @@ pair_data (suc levels) codes.Described octets descriptor described le h =
     let second : h.described ≡ described = cc in
     (has_value levels h.descriptor descriptor h.descriptor_says (omega arith) first h.descriptor_is, has_value levels h.described described h.described_says (omega arith) second h.described_is)
 
-list_data : (levels : ℕ) (code : Code) (octets : List ℕ) (kind : Kind) (n : ℕ) (body : List ℕ) → levels ≤ levels_allowed → IsData levels zero code octets (Nested kind n body) → are_items None n body ≡ true
+list_data : (levels : ℕ) (code : Code) (octets : List ℕ) (kind : Kind) (n : ℕ) (body : List ℕ) → levels ≤ MAX_DEPTH → IsData levels zero code octets (Nested kind n body) → are_items None n body ≡ true
 unfolding IsData IsValue
 list_data zero code octets kind n body le h = absurd h
 list_data (suc levels) (codes.Fixed scalar) octets kind n body le h = absurd (scalar_is_no_list scalar octets kind n body h)
@@ -91,7 +92,7 @@ list_data (suc levels) (codes.Nested own width) octets kind n body le h =
     let e = h.is in
     let count : h.n ≡ n = cc in
     let all : h.body ≡ body = cc in
-    subst (λ k. are_items None k body ≡ true) count (subst (λ o. are_items None h.n o ≡ true) all (are_from_items None h.n h.body (values_deeper levels levels_allowed None h.n h.body (omega arith) h.items)))
+    subst (λ k. are_items None k body ≡ true) count (subst (λ o. are_items None h.n o ≡ true) all (are_from_items None h.n h.body (values_deeper levels MAX_DEPTH None h.n h.body (omega arith) h.items)))
 list_data (suc levels) (codes.Array width) octets kind n body le h = absurd (elim h.elements [
   | inl k ↦ let e = k.2 in cc
   | inr k ↦ let e = k.is in cc
@@ -113,23 +114,23 @@ tagged_data (suc levels) (codes.Array width) octets descriptor constructor own h
 tagged_data (suc levels) codes.Described octets descriptor constructor own h = let e = h.is in cc
 
 -- a value with its own constructor is no element of an array
-pub not_tagged : (octets descriptor constructor own : List ℕ) → IsValue levels_allowed octets (Tagged descriptor constructor own) → ⊥
+pub not_tagged : (octets descriptor constructor own : List ℕ) → IsValue MAX_DEPTH octets (Tagged descriptor constructor own) → ⊥
 unfolding IsValue
 not_tagged [] descriptor constructor own h = h
-not_tagged (b ∷ octets) descriptor constructor own h = tagged_data levels_allowed h.0 octets descriptor constructor own h.2
+not_tagged (b ∷ octets) descriptor constructor own h = tagged_data MAX_DEPTH h.0 octets descriptor constructor own h.2
 
 -- a descriptor and what it describes are values
-pub pair_holds : (octets descriptor described : List ℕ) → IsValue levels_allowed octets (Described descriptor described) → HasValue descriptor × HasValue described
+pub pair_holds : (octets descriptor described : List ℕ) → IsValue MAX_DEPTH octets (Described descriptor described) → HasValue descriptor × HasValue described
 unfolding IsValue
 pair_holds [] descriptor described h = absurd h
-pair_holds (b ∷ octets) descriptor described h = pair_data levels_allowed h.0 octets descriptor described (omega arith) h.2
+pair_holds (b ∷ octets) descriptor described h = pair_data MAX_DEPTH h.0 octets descriptor described (omega arith) h.2
 
 -- the items of a list are values
-pub list_holds : (octets : List ℕ) (kind : Kind) (n : ℕ) (body : List ℕ) → IsValue levels_allowed octets (Nested kind n body) → AreValuesOf n body (seen_in n body)
+pub list_holds : (octets : List ℕ) (kind : Kind) (n : ℕ) (body : List ℕ) → IsValue MAX_DEPTH octets (Nested kind n body) → AreValuesOf n body (seen_in n body)
 unfolding IsValue
 list_holds [] kind n body h = absurd h
-list_holds (b ∷ octets) kind n body h = are_values_of n body (list_data levels_allowed h.0 octets kind n body (omega arith) h.2)
+list_holds (b ∷ octets) kind n body h = are_values_of n body (list_data MAX_DEPTH h.0 octets kind n body (omega arith) h.2)
 
 -- a value is read as what it is
-pub value_is : (octets : List ℕ) (part : Part) → IsValue levels_allowed octets part → seen_of octets ≡ record { octets = octets; part = part }
-value_is octets part is = whole_is octets (record { octets = octets; part = part }, []) (ap (seen_at levels_allowed 0) (sym (append-nil octets)) ∙ seen_again levels_allowed 0 octets [] part is)
+pub value_is : (octets : List ℕ) (part : Part) → IsValue MAX_DEPTH octets part → seen_of octets ≡ record { octets = octets; part = part }
+value_is octets part is = whole_is octets (record { octets = octets; part = part }, []) (ap (seen_at MAX_DEPTH 0) (sym (append-nil octets)) ∙ seen_again MAX_DEPTH 0 octets [] part is)

@@ -14,7 +14,7 @@ use Rattle.amqp_types.specs.declared.code.SizeWidth.{SizeWidth}
 use Rattle.amqp_types.specs.declared.code.SizeWidth.TheVariants.{One, Four}
 use Rattle.amqp_types.specs.declared.code.Code.TheVariants as codes
 use Rattle.amqp_types.specs.Codes.{scalar_of_code, code_of, size_len}
-use Rattle.amqp_types.specs.Reading.{levels_allowed}
+use Rattle.flow_counts.specs.declared.profile.TheConstants.{MAX_DEPTH}
 use Rattle.amqp_types.specs.Part.{Part, Null, Boolean, Ubyte, Ushort, Uint, Ulong, Sized, Nested, Described}
 use Rattle.amqp_types.specs.Grammar.{IsNumber, IsScalar, IsText, AreItems, IsData, IsValue}
 use Rattle.amqp_types.specs.Writing.{IsReadAs, IsWritten, IsListOf, IsDescribedListOf, levels_in_list, levels_in_described, fits_octet, null_octets, boolean_octets, ubyte_octets, ushort_octets, uint_octets, ulong_octets, text_code, text_octets, list_octets, descriptor_octets, described_list_octets}
@@ -36,7 +36,7 @@ IsFlat octets part = (levels : ℕ) → IsValue (suc levels) octets part
 written : (octets : List ℕ) (part : Part) → length octets ≡ least part → IsFlat octets part → IsWritten octets part
 written octets part len is = record {
   is = is;
-  again = λ rest. seen_again levels_allowed 0 octets rest part (is 31);
+  again = λ rest. seen_again MAX_DEPTH 0 octets rest part (is 31);
   shortest = shortest octets part len;
 }
 
@@ -180,7 +180,7 @@ unfolding list_octets
 list_nested n body few fits = λ levels are. list_by levels n body (eqb n 0) (fits_octet (length body + 1) && fits_octet n) refl few fits are
 
 pub list_read : (n : ℕ) (body : List ℕ) → length body + 4 < 2 ^ 32 → n < 2 ^ 32 → AreItems (IsValue levels_in_list) n body → IsReadAs (list_octets n body) (Nested kinds.List n body)
-list_read n body few fits are = λ rest. seen_again levels_allowed 0 (list_octets n body) rest (Nested kinds.List n body) (list_nested n body few fits levels_in_list are)
+list_read n body few fits are = λ rest. seen_again MAX_DEPTH 0 (list_octets n body) rest (Nested kinds.List n body) (list_nested n body few fits levels_in_list are)
 
 -- ---- items
 
@@ -225,4 +225,4 @@ described_nested code n body few fits = λ levels are. described_by levels code 
 pub described_read : (code n : ℕ) (body : List ℕ) → length body + 4 < 2 ^ 32 → n < 2 ^ 32 → AreItems (IsValue levels_in_described) n body
     → IsReadAs (described_list_octets code n body) (Described (descriptor_octets code) (list_octets n body))
 described_read code n body few fits are =
-    λ rest. seen_again levels_allowed 0 (described_list_octets code n body) rest (Described (descriptor_octets code) (list_octets n body)) (described_nested code n body few fits levels_in_described are)
+    λ rest. seen_again MAX_DEPTH 0 (described_list_octets code n body) rest (Described (descriptor_octets code) (list_octets n body)) (described_nested code n body few fits levels_in_described are)

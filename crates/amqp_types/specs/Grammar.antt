@@ -13,7 +13,7 @@ use Rattle.amqp_types.specs.declared.code.SizeWidth.{SizeWidth}
 use Rattle.amqp_types.specs.declared.code.Code.{Code}
 use Rattle.amqp_types.specs.declared.code.Code.TheVariants as codes
 use Rattle.amqp_types.specs.Codes.{code_of, opaque_width, size_len, is_described}
-use Rattle.amqp_types.specs.Reading.{levels_allowed}
+use Rattle.flow_counts.specs.declared.profile.TheConstants.{MAX_DEPTH}
 use Rattle.amqp_types.specs.Part as parts
 use Rattle.amqp_types.specs.Part.{Part, Null, Boolean, Ubyte, Ushort, Uint, Ulong, Kept, Sized, Nested, Array, Described, Tagged, Seen, Constructor, tagged, code_alone, code_behind}
 
@@ -190,14 +190,14 @@ abbrev pub IsValueOf : Option (List ℕ) → Option Seen → Type 0
 IsValueOf None None = Unit {0}
 IsValueOf None (Some value) = ⊥
 IsValueOf (Some octets) None = ⊥
-IsValueOf (Some octets) (Some value) = (value.octets ≡ octets) × IsValue levels_allowed octets value.part
+IsValueOf (Some octets) (Some value) = (value.octets ≡ octets) × IsValue MAX_DEPTH octets value.part
 
 -- the value that a descriptor describes: a value of its own, or the data of one whose constructor lies apart
 abbrev pub IsDescribedOf : Part → Option Seen → Type 0
 IsDescribedOf (Described descriptor described) value = IsValueOf (Some described) value
 IsDescribedOf (Tagged descriptor constructor octets) None = ⊥
 IsDescribedOf (Tagged descriptor constructor octets) (Some value) =
-    (value.octets ≡ octets) × ((c : Constructor) × IsConstructor levels_allowed constructor c × IsElement levels_allowed c octets value.part)
+    (value.octets ≡ octets) × ((c : Constructor) × IsConstructor MAX_DEPTH constructor c × IsElement MAX_DEPTH c octets value.part)
 IsDescribedOf other value = value ≡ None
 
 -- values that lie one after the other: so many, and the octets are theirs
@@ -208,10 +208,10 @@ pub record AreOf (Is : List ℕ → Part → Type 0) (n : ℕ) (octets : List �
 
 -- the same of values that have their own constructors
 abbrev pub AreValuesOf : ℕ → List ℕ → List Seen → Type 0
-AreValuesOf n octets values = AreOf (IsValue levels_allowed) n octets values
+AreValuesOf n octets values = AreOf (IsValue MAX_DEPTH) n octets values
 
 -- the values in a list, a map or an array: as many as its count says, and its octets are theirs; another value holds none (part 1, 1.2.3 and 1.2.4)
 abbrev pub AreItemsOf : Part → List Seen → Type 0
 AreItemsOf (Nested kind n octets) values = AreValuesOf n octets values
-AreItemsOf (Array form n octets) values = AreOf (IsItem levels_allowed form) n octets values
+AreItemsOf (Array form n octets) values = AreOf (IsItem MAX_DEPTH form) n octets values
 AreItemsOf other values = values ≡ []

@@ -4,7 +4,8 @@ use Rattle.amqp_types.specs.declared.code.Code.{Code}
 use Rattle.amqp_types.specs.declared.fault.ValueFault.{ValueFault}
 use Rattle.amqp_types.specs.declared.fault.ValueFaultKind.TheVariants.{BadSize}
 use Rattle.amqp_types.specs.Part.{Part, Null, Nested, Array, Described, Tagged, Seen, Constructor}
-use Rattle.amqp_types.specs.Reading.{Read, fault, seen_at, element_at, item_at, items_at, constructor_at, levels_allowed}
+use Rattle.amqp_types.specs.Reading.{Read, fault, seen_at, element_at, item_at, items_at, constructor_at}
+use Rattle.flow_counts.specs.declared.profile.TheConstants.{MAX_DEPTH}
 
 -- the value that was read, and those that others gives of the rest
 abbrev pub seen_then : Read Seen → (List ℕ → List Seen) → List Seen
@@ -14,7 +15,7 @@ seen_then (Err e) others = []
 -- the values in octets that are n of them, one after the other: elements where there is a constructor
 unfoldable pub items_in : Option Constructor → ℕ → List ℕ → List Seen
 items_in form zero octets = []
-items_in form (suc n) octets = seen_then (item_at levels_allowed form 0 octets) (items_in form n)
+items_in form (suc n) octets = seen_then (item_at MAX_DEPTH form 0 octets) (items_in form n)
 
 -- the values in octets that are n values, one after the other
 abbrev pub seen_in : ℕ → List ℕ → List Seen
@@ -27,7 +28,7 @@ is_used_up (Err e) = false
 
 -- whether octets are one whole value
 unfoldable pub is_value : List ℕ → Bool
-is_value octets = is_used_up (seen_at levels_allowed 0 octets)
+is_value octets = is_used_up (seen_at MAX_DEPTH 0 octets)
 
 -- whether all octets were items
 abbrev pub is_filled : Result (List ℕ) ValueFault → Bool
@@ -36,7 +37,7 @@ is_filled (Err e) = false
 
 -- whether octets are n values, one after the other: elements where there is a constructor
 unfoldable pub are_items : Option Constructor → ℕ → List ℕ → Bool
-are_items form n octets = is_filled (items_at (item_at levels_allowed form) n 0 octets)
+are_items form n octets = is_filled (items_at (item_at MAX_DEPTH form) n 0 octets)
 
 -- the value that was read, or null
 abbrev pub seen_or_null : List ℕ → Read Seen → Seen
@@ -45,7 +46,7 @@ seen_or_null octets (Err e) = record { octets = octets; part = Null }
 
 -- the value that octets are
 unfoldable pub seen_of : List ℕ → Seen
-seen_of octets = seen_or_null octets (seen_at levels_allowed 0 octets)
+seen_of octets = seen_or_null octets (seen_at MAX_DEPTH 0 octets)
 
 -- how many descriptors, and which code, octets hold that are a constructor
 abbrev pub form_read : Read Constructor → Option (ℕ × Code)
@@ -55,21 +56,21 @@ form_read (Err e) = None
 
 -- the same, of the octets
 unfoldable pub form_of : List ℕ → Option (ℕ × Code)
-form_of octets = form_read (constructor_at levels_allowed 0 octets)
+form_of octets = form_read (constructor_at MAX_DEPTH 0 octets)
 
 -- the element of a constructor that was read, with nothing behind it
 abbrev pub element_read : Read Constructor → List ℕ → Read Seen
-element_read (Ok (c, [])) octets = element_at levels_allowed c 0 octets
+element_read (Ok (c, [])) octets = element_at MAX_DEPTH c 0 octets
 element_read (Ok (c, b ∷ rest)) octets = fault BadSize 0
 element_read (Err e) octets = Err e
 
 -- whether octets are one whole element of the constructor that other octets are
 unfoldable pub is_element : List ℕ → List ℕ → Bool
-is_element constructor octets = is_used_up (element_read (constructor_at levels_allowed 0 constructor) octets)
+is_element constructor octets = is_used_up (element_read (constructor_at MAX_DEPTH 0 constructor) octets)
 
 -- the element that octets are, of the constructor that other octets are
 unfoldable pub element_of : List ℕ → List ℕ → Seen
-element_of constructor octets = seen_or_null octets (element_read (constructor_at levels_allowed 0 constructor) octets)
+element_of constructor octets = seen_or_null octets (element_read (constructor_at MAX_DEPTH 0 constructor) octets)
 
 -- the items of a list, a map or an array; another value has none
 abbrev pub items_of : Part → List Seen

@@ -231,10 +231,6 @@ unfoldable mutual
   constructor_at (suc levels) at (b ∷ bytes) =
       constructor_by (seen_by (data_at levels zero) levels) (constructor_at levels) at b bytes (code_of b)
 
--- how deep values may be nested (own format)
-abbrev pub levels_allowed : ℕ
-levels_allowed = 32
-
 -- the value at the front of the octets, which lie at this offset, where so many levels are left
 unfoldable pub value_at : ℕ → ℕ → List ℕ → Read Part
 value_at levels at bytes = value_by (data_at levels zero) levels at bytes

@@ -1,5 +1,5 @@
 -- The shortest octets of each value, and what a writer of them does.
-use Rattle.std.specs.Prelude.{◌≡◌, ℕ, suc, ◌+◌, ◌<◌, ◌≤◌, Bool, List, [], ◌∷◌, ◌++◌, length, slice_index, Result, Ok, nat_lt, ◌==◌, ◌&&◌, if◌then◌else◌}
+use Rattle.std.specs.Prelude.{◌≡◌, ℕ, suc, ◌+◌, ◌-◌, ◌<◌, ◌≤◌, Bool, List, [], ◌∷◌, ◌++◌, length, slice_index, Result, Ok, nat_lt, ◌==◌, ◌&&◌, if◌then◌else◌}
 use Rattle.std.specs.Result.{is_ok}
 use Rattle.byteorder.specs.Endian.{big_bytes}
 use Rattle.amqp_types.specs.declared.code.Text.{Text}
@@ -8,7 +8,8 @@ use Rattle.amqp_types.specs.declared.code.Kind.TheVariants as kinds
 use Rattle.amqp_types.specs.declared.code.SizeWidth.{SizeWidth}
 use Rattle.amqp_types.specs.declared.code.SizeWidth.TheVariants.{One, Four}
 use Rattle.amqp_types.specs.Part.{Part, Nested, Described}
-use Rattle.amqp_types.specs.Reading.{seen_at, levels_allowed}
+use Rattle.amqp_types.specs.Reading.{seen_at}
+use Rattle.flow_counts.specs.declared.profile.TheConstants.{MAX_DEPTH}
 use Rattle.amqp_types.specs.Grammar.{IsValue, AreItems}
 
 -- the octets were appended whole, or nothing was (own rule)
@@ -17,7 +18,7 @@ Puts old new result octets = new ≡ (if is_ok result then old ++ octets else ol
 
 -- octets that are read as this, whatever is behind them
 abbrev pub IsReadAs : List ℕ → Part → Type 0
-IsReadAs octets part = (rest : List ℕ) → seen_at levels_allowed 0 (octets ++ rest) ≡ Ok (record { octets = octets; part = part }, rest)
+IsReadAs octets part = (rest : List ℕ) → seen_at MAX_DEPTH 0 (octets ++ rest) ≡ Ok (record { octets = octets; part = part }, rest)
 
 -- numbers that are octets
 abbrev pub AreOctets : List ℕ → Type 0
@@ -87,9 +88,9 @@ list_octets count body =
 abbrev pub IsListOf : ℕ → List ℕ → Type 0
 IsListOf count body = (levels : ℕ) → AreItems (IsValue levels) count body → IsValue (suc levels) (list_octets count body) (Nested kinds.List count body)
 
--- how deep the items of a list may be nested (own format)
+-- how deep the items of a list may be nested
 abbrev pub levels_in_list : ℕ
-levels_in_list = 31
+levels_in_list = MAX_DEPTH - 1
 
 -- the descriptor of a performative, a terminus, a state or an error, by its code: an ulong of one octet (part 1, 1.6.6)
 abbrev pub descriptor_octets : ℕ → List ℕ
@@ -104,6 +105,6 @@ abbrev pub IsDescribedListOf : ℕ → ℕ → List ℕ → Type 0
 IsDescribedListOf code count body = (levels : ℕ) → AreItems (IsValue levels) count body
     → IsValue (suc (suc levels)) (described_list_octets code count body) (Described (descriptor_octets code) (list_octets count body))
 
--- how deep the fields of a described list may be nested (own format)
+-- how deep the fields of a described list may be nested
 abbrev pub levels_in_described : ℕ
-levels_in_described = 30
+levels_in_described = MAX_DEPTH - 2

@@ -3,7 +3,7 @@
 ghost use Rattle.std.specs.Prelude.{◌≡◌, ◌<◌, ◌-◌, Some, IsTrue};
 ghost use Rattle.std.specs.Option.{ForSome};
 ghost use Rattle.amqp_types.specs.Items.{is_value, form_of};
-ghost use Rattle.amqp_types.specs.Reading.{levels_allowed};
+ghost use Rattle.flow_counts.specs.declared.profile.TheConstants.{MAX_DEPTH};
 
 use crate::code::Code;
 
@@ -28,6 +28,6 @@ pub(crate) struct Constructor<'a> {
     pub(crate) code: Code,
     /// The first of the descriptors.
     pub(crate) tag: Option<Tag<'a>>,
-    ghost shallow: { tags < levels_allowed },
+    ghost shallow: { tags < MAX_DEPTH },
     ghost inner: { ForSome tag (λ t. form_of t.constructor.now ≡ Some (tags - 1, code)) },
 }

@@ -6,7 +6,7 @@
 
 ghost use Rattle.std.specs.Prelude.{◌≡◌, ◌+◌, ◌-◌, ◌<◌, ◌≤◌, ◌^◌, ◌∷◌, IsTrue, IfSome, Some, None, length, drop, slice_index};
 ghost use Rattle.amqp_types.specs.Part as parts;
-ghost use Rattle.amqp_types.specs.Reading.{Gives, items_at, nested_at, described_at, tagged_at, array_at, elements_at, constructor_at, element_at, item_at, data_at, seen_at, levels_allowed};
+ghost use Rattle.amqp_types.specs.Reading.{Gives, items_at, nested_at, described_at, tagged_at, array_at, elements_at, constructor_at, element_at, item_at, data_at, seen_at};
 ghost use Rattle.amqp_types.specs.Items.{are_items, items_in, is_value, is_element, element_of, seen_of};
 ghost use Rattle.amqp_types.specs.Grammar.{IsValue, IsConstructor, IsElement};
 ghost use Rattle.amqp_types.specs.Form.{constructor_of, form};
@@ -19,9 +19,7 @@ use crate::fault::{ValueFault, ValueFaultKind};
 use crate::primitive::{Read, read_counted, read_fixed, read_text};
 use crate::sequence::{Array, Sequence};
 use crate::value::{Content, Value};
-
-/// How many values may lie in one another, the outermost among them.
-pub(crate) const LEVELS_ALLOWED: usize = 32;
+use flow_counts::MAX_DEPTH;
 
 /// A value, or an element where there is a constructor.
 #[cycle(reader)]
@@ -32,7 +30,7 @@ fn read_item<'a>(
     at: usize,
     bytes: &'a [u8],
 ) -> Read<'a, Value<'a>>
-    requires levels { levels ≤ levels_allowed }
+    requires levels { levels ≤ MAX_DEPTH }
     requires room { at + length bytes.now < 2 ^ 64 }
     requires fits { IfSome constructor (λ c. (c.tags < levels) × (at + 1 + length bytes.now < 2 ^ 64)) }
     ensures { Gives (λ x. (view x.0, x.1.now)) result (item_at levels (form constructor.entry) at bytes.now) }
@@ -52,7 +50,7 @@ fn read_items<'a>(
     at: usize,
     bytes: &'a [u8],
 ) -> Result<&'a [u8], ValueFault>
-    requires levels { levels ≤ levels_allowed }
+    requires levels { levels ≤ MAX_DEPTH }
     requires room { at + length bytes.now < 2 ^ 64 }
     requires fits { IfSome constructor (λ c. (c.tags < levels) × (at + 1 + length bytes.now < 2 ^ 64)) }
     ensures { Gives (λ x. x.now) result (items_at (item_at levels (form constructor.entry)) count at bytes.now) }
@@ -77,7 +75,7 @@ fn read_nested(
     at: usize,
     bytes: &[u8],
 ) -> Read<'_, Content<'_>>
-    requires levels { levels ≤ levels_allowed }
+    requires levels { levels ≤ MAX_DEPTH }
     requires room { at + 1 + length bytes.now < 2 ^ 64 }
     ensures { Gives (λ x. (part_of x.0, x.1.now)) result (nested_at (item_at levels None) kind width at bytes.now) }
 {
@@ -97,7 +95,7 @@ fn read_nested(
 #[cycle(reader)]
 #[tactic(auto, unfolding(crate::specs::Reading::constructor_at, crate::specs::Reading::constructor_by))]
 fn read_constructor(levels: usize, at: usize, bytes: &[u8]) -> Read<'_, Constructor<'_>>
-    requires levels { levels ≤ levels_allowed }
+    requires levels { levels ≤ MAX_DEPTH }
     requires room { at + length bytes.now < 2 ^ 64 }
     ensures { Gives (λ x. (constructor_of x.0, x.1.now)) result (constructor_at levels at bytes.now) }
 {
@@ -127,7 +125,7 @@ fn read_constructor(levels: usize, at: usize, bytes: &[u8]) -> Read<'_, Construc
 #[tactic(auto, unfolding(crate::specs::Reading::tagged_at))]
 fn read_tagged(levels: usize, at: usize, bytes: &[u8]) -> Read<'_, Constructor<'_>>
     requires some { 0 < length bytes.now }
-    requires levels { levels < levels_allowed }
+    requires levels { levels < MAX_DEPTH }
     requires room { at + length bytes.now < 2 ^ 64 }
     ensures { Gives (λ x. (constructor_of x.0, x.1.now)) result (tagged_at (seen_at levels) (constructor_at levels) at (slice_index bytes.now 0) (drop 1 bytes.now)) }
 {
@@ -156,7 +154,7 @@ fn read_element<'a>(
     bytes: &'a [u8],
 ) -> Read<'a, Value<'a>>
     requires tags { constructor.tags < levels }
-    requires levels { levels ≤ levels_allowed }
+    requires levels { levels ≤ MAX_DEPTH }
     requires room { at + 1 + length bytes.now < 2 ^ 64 }
     ensures { Gives (λ x. (view x.0, x.1.now)) result (element_at levels (constructor_of constructor.entry) at bytes.now) }
 {
@@ -183,7 +181,7 @@ fn read_elements(
     at: usize,
     bytes: &[u8],
 ) -> Result<Array<'_>, ValueFault>
-    requires levels { levels ≤ levels_allowed }
+    requires levels { levels ≤ MAX_DEPTH }
     requires room { at + 1 + length bytes.now < 2 ^ 64 }
     ensures { Gives array_part result (elements_at (constructor_at levels) (λ c. item_at levels (Some c)) count at bytes.now) }
 {
@@ -206,7 +204,7 @@ fn read_elements(
 #[cycle(reader)]
 #[tactic(auto, unfolding(crate::specs::Reading::array_at))]
 fn read_array(levels: usize, width: SizeWidth, at: usize, bytes: &[u8]) -> Read<'_, Content<'_>>
-    requires levels { levels ≤ levels_allowed }
+    requires levels { levels ≤ MAX_DEPTH }
     requires room { at + 1 + length bytes.now < 2 ^ 64 }
     ensures { Gives (λ x. (part_of x.0, x.1.now)) result (array_at (constructor_at levels) (λ c. item_at levels (Some c)) width at bytes.now) }
 {
@@ -221,7 +219,7 @@ fn read_array(levels: usize, width: SizeWidth, at: usize, bytes: &[u8]) -> Read<
 #[cycle(reader)]
 #[tactic(auto, unfolding(crate::specs::Reading::described_at))]
 fn read_described(levels: usize, at: usize, bytes: &[u8]) -> Read<'_, Content<'_>>
-    requires levels { levels ≤ levels_allowed }
+    requires levels { levels ≤ MAX_DEPTH }
     requires room { at + 1 + length bytes.now < 2 ^ 64 }
     ensures { Gives (λ x. (part_of x.0, x.1.now)) result (described_at (seen_at levels) at bytes.now) }
 {
@@ -239,7 +237,7 @@ fn read_described(levels: usize, at: usize, bytes: &[u8]) -> Read<'_, Content<'_
 #[tactic(auto, unfolding(crate::specs::Reading::data_at, crate::specs::Reading::data_by))]
 fn read_data(levels: usize, code: Code, at: usize, bytes: &[u8]) -> Read<'_, Content<'_>>
     requires some { 0 < levels }
-    requires levels { levels ≤ levels_allowed }
+    requires levels { levels ≤ MAX_DEPTH }
     requires room { at + 1 + length bytes.now < 2 ^ 64 }
     ensures { Gives (λ x. (part_of x.0, x.1.now)) result (data_at levels 0 code at bytes.now) }
 {
@@ -257,7 +255,7 @@ fn read_data(levels: usize, code: Code, at: usize, bytes: &[u8]) -> Read<'_, Con
 #[cycle(reader)]
 #[tactic(auto, unfolding(crate::specs::Reading::seen_at, crate::specs::Reading::value_at, crate::specs::Reading::value_by, crate::specs::Reading::coded_at))]
 pub(crate) fn read_value(levels: usize, at: usize, bytes: &[u8]) -> Read<'_, Value<'_>>
-    requires levels { levels ≤ levels_allowed }
+    requires levels { levels ≤ MAX_DEPTH }
     requires room { at + length bytes.now < 2 ^ 64 }
     ensures { Gives (λ x. (view x.0, x.1.now)) result (seen_at levels at bytes.now) }
 {
@@ -280,9 +278,9 @@ pub(crate) fn whole(octets: &[u8]) -> Value<'_>
     requires { IsTrue (is_value octets.now) }
     ensures same { view result ≡ seen_of octets.now }
     ensures whole { (view result).octets ≡ octets.now }
-    ensures value { IsValue levels_allowed octets.now (view result).part }
+    ensures value { IsValue MAX_DEPTH octets.now (view result).part }
 {
-    match read_value(LEVELS_ALLOWED, 0, octets) {
+    match read_value(MAX_DEPTH, 0, octets) {
         Ok((value, _)) => value,
         Err(_) => unreachable!(),
     }
@@ -293,12 +291,12 @@ pub(crate) fn whole_element<'a>(constructor: &'a [u8], octets: &'a [u8]) -> Valu
     requires { IsTrue (is_element constructor.now octets.now) }
     ensures same { view result ≡ element_of constructor.now octets.now }
     ensures whole { (view result).octets ≡ octets.now }
-    ensures element { (c : parts.Constructor) × IsConstructor levels_allowed constructor.now c × IsElement levels_allowed c octets.now (view result).part }
+    ensures element { (c : parts.Constructor) × IsConstructor MAX_DEPTH constructor.now c × IsElement MAX_DEPTH c octets.now (view result).part }
 {
-    let Ok((constructor, _)) = read_constructor(LEVELS_ALLOWED, 0, constructor) else {
+    let Ok((constructor, _)) = read_constructor(MAX_DEPTH, 0, constructor) else {
         unreachable!()
     };
-    match read_element(LEVELS_ALLOWED, constructor, 0, octets) {
+    match read_element(MAX_DEPTH, constructor, 0, octets) {
         Ok((value, _)) => value,
         Err(_) => unreachable!(),
     }
@@ -315,7 +313,7 @@ pub(crate) fn first_of<'a>(
     ensures first { items_in (form constructor.entry) count octets.now ≡ view result.0 ∷ items_in (form constructor.entry) (count - 1) result.1.now }
     ensures others { IsTrue (are_items (form constructor.entry) (count - 1) result.1.now) }
 {
-    match read_item(LEVELS_ALLOWED, constructor, 0, octets) {
+    match read_item(MAX_DEPTH, constructor, 0, octets) {
         Ok(read) => read,
         Err(_) => unreachable!(),
     }

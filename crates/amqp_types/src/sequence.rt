@@ -68,7 +68,7 @@ impl<'a> Array<'a> {
     ghost use Rattle.amqp_types.specs.Part as parts;
     ghost use Rattle.amqp_types.specs.Items.{items_in};
     ghost use Rattle.amqp_types.specs.Grammar.{AreOf, IsItem};
-    ghost use Rattle.amqp_types.specs.Reading.{levels_allowed};
+    ghost use Rattle.flow_counts.specs.declared.profile.TheConstants.{MAX_DEPTH};
     ghost use Rattle.amqp_types.specs.View.{array_part, items_left};
 
     /// No elements, and no constructor.
@@ -87,7 +87,7 @@ impl<'a> Array<'a> {
     pub(crate) fn items(&self) -> Items<'a>
         ensures same { items_left result ≡ items_in (form self.now.constructor) self.now.count self.now.body.now }
         ensures few { length (items_left result) < 2 ^ 32 }
-        ensures whole { AreOf (IsItem levels_allowed (form self.now.constructor)) self.now.count self.now.body.now (items_left result) }
+        ensures whole { AreOf (IsItem MAX_DEPTH (form self.now.constructor)) self.now.count self.now.body.now (items_left result) }
     {
         Items {
             constructor: self.constructor,

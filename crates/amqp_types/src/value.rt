@@ -3,8 +3,9 @@
 use crate::code::{Kind, Opaque};
 use crate::described::{Described, Tagged};
 use crate::fault::ValueFault;
-use crate::reading::{LEVELS_ALLOWED, read_value, whole, whole_element};
+use crate::reading::{read_value, whole, whole_element};
 use crate::sequence::{Array, Items, Sequence};
+use flow_counts::MAX_DEPTH;
 
 /// A value that was read from octets, on which it stays.
 #[derive(Clone, Copy, Debug)]
@@ -40,7 +41,7 @@ impl<'a> Value<'a> {
     ghost use Rattle.std.specs.Prelude.{◌≡◌, option_map, ◌<◌, ◌^◌, List, ℕ, length, IfOk, Ok};
     ghost use Rattle.std.specs.Option.{option_copied};
     ghost use Rattle.amqp_types.specs.Part.{Seen};
-    ghost use Rattle.amqp_types.specs.Reading.{Gives, seen_at, levels_allowed};
+    ghost use Rattle.amqp_types.specs.Reading.{Gives, seen_at};
     ghost use Rattle.amqp_types.specs.Grammar.{IsFront, IsValueOf, IsDescribedOf, AreItemsOf};
     ghost use Rattle.amqp_types.specs.Items.{items_of, descriptor_of, described_of, descriptor_octets};
     ghost use Rattle.amqp_types.specs.Typed.{says_null, boolean_in, ubyte_in, ushort_in, uint_in, ulong_in, byte_in, short_in, int_in, long_in, opaque_in, binary_in, str_in, symbol_in, list_in, map_in, array_in};
@@ -53,14 +54,14 @@ impl<'a> Value<'a> {
     /// Where no front of the octets is a value: the first fault from left to right.
     pub fn read(bytes: &'a [u8]) -> Result<(Value<'a>, &'a [u8]), ValueFault>
         // What is read is a value at the front of the input.
-        ensures found { IfOk result (λ x. IsFront levels_allowed bytes.now (view x.0) x.1.now) }
+        ensures found { IfOk result (λ x. IsFront MAX_DEPTH bytes.now (view x.0) x.1.now) }
         // A value at the front of the input is read, whatever is behind it.
-        ensures only { (value : Seen) (rest : List ℕ) → IsFront levels_allowed bytes.now value rest
+        ensures only { (value : Seen) (rest : List ℕ) → IsFront MAX_DEPTH bytes.now value rest
             → Gives {Y = Seen × List ℕ} (λ x. (view x.0, x.1.now)) result (Ok (value, rest)) }
         // Which fault it is.
-        ensures exact { Gives (λ x. (view x.0, x.1.now)) result (seen_at levels_allowed 0 bytes.now) }
+        ensures exact { Gives (λ x. (view x.0, x.1.now)) result (seen_at MAX_DEPTH 0 bytes.now) }
     {
-        read_value(LEVELS_ALLOWED, 0, bytes)
+        read_value(MAX_DEPTH, 0, bytes)
     }
 
     /// The octets of the value, its constructor among them. An element of an array has its data

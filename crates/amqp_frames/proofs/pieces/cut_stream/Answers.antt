@@ -2,7 +2,8 @@ use Rattle.std.proofs.Common.{◌≡◌, ℕ, ◌+◌, List, [], ◌++◌, get_o
 use Rattle.std.proofs.Common.{Bor}
 use Rattle.std.proofs.lemmas.List.{flat_map_more, take_all, take_more}
 use Rattle.std.specs.List.{flat_map}
-use Rattle.amqp_frames.specs.Stream.{frame_limit, AreFramesOf}
+use Rattle.flow_counts.specs.declared.profile.TheConstants.{MAX_FRAME_SIZE}
+use Rattle.amqp_frames.specs.Stream.{AreFramesOf}
 use Rattle.amqp_frames.specs.Held.{octets_of}
 use Rattle.amqp_frames.proofs.Streams.{one_cut}
 use Rattle.amqp_frames.proofs.pieces.cut_stream.Goals as goal
@@ -21,6 +22,6 @@ loop-piece-preserved c =
 pub returns-clause-only : goal.returns-clause-only
 returns-clause-only c =
     λ others end are.
-    let Are : List (Bor (List ℕ)) → Type 0 = λ taken. AreFramesOf frame_limit (flat_map (λ piece. piece.now) taken) (octets_of c.loop-piece.cut.frames) c.loop-piece.cut.fault in
+    let Are : List (Bor (List ℕ)) → Type 0 = λ taken. AreFramesOf MAX_FRAME_SIZE (flat_map (λ piece. piece.now) taken) (octets_of c.loop-piece.cut.frames) c.loop-piece.cut.fault in
     let all : take c.loop-piece.piece-index c.args.pieces.now ≡ c.args.pieces.now = take_all c.loop-piece.piece-index c.args.pieces.now c.loop-piece-test.false in
-    one_cut frame_limit _ _ others _ end (subst Are all c.loop-piece.invariant.1) are
+    one_cut MAX_FRAME_SIZE _ _ others _ end (subst Are all c.loop-piece.invariant.1) are

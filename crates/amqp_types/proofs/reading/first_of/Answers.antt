@@ -1,4 +1,5 @@
-use Rattle.amqp_types.specs.Reading.{item_at, levels_allowed}
+use Rattle.amqp_types.specs.Reading.{item_at}
+use Rattle.flow_counts.specs.declared.profile.TheConstants.{MAX_DEPTH}
 use Rattle.amqp_types.specs.Form.{form}
 use Rattle.amqp_types.specs.View.{view}
 use Rattle.amqp_types.proofs.Steps.{never_both}
@@ -8,7 +9,7 @@ use Rattle.amqp_types.proofs.reading.first_of.Goals as goal
 pub unreachable-requires : goal.unreachable-requires
 unreachable-requires c =
     let first = first_read (form c.args.constructor) c.args.count c.args.octets.now c.requires.some c.requires.filled in
-    never_both (item_at levels_allowed (form c.args.constructor) 0 c.args.octets.now) first.0 c.in-Err.field-0 first.1.read c.in-Err.ensures
+    never_both (item_at MAX_DEPTH (form c.args.constructor) 0 c.args.octets.now) first.0 c.in-Err.field-0 first.1.read c.in-Err.ensures
 
 pub returns-clause-first : goal.returns-clause-first
 returns-clause-first c = first_is (form c.args.constructor) c.args.count c.args.octets.now (view c.in-Ok.read.0, c.in-Ok.read.1.now) c.requires.some c.in-Ok.ensures

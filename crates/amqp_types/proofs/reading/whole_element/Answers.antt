@@ -1,5 +1,6 @@
 use Rattle.std.proofs.Common.{[], sym}
-use Rattle.amqp_types.specs.Reading.{constructor_at, element_at, levels_allowed}
+use Rattle.amqp_types.specs.Reading.{constructor_at, element_at}
+use Rattle.flow_counts.specs.declared.profile.TheConstants.{MAX_DEPTH}
 use Rattle.amqp_types.specs.Form.{constructor_of}
 use Rattle.amqp_types.specs.View.{view}
 use Rattle.amqp_types.proofs.Steps.{never_both}
@@ -9,12 +10,12 @@ use Rattle.amqp_types.proofs.reading.whole_element.Goals as goal
 pub unreachable-requires : goal.unreachable-requires
 unreachable-requires c =
     let one = whole_parts c.args.constructor.now c.args.octets.now c.requires in
-    never_both (constructor_at levels_allowed 0 c.args.constructor.now) (one.c, []) c.in_default.field-0 one.read c.in_default.ensures
+    never_both (constructor_at MAX_DEPTH 0 c.args.constructor.now) (one.c, []) c.in_default.field-0 one.read c.in_default.ensures
 
 pub unreachable-requires-in-Err : goal.unreachable-requires-in-Err
 unreachable-requires-in-Err c =
     let one = whole_element_read c.args.constructor.now c.args.octets.now (constructor_of c.in-Ok.constructor, c.in-Ok.field-0-1.now) c.requires c.in-Ok.ensures in
-    never_both (element_at levels_allowed (constructor_of c.in-Ok.constructor) 0 c.args.octets.now) (one.0, []) c.in-Err.field-0 one.1 c.in-Err.ensures
+    never_both (element_at MAX_DEPTH (constructor_of c.in-Ok.constructor) 0 c.args.octets.now) (one.0, []) c.in-Err.field-0 one.1 c.in-Err.ensures
 
 pub returns-clause-same : goal.returns-clause-same
 returns-clause-same c =
