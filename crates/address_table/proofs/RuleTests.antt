@@ -4,6 +4,7 @@ use Rattle.std.proofs.Math.Seq.{take-suc}
 use Rattle.std.proofs.lemmas.Bool.{le-ltb}
 use Rattle.std.specs.List.{AllByRecursion, IsDistinct}
 use Rattle.std.specs.Str.{bytes_eq}
+use Rattle.flow_counts.specs.declared.profile.TheConstants.{MAX_PREFIX, MAX_RULES}
 use Rattle.capture_form.specs.Rules.{RuleText, IsRule, AreRules, prefixes}
 use Rattle.capture_form.specs.Reading.{has_prefix}
 use Rattle.capture_form.proofs.RuleLemmas.{distinct_push, is_new_there}
@@ -39,7 +40,7 @@ tested_next rules i rule lt is tested h none =
     let rest : drop i rules ≡ rule ∷ drop (i + 1) rules = rw (add-one, drop-cons rules i rule, ← is) refl in
     record {
       each = rw next (all_push (take i rules) rule tested.each h);
-      distinct = rw next (distinct_push (take i rules) rule tested.distinct (taken_by (eqb (length rule.prefix) 0) (ltb 160 (length rule.prefix)) (has_prefix (take i rules) rule.prefix) none));
+      distinct = rw next (distinct_push (take i rules) rule tested.distinct (taken_by (eqb (length rule.prefix) 0) (ltb MAX_PREFIX (length rule.prefix)) (has_prefix (take i rules) rule.prefix) none));
       faults = tested.faults ∙ ap (first_fault (take i rules)) rest ∙ ap (λ f. or_else f (first_fault (take i rules ++ rule ∷ []) (drop (i + 1) rules))) none
           ∙ ap (λ (earlier : List RuleText). first_fault earlier (drop (i + 1) rules)) (sym next);
     }
@@ -52,11 +53,11 @@ tested_fault rules i rule fault lt is tested found =
     tested.faults ∙ ap (first_fault (take i rules)) rest ∙ ap (λ f. or_else f (first_fault (take i rules ++ rule ∷ []) (drop (i + 1) rules))) found
 
 -- so of a router's rules, of which there are not too many
-pub refusal : (rules items : List RuleText) (i : ℕ) (rule : RuleText) (fault : RulesFault) → rules ≡ items → length rules ≤ 64 → i < length rules → rule ≡ get_or rules i rule
+pub refusal : (rules items : List RuleText) (i : ℕ) (rule : RuleText) (fault : RulesFault) → rules ≡ items → length rules ≤ MAX_RULES → i < length rules → rule ≡ get_or rules i rule
     → Tested rules i → rule_fault (take i rules) rule ≡ Some fault → rules_fault items ≡ Some fault
 refusal rules items i rule fault same few lt is tested found =
     subst (λ (rs : List RuleText). rules_fault rs ≡ Some fault) same
-    (ap (λ b. cond b (Some TooMany) (first_fault [] rules)) (le-ltb 64 (length rules) few) ∙ tested_fault rules i rule fault lt is tested found)
+    (ap (λ b. cond b (Some TooMany) (first_fault [] rules)) (le-ltb MAX_RULES (length rules) few) ∙ tested_fault rules i rule fault lt is tested found)
 
 -- a rule of its own has no fault
 no_fault : (a b c : Bool) → a ≡ false → b ≡ false → c ≡ false → cond a (Some Empty) (cond b (Some TooLong) (cond c (Some Duplicate) None)) ≡ None
@@ -73,11 +74,11 @@ none_first : (earlier rules : List RuleText) → AllByRecursion IsRule rules →
 none_first earlier [] each distinct = refl
 none_first earlier (rule ∷ rules) each distinct =
     let none : rule_fault earlier rule ≡ None =
-    no_fault (eqb (length rule.prefix) 0) (ltb 160 (length rule.prefix)) (has_prefix earlier rule.prefix)
-    (not_zero (length rule.prefix) each.0.some_prefix) (le-ltb 160 (length rule.prefix) each.0.short_prefix) (is_new_there earlier rule rules distinct) in
+    no_fault (eqb (length rule.prefix) 0) (ltb MAX_PREFIX (length rule.prefix)) (has_prefix earlier rule.prefix)
+    (not_zero (length rule.prefix) each.0.some_prefix) (le-ltb MAX_PREFIX (length rule.prefix) each.0.short_prefix) (is_new_there earlier rule rules distinct) in
     ap (λ f. or_else f (first_fault (earlier ++ rule ∷ []) rules)) none
     ∙ none_first (earlier ++ rule ∷ []) rules each.1 (subst (λ (rs : List RuleText). IsDistinct bytes_eq (prefixes rs)) (sym (append_assoc earlier (rule ∷ []) rules)) distinct)
 
 pub none_refused : (rules : List RuleText) → AreRules rules → rules_fault rules ≡ None
 none_refused rules are =
-    ap (λ b. cond b (Some TooMany) (first_fault [] rules)) (le-ltb 64 (length rules) are.few) ∙ none_first [] rules are.each are.distinct
+    ap (λ b. cond b (Some TooMany) (first_fault [] rules)) (le-ltb MAX_RULES (length rules) are.few) ∙ none_first [] rules are.each are.distinct

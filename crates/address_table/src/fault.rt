@@ -11,14 +11,14 @@ use std::fmt;
 pub enum RulesFault {
     /// A rule has the prefix of an earlier one.
     Duplicate = 1,
-    /// There are more than 64 rules.
+    /// There are more than `MAX_RULES` rules.
     TooMany,
     /// The prefix of a rule is empty.
     Empty,
     /// Memory for the rules was refused. Rules are kept as they are handed in, which takes none, so this is not answered
     /// today.
     Memory,
-    /// The prefix of a rule has more than 160 octets.
+    /// The prefix of a rule has more than `MAX_PREFIX` octets.
     TooLong,
 }
 

@@ -20,7 +20,7 @@ pub use consumer::Consumer;
 pub use fault::RulesFault;
 pub use history::{TableEvent, table_after};
 pub use laws::laws_of_tables;
-pub use rules::{MAX_PREFIX, MAX_RULES, Rules};
+pub use rules::Rules;
 pub use table::Table;
 
 #[cfg(test)]
