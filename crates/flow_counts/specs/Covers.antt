@@ -6,7 +6,7 @@ use Rattle.flow_counts.specs.Serial.{serial_sub}
 -- the delivery-id stands from the first up to the last, once round; a last id that stands before the first covers none
 -- (RFC 1982)
 abbrev pub covers : ℕ → ℕ → ℕ → Bool
-covers first last id = nat_lt (serial_sub last first) (2 ^ 31) && nat_le (serial_sub id first) (serial_sub last first)
+covers first last id = nat_le (serial_sub id first) (serial_sub last first) && nat_lt (serial_sub last first) (2 ^ 31)
 
 -- What moves the deliveries that a disposition may still speak of: one is sent, with the number of its first transfer
 -- and its delivery-id; the one of a number is over.
