@@ -1,2 +1,3 @@
+pub mod Newest
 mod Examples
 mod TableExamples

@@ -1,6 +1,7 @@
 -- Deliveries, ranges and picks with known answers.
 use Rattle.std.specs.Prelude.{◌≡◌, true, false, [], ◌∷◌, Some, None, refl, codes}
-use Rattle.flow_counts.specs.Covers.{Added, Removed, covers, covered, outstanding}
+use Rattle.flow_counts.specs.declared.events.SentEvent.TheVariants.{Added, Removed}
+use Rattle.flow_counts.specs.Covers.{covers, covered, outstanding}
 use Rattle.flow_counts.specs.Parts.{Part, Aborted, Completed, Freed, in_progress, is_in_use}
 use Rattle.flow_counts.specs.Picks.{Attached, Detached, Begun, Decided, consumers, closest_rank, balanced_rank, pick_by}
 
@@ -27,7 +28,7 @@ begins_anew : in_progress 5 (Part 5 18 (Some 1) (codes "b") ∷ Completed 5 ∷ 
     ≡ Some (record { number = 18; id = Some 1; payload = codes "b" })
 begins_anew = refl
 
--- an id stays in use behind its completion, and is free behind an abort
+-- an id stays in use after its completion, and is free after an abort
 completed_in_use : is_in_use 7 (Completed 5 ∷ Part 5 16 (Some 7) (codes "a") ∷ []) ≡ true
 completed_in_use = refl
 

@@ -2,17 +2,13 @@
 -- session alone that were sent to its client, the newest event first.
 use Rattle.std.specs.Prelude.{ℕ, ◌^◌, ◌==◌, Bool, ◌&&◌, List, [], ◌∷◌, filter, nat_lt, nat_le, if◌then◌else◌}
 use Rattle.flow_counts.specs.Serial.{serial_sub}
+use Rattle.flow_counts.specs.declared.events.SentEvent.{SentEvent}
+use Rattle.flow_counts.specs.declared.events.SentEvent.TheVariants.{Added, Removed}
 
 -- the delivery-id stands from the first up to the last, once round; a last id that stands before the first covers none
 -- (RFC 1982)
 abbrev pub covers : ℕ → ℕ → ℕ → Bool
 covers first last id = nat_le (serial_sub id first) (serial_sub last first) && nat_lt (serial_sub last first) (2 ^ 31)
-
--- What moves the deliveries that a disposition may still speak of: one is sent, with the number of its first transfer
--- and its delivery-id; the one of a number is over.
-pub data SentEvent : Type 0 where
-  Added : ℕ → ℕ → SentEvent
-  Removed : ℕ → SentEvent
 
 -- with this id at the number, in the order of numbers
 abbrev pub put : ℕ → ℕ → List (ℕ × ℕ) → List (ℕ × ℕ)

@@ -1,13 +1,11 @@
 -- What it means that each transfer had room.
-use Rattle.std.proofs.Common.{◌≡◌, ◌∙◌, sym, ap, subst, ℕ, ◌+◌, ◌<◌, IsTrue, List, [], ◌∷◌, ◌++◌, length, take, drop, get_or, arith, refl}
-use Rattle.std.proofs.Math.ListN.{take-append-drop}
+use Rattle.std.proofs.Common.{subst, ℕ, ◌+◌, ◌<◌, IsTrue, List, [], ◌∷◌, ◌++◌, length, take, drop, get_or, reverse, arith}
 use Rattle.std.proofs.lemmas.Bool.{and_parts, and_from, ltb-true}
-use Rattle.std.proofs.lemmas.List.{reverse-append, map-append}
-use Rattle.flow_counts.specs.Window.{WindowEvent, TheirFlow, Sent, OurFlow, Received}
-use Rattle.session_window.specs.declared.history.SessionEvent.{SessionEvent}
+use Rattle.flow_counts.specs.declared.events.WindowEvent.{WindowEvent}
+use Rattle.flow_counts.specs.declared.events.WindowEvent.TheVariants.{TheirFlow, Sent, OurFlow, Received}
 use Rattle.session_window.specs.Counters.{Opening, remote_window, given_left}
-use Rattle.session_window.specs.History.{event_view, past_of, has_room, stays_within, IsWithinWindows}
-use Rattle.session_window.proofs.Order.{past_of-none, past_of-next, past_of-all}
+use Rattle.session_window.specs.History.{has_room, stays_within, IsWithinWindows}
+use Rattle.flow_counts.proofs.Newest.{reverse-next, reverse-all, reverse-split}
 
 -- the event in front had room, and those behind it stay within
 pub room_in_front : (begun : Opening) (event : WindowEvent) (past : List WindowEvent) → IsTrue (stays_within begun (event ∷ past)) → IsTrue (has_room begun past event)
@@ -35,23 +33,18 @@ within_before : (begun : Opening) (later past : List WindowEvent) → IsTrue (st
 within_before begun [] past h = h
 within_before begun (event ∷ later) past h = within_before begun later past (within_behind begun event (later ++ past) h)
 
-past_of-split : (events : List SessionEvent) (i : ℕ) → past_of events ≡ past_of (drop i events) ++ past_of (take i events)
-unfolding past_of
-past_of-split events i =
-    ap past_of (sym (take-append-drop i events)) ∙ rw (map-append event_view (take i events) (drop i events), reverse-append) refl
-
 -- where all stay within, the event at each place had room
-pub room_at : (begun : Opening) (events : List SessionEvent) (i : ℕ) (d : SessionEvent) → i < length events → IsTrue (stays_within begun (past_of events))
-    → IsTrue (has_room begun (past_of (take i events)) (event_view (get_or events i d)))
+pub room_at : (begun : Opening) (events : List WindowEvent) (i : ℕ) (d : WindowEvent) → i < length events → IsTrue (stays_within begun (reverse events))
+    → IsTrue (has_room begun (reverse (take i events)) (get_or events i d))
 room_at begun events i d lt h =
-    let all : IsTrue (stays_within begun (past_of (drop (i + 1) events) ++ past_of (take (i + 1) events))) = subst (λ p. IsTrue (stays_within begun p)) (past_of-split events (i + 1)) h in
-    let upto = within_before begun (past_of (drop (i + 1) events)) (past_of (take (i + 1) events)) all in
-    room_in_front begun (event_view (get_or events i d)) (past_of (take i events)) (subst (λ p. IsTrue (stays_within begun p)) (past_of-next events i d lt) upto)
+    let all : IsTrue (stays_within begun (reverse (drop (i + 1) events) ++ reverse (take (i + 1) events))) = subst (λ p. IsTrue (stays_within begun p)) (reverse-split events (i + 1)) h in
+    let upto = within_before begun (reverse (drop (i + 1) events)) (reverse (take (i + 1) events)) all in
+    room_in_front begun (get_or events i d) (reverse (take i events)) (subst (λ p. IsTrue (stays_within begun p)) (reverse-next events i d lt) upto)
 
 -- one event further
-pub within_next : (begun : Opening) (events : List SessionEvent) (i : ℕ) (d : SessionEvent) → i < length events
-    → IsTrue (has_room begun (past_of (take i events)) (event_view (get_or events i d))) → IsTrue (stays_within begun (past_of (take i events)))
-    → IsTrue (stays_within begun (past_of (take (i + 1) events)))
-within_next begun events i d lt room earlier = rw (past_of-next events i d lt) (and_from _ _ room earlier)
+pub within_next : (begun : Opening) (events : List WindowEvent) (i : ℕ) (d : WindowEvent) → i < length events
+    → IsTrue (has_room begun (reverse (take i events)) (get_or events i d)) → IsTrue (stays_within begun (reverse (take i events)))
+    → IsTrue (stays_within begun (reverse (take (i + 1) events)))
+within_next begun events i d lt room earlier = rw (reverse-next events i d lt) (and_from _ _ room earlier)
 
-pub ruleset within = (past_of-none, past_of-next, past_of-all, room_at, within_next, within_windows)
+pub ruleset within = (reverse-next, reverse-all, room_at, within_next, within_windows)

@@ -1,6 +1,7 @@
 -- What the windows of a session are counted from, and what they come to.
 use Rattle.std.specs.Prelude.{ℕ, ◌≡◌, List, ◌∷◌}
-use Rattle.flow_counts.specs.Window.{WindowEvent, next_id, window}
+use Rattle.flow_counts.specs.declared.events.WindowEvent.{WindowEvent}
+use Rattle.flow_counts.specs.Window.{next_id, window}
 use Rattle.flow_counts.specs.GivenWindow.{next_incoming_id, given_window}
 
 -- The numbers with which a session begins: the ids of the first transfer to the client and of the first from it, and

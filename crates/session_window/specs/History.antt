@@ -1,29 +1,17 @@
--- The events of a session, and whether its windows had room for them.
-use Rattle.std.specs.Prelude.{◌≤◌, Bool, true, ◌&&◌, List, [], ◌∷◌, map, reverse, nat_lt}
-use Rattle.flow_counts.specs.Window as counts
-use Rattle.flow_counts.specs.Window.{WindowEvent, granted_window, sent_since_flow}
+-- Whether the windows of a session had room for what happened on it.
+use Rattle.std.specs.Prelude.{◌≤◌, Bool, true, ◌&&◌, List, [], ◌∷◌, nat_lt}
+use Rattle.flow_counts.specs.declared.events.WindowEvent.{WindowEvent}
+use Rattle.flow_counts.specs.declared.events.WindowEvent.TheVariants.{Sent, Received}
+use Rattle.flow_counts.specs.Window.{granted_window, sent_since_flow}
 use Rattle.flow_counts.specs.GivenWindow.{received_since_flow}
 use Rattle.flow_counts.specs.declared.profile.TheConstants.{INCOMING_WINDOW}
-use Rattle.session_window.specs.declared.history.SessionEvent.{SessionEvent}
-use Rattle.session_window.specs.declared.history.SessionEvent.TheVariants.{TheirFlow, Sent, OurFlow, Received}
 use Rattle.session_window.specs.Counters.{Opening, remote_window, given_left}
-
--- what an event of the code stands for
-abbrev pub event_view : SessionEvent → WindowEvent
-event_view (TheirFlow expected window) = counts.TheirFlow expected window
-event_view Sent = counts.Sent
-event_view OurFlow = counts.OurFlow
-event_view Received = counts.Received
-
--- the code lists events the oldest first
-unfoldable pub past_of : List SessionEvent → List WindowEvent
-past_of events = reverse (map event_view events)
 
 -- after these events there is room for one more: a transfer wants at least 1 of the window that it takes from (part 2
 -- of the standard, section 2.5.6)
 abbrev pub has_room : Opening → List WindowEvent → WindowEvent → Bool
-has_room begun past counts.Sent = nat_lt 0 (remote_window begun past)
-has_room begun past counts.Received = nat_lt 0 (given_left begun past)
+has_room begun past Sent = nat_lt 0 (remote_window begun past)
+has_room begun past Received = nat_lt 0 (given_left begun past)
 has_room begun past _ = true
 
 -- each event had room when it came

@@ -11,7 +11,7 @@
 mod history;
 mod window;
 
-pub use history::{SessionEvent, window_after};
+pub use history::window_after;
 pub use window::{Violation, Window};
 
 #[cfg(test)]

@@ -1,7 +1,7 @@
 //! Windows whose numbers were worked out by hand from the standard.
 
 use super::*;
-use SessionEvent::{OurFlow, Received, Sent, TheirFlow};
+use flow_counts::WindowEvent::{OurFlow, Received, Sent, TheirFlow};
 
 /// A window of two takes two transfers, and each flow counts what it has not seen.
 #[test]

@@ -54,7 +54,7 @@ impl Model for Window {
 
 impl Window {
     ghost use Rattle.std.specs.Prelude.{◌≡◌, ◌<◌, ◌↔◌, [], IsTrue, IsErr, OnOk, OnErr};
-    ghost use Rattle.flow_counts.specs.Window.{TheirFlow, Sent, OurFlow, Received};
+    ghost use Rattle.flow_counts.specs.declared.events.WindowEvent.TheVariants.{TheirFlow, Sent, OurFlow, Received};
     ghost use Rattle.session_window.specs.Counters.{opening, counted, next_outgoing, next_incoming, remote_window, given_left, CountsOneMore, IsCount};
 
     /// The windows of a session as it begins: `next_out` is the next-outgoing-id of the begin to the client, `next_in`
