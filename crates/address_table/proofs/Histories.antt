@@ -1,30 +1,27 @@
 -- The events so far, as a loop over them meets them, and how many deliveries they leave undecided.
-use Rattle.std.proofs.Common.{◌≡◌, refl, sym, ap, subst, ◌∙◌, ℕ, suc, ◌+◌, ◌<◌, ◌≤◌, Bool, true, false, List, [], ◌∷◌, ◌++◌, length, take, map, reverse, get_or, add-one, Option, Some, None, unwrap_or, if◌then◌else◌, ◌==◌, arith}
+use Rattle.std.proofs.Common.{◌≡◌, refl, sym, ap, subst, ◌∙◌, ℕ, suc, ◌+◌, ◌<◌, ◌≤◌, Bool, true, false, List, [], ◌∷◌, length, take, map, get_or, Option, Some, None, unwrap_or, if◌then◌else◌, ◌==◌, arith}
 use Rattle.std.specs.Option.{option_map}
-use Rattle.std.proofs.Math.Seq.{take-suc}
-use Rattle.std.proofs.lemmas.List.{reverse-append, map-append, length-map, length-reverse}
+use Rattle.std.proofs.lemmas.List.{length-map, length-reverse}
 use Rattle.std.proofs.lemmas.Bool.{eqb-true}
+use Rattle.flow_counts.proofs.Newest.{reverse-map-next}
 use Rattle.flow_counts.specs.Picks.{AddressEvent, Attached, Detached, Begun, Decided, Consumer, attached, begun, decided, consumer, balanced_rank}
 use Rattle.address_table.specs.declared.table.Table.{Table}
-use Rattle.address_table.specs.declared.history.TableEvent.{TableEvent}
+use Rattle.address_table.specs.declared.history.AddressEvent as code
 use Rattle.address_table.specs.Links.{consumer_of, undecided_on, IsCount}
 use Rattle.address_table.specs.History.{address_event, events_of}
 
 -- ---- the events so far
-
-push : {A B : Type 0} (view : A → B) (events : List A) (e : A) → reverse (map view (events ++ e ∷ [])) ≡ view e ∷ reverse (map view events)
-push view events e = rw (map-append view events (e ∷ []), reverse-append) refl
 
 pub events_of-none : events_of [] ≡ []
 unfolding events_of
 events_of-none = refl
 
 -- one event further
-pub events_of-next : (events : List TableEvent) (i : ℕ) (d : TableEvent) → i < length events → events_of (take (i + 1) events) ≡ address_event (get_or events i d) ∷ events_of (take i events)
+pub events_of-next : (events : List code.AddressEvent) (i : ℕ) (d : code.AddressEvent) → i < length events → events_of (take (i + 1) events) ≡ address_event (get_or events i d) ∷ events_of (take i events)
 unfolding events_of
-events_of-next events i d lt = rw (add-one, take-suc events i d) (push address_event (take i events) (get_or events i d))
+events_of-next events i d lt = reverse-map-next address_event events i d lt
 
-pub events_of-length : (events : List TableEvent) → length (events_of events) ≡ length events
+pub events_of-length : (events : List code.AddressEvent) → length (events_of events) ≡ length events
 unfolding events_of
 events_of-length events = length-reverse (map address_event events) ∙ length-map events address_event
 
@@ -82,7 +79,7 @@ undecided_few link (Decided on ∷ past) =
     let h = undecided_few link past in
     rank_by (link == on) (option_map decided (consumer link past)) (consumer link past) (suc (length past)) (omega (arith, decided_rank (consumer link past) (length past) h)) (omega (arith, h))
 
-pub few_undecided : (table : Table) (events : List TableEvent) (link : ℕ) → IsCount table (events_of events) → undecided_on table link ≤ length events
+pub few_undecided : (table : Table) (events : List code.AddressEvent) (link : ℕ) → IsCount table (events_of events) → undecided_on table link ≤ length events
 few_undecided table events link is =
     subst (λ (n : ℕ). undecided_on table link ≤ n) (events_of-length events)
     (subst (λ (o : Option Consumer). balanced_rank o ≤ length (events_of events)) (sym (is.links link)) (undecided_few link (events_of events)))

@@ -10,7 +10,7 @@ use std::alloc::{AllocError, Global};
 
 /// What happens to the links of consumers.
 #[derive(Clone, Copy, Debug, PartialEq, Eq)]
-pub enum TableEvent<'a> {
+pub enum AddressEvent<'a> {
     /// A link is attached to an address.
     Attached {
         address: &'a str,
@@ -34,19 +34,19 @@ pub enum TableEvent<'a> {
 
 impl Table {
     /// One event more.
-    fn count(&mut self, event: TableEvent<'_>) -> Result<(), AllocError>
+    fn count(&mut self, event: AddressEvent<'_>) -> Result<(), AllocError>
         requires { (link : ℕ) → undecided_on self.old link < 2 ^ 64 - 1 }
         ensures { OnOk result (CountsOneMore self.old self.new (address_event event.entry)) }
     {
         match event {
-            TableEvent::Attached {
+            AddressEvent::Attached {
                 address,
                 link,
                 pre_settled,
             } => self.attach(address, link, pre_settled)?,
-            TableEvent::Detached { link } => self.detach(link),
-            TableEvent::Begun { link, number } => self.begun(link, number),
-            TableEvent::Decided { link } => self.decide(link),
+            AddressEvent::Detached { link } => self.detach(link),
+            AddressEvent::Begun { link, number } => self.begun(link, number),
+            AddressEvent::Decided { link } => self.decide(link),
         }
         Ok(())
     }
@@ -67,7 +67,7 @@ impl Table {
 /// # Errors
 ///
 /// Where memory is refused.
-pub fn table_after(alloc: Global, events: &[TableEvent<'_>]) -> Result<Table, AllocError>
+pub fn table_after(alloc: Global, events: &[AddressEvent<'_>]) -> Result<Table, AllocError>
     ensures { IfOk result (λ table. IsCount table (events_of events.now)) }
 {
     let mut table = Table::new(alloc);

@@ -18,7 +18,7 @@ mod table;
 
 pub use consumer::Consumer;
 pub use fault::RulesFault;
-pub use history::{TableEvent, table_after};
+pub use history::{AddressEvent, table_after};
 pub use laws::laws_of_tables;
 pub use rules::Rules;
 pub use table::Table;

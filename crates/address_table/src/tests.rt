@@ -119,24 +119,24 @@ fn rules_of_captures(rt: HostRuntime) -> Result<(), Fail> {
     Ok(())
 }
 
-fn attach(address: &str, link: u64, pre_settled: bool) -> TableEvent<'_> {
-    TableEvent::Attached {
+fn attach(address: &str, link: u64, pre_settled: bool) -> AddressEvent<'_> {
+    AddressEvent::Attached {
         address,
         link,
         pre_settled,
     }
 }
 
-fn detach(link: u64) -> TableEvent<'static> {
-    TableEvent::Detached { link }
+fn detach(link: u64) -> AddressEvent<'static> {
+    AddressEvent::Detached { link }
 }
 
-fn begin(link: u64, number: u64) -> TableEvent<'static> {
-    TableEvent::Begun { link, number }
+fn begin(link: u64, number: u64) -> AddressEvent<'static> {
+    AddressEvent::Begun { link, number }
 }
 
-fn decide(link: u64) -> TableEvent<'static> {
-    TableEvent::Decided { link }
+fn decide(link: u64) -> AddressEvent<'static> {
+    AddressEvent::Decided { link }
 }
 
 /// Every link may be sent a delivery.

@@ -5,9 +5,9 @@ use Rattle.flow_counts.specs.GivenCredit.{given_credit}
 use Rattle.link_credit.specs.declared.history.ProducerEvent.{ProducerEvent}
 use Rattle.link_credit.specs.declared.history.ProducerEvent.TheVariants.{TheirFlow, Begun, Told, ToppedUp}
 use Rattle.link_credit.specs.ProducerHistory.{link_events, is_allowed, stays_within, IsWithinCredit}
-use Rattle.link_credit.proofs.Order.{reverse-next, reverse-all, reverse-split}
+use Rattle.flow_counts.proofs.Newest.{reverse-next, reverse-all, reverse-split}
 
--- the event in front was allowed, and so were those behind it
+-- the newest event was allowed, and so were the earlier ones
 pub allowed_in_front : (first : ℕ) (event : ProducerEvent) (earlier : List ProducerEvent) → IsTrue (stays_within first (event ∷ earlier))
     → IsTrue (is_allowed first (link_events first earlier) event)
 allowed_in_front first event earlier h = (and_parts (is_allowed first (link_events first earlier) event) (stays_within first earlier) h).0

@@ -1,21 +1,22 @@
 //! What happens to the deliveries of a session, and what they come to by it.
 
-ghost use Rattle.std.specs.Prelude.{◌≡◌, IfOk, OnOk};
+ghost use Rattle.std.specs.Prelude.{◌≡◌, reverse, IfOk, OnOk};
 ghost use Rattle.flow_counts.specs.Parts.{Completed};
 ghost use Rattle.flow_counts.specs.Covers.{outstanding};
 ghost use Rattle.unsettled.specs.Deliveries as deliveries;
 ghost use Rattle.unsettled.specs.Deliveries.{IsCount};
 ghost use Rattle.unsettled.specs.Sent as sent;
-ghost use Rattle.unsettled.specs.History.{part_event, parts_of, sent_event, sent_of};
+ghost use Rattle.unsettled.specs.History.{part_event, parts_of};
 
 use crate::fault::PartFault;
 use crate::inbound::Inbound;
 use crate::outstanding::Outstanding;
+use flow_counts::SentEvent;
 use std::alloc::{AllocError, Global};
 
 /// What happens to the deliveries that come in from a client.
 #[derive(Clone, Copy, Debug, PartialEq, Eq)]
-pub enum InboundEvent<'a> {
+pub enum PartEvent<'a> {
     /// A transfer comes on a link.
     Part {
         link: u64,
@@ -38,30 +39,21 @@ pub enum InboundEvent<'a> {
     },
 }
 
-/// What happens to the deliveries that are sent to a client.
-#[derive(Clone, Copy, Debug, PartialEq, Eq)]
-pub enum OutstandingEvent {
-    /// A delivery begins with the transfer of this record.
-    Added { number: u64, id: u32 },
-    /// The delivery of this record is over.
-    Removed { number: u64 },
-}
-
 impl Inbound {
     /// One event more. A completion without a delivery in progress changes nothing.
-    fn count(&mut self, event: InboundEvent<'_>) -> Result<(), PartFault>
+    fn count(&mut self, event: PartEvent<'_>) -> Result<(), PartFault>
         ensures { OnOk result (deliveries.CountsOneMore self.old self.new (part_event event.entry)) }
     {
         match event {
-            InboundEvent::Part {
+            PartEvent::Part {
                 link,
                 number,
                 id,
                 payload,
             } => self.part(link, number, id, payload)?,
-            InboundEvent::Aborted { link } => self.abort(link),
-            InboundEvent::Completed { link } => self.let_go(link),
-            InboundEvent::Freed { id } => self.freed(id),
+            PartEvent::Aborted { link } => self.abort(link),
+            PartEvent::Completed { link } => self.let_go(link),
+            PartEvent::Freed { id } => self.freed(id),
         }
         Ok(())
     }
@@ -81,7 +73,7 @@ impl Inbound {
 /// # Errors
 ///
 /// The fault of the first part that is refused, as `Inbound::part` tells it.
-pub fn inbound_after(alloc: Global, events: &[InboundEvent<'_>]) -> Result<Inbound, PartFault>
+pub fn inbound_after(alloc: Global, events: &[PartEvent<'_>]) -> Result<Inbound, PartFault>
     ensures { IfOk result (λ inbound. IsCount inbound (parts_of events.now)) }
 {
     let mut inbound = Inbound::new(alloc);
@@ -93,12 +85,12 @@ pub fn inbound_after(alloc: Global, events: &[InboundEvent<'_>]) -> Result<Inbou
 
 impl Outstanding {
     /// One event more.
-    fn count(&mut self, event: OutstandingEvent) -> Result<(), AllocError>
-        ensures { OnOk result (sent.CountsOneMore self.old self.new (sent_event event)) }
+    fn count(&mut self, event: SentEvent) -> Result<(), AllocError>
+        ensures { OnOk result (sent.CountsOneMore self.old self.new event) }
     {
         match event {
-            OutstandingEvent::Added { number, id } => self.add(number, id)?,
-            OutstandingEvent::Removed { number } => self.remove(number),
+            SentEvent::Added { number, id } => self.add(number, id)?,
+            SentEvent::Removed { number } => self.remove(number),
         }
         Ok(())
     }
@@ -109,11 +101,8 @@ impl Outstanding {
 /// # Errors
 ///
 /// Where memory is refused.
-pub fn outstanding_after(
-    alloc: Global,
-    events: &[OutstandingEvent],
-) -> Result<Outstanding, AllocError>
-    ensures { IfOk result (λ left. left ≡ outstanding (sent_of events.now)) }
+pub fn outstanding_after(alloc: Global, events: &[SentEvent]) -> Result<Outstanding, AllocError>
+    ensures { IfOk result (λ left. left ≡ outstanding (reverse events.now)) }
 {
     let mut outstanding = Outstanding::new(alloc);
     for event in events {

@@ -16,7 +16,7 @@ mod outstanding;
 mod partial;
 
 pub use fault::PartFault;
-pub use history::{InboundEvent, OutstandingEvent, inbound_after, outstanding_after};
+pub use history::{PartEvent, inbound_after, outstanding_after};
 pub use inbound::Inbound;
 pub use outstanding::{Covered, Outstanding};
 pub use partial::Partial;

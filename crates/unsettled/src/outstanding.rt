@@ -2,7 +2,8 @@
 
 ghost use Rattle.std.specs.Prelude.{◌≡◌, [], OnOk, OnErr};
 ghost use Rattle.flow_counts.specs.Covers as counts;
-ghost use Rattle.flow_counts.specs.Covers.{outstanding, Added, Removed};
+ghost use Rattle.flow_counts.specs.Covers.{outstanding};
+ghost use Rattle.flow_counts.specs.declared.events.SentEvent.TheVariants.{Added, Removed};
 ghost use Rattle.unsettled.specs.Sent.{CountsOneMore};
 
 use std::alloc::{AllocError, Global};

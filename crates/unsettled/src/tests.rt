@@ -1,6 +1,7 @@
 //! Deliveries with known answers, worked out by hand from the standard and the profile's numbers.
 
 use super::*;
+use flow_counts::SentEvent;
 use std::test::Fail;
 
 /// Three parts of one delivery, between which another link has its own.
@@ -114,7 +115,7 @@ fn ranges_wrap(rt: HostRuntime) -> Result<(), Fail> {
 /// Of two links, one is given up; the other one's parts are joined.
 #[test]
 fn whole_lists_of_events(rt: HostRuntime) -> Result<(), Fail> {
-    let part = |link, number, id, payload| InboundEvent::Part {
+    let part = |link, number, id, payload| PartEvent::Part {
         link,
         number,
         id,
@@ -123,8 +124,8 @@ fn whole_lists_of_events(rt: HostRuntime) -> Result<(), Fail> {
     let events = [
         part(5, 16, Some(0), b"ab".as_slice()),
         part(6, 17, Some(1), b"x".as_slice()),
-        InboundEvent::Completed { link: 7 },
-        InboundEvent::Aborted { link: 6 },
+        PartEvent::Completed { link: 7 },
+        PartEvent::Aborted { link: 6 },
         part(5, 18, None, b"cd".as_slice()),
     ];
     let mut inbound = inbound_after(rt.alloc(), &events)?;
@@ -134,9 +135,9 @@ fn whole_lists_of_events(rt: HostRuntime) -> Result<(), Fail> {
     assert_eq!(rt; number, 16);
     assert_eq!(rt; payload.as_slice(), b"abcd".as_slice());
     let sent = [
-        OutstandingEvent::Added { number: 20, id: 0 },
-        OutstandingEvent::Added { number: 25, id: 1 },
-        OutstandingEvent::Removed { number: 20 },
+        SentEvent::Added { number: 20, id: 0 },
+        SentEvent::Added { number: 25, id: 1 },
+        SentEvent::Removed { number: 20 },
     ];
     let outstanding = outstanding_after(rt.alloc(), &sent)?;
     assert!(rt; outstanding.cover(0, 5).eq([(25, 1)]));

@@ -1,7 +1,6 @@
-use Rattle.std.proofs.Common.{◌≡◌, take}
+use Rattle.std.proofs.Common.{◌≡◌, take, reverse}
 use Rattle.flow_counts.specs.Covers.{outstanding}
-use Rattle.unsettled.specs.History.{sent_of}
 use Rattle.unsettled.proofs.history.outstanding_after.Given as goal
 
 abbrev pub invariant-loop-event : goal.invariant-loop-event
-invariant-loop-event l = l.outstanding ≡ outstanding (sent_of (take l.event-index l.events))
+invariant-loop-event l = l.outstanding ≡ outstanding (reverse (take l.event-index l.events))
