@@ -4,13 +4,14 @@ use Rattle.std.proofs.Math.Seq.{take-suc}
 use Rattle.std.proofs.lemmas.Bool.{le-ltb}
 use Rattle.std.specs.List.{AllByRecursion, IsDistinct}
 use Rattle.std.specs.Str.{bytes_eq}
+use Rattle.std.specs.Option.{option_or}
 use Rattle.flow_counts.specs.declared.profile.TheConstants.{MAX_PREFIX, MAX_RULES}
 use Rattle.capture_form.specs.Rules.{RuleText, IsRule, AreRules, prefixes}
 use Rattle.capture_form.specs.Reading.{has_prefix}
 use Rattle.capture_form.proofs.RuleLemmas.{distinct_push, is_new_there}
 use Rattle.address_table.specs.declared.fault.RulesFault.{RulesFault}
 use Rattle.address_table.specs.declared.fault.RulesFault.TheVariants.{Duplicate, TooMany, Empty, TooLong}
-use Rattle.address_table.specs.Refusals.{rule_fault, first_fault, rules_fault, or_else}
+use Rattle.address_table.specs.Refusals.{rule_fault, first_fault, rules_fault}
 
 -- a rule without a fault has a prefix of its own
 taken_by : (a b c : Bool) → cond a (Some Empty) (cond b (Some TooLong) (cond c (Some Duplicate) None)) ≡ None → c ≡ false
@@ -41,7 +42,7 @@ tested_next rules i rule lt is tested h none =
     record {
       each = rw next (all_push (take i rules) rule tested.each h);
       distinct = rw next (distinct_push (take i rules) rule tested.distinct (taken_by (eqb (length rule.prefix) 0) (ltb MAX_PREFIX (length rule.prefix)) (has_prefix (take i rules) rule.prefix) none));
-      faults = tested.faults ∙ ap (first_fault (take i rules)) rest ∙ ap (λ f. or_else f (first_fault (take i rules ++ rule ∷ []) (drop (i + 1) rules))) none
+      faults = tested.faults ∙ ap (first_fault (take i rules)) rest ∙ ap (λ f. option_or f (first_fault (take i rules ++ rule ∷ []) (drop (i + 1) rules))) none
           ∙ ap (λ (earlier : List RuleText). first_fault earlier (drop (i + 1) rules)) (sym next);
     }
 
@@ -50,7 +51,7 @@ pub tested_fault : (rules : List RuleText) (i : ℕ) (rule : RuleText) (fault : 
     → rule_fault (take i rules) rule ≡ Some fault → first_fault [] rules ≡ Some fault
 tested_fault rules i rule fault lt is tested found =
     let rest : drop i rules ≡ rule ∷ drop (i + 1) rules = rw (add-one, drop-cons rules i rule, ← is) refl in
-    tested.faults ∙ ap (first_fault (take i rules)) rest ∙ ap (λ f. or_else f (first_fault (take i rules ++ rule ∷ []) (drop (i + 1) rules))) found
+    tested.faults ∙ ap (first_fault (take i rules)) rest ∙ ap (λ f. option_or f (first_fault (take i rules ++ rule ∷ []) (drop (i + 1) rules))) found
 
 -- so of a router's rules, of which there are not too many
 pub refusal : (rules items : List RuleText) (i : ℕ) (rule : RuleText) (fault : RulesFault) → rules ≡ items → length rules ≤ MAX_RULES → i < length rules → rule ≡ get_or rules i rule
@@ -76,7 +77,7 @@ none_first earlier (rule ∷ rules) each distinct =
     let none : rule_fault earlier rule ≡ None =
     no_fault (eqb (length rule.prefix) 0) (ltb MAX_PREFIX (length rule.prefix)) (has_prefix earlier rule.prefix)
     (not_zero (length rule.prefix) each.0.some_prefix) (le-ltb MAX_PREFIX (length rule.prefix) each.0.short_prefix) (is_new_there earlier rule rules distinct) in
-    ap (λ f. or_else f (first_fault (earlier ++ rule ∷ []) rules)) none
+    ap (λ f. option_or f (first_fault (earlier ++ rule ∷ []) rules)) none
     ∙ none_first (earlier ++ rule ∷ []) rules each.1 (subst (λ (rs : List RuleText). IsDistinct bytes_eq (prefixes rs)) (sym (append_assoc earlier (rule ∷ []) rules)) distinct)
 
 pub none_refused : (rules : List RuleText) → AreRules rules → rules_fault rules ≡ None

@@ -1,5 +1,6 @@
 -- Why rules are refused.
 use Rattle.std.specs.Prelude.{ℕ, ◌==◌, List, [], ◌∷◌, ◌++◌, length, Option, Some, None, nat_lt, if◌then◌else◌}
+use Rattle.std.specs.Option.{option_or}
 use Rattle.flow_counts.specs.declared.profile.TheConstants.{MAX_PREFIX, MAX_RULES}
 use Rattle.capture_form.specs.Rules.{RuleText}
 use Rattle.capture_form.specs.Reading.{has_prefix}
@@ -21,14 +22,10 @@ rule_fault earlier rule =
     else (if nat_lt MAX_PREFIX (length rule.prefix) then Some TooLong
     else (if has_prefix earlier rule.prefix then Some Duplicate else None))
 
-abbrev pub or_else : Option RulesFault → Option RulesFault → Option RulesFault
-or_else None later = later
-or_else (Some fault) later = Some fault
-
 -- the first fault of these rules after those earlier ones
 abbrev pub first_fault : List RuleText → List RuleText → Option RulesFault
 first_fault earlier [] = None
-first_fault earlier (rule ∷ rules) = or_else (rule_fault earlier rule) (first_fault (earlier ++ rule ∷ []) rules)
+first_fault earlier (rule ∷ rules) = option_or (rule_fault earlier rule) (first_fault (earlier ++ rule ∷ []) rules)
 
 -- the first fault of the rules of a router
 abbrev pub rules_fault : List RuleText → Option RulesFault

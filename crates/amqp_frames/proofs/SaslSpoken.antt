@@ -2,6 +2,7 @@
 use Rattle.std.proofs.Common.{◌≡◌, refl, sym, ap, ◌∙◌, ℕ, ◌≤◌, Bool, true, false, List, length, Option, Some, None, Result, Ok, Err}
 use Rattle.std.specs.Prelude.{nat_lt, IfOk}
 use Rattle.std.proofs.lemmas.Bool.{ltb-false, le-ltb}
+use Rattle.std.specs.Option.{option_zip}
 use Rattle.amqp_types.specs.declared.code.Kind.TheVariants as kinds
 use Rattle.amqp_types.specs.Part.{Part, Seen, Nested, Described, Tagged}
 use Rattle.amqp_types.specs.Reading.{Read, seen_at}
@@ -14,14 +15,14 @@ use Rattle.amqp_types.proofs.Nested.{not_tagged, pair_holds, list_holds, value_i
 use Rattle.amqp_perf.specs.declared.fault.PerfFault.{PerfFault}
 use Rattle.amqp_perf.specs.declared.fault.PerfFault.TheVariants.{TooManyFields}
 use Rattle.amqp_perf.specs.Fields.{first_fault}
-use Rattle.amqp_perf.specs.Reading.{Gives}
+use Rattle.flow_counts.specs.Words.{Gives}
 use Rattle.amqp_perf.specs.Grammar.{AreFields}
 use Rattle.amqp_perf.proofs.Fits.{are_fields, no_faults, not_too_many}
 use Rattle.amqp_perf.proofs.Spoken.{values_are}
 use Rattle.amqp_frames.specs.declared.sasl.SaslKind.{SaslKind}
 use Rattle.amqp_frames.specs.declared.sasl.SaslFrame.{SaslFrame}
 use Rattle.amqp_frames.specs.Sasl.{Saying, kind_named, sasl_table, saying_of}
-use Rattle.amqp_frames.specs.SaslReading.{both_of, checked, said_of, said, said_by, sasl_at}
+use Rattle.amqp_frames.specs.SaslReading.{checked, said_of, said, said_by, sasl_at}
 use Rattle.amqp_frames.specs.SaslGrammar.{IsSasl, IsSaslFront}
 use Rattle.amqp_frames.specs.SaslView.{sasl_view}
 
@@ -52,7 +53,7 @@ checked_again kind fields fit =
 
 -- a described list, where its parts are known
 parts_found : (octets descriptor described : List ℕ) (d v : Part) (saying : Saying) (names : Option SaslKind) → IsValue MAX_DEPTH octets (Described descriptor described)
-    → IsValue MAX_DEPTH descriptor d → IsValue MAX_DEPTH described v → kind_named d ≡ names → said_of (both_of names (list_in v)) ≡ Ok saying
+    → IsValue MAX_DEPTH descriptor d → IsValue MAX_DEPTH described v → kind_named d ≡ names → said_of (option_zip names (list_in v)) ≡ Ok saying
     → IsSasl octets saying
 parts_found octets descriptor described d (Nested kinds.List count body) saying (Some kind) whole says list names e =
     let fit = checked_found kind (seen_in count body) saying e in
@@ -80,9 +81,9 @@ said_found octets (Described descriptor described) saying whole e =
     let holds = pair_holds octets descriptor described whole in
     let d = ap (λ (x : Seen). x.part) (value_is descriptor holds.0.says holds.0.is) in
     let v = ap (λ (x : Seen). x.part) (value_is described holds.1.says holds.1.is) in
-    let spoken : said_of (both_of (kind_named holds.0.says) (list_in holds.1.says)) ≡ Ok saying =
-    ap (λ (p : Part). said_of (both_of (kind_named p) (list_in holds.1.says))) (sym d)
-    ∙ ap (λ (p : Part). said_of (both_of (kind_named (seen_of descriptor).part) (list_in p))) (sym v) ∙ e in
+    let spoken : said_of (option_zip (kind_named holds.0.says) (list_in holds.1.says)) ≡ Ok saying =
+    ap (λ (p : Part). said_of (option_zip (kind_named p) (list_in holds.1.says))) (sym d)
+    ∙ ap (λ (p : Part). said_of (option_zip (kind_named (seen_of descriptor).part) (list_in p))) (sym v) ∙ e in
     parts_found octets descriptor described holds.0.says holds.1.says saying (kind_named holds.0.says) whole holds.0.is holds.1.is refl spoken
 said_found octets (Tagged descriptor constructor own) saying whole e = absurd (not_tagged octets descriptor constructor own whole)
 said_found octets _ saying whole e = absurd cc
@@ -91,8 +92,8 @@ said_again : (octets : List ℕ) (saying : Saying) (is : IsSasl octets saying) �
 said_again octets saying is =
     let d : (seen_of is.descriptor).part ≡ is.says = ap (λ (x : Seen). x.part) (value_is is.descriptor is.says is.descriptor_is) in
     let v : (seen_of is.described).part ≡ Nested kinds.List is.count is.body = ap (λ (x : Seen). x.part) (value_is is.described (Nested kinds.List is.count is.body) is.list) in
-    ap (λ (p : Part). said_of (both_of (kind_named p) (list_in (seen_of is.described).part))) d
-    ∙ ap (λ (p : Part). said_of (both_of (kind_named is.says) (list_in p))) v
+    ap (λ (p : Part). said_of (option_zip (kind_named p) (list_in (seen_of is.described).part))) d
+    ∙ ap (λ (p : Part). said_of (option_zip (kind_named is.says) (list_in p))) v
     ∙ rw (is.names, values_are is.count is.body is.values is.items) (checked_again is.kind is.values is.fit ∙ ap Ok (sym is.means))
 
 -- ---- octets

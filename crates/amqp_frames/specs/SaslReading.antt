@@ -1,5 +1,6 @@
 -- Reading what a SASL frame says, with the first fault: the value, the descriptor, the number of fields, then each field.
 use Rattle.std.specs.Prelude.{ℕ, List, Option, Some, None, option_and_then, Result, Ok, Err}
+use Rattle.std.specs.Option.{option_zip}
 use Rattle.amqp_types.specs.Part.{Part, Seen}
 use Rattle.amqp_types.specs.Items.{descriptor_of, described_of}
 use Rattle.amqp_types.specs.Typed.{list_in}
@@ -11,15 +12,9 @@ use Rattle.amqp_perf.specs.Fields.{table_fault}
 use Rattle.amqp_frames.specs.declared.sasl.SaslKind.{SaslKind}
 use Rattle.amqp_frames.specs.Sasl.{Saying, kind_named, sasl_table, saying_of}
 
--- a kind and some fields, where both are there
-abbrev pub both_of : Option SaslKind → Option (List Seen) → Option (SaslKind × List Seen)
-both_of (Some kind) (Some fields) = Some (kind, fields)
-both_of (Some kind) None = None
-both_of None fields = None
-
 -- what the descriptor of a described list names, and the list's items (part 1, 1.4)
 abbrev pub sasl_list : Part → Option (SaslKind × List Seen)
-sasl_list part = both_of
+sasl_list part = option_zip
     (option_and_then (λ descriptor. kind_named descriptor.part) (descriptor_of part))
     (option_and_then (λ described. list_in described.part) (described_of part))
 

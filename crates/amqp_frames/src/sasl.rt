@@ -132,7 +132,7 @@ impl SaslKind {
 ghost use Rattle.std.specs.Prelude.{◌≡◌, IfOk, Ok, option_map};
 ghost use Rattle.amqp_types.specs.View as values;
 ghost use Rattle.amqp_perf.specs.FieldsLeft.{fields_left};
-ghost use Rattle.amqp_perf.specs.Reading.{Gives};
+ghost use Rattle.flow_counts.specs.Words.{Gives};
 ghost use Rattle.amqp_frames.specs.Sasl.{Saying, saying_of, names_anonymous};
 ghost use Rattle.amqp_frames.specs.SaslReading.{sasl_at, said, sasl_list};
 ghost use Rattle.amqp_frames.specs.SaslGrammar.{IsSaslFront};

@@ -1,5 +1,6 @@
 -- Fields fit their table exactly where there are not too many and none is at fault.
 use Rattle.std.proofs.Common.{◌≡◌, refl, ℕ, ◌+◌, ◌≤◌, Bool, true, false, List, [], ◌∷◌, length, Option, Some, None, inl, inr, arith}
+use Rattle.std.specs.Option.{option_or}
 use Rattle.amqp_types.specs.Part.{Seen}
 use Rattle.amqp_types.specs.Typed.{says_null}
 use Rattle.amqp_perf.specs.declared.fault.PerfFault.{PerfFault}
@@ -7,7 +8,7 @@ use Rattle.amqp_perf.specs.declared.fault.PerfFault.TheVariants.{MissingField, W
 use Rattle.amqp_perf.specs.declared.table.Field.{Field}
 use Rattle.amqp_perf.specs.Tables.{accepts}
 use Rattle.amqp_perf.specs.FieldPlaces.{missing}
-use Rattle.amqp_perf.specs.Fields.{field_fault, first_fault, or_else}
+use Rattle.amqp_perf.specs.Fields.{field_fault, first_fault}
 use Rattle.amqp_perf.specs.Grammar.{IsField, AreFields}
 
 field_by : (n : ℕ) (f : Field) (p : Seen) (null mandatory ok : Bool) → says_null p.part ≡ null → f.is_mandatory ≡ mandatory → accepts f.field_type p ≡ ok
@@ -24,7 +25,7 @@ no_fault : (n : ℕ) (f : Field) (p : Seen) → IsField f p → field_fault n f 
 no_fault n f p (inl h) = rw (h.0, h.1) refl
 no_fault n f p (inr h) = rw (h.0, h.1) refl
 
-neither : (a b : Option PerfFault) → or_else a b ≡ None → (a ≡ None) × (b ≡ None)
+neither : (a b : Option PerfFault) → option_or a b ≡ None → (a ≡ None) × (b ≡ None)
 neither None b e = (refl, e)
 neither (Some fault) b e = absurd cc
 

@@ -1,5 +1,6 @@
 -- What is nested in a performative is read again as it was written.
 use Rattle.std.proofs.Common.{◌≡◌, refl, sym, ap, subst, ◌∙◌, ℕ, suc, ◌<◌, ◌^◌, Bool, false, List, [], length, Option, Some, None, option_map, unwrap_or, is_some, IsUtf8, arith}
+use Rattle.std.specs.Option.{option_zip}
 use Rattle.amqp_types.specs.declared.code.Text.TheVariants as texts
 use Rattle.amqp_types.specs.declared.code.Kind.TheVariants as kinds_of_lists
 use Rattle.amqp_types.specs.Part.{Part, Null, Ulong, Sized, Nested, Seen}
@@ -19,7 +20,7 @@ use Rattle.amqp_perf.specs.declared.attach.ReceiverSettleMode.{ReceiverSettleMod
 use Rattle.amqp_perf.specs.declared.attach.ReceiverSettleMode.TheVariants.{First, Second}
 use Rattle.amqp_perf.specs.declared.descriptor.Descriptor.TheVariants as descriptors
 use Rattle.amqp_perf.specs.declared.table.FieldType.TheVariants as types
-use Rattle.amqp_perf.specs.Descriptors.{descriptor_of_code, descriptor_named, described_list, both_of}
+use Rattle.amqp_perf.specs.Descriptors.{descriptor_of_code, descriptor_named, described_list}
 use Rattle.amqp_perf.specs.Tables.{optional, mandatory}
 use Rattle.amqp_perf.specs.Nested.{StateFields, AddressFields, AText, AnOther, TerminusFields, TargetFields, ATerminus, ACoordinator, state_in, source_of, source_in, target_of, target_in, condition_of, condition_in, role_of, sender_mode_in, receiver_mode_in}
 use Rattle.amqp_perf.specs.Meaning.{AnAttach, ADisposition, ADetach, AnEnd, AClose, AttachFields, DispositionFields, DetachFields}
@@ -44,7 +45,7 @@ nested_can : (code : ℕ) (ss : List (Option Seen)) → AllCanStand 28 ss → Ar
 nested_can code ss can few = subst (λ (v : Seen). CanStand levels_in_described (Some v)) (sym (seen_again code ss can few)) (fields_nested 27 code ss can few, tt)
 
 -- what its descriptor names, and its fields
-pub described_again : (code : ℕ) (ss : List (Option Seen)) → AllCanStand 28 ss → AreShort ss → described_list (says_fields code ss) ≡ both_of (descriptor_of_code code) (Some (values_of ss))
+pub described_again : (code : ℕ) (ss : List (Option Seen)) → AllCanStand 28 ss → AreShort ss → described_list (says_fields code ss) ≡ option_zip (descriptor_of_code code) (Some (values_of ss))
 described_again code ss can few =
     let vs = values_of ss in
     let d = descriptor_octets code in
@@ -55,12 +56,12 @@ described_again code ss can few =
     let dv : (seen_of d).part ≡ Ulong code = ap (λ (x : Seen). x.part) (value_is d (Ulong code) (descriptor_is 31 code)) in
     let lv : (seen_of l).part ≡ Nested kinds_of_lists.List (length vs) (octets_of vs) =
     ap (λ (x : Seen). x.part) (value_is l (Nested kinds_of_lists.List (length vs) (octets_of vs)) (value_deeper 29 MAX_DEPTH l (Nested kinds_of_lists.List (length vs) (octets_of vs)) (omega arith) list)) in
-    ap (λ (p : Part). both_of (descriptor_named p) (list_in (seen_of l).part)) dv
-    ∙ ap (λ (p : Part). both_of (descriptor_of_code code) (list_in p)) lv
-    ∙ ap (λ (ps : List Seen). both_of (descriptor_of_code code) (Some ps)) (values_are (length vs) (octets_of vs) vs (are_values 28 vs (omega arith) at))
+    ap (λ (p : Part). option_zip (descriptor_named p) (list_in (seen_of l).part)) dv
+    ∙ ap (λ (p : Part). option_zip (descriptor_of_code code) (list_in p)) lv
+    ∙ ap (λ (ps : List Seen). option_zip (descriptor_of_code code) (Some ps)) (values_are (length vs) (octets_of vs) vs (are_values 28 vs (omega arith) at))
 
 nested_again : (code : ℕ) (ss : List (Option Seen)) → AllCanStand 28 ss → AreShort ss
-    → described_list (kept_value (fields_octets code ss)).part ≡ both_of (descriptor_of_code code) (Some (values_of ss))
+    → described_list (kept_value (fields_octets code ss)).part ≡ option_zip (descriptor_of_code code) (Some (values_of ss))
 nested_again code ss can few = ap (λ (v : Seen). described_list v.part) (seen_again code ss can few) ∙ described_again code ss can few
 
 nested_there : (code : ℕ) (ss : List (Option Seen)) → AllCanStand 28 ss → AreShort ss → says_null (kept_value (fields_octets code ss)).part ≡ false

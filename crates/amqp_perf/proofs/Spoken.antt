@@ -5,6 +5,7 @@ use Rattle.std.specs.List.{flat_map, AllByRecursion}
 use Rattle.std.proofs.lemmas.List.Elements.{recursion_from_All}
 use Rattle.std.proofs.lemmas.List.Concat.{flat_map-cons}
 use Rattle.std.proofs.lemmas.Bool.{ltb-false, le-ltb}
+use Rattle.std.specs.Option.{option_zip}
 use Rattle.amqp_types.specs.declared.code.Kind.TheVariants as kinds
 use Rattle.amqp_types.specs.Part.{Part, Seen, Nested, Described, Tagged}
 use Rattle.amqp_types.specs.Reading.{Read, seen_at, item_at}
@@ -19,11 +20,12 @@ use Rattle.amqp_perf.specs.declared.fault.PerfFault.TheVariants.{TooManyFields}
 use Rattle.amqp_perf.specs.declared.descriptor.PerformativeKind.{PerformativeKind}
 use Rattle.amqp_perf.specs.declared.descriptor.Descriptor.{Descriptor}
 use Rattle.amqp_perf.specs.declared.descriptor.Descriptor.TheVariants.{Performative}
-use Rattle.amqp_perf.specs.Descriptors.{descriptor_named, both_of}
+use Rattle.amqp_perf.specs.Descriptors.{descriptor_named}
 use Rattle.amqp_perf.specs.Tables.{table_of}
 use Rattle.amqp_perf.specs.Fields.{first_fault}
 use Rattle.amqp_perf.specs.Meaning.{Meaning, meaning_of}
-use Rattle.amqp_perf.specs.Reading.{checked, said_of, said, said_by, before, performative_at, Gives}
+use Rattle.flow_counts.specs.Words.{Gives}
+use Rattle.amqp_perf.specs.Reading.{checked, said_of, said, said_by, before, performative_at}
 use Rattle.amqp_perf.specs.declared.performative.Performative as performatives
 use Rattle.amqp_perf.specs.View.{view}
 use Rattle.amqp_perf.specs.Grammar.{IsPerformative, IsFront, AreFields}
@@ -73,7 +75,7 @@ values_are n octets values are =
 
 -- a described list, where its parts are known
 parts_found : (octets descriptor described : List ℕ) (d v : Part) (meaning : Meaning) (names : Option Descriptor) → IsValue MAX_DEPTH octets (Described descriptor described)
-    → IsValue MAX_DEPTH descriptor d → IsValue MAX_DEPTH described v → descriptor_named d ≡ names → said_of (both_of names (list_in v)) ≡ Ok meaning
+    → IsValue MAX_DEPTH descriptor d → IsValue MAX_DEPTH described v → descriptor_named d ≡ names → said_of (option_zip names (list_in v)) ≡ Ok meaning
     → IsPerformative octets meaning
 parts_found octets descriptor described d (Nested kinds.List count body) meaning (Some (Performative kind)) whole says list names e =
     let fit = checked_found kind (seen_in count body) meaning e in
@@ -101,9 +103,9 @@ said_found octets (Described descriptor described) meaning whole e =
     let holds = pair_holds octets descriptor described whole in
     let d = ap (λ (x : Seen). x.part) (value_is descriptor holds.0.says holds.0.is) in
     let v = ap (λ (x : Seen). x.part) (value_is described holds.1.says holds.1.is) in
-    let spoken : said_of (both_of (descriptor_named holds.0.says) (list_in holds.1.says)) ≡ Ok meaning =
-    ap (λ (p : Part). said_of (both_of (descriptor_named p) (list_in holds.1.says))) (sym d)
-    ∙ ap (λ (p : Part). said_of (both_of (descriptor_named (seen_of descriptor).part) (list_in p))) (sym v) ∙ e in
+    let spoken : said_of (option_zip (descriptor_named holds.0.says) (list_in holds.1.says)) ≡ Ok meaning =
+    ap (λ (p : Part). said_of (option_zip (descriptor_named p) (list_in holds.1.says))) (sym d)
+    ∙ ap (λ (p : Part). said_of (option_zip (descriptor_named (seen_of descriptor).part) (list_in p))) (sym v) ∙ e in
     parts_found octets descriptor described holds.0.says holds.1.says meaning (descriptor_named holds.0.says) whole holds.0.is holds.1.is refl spoken
 said_found octets (Tagged descriptor constructor own) meaning whole e = absurd (not_tagged octets descriptor constructor own whole)
 said_found octets _ meaning whole e = absurd cc
@@ -112,8 +114,8 @@ said_again : (octets : List ℕ) (meaning : Meaning) (is : IsPerformative octets
 said_again octets meaning is =
     let d : (seen_of is.descriptor).part ≡ is.says = ap (λ (x : Seen). x.part) (value_is is.descriptor is.says is.descriptor_is) in
     let v : (seen_of is.described).part ≡ Nested kinds.List is.count is.body = ap (λ (x : Seen). x.part) (value_is is.described (Nested kinds.List is.count is.body) is.list) in
-    ap (λ (p : Part). said_of (both_of (descriptor_named p) (list_in (seen_of is.described).part))) d
-    ∙ ap (λ (p : Part). said_of (both_of (descriptor_named is.says) (list_in p))) v
+    ap (λ (p : Part). said_of (option_zip (descriptor_named p) (list_in (seen_of is.described).part))) d
+    ∙ ap (λ (p : Part). said_of (option_zip (descriptor_named is.says) (list_in p))) v
     ∙ rw (is.names, values_are is.count is.body is.values is.items) (checked_again is.kind is.values is.fit ∙ ap Ok (sym is.means))
 
 -- ---- octets

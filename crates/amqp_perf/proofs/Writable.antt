@@ -1,5 +1,6 @@
 -- What the router writes can be written.
 use Rattle.std.proofs.Common.{◌≡◌, refl, ap, ◌∙◌, ℕ, ◌+◌, ◌≤◌, Bool, true, false, List, [], ◌∷◌, length, Option, Some, None, option_map, IsUtf8, codes, lit≤, arith}
+use Rattle.std.specs.Option.{option_zip}
 use Rattle.amqp_types.specs.declared.code.Text.TheVariants as texts
 use Rattle.amqp_types.specs.Part.{Seen}
 use Rattle.amqp_types.specs.Writing.{boolean_octets, ubyte_octets, list_octets}
@@ -17,7 +18,7 @@ use Rattle.amqp_perf.specs.declared.descriptor.Outcome.{Outcome}
 use Rattle.amqp_perf.specs.declared.descriptor.Outcome.TheVariants.{Accepted, Rejected, Released, Modified}
 use Rattle.amqp_perf.specs.declared.descriptor.Descriptor.{Descriptor}
 use Rattle.amqp_perf.specs.declared.descriptor.Descriptor.TheVariants as descriptors
-use Rattle.amqp_perf.specs.Descriptors.{descriptor_of_code, both_of}
+use Rattle.amqp_perf.specs.Descriptors.{descriptor_of_code}
 use Rattle.amqp_perf.specs.Nested.{StateFields, outcome_of}
 use Rattle.amqp_perf.specs.Meaning.{AnOpen, AnAttach, ATransfer, ADisposition, ADetach, AnEnd, AClose, AttachFields}
 use Rattle.amqp_perf.specs.Conditions.{condition_name}
@@ -247,7 +248,7 @@ outcome_state code outcome ss named can few = record {
   is = fields_nested 27 code ss can few;
   means =
       ap (λ (o : Option Outcome). Some (record { octets = fields_octets code ss; outcome = o }))
-      (ap outcome_of (described_again code ss can few) ∙ ap (λ (d : Option Descriptor). outcome_of (both_of d (Some (values_of ss)))) named);
+      (ap outcome_of (described_again code ss can few) ∙ ap (λ (d : Option Descriptor). outcome_of (option_zip d (Some (values_of ss)))) named);
 }
 
 pub bare_state_writable : (outcome : Outcome) → IsWritableState (bare_state outcome)

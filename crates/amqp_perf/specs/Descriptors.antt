@@ -1,5 +1,6 @@
 -- The descriptors of performatives and of what is nested in them (part 2, sections 2.7 and 2.8; part 3; part 4).
 use Rattle.std.specs.Prelude.{ℕ, List, Option, Some, None, option_and_then, codes, ◌==◌, if◌then◌else◌}
+use Rattle.std.specs.Option.{option_zip}
 use Rattle.std.specs.Str.{bytes_eq}
 use Rattle.amqp_types.specs.Part.{Part, Seen}
 use Rattle.amqp_types.specs.Items.{descriptor_of, described_of}
@@ -60,14 +61,8 @@ descriptor_by None name = option_and_then descriptor_of_name name
 abbrev pub descriptor_named : Part → Option Descriptor
 descriptor_named part = descriptor_by (ulong_in part) (symbol_in part)
 
--- a descriptor and some fields, where both are there
-abbrev pub both_of : Option Descriptor → Option (List Seen) → Option (Descriptor × List Seen)
-both_of (Some descriptor) (Some fields) = Some (descriptor, fields)
-both_of (Some descriptor) None = None
-both_of None fields = None
-
 -- what the descriptor of a described list names, and the list's items (part 1, section 1.4)
 abbrev pub described_list : Part → Option (Descriptor × List Seen)
-described_list part = both_of
+described_list part = option_zip
     (option_and_then (λ descriptor. descriptor_named descriptor.part) (descriptor_of part))
     (option_and_then (λ described. list_in described.part) (described_of part))

@@ -1,5 +1,6 @@
 -- The fields of a performative as the items of its list, with the first fault.
 use Rattle.std.specs.Prelude.{ℕ, ◌+◌, List, [], ◌∷◌, length, Option, Some, None, nat_lt, if◌then◌else◌}
+use Rattle.std.specs.Option.{option_or}
 use Rattle.amqp_types.specs.Part.{Seen}
 use Rattle.amqp_types.specs.Typed.{says_null}
 use Rattle.amqp_perf.specs.declared.fault.PerfFault.{PerfFault}
@@ -14,15 +15,10 @@ field_fault n field value =
     if says_null value.part then (if field.is_mandatory then Some (MissingField n) else None)
     else (if accepts field.field_type value then None else Some (WrongType n))
 
--- the first of two faults
-abbrev pub or_else : Option PerfFault → Option PerfFault → Option PerfFault
-or_else (Some fault) later = Some fault
-or_else None later = later
-
 -- the fault of the lowest field at fault, counted from n
 unfoldable pub first_fault : ℕ → List Field → List Seen → Option PerfFault
 first_fault n [] ps = None
-first_fault n (f ∷ fs) ps = or_else (field_fault n f (first ps)) (first_fault (n + 1) fs (others ps))
+first_fault n (f ∷ fs) ps = option_or (field_fault n f (first ps)) (first_fault (n + 1) fs (others ps))
 
 -- the first fault of a list's items as the fields of a table: that there are too many, or that of the lowest at fault
 abbrev pub table_fault : List Field → List Seen → Option PerfFault

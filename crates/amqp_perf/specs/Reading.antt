@@ -1,5 +1,5 @@
 -- Reading a performative, with the first fault: the value, the descriptor, the number of fields, then each field.
-use Rattle.std.specs.Prelude.{◌≡◌, ℕ, List, length, Option, Some, None, Result, Ok, Err, nat_lt, if◌then◌else◌}
+use Rattle.std.specs.Prelude.{ℕ, List, length, Option, Some, None, Result, Ok, Err, nat_lt, if◌then◌else◌}
 use Rattle.amqp_types.specs.Part.{Part, Seen}
 use Rattle.amqp_types.specs.Reading.{Read, seen_at}
 use Rattle.flow_counts.specs.declared.profile.TheConstants.{MAX_DEPTH}
@@ -46,8 +46,3 @@ said_by (Err fault) = Err (Value fault)
 -- a performative at the front of these octets, and what stands behind it
 unfoldable pub performative_at : List ℕ → Result (Meaning × List ℕ) PerfFault
 performative_at bytes = said_by (seen_at MAX_DEPTH 0 bytes)
-
--- What a function returned, seen by view, is what reading gives.
-abbrev pub Gives : {X Y : Type 0} → (X → Y) → Result X PerfFault → Result Y PerfFault → Type 0
-Gives view (Ok x) read = read ≡ Ok (view x)
-Gives view (Err e) read = read ≡ Err e

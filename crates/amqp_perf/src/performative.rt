@@ -34,7 +34,8 @@ impl<'a> Performative<'a> {
     ghost use Rattle.amqp_types.specs.View as values;
     ghost use Rattle.std.specs.Option.{option_copied};
     ghost use Rattle.amqp_perf.specs.Meaning.{Meaning, meaning_of, state_told, state_octets};
-    ghost use Rattle.amqp_perf.specs.Reading.{Gives, performative_at, said};
+    ghost use Rattle.flow_counts.specs.Words.{Gives};
+    ghost use Rattle.amqp_perf.specs.Reading.{performative_at, said};
     ghost use Rattle.amqp_perf.specs.Grammar.{IsFront};
     ghost use Rattle.amqp_perf.specs.Writing.{IfThere, IsWritableState};
     ghost use Rattle.amqp_perf.specs.View.{view};

@@ -4,7 +4,8 @@ use Rattle.std.specs.Prelude.{IfOk}
 use Rattle.amqp_types.specs.declared.fault.ValueFault.{ValueFault}
 use Rattle.amqp_types.specs.declared.value.Value.{Value}
 use Rattle.amqp_types.specs.Part.{Seen}
-use Rattle.amqp_types.specs.Reading.{Gives, seen_at}
+use Rattle.flow_counts.specs.Words.{Gives}
+use Rattle.amqp_types.specs.Reading.{seen_at}
 use Rattle.flow_counts.specs.declared.profile.TheConstants.{MAX_DEPTH}
 use Rattle.amqp_types.specs.Grammar.{IsFront}
 use Rattle.amqp_types.specs.View.{view}

@@ -7,7 +7,8 @@
 ghost use Rattle.std.specs.Prelude.{◌≡◌, ◌≤◌, length};
 ghost use Rattle.byteorder.specs.Endian.{big_number};
 ghost use Rattle.amqp_types.specs.Codes.{size_len, width_of};
-ghost use Rattle.amqp_types.specs.Reading.{Gives, octets_at, sized_at, fixed_at, text_at, counted_at, scalar_of};
+ghost use Rattle.flow_counts.specs.Words.{Gives};
+ghost use Rattle.amqp_types.specs.Reading.{octets_at, sized_at, fixed_at, text_at, counted_at, scalar_of};
 ghost use Rattle.amqp_types.specs.View.{part_of, Says, IsTextOf};
 
 use crate::code::{Scalar, SizeWidth, Text};

@@ -6,7 +6,8 @@
 
 ghost use Rattle.std.specs.Prelude.{◌≡◌, ◌+◌, ◌-◌, ◌<◌, ◌≤◌, ◌^◌, ◌∷◌, IsTrue, IfSome, Some, None, length, drop, slice_index};
 ghost use Rattle.amqp_types.specs.Part as parts;
-ghost use Rattle.amqp_types.specs.Reading.{Gives, items_at, nested_at, described_at, tagged_at, array_at, elements_at, constructor_at, element_at, item_at, data_at, seen_at};
+ghost use Rattle.flow_counts.specs.Words.{Gives};
+ghost use Rattle.amqp_types.specs.Reading.{items_at, nested_at, described_at, tagged_at, array_at, elements_at, constructor_at, element_at, item_at, data_at, seen_at};
 ghost use Rattle.amqp_types.specs.Items.{are_items, items_in, is_value, is_element, element_of, seen_of};
 ghost use Rattle.amqp_types.specs.Grammar.{IsValue, IsConstructor, IsElement};
 ghost use Rattle.amqp_types.specs.Form.{constructor_of, form};

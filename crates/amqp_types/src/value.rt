@@ -41,7 +41,8 @@ impl<'a> Value<'a> {
     ghost use Rattle.std.specs.Prelude.{◌≡◌, option_map, ◌<◌, ◌^◌, List, ℕ, length, IfOk, Ok};
     ghost use Rattle.std.specs.Option.{option_copied};
     ghost use Rattle.amqp_types.specs.Part.{Seen};
-    ghost use Rattle.amqp_types.specs.Reading.{Gives, seen_at};
+    ghost use Rattle.flow_counts.specs.Words.{Gives};
+    ghost use Rattle.amqp_types.specs.Reading.{seen_at};
     ghost use Rattle.amqp_types.specs.Grammar.{IsFront, IsValueOf, IsDescribedOf, AreItemsOf};
     ghost use Rattle.amqp_types.specs.Items.{items_of, descriptor_of, described_of, descriptor_octets};
     ghost use Rattle.amqp_types.specs.Typed.{says_null, boolean_in, ubyte_in, ushort_in, uint_in, ulong_in, byte_in, short_in, int_in, long_in, opaque_in, binary_in, str_in, symbol_in, list_in, map_in, array_in};

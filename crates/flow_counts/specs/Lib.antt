@@ -1,3 +1,4 @@
+pub mod Words
 pub mod Serial
 pub mod Window
 pub mod GivenWindow

@@ -1,5 +1,6 @@
 -- Why a part of a delivery is refused.
 use Rattle.std.specs.Prelude.{ℕ, ◌≡◌, ◌+◌, Bool, List, [], length, Option, Some, None, Result, Ok, Err, nat_lt, if◌then◌else◌}
+use Rattle.std.specs.Option.{option_or}
 use Rattle.flow_counts.specs.Parts.{Partial, is_id}
 use Rattle.flow_counts.specs.declared.profile.TheConstants.{MAX_MESSAGE_SIZE}
 use Rattle.unsettled.specs.declared.fault.PartFault.{PartFault}
@@ -31,13 +32,9 @@ abbrev pub size_fault : Option Partial → List ℕ → Option PartFault
 size_fault earlier payload =
     if nat_lt MAX_MESSAGE_SIZE (length (payload_so_far earlier) + length payload) then Some TooLarge else None
 
-abbrev pub or_else : Option PartFault → Option PartFault → Option PartFault
-or_else None later = later
-or_else (Some fault) later = Some fault
-
 -- the first fault of a part
 abbrev pub part_fault : Option Partial → (ℕ → Bool) → Option ℕ → List ℕ → Option PartFault
-part_fault earlier in_use id payload = or_else (admission earlier in_use id) (size_fault earlier payload)
+part_fault earlier in_use id payload = option_or (admission earlier in_use id) (size_fault earlier payload)
 
 -- the answer is this fault; without one it is no fault, or that memory was refused
 abbrev pub IsAnswer : {A : Type 0} → Option PartFault → Result A PartFault → Type 0

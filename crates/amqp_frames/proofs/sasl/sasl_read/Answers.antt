@@ -1,5 +1,5 @@
 use Rattle.std.proofs.Common.{subst}
-use Rattle.amqp_perf.specs.Reading.{Gives}
+use Rattle.flow_counts.specs.Words.{Gives}
 use Rattle.amqp_frames.specs.SaslView.{sasl_view}
 use Rattle.amqp_frames.proofs.SaslSpoken.{is_found, sasl_again}
 use Rattle.amqp_frames.proofs.sasl.sasl_read.Goals as goal

@@ -1,5 +1,5 @@
 use Rattle.std.proofs.Common.{ℕ, List, subst}
-use Rattle.amqp_perf.specs.Reading.{Gives}
+use Rattle.flow_counts.specs.Words.{Gives}
 use Rattle.amqp_perf.specs.Meaning.{Meaning}
 use Rattle.amqp_perf.specs.View.{view}
 use Rattle.amqp_perf.proofs.Spoken.{is_found, performative_again}

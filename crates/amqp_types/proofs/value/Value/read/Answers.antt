@@ -1,6 +1,6 @@
 use Rattle.std.proofs.Common.{List, ℕ, subst}
 use Rattle.amqp_types.specs.Part.{Seen}
-use Rattle.amqp_types.specs.Reading.{Gives}
+use Rattle.flow_counts.specs.Words.{Gives}
 use Rattle.amqp_types.specs.View.{view}
 use Rattle.amqp_types.proofs.Front.{is_found, front_read}
 use Rattle.amqp_types.proofs.value.Value.read.Goals as goal
