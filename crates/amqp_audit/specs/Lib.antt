@@ -1,4 +1,3 @@
 pub mod Input
-pub mod Report
 pub mod Run
 pub mod Words

@@ -3,7 +3,7 @@ use Rattle.std.specs.Io.KnownBytes.{Appends}
 use Rattle.audit_core.specs.Verdict.{Answers}
 use Rattle.audit_core.specs.declared.verdict.Verdict.{Verdict}
 use Rattle.audit_core.specs.declared.verdict.Verdict.TheVariants.{NoMemory, Unreadable}
-use Rattle.amqp_audit.specs.Report.{line_of, status_of}
+use Rattle.audit_core.specs.Report.{line_of, status_of}
 use Rattle.amqp_audit.specs.Words.{is_option}
 
 -- what standard output is known to hold gained the verdict's line, and the status is the verdict's (own format)

@@ -1,17 +1,15 @@
 //! The auditor of captures: `amqp_audit [FILE]` reads a capture from the file, or from standard input
 //! where no word is given, and prints its verdict as one line on standard output.
 //!
-//! The exit status tells the verdict too (`report`). A fault of the words gives the parser's text on
+//! The exit status tells the verdict too (`Verdict::status`). A fault of the words gives the parser's text on
 //! standard error, nothing on standard output, and status 64. The modules, in reading order:
 //!
 //! - `words`: what the words of the command line ask for
 //! - `input`: the octets of a reader, as a whole
-//! - `report`: the line and the exit status of a verdict
 //! - `run`: a run over any words, reader and writers
 #![tactic(auto)]
 
 mod input;
-mod report;
 mod run;
 #[cfg(test)]
 mod tests;

@@ -3,12 +3,11 @@ ghost use Rattle.std.specs.Prelude.{◌≡◌, ◌≢◌, ◌<◌, ◌≤◌, �
 ghost use Rattle.clap.specs.Words.{kind_of};
 ghost use Rattle.audit_core.specs.declared.verdict.Verdict.TheVariants.{NoMemory};
 ghost use Rattle.amqp_audit.specs.Input.{IsRefusedGrowth};
-ghost use Rattle.amqp_audit.specs.Report.{status_of};
+ghost use Rattle.audit_core.specs.Report.{status_of};
 ghost use Rattle.amqp_audit.specs.Run.{IsRunOn, IsStatus, IsVerdictOnInput, Tells, TellsSome};
 ghost use Rattle.amqp_audit.specs.Words.{path_of};
 
 use crate::input::{InputFault, read_file, read_whole};
-use crate::report::{Line, status_of};
 use crate::words::Source;
 use audit_core::{Verdict, audit_bytes};
 use clap::error::ErrorKind;
@@ -116,8 +115,8 @@ pub fn tell<O: Write>(verdict: &Verdict, out: &mut O) -> u8
     ensures told { result ≢ NOT_WRITTEN → Tells (O.contents out.old) (O.contents out.new) result verdict.now }
     ensures status { (result ≡ status_of verdict.now) ⊎ (result ≡ NOT_WRITTEN) }
 {
-    match writeln!(out, "{}", Line(verdict)) {
-        Ok(()) => status_of(verdict),
+    match writeln!(out, "{verdict}") {
+        Ok(()) => verdict.status(),
         Err(_) => NOT_WRITTEN,
     }
 }

@@ -1,3 +1,2 @@
-pub use Rattle.trace_law.specs.ClauseNames
-pub use Rattle.trace_law.specs.declared.tally.Tally as Tallies
 pub mod Verdict
+pub mod Report

@@ -1,6 +1,7 @@
-//! What an auditor says of a capture.
+//! What an auditor says of a capture, and the line and the exit status that tell it.
 
 use capture_form::FormKind;
+use std::fmt;
 use trace_law::{Clause, Tally};
 
 /// Why a capture is not accepted.
@@ -27,4 +28,52 @@ pub enum Verdict {
     NoMemory(u64),
     /// The octets could not be read from this offset on. Octets that lie in memory are never judged so.
     Unreadable(u64),
+}
+
+impl Verdict {
+    ghost use Rattle.std.specs.Prelude.{◌≡◌};
+    ghost use Rattle.audit_core.specs.Report.{status_of};
+
+    /// The exit status that tells the verdict.
+    pub fn status(&self) -> u8
+        ensures { result ≡ status_of self.now }
+    {
+        match self {
+            Verdict::Accepted(_) => 0,
+            Verdict::Refused(..) => 1,
+            Verdict::Malformed(..) => 2,
+            Verdict::NoMemory(_) => 3,
+            Verdict::Unreadable(_) => 4,
+        }
+    }
+}
+
+/// The one line that tells the verdict, without its newline.
+impl fmt::Display for Verdict {
+    ghost use Rattle.std.specs.Prelude.{Some};
+    ghost use Rattle.audit_core.specs.Report.{line_of};
+
+    ghost output = { λ verdict. Some (line_of verdict) };
+
+    fn fmt<W: fmt::Write>(&self, f: &mut fmt::Formatter<W>) -> fmt::Result {
+        match self {
+            Verdict::Accepted(tally) => {
+                let Tally {
+                    records,
+                    deliveries,
+                    outcomes,
+                } = tally;
+                write!(
+                    f,
+                    "accepted records={records} deliveries={deliveries} outcomes={outcomes}"
+                )
+            }
+            Verdict::Refused(record, clause) => {
+                write!(f, "refused record={record} clause={clause}")
+            }
+            Verdict::Malformed(offset, _) => write!(f, "malformed offset={offset}"),
+            Verdict::NoMemory(_) => write!(f, "no memory"),
+            Verdict::Unreadable(offset) => write!(f, "unreadable offset={offset}"),
+        }
+    }
 }
