@@ -30,6 +30,14 @@ mod ClauseExamples
 mod FaultExamples
 mod Duties
 mod DutyExamples
+mod FirstNeglected
+mod SharedFrames
+mod DutiesNeglected
+mod FaultsAnswered
+mod AnswersKept
+mod PicksKept
+mod FlowsKept
+mod OutcomesKept
 mod ReadingExamples
 mod Counts
 mod Prefixes
