@@ -5,7 +5,7 @@
 //! worked out by hand. `README.md` says what each capture tells apart.
 #![tactic(auto)]
 
-ghost use Rattle.std.specs.Prelude.{List, ℕ, ◌≡◌, ◌++◌, IfOk, codes, string_bytes};
+ghost use Rattle.std.specs.Prelude.{◌≡◌, ◌++◌, IfOk, IsSorted, codes, string_bytes, string_cmp};
 ghost use Rattle.audit_core.specs.Report.{line_of};
 ghost use Rattle.audit_core.specs.Verdict.{Answers};
 ghost use Rattle.audit_core.specs.declared.verdict.Verdict.{Verdict};
@@ -32,8 +32,10 @@ fn line_on(alloc: Global, name: &str, octets: &[u8]) -> Result<String, AllocErro
     format!(in alloc; "{name}: {verdict}")
 }
 
-/// The names of the captures in the folder that the program runs in, from a to z.
-fn names_of_captures(rt: &HostRuntime) -> io::Result<Vec<String>> {
+/// The names of the captures in the folder that the program runs in, in order.
+fn names_of_captures(rt: &HostRuntime) -> io::Result<Vec<String>>
+    ensures { IfOk result (λ names. IsSorted string_cmp names.items) }
+{
     let mut names = Vec::new(rt.alloc());
     for entry in fs::read_dir(rt, ".")? {
         if let Some(name) = entry?.file_name().strip_suffix(".cap") {
