@@ -65,6 +65,16 @@ waiting_left : duties_of [] (producer_and_consumer_with_credit ++ (
 unfolding duties_of
 waiting_left = refl
 
+-- a delivery waits though it could go, and is sent behind another input
+waiting_left_before_input : duties_of [] (producer_and_consumer_with_credit ++ (
+    client 1 credit_of_1
+    ∷ client 0 delivery
+    ∷ client 1 (hex (codes "0000001402000000005313C00704435201435264"))
+    ∷ paired 1 16 carried
+    ∷ [])) ≡ (Some (Waiting, 17), false)
+unfolding duties_of
+waiting_left_before_input = refl
+
 -- a delivery in progress does not go on, while another waits that may not be picked
 progress_left_while_another_waits : duties_of [] (producer_attached_alone ++ (
     opened 1

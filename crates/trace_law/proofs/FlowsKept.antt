@@ -4,7 +4,7 @@ use Rattle.pairing_cert.specs.declared.note.Why.TheVariants.{M}
 use Rattle.capture_form.specs.declared.rules.Distribution.TheVariants.{Multicast}
 use Rattle.trace_law.proofs.Captures.{rule, opened, client, router, paired, told}
 use Rattle.trace_law.proofs.FirstNeglected.{duties_of, hex}
-use Rattle.trace_law.proofs.SharedFrames.{router_open, client_begin, router_begin, producer_attached, consumer_open, consumer_attach, consumer_attached, news_consumer_attach, news_consumer_attached, credit_of_1, delivery, second_delivery, carried, second_carried, accepted, closed, producer_and_consumer_with_credit, news_producer_and_consumer, news_producer, producer_begun}
+use Rattle.trace_law.proofs.SharedFrames.{router_open, client_begin, router_begin, producer_attached, consumer_open, consumer_attach, consumer_attached, credit_given, news_consumer_attach, news_consumer_attached, credit_of_1, delivery, second_delivery, carried, second_carried, accepted, closed, producer_and_consumer_with_credit, news_producer_and_consumer, news_producer, producer_attached_alone, producer_begun}
 
 -- an abort ends its delivery though more is true; the next transfer begins another
 incoming_aborted_with_more_then_another : duties_of [] (producer_and_consumer_with_credit ++ (
@@ -171,3 +171,20 @@ window_without_next_incoming_id_of_2 : duties_of [] (producer_and_consumer_with_
     ∷ [])) ≡ (None, true)
 unfolding duties_of
 window_without_next_incoming_id_of_2 = refl
+
+-- a transfer fills its frame to the limit, and says that no more follows
+transfer_of_whole_limit : duties_of [] (producer_attached_alone ++ (
+    opened 1
+    ∷ client 1 (hex (codes "0000001702000000005310C00A03A10163407000000200"))
+    ∷ router 1 router_open
+    ∷ client 1 client_begin
+    ∷ router 1 router_begin
+    ∷ client 1 consumer_attach
+    ∷ router 1 consumer_attached
+    ∷ router 0 credit_given
+    ∷ client 1 (hex (codes "0000001802000000005313C00B0743520143526443435201"))
+    ∷ client 0 (hex (codes "000001FC02000000005314C008054343A001314342") ++ replicate 487 120)
+    ∷ paired 1 16 (hex (codes "0000020002000000005314C00C064343A00400000000434242") ++ replicate 487 120)
+    ∷ [])) ≡ (None, true)
+unfolding duties_of
+transfer_of_whole_limit = refl
