@@ -389,3 +389,29 @@ waiting_elsewhere : duties_of [] (producer_and_consumer_with_credit ++ (
     ∷ [])) ≡ (None, true)
 unfolding duties_of
 waiting_elsewhere = refl
+
+-- a link with a delivery in progress is not picked, though its session has window
+pick_needs_nothing_in_progress_with_window : duties_of [] (producer_attached_alone ++ (
+    opened 1
+    ∷ client 1 (hex (codes "0000001702000000005310C00A03A10163407000000200"))
+    ∷ router 1 router_open
+    ∷ client 1 client_begin
+    ∷ router 1 router_begin
+    ∷ client 1 consumer_attach
+    ∷ router 1 consumer_attached
+    ∷ router 0 credit_given
+    ∷ client 1 (hex (codes "0000001F02000000005312C01206A101755201414040005328C00401A10171"))
+    ∷ router 1 (hex (codes "0000002802000000005312C01B0AA1017552014250025000005328C00401A1017100532945404043"))
+    ∷ client 1 (hex (codes "0000001902000000005313C00C074352014352645201435205"))
+    ∷ client 0 delivery
+    ∷ paired 1 18 (hex (codes "0000002102000000005314C00D06520143A00400000000434242005377A1026869"))
+    ∷ client 1 (hex (codes "0000001902000000005313C00C075201520143526443435205"))
+    ∷ client 0 (hex (codes "0000039A02000000005314C00905435201A001314342") ++ replicate 900 120)
+    ∷ paired 1 21 (hex (codes "0000020002000000005314C00D06435201A00400000001434241") ++ replicate 486 120)
+    ∷ client 0 (hex (codes "0000001D02000000005314C00905435202A001314342005377A1026869"))
+    ∷ client 1 (hex (codes "0000001502000000005313C0080452025205435264"))
+    ∷ paired 1 23 (hex (codes "0000002202000000005314C00E0652015202A00400000002434242005377A1026869"))
+    ∷ paired 1 21 (hex (codes "000001B202000000005314C00706434040404042") ++ replicate 414 120)
+    ∷ [])) ≡ (None, true)
+unfolding duties_of
+pick_needs_nothing_in_progress_with_window = refl
