@@ -1,0 +1,146 @@
+//! Worked captures, as conversations between clients and a router, and what the auditor and the plain checker say of
+//! them. The program compares those that stand in files with `data/NAME.cap`, octet by octet, and their verdict lines
+//! with `data/NAME.line`; of all it writes the line, and how windows, credits and waiting deliveries change from record to
+//! record. The file `stdout` has what it must write.
+//!
+//! - `frames`: what clients send and the router writes;
+//! - `conversation`: captures, said as a conversation;
+//! - `rows`: the worked captures;
+//! - `worked`: their names and octets;
+//! - `seen`: what the plain checker says from record to record.
+#![tactic(auto)]
+
+mod conversation;
+mod frames;
+mod rows;
+mod seen;
+mod worked;
+
+use audit_core::{Refusal, Verdict, audit, audit_bytes, one_verdict};
+use capture_form::{Capture, read_capture};
+use conversation::Conversation;
+use std::{fs, io};
+use trace_law::{tally_capture, waiting_at};
+use worked::Worked;
+
+fn main(rt: HostRuntime) -> io::Result<()> {
+    one_verdict();
+    for worked in Worked::IN_FILES {
+        let octets = worked.octets(rt.alloc())?;
+        let line = tell(&rt, worked.name(), octets.as_slice())?;
+        compare(&rt, worked.name(), octets.as_slice(), line.as_str())?;
+    }
+    for worked in Worked::OTHERS {
+        let octets = worked.octets(rt.alloc())?;
+        tell(&rt, worked.name(), octets.as_slice())?;
+    }
+    tell_cuts(&rt)?;
+    tell_long_messages(&rt)
+}
+
+/// Writes what is said of these octets, and gives the verdict line.
+fn tell(rt: &HostRuntime, name: &str, octets: &[u8]) -> io::Result<String> {
+    let verdict = audit_bytes(rt.alloc(), octets);
+    let line = tell_verdict(rt, name, verdict)?;
+    if let Ok(capture) = read_capture(rt.alloc(), octets) {
+        if !is_audited(&capture, verdict) {
+            println!(rt; "  another verdict of the capture than of its text")?;
+        }
+        seen::tell_capture(rt, &capture)?;
+    }
+    Ok(line)
+}
+
+/// Writes the line of a verdict, and what is wrong with a text that is malformed.
+fn tell_verdict(rt: &HostRuntime, name: &str, verdict: Verdict) -> io::Result<String> {
+    let line = line_of(rt, verdict)?;
+    println!(rt; "{name}: {line}")?;
+    if let Verdict::Malformed(_, kind) = verdict {
+        println!(rt; "  fault: {kind:?}")?;
+    }
+    Ok(line)
+}
+
+/// Says where the files of this name hold other octets or another line.
+fn compare(rt: &HostRuntime, name: &str, octets: &[u8], line: &str) -> io::Result<()> {
+    let file = fs::read(rt, format!(in rt.alloc(); "{name}.cap")?)?;
+    if octets != file.as_slice() {
+        println!(rt; "  other octets than {name}.cap")?;
+    }
+    let wanted = fs::read_to_string(rt, format!(in rt.alloc(); "{name}.line")?)?;
+    if wanted.as_str().trim_end() != line {
+        println!(rt; "  another line than {name}.line")?;
+    }
+    Ok(())
+}
+
+/// Whether this is the verdict of the capture, with the tally of all its records.
+fn is_audited(capture: &Capture, verdict: Verdict) -> bool {
+    match audit(capture) {
+        Ok(tally) => verdict == Verdict::Accepted(tally) && tally == tally_capture(capture),
+        Err(Refusal::Broken(i, clause)) => verdict == Verdict::Refused(i, clause),
+        Err(Refusal::Memory) => false,
+    }
+}
+
+/// The line that the auditor prints for a verdict.
+fn line_of(rt: &HostRuntime, verdict: Verdict) -> io::Result<String> {
+    let line = match verdict {
+        Verdict::Accepted(tally) => {
+            let (records, deliveries) = (tally.records, tally.deliveries);
+            let outcomes = tally.outcomes;
+            format!(in rt.alloc();
+                "accepted records={records} deliveries={deliveries} outcomes={outcomes}"
+            )?
+        }
+        Verdict::Refused(i, clause) => {
+            format!(in rt.alloc(); "refused record={i} clause={clause}")?
+        }
+        Verdict::Malformed(offset, _) => format!(in rt.alloc(); "malformed offset={offset}")?,
+        Verdict::NoMemory(_) => format!(in rt.alloc(); "no memory")?,
+        Verdict::Unreadable(offset) => format!(in rt.alloc(); "unreadable offset={offset}")?,
+    };
+    Ok(line)
+}
+
+/// Writes the verdicts of the capture `open`, cut to each length behind its head, where they change.
+fn tell_cuts(rt: &HostRuntime) -> io::Result<()> {
+    let octets = Worked::Open.octets(rt.alloc())?;
+    let mut last = Verdict::NoMemory(0);
+    for length in 10..=octets.len() {
+        let verdict = audit_bytes(rt.alloc(), octets.get(..length).unwrap_or(&[]));
+        if verdict != last {
+            let name = format!(in rt.alloc(); "open, cut to {length}")?;
+            tell_verdict(rt, name.as_str(), verdict)?;
+        }
+        last = verdict;
+    }
+    Ok(())
+}
+
+/// Writes whether long messages, and one behind a long message that is given up, wait in the end.
+fn tell_long_messages(rt: &HostRuntime) -> io::Result<()> {
+    let whole = rows::long_message_ending_in(rt.alloc(), 9216)?;
+    tell_waiting(rt, "a message of 16777216 octets", &whole, 15)?;
+    let longer = rows::long_message_ending_in(rt.alloc(), 9217)?;
+    tell_waiting(rt, "a message of one octet more", &longer, 15)?;
+    let aborted = rows::long_message_aborted(rt.alloc())?;
+    tell_waiting(
+        rt,
+        "a message of that length that is given up",
+        &aborted,
+        15,
+    )?;
+    tell_waiting(rt, "a message behind it", &aborted, 1064)
+}
+
+fn tell_waiting(
+    rt: &HostRuntime,
+    name: &str,
+    talk: &Conversation,
+    delivery: u64,
+) -> io::Result<()> {
+    let records = talk.capture().records().len();
+    let waits = waiting_at(talk.capture(), records, delivery);
+    println!(rt; "{name}: {records} records, waits: {waits}")
+}

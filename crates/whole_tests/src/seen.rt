@@ -1,0 +1,111 @@
+//! What the plain checker says of a capture, record by record: where windows and credits change, where deliveries wait,
+//! and which records break a clause.
+
+use capture_form::{Capture, What};
+use std::io;
+use trace_law::{credit_at, slow_check, waiting_at, window_at};
+
+/// What changes from record to record.
+#[derive(Clone, Copy, Debug)]
+enum Subject {
+    /// The window of this connection, on channel 0.
+    Window(u32),
+    /// The credit of this connection's link of handle 0.
+    Credit(u32),
+    /// Whether the delivery that begins in this record waits.
+    Delivery(usize),
+}
+
+/// How a subject stands by the records below a number.
+#[derive(Clone, Copy, Debug, PartialEq, Eq)]
+enum State {
+    /// There is no such session or link, or the delivery does not wait.
+    Nothing,
+    Count(u32),
+    Waits,
+}
+
+impl State {
+    fn of_count(count: Option<u32>) -> State {
+        count.map_or(State::Nothing, State::Count)
+    }
+}
+
+impl Subject {
+    fn at(self, capture: &Capture, below: usize) -> State {
+        match self {
+            Subject::Window(client) => State::of_count(window_at(capture, below, client, 0)),
+            Subject::Credit(client) => State::of_count(credit_at(capture, below, client, 0, 0)),
+            Subject::Delivery(first) => {
+                if waiting_at(capture, below, first as u64) {
+                    State::Waits
+                } else {
+                    State::Nothing
+                }
+            }
+        }
+    }
+
+    /// Writes how the subject changes, if it ever does: `from 7` means by the records below 7.
+    fn tell(self, rt: &HostRuntime, capture: &Capture) -> io::Result<()> {
+        let (mut state, mut separator) = (State::Nothing, ": ");
+        for below in 0..capture.records().len() + 2 {
+            let now = self.at(capture, below);
+            if now != state {
+                if separator == ": " {
+                    self.tell_name(rt)?;
+                }
+                match now {
+                    State::Nothing => print!(rt; "{separator}no more from {below}")?,
+                    State::Count(count) => print!(rt; "{separator}{count} from {below}")?,
+                    State::Waits => print!(rt; "{separator}waits from {below}")?,
+                }
+                (state, separator) = (now, ", ");
+            }
+        }
+        if separator == ", " {
+            println!(rt; "")?;
+        }
+        Ok(())
+    }
+
+    fn tell_name(self, rt: &HostRuntime) -> io::Result<()> {
+        match self {
+            Subject::Window(client) => print!(rt; "  window of client {client}"),
+            Subject::Credit(client) => print!(rt; "  credit of client {client}"),
+            Subject::Delivery(first) => print!(rt; "  delivery of record {first}"),
+        }
+    }
+}
+
+/// Writes what is seen of a capture: a line for each subject that ever stands, and one for each record that breaks a
+/// clause. Clients have the numbers of their connections.
+pub fn tell_capture(rt: &HostRuntime, capture: &Capture) -> io::Result<()> {
+    let (records, mut clients) = (capture.records(), 0);
+    for entry in records {
+        if matches!(entry.what, What::Opened) {
+            Subject::Window(clients).tell(rt, capture)?;
+            Subject::Credit(clients).tell(rt, capture)?;
+            clients = clients.wrapping_add(1);
+        }
+    }
+    // nobody connects as that client, nor uses another channel or handle
+    let beyond = [
+        window_at(capture, records.len(), clients, 0),
+        credit_at(capture, records.len(), clients, 0, 0),
+        window_at(capture, records.len(), 0, 1),
+        credit_at(capture, records.len(), 0, 0, 1),
+    ];
+    if beyond != [None; 4] {
+        println!(rt; "  a session or link that nobody began")?;
+    }
+    for (i, entry) in records.iter().enumerate() {
+        if matches!(entry.what, What::In(_)) {
+            Subject::Delivery(i).tell(rt, capture)?;
+        }
+        if let Err(clause) = slow_check(capture, i) {
+            println!(rt; "  record {i}: breaks {clause}")?;
+        }
+    }
+    Ok(())
+}
