@@ -18,8 +18,3 @@ pub use judging::{audit, audit_bytes};
 pub use laws::one_verdict;
 pub use trace_law::{Clause, Tally};
 pub use verdict::{Refusal, Verdict};
-
-#[cfg(test)]
-mod tests;
-#[cfg(test)]
-mod tests_frames;

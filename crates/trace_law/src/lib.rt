@@ -59,12 +59,3 @@ pub use clause::Clause;
 pub use fault::Fault;
 pub use laws::laws_of_captures;
 pub use tally::{Tally, tally_capture};
-
-#[cfg(test)]
-mod tests;
-#[cfg(test)]
-mod tests_captures;
-#[cfg(test)]
-mod tests_deliveries;
-#[cfg(test)]
-mod tests_outcomes;
