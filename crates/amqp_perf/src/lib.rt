@@ -61,7 +61,3 @@ pub use writing::{write_close, write_end};
 
 #[cfg(test)]
 mod tests;
-#[cfg(test)]
-mod tests_nested;
-#[cfg(test)]
-mod tests_writing;

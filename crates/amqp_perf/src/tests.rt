@@ -1,5 +1,9 @@
 //! Performatives of known octets.
 
+mod fields;
+mod nested;
+mod writing;
+
 use super::PerfFault::{MissingField, NotPerformative, TooManyFields, WrongType};
 use super::*;
 use amqp_types::{ValueFault, ValueFaultKind};
@@ -96,72 +100,34 @@ fn an_end_and_a_close_with_an_error(rt: HostRuntime) {
     );
 }
 
+/// What is wrong at the start of a value.
+const CUT: ValueFault = ValueFault {
+    kind: ValueFaultKind::Short,
+    at: 1,
+};
+
+/// Octets that are no performative, their fault, and its number.
+const FAULTS: [(&[u8], PerfFault, u8); 9] = [
+    // nothing behind the constructor of a described value
+    (b"\x00", PerfFault::Value(CUT), 1),
+    // a list without a descriptor; one described as accepted; a described number
+    (b"\x45", NotPerformative, 2),
+    (b"\x00\x53\x24\x45", NotPerformative, 2),
+    (b"\x00\x53\x17\x43", NotPerformative, 2),
+    // a begin without fields; one whose second field is null; one whose third field is a boolean
+    (b"\x00\x53\x11\x45", MissingField(2), 3),
+    (b"\x00\x53\x11\xC0\x05\x04@@\x43\x43", MissingField(2), 3),
+    (b"\x00\x53\x11\xC0\x05\x04@\x43\x41@", WrongType(3), 4),
+    // an open of eleven fields, all of them null: there are too many before one is missing
+    (b"\x00\x53\x10\xC0\x0C\x0B@@@@@@@@@@@", TooManyFields, 5),
+    // an end of two fields
+    (b"\x00\x53\x17\xC0\x03\x02@@", TooManyFields, 5),
+];
+
 #[test]
 fn each_fault(rt: HostRuntime) {
-    let cut = ValueFault {
-        kind: ValueFaultKind::Short,
-        at: 1,
-    };
-    let table = [
-        // nothing behind the constructor of a described value
-        (b"\x00".as_slice(), PerfFault::Value(cut), 1),
-        // a list without a descriptor; one described as accepted; a described number
-        (b"\x45".as_slice(), NotPerformative, 2),
-        (b"\x00\x53\x24\x45".as_slice(), NotPerformative, 2),
-        (b"\x00\x53\x17\x43".as_slice(), NotPerformative, 2),
-        // a begin without fields; one whose second field is null; one whose third field is a boolean
-        (b"\x00\x53\x11\x45".as_slice(), MissingField(2), 3),
-        (
-            b"\x00\x53\x11\xC0\x05\x04\x40\x40\x43\x43".as_slice(),
-            MissingField(2),
-            3,
-        ),
-        (
-            b"\x00\x53\x11\xC0\x05\x04\x40\x43\x41\x40".as_slice(),
-            WrongType(3),
-            4,
-        ),
-        // an open of eleven fields, all of them null: there are too many before one is missing
-        (
-            b"\x00\x53\x10\xC0\x0C\x0B\x40\x40\x40\x40\x40\x40\x40\x40\x40\x40\x40".as_slice(),
-            TooManyFields,
-            5,
-        ),
-        // an end of two fields
-        (
-            b"\x00\x53\x17\xC0\x03\x02\x40\x40".as_slice(),
-            TooManyFields,
-            5,
-        ),
-    ];
-    for (octets, fault, number) in table {
-        assert!(rt; matches!(Performative::read(octets), Err(read) if read == fault));
+    for (octets, fault, number) in FAULTS {
+        assert_eq!(rt; Performative::read(octets).err(), Some(fault), "{octets:?}");
         assert_eq!(rt; fault.number(), number);
-    }
-}
-
-/// A field of each plain kind that has another type or is missing, and one field too many in each table.
-#[test]
-fn each_kind_of_field(rt: HostRuntime) {
-    let table = [
-        // an open: its container-id is a number, or missing
-        (b"\x00\x53\x10\xC0\x02\x01\x43".as_slice(), WrongType(1)),
-        (b"\x00\x53\x10\x45".as_slice(), MissingField(1)),
-        // a begin: its remote-channel is an uint
-        (b"\x00\x53\x11\xC0\x05\x04\x43\x43\x43\x43", WrongType(1)),
-        // a transfer: its handle is a boolean, or missing; its delivery-tag is a string
-        (b"\x00\x53\x14\xC0\x02\x01\x41", WrongType(1)),
-        (b"\x00\x53\x14\x45", MissingField(1)),
-        (b"\x00\x53\x14\xC0\x05\x03\x43\x40\xA1\x00", WrongType(3)),
-        // a disposition: its role is a number, or missing
-        (b"\x00\x53\x15\xC0\x03\x02\x43\x43", WrongType(1)),
-        (b"\x00\x53\x15\x45", MissingField(1)),
-        // one field more than a begin, a detach and a close have
-        (b"\x00\x53\x11\xC0\x0A\x09@@@@@@@@@", TooManyFields),
-        (b"\x00\x53\x16\xC0\x05\x04@@@@", TooManyFields),
-        (b"\x00\x53\x18\xC0\x03\x02@@", TooManyFields),
-    ];
-    for (octets, fault) in table {
-        assert!(rt; matches!(Performative::read(octets), Err(read) if read == fault));
     }
 }

@@ -1,6 +1,6 @@
 //! Performatives with texts and with other values in them, of known octets.
 
-use super::*;
+use crate::*;
 use std::process::Abort;
 
 fn read<'a>(rt: &impl Abort, octets: &'a [u8]) -> Performative<'a> {
@@ -96,28 +96,6 @@ fn settle_modes(rt: HostRuntime) {
     let terminus = attach.source.expect(&rt, "a source");
     assert_eq!(rt; terminus.address, Some(Address::Other(&[0x53, 0x07])));
     assert!(rt; terminus.is_dynamic() && attach.target.is_none());
-    let modes: [(&[u8], usize); 2] = [
-        (
-            &[
-                0x00, 0x53, 0x12, 0xC0, 0x08, 0x04, 0xA1, 0x01, 0x72, 0x43, 0x41, 0x50, 0x03,
-            ],
-            4,
-        ),
-        (
-            &[
-                0x00, 0x53, 0x12, 0xC0, 0x0B, 0x06, 0xA1, 0x01, 0x72, 0x43, 0x41, 0x50, 0x00, 0x50,
-                0x02, 0x45,
-            ],
-            5,
-        ),
-    ];
-    for (octets, field) in modes {
-        assert_eq!(rt;
-            fault_of(octets),
-            Some(PerfFault::WrongType(field)),
-            "{octets:?}"
-        );
-    }
 }
 
 #[test]

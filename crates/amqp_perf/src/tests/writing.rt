@@ -2,7 +2,7 @@
 
 ghost use Rattle.std.specs.Prelude.{◌≡◌};
 
-use super::*;
+use crate::*;
 use std::test::Fail;
 
 /// A client's attach by these values.
