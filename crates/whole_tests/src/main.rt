@@ -17,7 +17,7 @@ mod seen;
 mod worked;
 
 use audit_core::{Refusal, Verdict, audit, audit_bytes, one_verdict};
-use capture_form::{Capture, read_capture};
+use capture_form::{Capture, read_capture, write_capture};
 use conversation::Conversation;
 use std::{fs, io};
 use trace_law::{tally_capture, waiting_at};
@@ -43,6 +43,9 @@ fn tell(rt: &HostRuntime, name: &str, octets: &[u8]) -> io::Result<String> {
     let verdict = audit_bytes(rt.alloc(), octets);
     let line = tell_verdict(rt, name, verdict)?;
     if let Ok(capture) = read_capture(rt.alloc(), octets) {
+        if write_capture(rt.alloc(), &capture)?.as_slice() != octets {
+            println!(rt; "  another text of the capture that was read")?;
+        }
         if !is_audited(&capture, verdict) {
             println!(rt; "  another verdict of the capture than of its text")?;
         }
