@@ -1,0 +1,84 @@
+-- Captures as literals, and what the law computes of them.
+use Rattle.std.specs.Prelude.{ℕ, List, [], ◌∷◌, ◌++◌, replicate, Bool, false, Option, None, Result}
+use Rattle.std.specs.Fmt.{digits}
+use Rattle.amqp_perf.proofs.Opened.{read, written}
+use Rattle.amqp_frames.specs.Writing.{frame_octets}
+use Rattle.amqp_frames.specs.Reading.{whole_frame, frame_at, sized_frame, headed_frame}
+use Rattle.pairing_cert.specs.declared.note.Note.TheVariants as notes
+use Rattle.pairing_cert.specs.declared.note.Why.{Why}
+use Rattle.capture_form.specs.declared.records.Record.{Record}
+use Rattle.capture_form.specs.declared.records.What.TheVariants as whats
+use Rattle.capture_form.specs.declared.rules.Distribution.{Distribution}
+use Rattle.capture_form.specs.Rules.{RuleText}
+use Rattle.trace_clauses.specs.declared.clause.Clause.{Clause}
+use Rattle.trace_events.specs.declared.fault.Fault.{Fault}
+use Rattle.trace_events.specs.Frame.{frame_read}
+use Rattle.trace_events.specs.Event.{Event}
+use Rattle.trace_events.specs.History.{history, judge}
+use Rattle.trace_clauses.specs.Clauses.{first_broken}
+use Rattle.trace_clauses.specs.Written.{spoken_octets}
+use Rattle.trace_clauses.specs.declared.tally.Tally.{Tally}
+use Rattle.trace_clauses.specs.Verdict.{verdict}
+
+abbrev pub rule : Distribution → List ℕ → RuleText
+rule distribution prefix = record { distribution = distribution; prefix = prefix }
+
+-- ---- records
+
+abbrev pub opened : ℕ → Record
+opened c = record { connection = c; what = whats.Opened; note = notes.None }
+
+abbrev pub lost : ℕ → Record
+lost c = record { connection = c; what = whats.Lost; note = notes.None }
+
+abbrev pub broken : ℕ → Record
+broken c = record { connection = c; what = whats.Broken; note = notes.None }
+
+-- a frame of a client, and what the router writes, alone or with a note
+abbrev pub client : ℕ → List ℕ → Record
+client c octets = record { connection = c; what = whats.In octets; note = notes.None }
+
+abbrev pub router : ℕ → List ℕ → Record
+router c octets = record { connection = c; what = whats.Out octets; note = notes.None }
+
+abbrev pub paired : ℕ → ℕ → List ℕ → Record
+paired c n octets = record { connection = c; what = whats.Out octets; note = notes.Pair n }
+
+abbrev pub told : ℕ → Why → List ℕ → Record
+told c why octets = record { connection = c; what = whats.Out octets; note = notes.Told why }
+
+-- the fault of the last event
+abbrev pub last_fault : List Event → Option Fault
+last_fault [] = None
+last_fault (e ∷ past) = e.fault
+
+abbrev pub last_heard : List Event → Bool
+last_heard [] = false
+last_heard (e ∷ past) = e.is_heard
+
+-- the fault of a record behind n events that are all as the first of them
+abbrev pub fault_again : List RuleText → ℕ → Record → List Event → Option Fault
+fault_again rules n r past = (judge rules (replicate n (judge rules past r) ++ past) r).fault
+
+-- ---- what the law says of them: the reading and the writing of octets are opened here, once
+
+unfoldable pub verdict_of : List RuleText → List Record → Result Tally (ℕ × Clause)
+unfolding frame_read whole_frame frame_at sized_frame headed_frame read digits spoken_octets frame_octets written
+verdict_of rules records = verdict rules records
+
+unfoldable pub broken_of : List RuleText → List Record → Option (ℕ × Clause)
+unfolding frame_read whole_frame frame_at sized_frame headed_frame read digits spoken_octets frame_octets written
+broken_of rules records = first_broken rules (history rules records)
+
+unfoldable pub fault_of : List RuleText → List Record → Option Fault
+unfolding frame_read whole_frame frame_at sized_frame headed_frame read digits spoken_octets frame_octets written
+fault_of rules records = last_fault (history rules records)
+
+unfoldable pub is_last_heard : List RuleText → List Record → Bool
+unfolding frame_read whole_frame frame_at sized_frame headed_frame read digits spoken_octets frame_octets written
+is_last_heard rules records = last_heard (history rules records)
+
+-- the same of a record behind so many equal ones
+unfoldable pub fault_behind : List RuleText → List Record → ℕ → Record → Option Fault
+unfolding frame_read whole_frame frame_at sized_frame headed_frame read digits spoken_octets frame_octets written
+fault_behind rules records n record_again = fault_again rules n record_again (history rules records)

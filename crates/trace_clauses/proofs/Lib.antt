@@ -1,0 +1,17 @@
+pub mod Lawful
+pub mod ClausesMet
+pub mod OneConsumer
+pub mod OneOutcome
+pub mod WrittenFrames
+pub mod Within
+pub mod Carried
+pub mod Keeping
+pub mod Incomings
+pub mod Decided
+pub mod WithinWindow
+pub mod WithinCredit
+pub mod Captures
+pub mod Made
+mod ClauseExamples
+mod FaultExamples
+mod ReadingExamples

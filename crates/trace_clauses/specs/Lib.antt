@@ -1,0 +1,13 @@
+pub mod Written
+pub mod Outcome
+pub mod ConnectionClause
+pub mod SessionClause
+pub mod LinkClause
+pub mod TransferClause
+pub mod FlowClause
+pub mod DispositionClause
+pub mod Clauses
+pub mod Verdict
+pub mod ClauseNames
+pub mod Kept
+pub mod Laws

@@ -1,0 +1,92 @@
+-- L4 to L9: transfers that the router writes.
+use Rattle.std.specs.Prelude.{ℕ, Bool, true, false, ◌&&◌, ◌||◌, not, List, ◌++◌, Option, unwrap_or, option_and_then, find, bytes_eq, nat_lt, ◌==◌, if◌then◌else◌}
+use Rattle.std.specs.List.{starts_with}
+use Rattle.std.specs.Bool.{beq}
+use Rattle.amqp_perf.specs.Meaning.{TransferFields, flag}
+use Rattle.pairing_cert.specs.declared.note.Note.{Note}
+use Rattle.pairing_cert.specs.declared.note.Note.TheVariants as notes
+use Rattle.pairing_cert.specs.Notes.{why_octet}
+use Rattle.capture_form.specs.Rules.{RuleText}
+use Rattle.trace_events.specs.Words.{is_some_and, is_none_or, is_number}
+use Rattle.trace_events.specs.Event.{Event, Link, Incoming, Outgoing}
+use Rattle.trace_events.specs.declared.session.Session.{Session}
+use Rattle.trace_events.specs.Link.{is_consumer}
+use Rattle.trace_events.specs.Window.{session_window}
+use Rattle.trace_events.specs.Credit.{link_credit, begins_outgoing}
+use Rattle.trace_events.specs.Incoming as incoming
+use Rattle.trace_events.specs.Incoming.{address_of, is_complete, completed_before}
+use Rattle.trace_events.specs.Outgoing as outgoing
+use Rattle.trace_events.specs.Outgoing.{outgoing_deliveries, is_on, next_delivery_id, names, noted, is_paired, is_named_on}
+use Rattle.trace_events.specs.Waiting.{is_of_multicast, is_gone}
+use Rattle.trace_events.specs.Due.{is_due}
+
+-- ---- L4: on a consumer's live link, within the session's window (part 2 of the standard, section 2.5.6)
+
+abbrev pub has_window : List Event → Session → Bool
+has_window past s = nat_lt 0 (session_window s past)
+
+abbrev pub may_be_sent : Event → TransferFields → List Event → Bool
+may_be_sent e fields past =
+    is_some_and e.link is_consumer && is_some_and e.session (has_window past)
+    && not (flag fields.resume) && not (flag fields.aborted)
+
+-- ---- L5: a delivery that begins has credit (2.6.7) and the next delivery-id
+
+abbrev pub may_begin : Link → TransferFields → List Event → Bool
+may_begin l fields past = nat_lt 0 (link_credit l past) && is_number fields.delivery_id (next_delivery_id l.session past)
+
+-- ---- L6: a later transfer has no id, no settled flag, or those of the first (2.7.5), and its note
+
+abbrev pub is_same_note : Note → Note → Bool
+is_same_note notes.None notes.None = true
+is_same_note (notes.Pair n) (notes.Pair m) = n == m
+is_same_note (notes.Told why) (notes.Told other) = why_octet why == why_octet other
+is_same_note _ _ = false
+
+abbrev pub goes_on_with : Outgoing → Note → TransferFields → Bool
+goes_on_with j note fields =
+    is_none_or fields.delivery_id (λ id. is_number j.id id) && is_none_or fields.settled (λ settled. beq settled j.is_settled)
+    && is_same_note note j.note
+
+-- ---- L7: the incoming delivery that the note names may go to the link
+
+-- the first transfer has its message-format, 0 where it is absent, and is settled just on a pre-settled link
+abbrev pub has_form : Incoming → Link → TransferFields → Bool
+has_form d l fields = unwrap_or fields.message_format 0 == d.format && beq (flag fields.settled) l.is_pre_settled
+
+abbrev pub may_carry : List RuleText → Event → Link → TransferFields → List Event → Incoming → Bool
+may_carry rules e l fields past d =
+    is_complete d past && not (is_gone rules d past) && bytes_eq (address_of d) l.address
+    && (not (begins_outgoing e) || has_form d l fields)
+
+abbrev pub names_carried : List RuleText → Event → TransferFields → List Event → Link → Bool
+names_carried rules e fields past l = is_some_and (noted e.note past) (may_carry rules e l fields past)
+
+-- ---- L8: the payloads so far are the first octets of that delivery's payload, and at the last transfer all of it
+
+abbrev pub is_payload_so_far : Bool → List ℕ → List ℕ → Bool
+is_payload_so_far more whole so_far = if more then starts_with ◌==◌ whole so_far else bytes_eq whole so_far
+
+abbrev pub carries : Outgoing → TransferFields → List ℕ → List Event → Incoming → Bool
+carries j fields octets past d =
+    is_payload_so_far (flag fields.more) (incoming.payload d past) (outgoing.payload j past ++ octets)
+
+abbrev pub carries_noted : Event → TransferFields → List ℕ → List Event → Bool
+carries_noted e fields octets past =
+    is_some_and (noted e.note past) (λ d. is_some_and e.outgoing (λ j. carries j fields octets past d))
+
+-- ---- L9: to one consumer, or once to each that it is due to; on each link in the order of completion
+
+-- the incoming delivery that the last one begun on the link carries
+abbrev pub carried_before : Link → List Event → Option Incoming
+carried_before l past = option_and_then (λ j. noted j.note past) (find (is_on l) (outgoing_deliveries past))
+
+abbrev pub is_first_to : List RuleText → Link → List Event → Incoming → Bool
+is_first_to rules l past d =
+    if is_of_multicast rules d then not (is_named_on d l past) && is_due rules d l past else not (is_paired d past)
+
+abbrev pub is_in_order : Link → List Event → Incoming → Bool
+is_in_order l past d = is_none_or (carried_before l past) (λ before. completed_before before d past)
+
+abbrev pub may_go_to : List RuleText → Event → List Event → Link → Bool
+may_go_to rules e past l = is_some_and (noted e.note past) (λ d. is_first_to rules l past d && is_in_order l past d)
