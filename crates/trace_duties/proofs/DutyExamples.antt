@@ -8,10 +8,11 @@ use Rattle.amqp_perf.specs.Meaning.{AnAttach, AFlow, ATransfer, ADisposition, An
 use Rattle.pairing_cert.specs.declared.note.Why.TheVariants.{C, S, M}
 use Rattle.capture_form.specs.declared.records.Record.{Record}
 use Rattle.capture_form.specs.declared.rules.Distribution.TheVariants.{Closest, Multicast}
-use Rattle.trace_law.specs.Written.{written_open, written_begin, written_close, written_end, written_detach, written_settling}
-use Rattle.trace_law.proofs.Captures.{rule, opened, lost, broken, diligence_of, neglected_of, is_window_left_behind}
-use Rattle.trace_law.proofs.Duties.{Waiting, Progress, Outcome, Credit, Drain, Copies, Settling, Answer, Pick, NothingElse}
-use Rattle.trace_law.proofs.Made.{from, from_with, write, to, carry, tell, open_of, begin_of, bare, receives_from, session_flow, gives, shows, draining, echoing, first, next, with_more, as_settled, disposes, accepted, detach_of, q, hi, connect, join, producer, consumer, pair, sent, sent_by, written_to_consumer, written_refusal}
+use Rattle.trace_clauses.specs.Written.{written_open, written_begin, written_close, written_end, written_detach, written_settling}
+use Rattle.trace_clauses.proofs.Captures.{rule, opened, lost, broken}
+use Rattle.trace_duties.proofs.Captures.{diligence_of, neglected_of, is_window_left_behind}
+use Rattle.trace_duties.proofs.Duties.{Waiting, Progress, Outcome, Credit, Drain, Copies, Settling, Answer, Pick, NothingElse}
+use Rattle.trace_clauses.proofs.Made.{from, from_with, write, to, carry, tell, open_of, begin_of, bare, receives_from, session_flow, gives, shows, draining, echoing, first, next, with_more, as_settled, disposes, accepted, detach_of, q, hi, connect, join, terminus, producer, consumer, pair, sent, sent_by, written_to_consumer, written_refusal}
 
 -- ---- each neglected alone
 
@@ -252,3 +253,19 @@ not_picked-is_not_diligent = refl
 flow_for_nothing-is_not_diligent : diligence_of [] (join 0 ++ (to 0 (AFlow (session_flow 0 2048 0 2147483647)) ∷ [])) ≡ false
 unfolding diligence_of
 flow_for_nothing-is_not_diligent = refl
+
+-- ---- readings of the rules
+
+-- a delivery that waits goes on to wait when its id is settled by its producer
+settled_waits : neglected_of [] (pair ++ (from_with 0 (ATransfer (as_settled (first 0))) hi ∷ from 1 (AFlow (gives 0 0 1)) ∷ [])) ≡ Waiting ∷ []
+unfolding neglected_of
+settled_waits = refl
+
+-- another consumer may attach to a made-up address by its name, and a producer too
+abbrev made_up : List Record
+made_up =
+    join 0 ++ (from 0 (AnAttach (let fields = bare Receiver None in record fields { source = Some (terminus (Some q) (Some true)) })) ∷ [])
+
+made_up_shared : neglected_of [] (made_up ++ (write 0 (written_to_consumer 0 (codes "l") 0 Mixed First (codes "dyn/5") true) ∷ []) ++ consumer 1 Mixed (codes "dyn/5") ++ producer 2 (codes "dyn/5") ++ (to 2 (AFlow (shows 0 0 0 250)) ∷ [])) ≡ []
+unfolding neglected_of
+made_up_shared = refl

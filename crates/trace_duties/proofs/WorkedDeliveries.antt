@@ -3,9 +3,11 @@ use Rattle.std.specs.Prelude.{◌≡◌, ℕ, zero, suc, ◌+◌, List, [], ◌�
 use Rattle.capture_form.specs.declared.records.Record.{Record}
 use Rattle.capture_form.specs.declared.rules.Distribution.TheVariants.{Multicast}
 use Rattle.pairing_cert.specs.declared.note.Why.TheVariants.{C, L, N, M}
-use Rattle.trace_law.specs.declared.clause.Clause.TheVariants.{L8, L11}
-use Rattle.trace_law.proofs.Captures.{opened, client, router, paired, told, rule, verdict_of, diligence_of}
-use Rattle.trace_law.proofs.WorkedFrames.{open_p, open_c, open_c_of_512, router_open, begin_100, router_begin, producer_of_q, router_to_producer_of_q, consumer_of_q, router_to_consumer_of_q, producer_of_news, router_to_producer_of_news, consumer_of_news, router_to_consumer_of_news, detach, router_flow_250, flow_100_0_10, flow_100_0_1, flow_100_0_1_behind_one, transfer_0, transfer_1, transfer_2, copy_0, copy_1, settled_copy_0, accept_0, accept_0_unsettled, failed_0, release_0, release_1, settle_0, first_half, second_half, first_cut, next_cut, last_cut}
+use Rattle.trace_clauses.specs.declared.clause.Clause.TheVariants.{L8, L11}
+use Rattle.trace_clauses.proofs.Captures.{opened, client, router, paired, told, rule, verdict_of}
+use Rattle.trace_duties.proofs.Captures.{diligence_of}
+use Rattle.trace_duties.proofs.Openings.{between, joined}
+use Rattle.trace_duties.proofs.WorkedFrames.{open_p, open_c, open_c_of_512, router_open, begin_100, router_begin, consumer_of_q, router_to_consumer_of_q, producer_of_news, router_to_producer_of_news, consumer_of_news, router_to_consumer_of_news, detach, router_flow_250, flow_100_0_10, flow_100_0_1, flow_100_0_1_behind_one, transfer_0, transfer_1, transfer_2, copy_0, copy_1, settled_copy_0, accept_0, accept_0_unsettled, failed_0, release_0, release_1, settle_0, first_half, second_half, first_cut, next_cut, last_cut}
 
 -- the transfers between the first and the last
 abbrev cuts : ℕ → ℕ → List Record
@@ -15,10 +17,7 @@ cuts (suc n) k = paired 1 16 (next_cut k) ∷ cuts n (k + 492)
 -- a delivery of two transfers, cut into frames of 512 octets
 abbrev cut : List Record
 cut =
-    (opened 0 ∷ client 0 open_p ∷ router 0 router_open ∷ client 0 begin_100 ∷ router 0 router_begin ∷
-    client 0 producer_of_q ∷ router 0 router_to_producer_of_q ∷ opened 1 ∷ client 1 open_c_of_512 ∷
-    router 1 router_open ∷ client 1 begin_100 ∷ router 1 router_begin ∷ client 1 consumer_of_q ∷
-    router 1 router_to_consumer_of_q ∷ router 0 router_flow_250 ∷ client 1 flow_100_0_10 ∷ client 0 first_half ∷
+    between open_c_of_512 begin_100 router_to_consumer_of_q ++ (client 1 flow_100_0_10 ∷ client 0 first_half ∷
     client 0 second_half ∷ paired 1 16 first_cut ∷ [])
     ++ cuts 39 487 ++ (paired 1 16 (last_cut 210) ∷ [])
 
@@ -33,10 +32,7 @@ cut_kept = refl
 -- the same with the last octet changed
 abbrev cut_changed : List Record
 cut_changed =
-    (opened 0 ∷ client 0 open_p ∷ router 0 router_open ∷ client 0 begin_100 ∷ router 0 router_begin ∷
-    client 0 producer_of_q ∷ router 0 router_to_producer_of_q ∷ opened 1 ∷ client 1 open_c_of_512 ∷
-    router 1 router_open ∷ client 1 begin_100 ∷ router 1 router_begin ∷ client 1 consumer_of_q ∷
-    router 1 router_to_consumer_of_q ∷ router 0 router_flow_250 ∷ client 1 flow_100_0_10 ∷ client 0 first_half ∷
+    between open_c_of_512 begin_100 router_to_consumer_of_q ++ (client 1 flow_100_0_10 ∷ client 0 first_half ∷
     client 0 second_half ∷ paired 1 16 first_cut ∷ [])
     ++ cuts 39 487 ++ (paired 1 16 (last_cut 211) ∷ [])
 
@@ -47,11 +43,7 @@ cut_changed_verdict = refl
 -- balanced deliveries, the third of which waits for credit
 abbrev waiting : List Record
 waiting =
-    (opened 0 ∷ client 0 open_p ∷ router 0 router_open ∷ client 0 begin_100 ∷ router 0 router_begin ∷
-    client 0 producer_of_q ∷ router 0 router_to_producer_of_q ∷ opened 1 ∷ client 1 open_c ∷ router 1 router_open ∷
-    client 1 begin_100 ∷ router 1 router_begin ∷ client 1 consumer_of_q ∷ router 1 router_to_consumer_of_q ∷
-    router 0 router_flow_250 ∷ opened 2 ∷ client 2 open_c ∷ router 2 router_open ∷ client 2 begin_100 ∷
-    router 2 router_begin ∷ client 2 consumer_of_q ∷ router 2 router_to_consumer_of_q ∷ client 1 flow_100_0_1 ∷
+    between open_c begin_100 router_to_consumer_of_q ++ joined 2 open_c begin_100 consumer_of_q router_to_consumer_of_q ++ (client 1 flow_100_0_1 ∷
     client 2 flow_100_0_1 ∷ client 0 transfer_0 ∷ paired 1 24 copy_0 ∷ client 0 transfer_1 ∷ paired 2 26 copy_0 ∷
     client 0 transfer_2 ∷ client 2 flow_100_0_1_behind_one ∷ paired 2 28 copy_1 ∷ [])
 
@@ -66,10 +58,7 @@ waiting_kept = refl
 -- a consumer that detaches before it decides
 abbrev link_end : List Record
 link_end =
-    (opened 0 ∷ client 0 open_p ∷ router 0 router_open ∷ client 0 begin_100 ∷ router 0 router_begin ∷
-    client 0 producer_of_q ∷ router 0 router_to_producer_of_q ∷ opened 1 ∷ client 1 open_c ∷ router 1 router_open ∷
-    client 1 begin_100 ∷ router 1 router_begin ∷ client 1 consumer_of_q ∷ router 1 router_to_consumer_of_q ∷
-    router 0 router_flow_250 ∷ client 1 flow_100_0_10 ∷ client 0 transfer_0 ∷ paired 1 16 copy_0 ∷ client 1 detach ∷
+    between open_c begin_100 router_to_consumer_of_q ++ (client 1 flow_100_0_10 ∷ client 0 transfer_0 ∷ paired 1 16 copy_0 ∷ client 1 detach ∷
     router 1 detach ∷ told 0 L failed_0 ∷ [])
 
 link_end_verdict : verdict_of [] link_end ≡ Ok (record { records = 21; deliveries = 1; outcomes = 1 })
@@ -83,10 +72,7 @@ link_end_kept = refl
 -- the same outcome told again
 abbrev link_end_told_twice : List Record
 link_end_told_twice =
-    (opened 0 ∷ client 0 open_p ∷ router 0 router_open ∷ client 0 begin_100 ∷ router 0 router_begin ∷
-    client 0 producer_of_q ∷ router 0 router_to_producer_of_q ∷ opened 1 ∷ client 1 open_c ∷ router 1 router_open ∷
-    client 1 begin_100 ∷ router 1 router_begin ∷ client 1 consumer_of_q ∷ router 1 router_to_consumer_of_q ∷
-    router 0 router_flow_250 ∷ client 1 flow_100_0_10 ∷ client 0 transfer_0 ∷ paired 1 16 copy_0 ∷ client 1 detach ∷
+    between open_c begin_100 router_to_consumer_of_q ++ (client 1 flow_100_0_10 ∷ client 0 transfer_0 ∷ paired 1 16 copy_0 ∷ client 1 detach ∷
     router 1 detach ∷ told 0 L failed_0 ∷ told 0 L failed_0 ∷ [])
 
 link_end_told_twice_verdict : verdict_of [] link_end_told_twice ≡ Err (21, L11)
@@ -96,10 +82,7 @@ link_end_told_twice_verdict = refl
 -- deliveries whose address loses its last consumer
 abbrev gone : List Record
 gone =
-    (opened 0 ∷ client 0 open_p ∷ router 0 router_open ∷ client 0 begin_100 ∷ router 0 router_begin ∷
-    client 0 producer_of_q ∷ router 0 router_to_producer_of_q ∷ opened 1 ∷ client 1 open_c ∷ router 1 router_open ∷
-    client 1 begin_100 ∷ router 1 router_begin ∷ client 1 consumer_of_q ∷ router 1 router_to_consumer_of_q ∷
-    router 0 router_flow_250 ∷ client 0 transfer_0 ∷ client 0 transfer_1 ∷ client 1 detach ∷ router 1 detach ∷
+    between open_c begin_100 router_to_consumer_of_q ++ (client 0 transfer_0 ∷ client 0 transfer_1 ∷ client 1 detach ∷ router 1 detach ∷
     told 0 N release_0 ∷ told 0 N release_1 ∷ [])
 
 gone_verdict : verdict_of [] gone ≡ Ok (record { records = 21; deliveries = 0; outcomes = 2 })
@@ -113,10 +96,7 @@ gone_kept = refl
 -- a consumer that comes afterwards gets neither
 abbrev gone_for_good : List Record
 gone_for_good =
-    (opened 0 ∷ client 0 open_p ∷ router 0 router_open ∷ client 0 begin_100 ∷ router 0 router_begin ∷
-    client 0 producer_of_q ∷ router 0 router_to_producer_of_q ∷ opened 1 ∷ client 1 open_c ∷ router 1 router_open ∷
-    client 1 begin_100 ∷ router 1 router_begin ∷ client 1 consumer_of_q ∷ router 1 router_to_consumer_of_q ∷
-    router 0 router_flow_250 ∷ client 0 transfer_0 ∷ client 0 transfer_1 ∷ client 1 detach ∷ router 1 detach ∷
+    between open_c begin_100 router_to_consumer_of_q ++ (client 0 transfer_0 ∷ client 0 transfer_1 ∷ client 1 detach ∷ router 1 detach ∷
     told 0 N release_0 ∷ told 0 N release_1 ∷ opened 2 ∷ client 2 open_c ∷ router 2 router_open ∷ client 2 begin_100 ∷
     router 2 router_begin ∷ client 2 consumer_of_q ∷ router 2 router_to_consumer_of_q ∷ client 2 flow_100_0_10 ∷ [])
 
@@ -131,8 +111,7 @@ gone_for_good_kept = refl
 -- a multicast delivery to two of three consumers, of which one has no credit
 abbrev copied : List Record
 copied =
-    (opened 0 ∷ client 0 open_p ∷ router 0 router_open ∷ client 0 begin_100 ∷ router 0 router_begin ∷
-    client 0 producer_of_news ∷ router 0 router_to_producer_of_news ∷ router 0 router_flow_250 ∷ opened 1 ∷
+    joined 0 open_p begin_100 producer_of_news router_to_producer_of_news ++ (router 0 router_flow_250 ∷ opened 1 ∷
     client 1 open_c ∷ router 1 router_open ∷ client 1 begin_100 ∷ router 1 router_begin ∷ client 1 consumer_of_news ∷
     router 1 router_to_consumer_of_news ∷ opened 2 ∷ client 2 open_c ∷ router 2 router_open ∷ client 2 begin_100 ∷
     router 2 router_begin ∷ client 2 consumer_of_news ∷ router 2 router_to_consumer_of_news ∷ opened 3 ∷
@@ -151,10 +130,7 @@ copied_kept = refl
 -- an outcome of the consumer, settled by it
 abbrev decided : List Record
 decided =
-    (opened 0 ∷ client 0 open_p ∷ router 0 router_open ∷ client 0 begin_100 ∷ router 0 router_begin ∷
-    client 0 producer_of_q ∷ router 0 router_to_producer_of_q ∷ opened 1 ∷ client 1 open_c ∷ router 1 router_open ∷
-    client 1 begin_100 ∷ router 1 router_begin ∷ client 1 consumer_of_q ∷ router 1 router_to_consumer_of_q ∷
-    router 0 router_flow_250 ∷ client 1 flow_100_0_10 ∷ client 0 transfer_0 ∷ paired 1 16 copy_0 ∷ client 1 accept_0 ∷
+    between open_c begin_100 router_to_consumer_of_q ++ (client 1 flow_100_0_10 ∷ client 0 transfer_0 ∷ paired 1 16 copy_0 ∷ client 1 accept_0 ∷
     told 0 C accept_0 ∷ [])
 
 decided_verdict : verdict_of [] decided ≡ Ok (record { records = 20; deliveries = 1; outcomes = 1 })
@@ -168,10 +144,7 @@ decided_kept = refl
 -- the same, settled by the router
 abbrev decided_unsettled : List Record
 decided_unsettled =
-    (opened 0 ∷ client 0 open_p ∷ router 0 router_open ∷ client 0 begin_100 ∷ router 0 router_begin ∷
-    client 0 producer_of_q ∷ router 0 router_to_producer_of_q ∷ opened 1 ∷ client 1 open_c ∷ router 1 router_open ∷
-    client 1 begin_100 ∷ router 1 router_begin ∷ client 1 consumer_of_q ∷ router 1 router_to_consumer_of_q ∷
-    router 0 router_flow_250 ∷ client 1 flow_100_0_10 ∷ client 0 transfer_0 ∷ paired 1 16 copy_0 ∷
+    between open_c begin_100 router_to_consumer_of_q ++ (client 1 flow_100_0_10 ∷ client 0 transfer_0 ∷ paired 1 16 copy_0 ∷
     client 1 accept_0_unsettled ∷ told 0 C accept_0 ∷ router 1 settle_0 ∷ [])
 
 decided_unsettled_verdict : verdict_of [] decided_unsettled ≡ Ok (record { records = 21; deliveries = 1; outcomes = 1 })

@@ -8,23 +8,23 @@ use Rattle.amqp_perf.specs.declared.flow.Flow.{Flow}
 use Rattle.amqp_perf.specs.Meaning.{Meaning, AFlow, ATransfer, ADisposition, TransferFields, DispositionFields}
 use Rattle.capture_form.specs.declared.records.Record.{Record}
 use Rattle.capture_form.specs.Rules.{RuleText}
-use Rattle.trace_law.specs.Words.{is_some_and, is_none_or}
-use Rattle.trace_law.specs.Frame.{Frame, Spoken, spoken_in}
-use Rattle.trace_law.specs.Event.{Event, Link, Incoming, Outgoing, Moment, Out, is_out, out_frame}
-use Rattle.trace_law.specs.Connection.{frame_limit}
-use Rattle.trace_law.specs.Link.{is_consumer}
-use Rattle.trace_law.specs.Credit.{begins_outgoing}
-use Rattle.trace_law.specs.Delivery as incoming
-use Rattle.trace_law.specs.Delivery.{incoming_deliveries, completed_before}
-use Rattle.trace_law.specs.Sent as outgoing
-use Rattle.trace_law.specs.Sent.{outgoing_deliveries, noted, next_delivery_id}
-use Rattle.trace_law.specs.Waiting.{is_of_multicast, is_waiting}
-use Rattle.trace_law.specs.ClauseOfFlow.{may_be_topped_up, full_credit, may_be_drained, drained_count}
-use Rattle.trace_law.specs.Pick.{pick}
-use Rattle.trace_law.specs.Written.{spoken_octets, first_part, next_part, written_transfer, written_outcome, written_settling, written_credit, written_count, written_session_flow}
-use Rattle.trace_law.specs.Answer.{answer}
-use Rattle.trace_law.specs.Quiet.{is_quiet, lacks_window}
-use Rattle.trace_law.specs.History.{history}
+use Rattle.trace_events.specs.Words.{is_some_and, is_none_or, is_number}
+use Rattle.trace_events.specs.Frame.{Frame, Spoken, spoken_in}
+use Rattle.trace_events.specs.Event.{Event, Link, Incoming, Outgoing, Moment, Out, is_out, out_frame}
+use Rattle.trace_events.specs.Connection.{frame_limit}
+use Rattle.trace_events.specs.Link.{is_consumer}
+use Rattle.trace_events.specs.Credit.{begins_outgoing}
+use Rattle.trace_events.specs.Incoming as incoming
+use Rattle.trace_events.specs.Incoming.{address_of, incoming_deliveries, completed_before}
+use Rattle.trace_events.specs.Outgoing as outgoing
+use Rattle.trace_events.specs.Outgoing.{outgoing_deliveries, noted, next_delivery_id}
+use Rattle.trace_events.specs.Waiting.{is_of_multicast, is_waiting}
+use Rattle.trace_clauses.specs.FlowClause.{may_be_topped_up, full_credit, may_be_drained, drained_count}
+use Rattle.trace_duties.specs.Pick.{pick}
+use Rattle.trace_clauses.specs.Written.{spoken_octets, first_part, next_part, written_transfer, written_outcome, written_settling, written_credit, written_count, written_session_flow}
+use Rattle.trace_duties.specs.Answer.{answer}
+use Rattle.trace_duties.specs.Quiet.{is_quiet, lacks_window}
+use Rattle.trace_events.specs.History.{history}
 
 -- ---- the answer to an input comes first
 
@@ -69,10 +69,10 @@ is_answered rules past = begin_with (up_to_input past) (last_answer rules past) 
 abbrev pub is_next_waiting : List RuleText → List Event → Incoming → Bool
 is_next_waiting rules past d =
     is_waiting rules d past
-    && not (list_any (λ other. bytes_eq other.link.address d.link.address && is_waiting rules other past && completed_before other d past) (incoming_deliveries past))
+    && not (list_any (λ other. bytes_eq (address_of other) (address_of d) && is_waiting rules other past && completed_before other d past) (incoming_deliveries past))
 
 abbrev pub is_picked_link : List RuleText → List Event → Incoming → Link → Bool
-is_picked_link rules past d l = is_some_and (pick rules d.link.address past) (λ picked. picked.number == l.number)
+is_picked_link rules past d l = is_number (pick rules (address_of d) past) l.number
 
 -- an anycast delivery that begins carries the next waiting one of its address, on the link that is picked
 abbrev pub is_picked : List RuleText → Event → List Event → Bool

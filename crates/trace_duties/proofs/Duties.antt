@@ -1,10 +1,10 @@
 -- Which of a router's duties a history neglects, each by a name.
 use Rattle.std.specs.Prelude.{ℕ, List, Bool, true, ◌&&◌, ◌||◌, [], ◌∷◌, ◌++◌, replicate, if◌then◌else◌}
 use Rattle.capture_form.specs.Rules.{RuleText}
-use Rattle.trace_law.specs.Words.{is_some_and}
-use Rattle.trace_law.specs.Event.{Event, is_out, out_frame}
-use Rattle.trace_law.specs.Quiet.{none_waits_in_vain, none_stands_still, none_is_untold, none_lacks_credit, none_lacks_window, none_is_undrained, copies_are_sent, none_is_unsettled}
-use Rattle.trace_law.specs.Diligent.{is_answered, is_picked, is_due_frame}
+use Rattle.trace_events.specs.Words.{is_some_and}
+use Rattle.trace_events.specs.Event.{Event, is_out, out_frame}
+use Rattle.trace_duties.specs.Quiet.{none_waits_in_vain, none_stands_still, none_is_untold, none_lacks_credit, none_lacks_window, none_is_undrained, copies_are_sent, none_is_unsettled}
+use Rattle.trace_duties.specs.Diligent.{is_answered, is_picked, is_due_frame}
 
 pub data Duty : Type 0 where
   Waiting Progress Outcome Credit Window Drain Copies Settling Answer Pick NothingElse : Duty

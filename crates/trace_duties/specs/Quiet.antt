@@ -2,26 +2,27 @@
 use Rattle.std.specs.Prelude.{Bool, ◌&&◌, ◌||◌, not, List, length, is_some, nat_le, nat_lt, ◌==◌}
 use Rattle.std.specs.List.{list_any, list_all}
 use Rattle.capture_form.specs.Rules.{RuleText}
-use Rattle.flow_counts.specs.GivenWindow.{renewal_mark}
-use Rattle.trace_law.specs.Event.{Event, Session, Link, Incoming}
-use Rattle.trace_law.specs.Session.{live_sessions}
-use Rattle.trace_law.specs.Link.{is_producer, is_consumer, live_links}
-use Rattle.trace_law.specs.Window.{session_window, given_window}
-use Rattle.trace_law.specs.Credit.{link_credit}
-use Rattle.trace_law.specs.Delivery.{incoming_deliveries, completed_before}
-use Rattle.trace_law.specs.Sent as outgoing
-use Rattle.trace_law.specs.Sent.{outgoing_deliveries, noted, next_delivery_id}
-use Rattle.trace_law.specs.Waiting.{is_waiting}
-use Rattle.trace_law.specs.Due.{is_unsent}
-use Rattle.trace_law.specs.Settling.{is_to_settle}
-use Rattle.trace_law.specs.Outcome.{is_to_tell}
-use Rattle.trace_law.specs.ClauseOfFlow.{may_be_topped_up, may_be_drained}
-use Rattle.trace_law.specs.Pick.{eligible}
+use Rattle.flow_counts.specs.declared.profile.TheConstants.{RENEWAL_MARK}
+use Rattle.trace_events.specs.Event.{Event, Link, Incoming}
+use Rattle.trace_events.specs.declared.session.Session.{Session}
+use Rattle.trace_events.specs.Session.{live_sessions}
+use Rattle.trace_events.specs.Link.{is_producer, is_consumer, live_links}
+use Rattle.trace_events.specs.Window.{session_window, given_window}
+use Rattle.trace_events.specs.Credit.{link_credit}
+use Rattle.trace_events.specs.Incoming.{address_of, incoming_deliveries, completed_before}
+use Rattle.trace_events.specs.Outgoing as outgoing
+use Rattle.trace_events.specs.Outgoing.{outgoing_deliveries, noted, next_delivery_id}
+use Rattle.trace_events.specs.Waiting.{is_waiting}
+use Rattle.trace_events.specs.Due.{is_unsent}
+use Rattle.trace_events.specs.Settling.{is_to_settle}
+use Rattle.trace_clauses.specs.Outcome.{is_to_tell}
+use Rattle.trace_clauses.specs.FlowClause.{may_be_topped_up, may_be_drained}
+use Rattle.trace_duties.specs.Pick.{eligible}
 
 -- no delivery waits at an address with a link that may be sent it
 abbrev pub none_waits_in_vain : List RuleText → List Event → Bool
 none_waits_in_vain rules past =
-    list_all (λ d. not (is_waiting rules d past) || length (eligible d.link.address past) == 0) (incoming_deliveries past)
+    list_all (λ d. not (is_waiting rules d past) || length (eligible (address_of d) past) == 0) (incoming_deliveries past)
 
 -- no delivery to a consumer is in progress on a session with window
 abbrev pub stands_still : List Event → Link → Bool
@@ -40,7 +41,7 @@ none_lacks_credit rules past = list_all (λ l. not (is_producer l && may_be_topp
 
 -- no session is to be given its window anew
 abbrev pub lacks_window : List Event → Session → Bool
-lacks_window past s = nat_le (given_window s past) renewal_mark
+lacks_window past s = nat_le (given_window s past) RENEWAL_MARK
 
 abbrev pub none_lacks_window : List Event → Bool
 none_lacks_window past = list_all (λ s. not (lacks_window past s)) (live_sessions past)

@@ -6,14 +6,14 @@ use Rattle.amqp_frames.specs.Reading.{whole_frame, frame_at, sized_frame, headed
 use Rattle.std.specs.Fmt.{digits}
 use Rattle.capture_form.specs.declared.records.Record.{Record}
 use Rattle.capture_form.specs.Rules.{RuleText}
-use Rattle.trace_law.specs.Words.{or_else}
-use Rattle.trace_law.specs.Frame.{Frame, frame_read}
-use Rattle.trace_law.specs.Event.{Event, Moment, Out}
-use Rattle.trace_law.specs.Written.{spoken_octets}
-use Rattle.trace_law.specs.History.{history}
-use Rattle.trace_law.specs.Quiet.{none_waits_in_vain, none_stands_still, none_is_untold, none_lacks_credit, none_lacks_window, none_is_undrained, copies_are_sent, none_is_unsettled}
-use Rattle.trace_law.specs.Diligent.{group, up_to_input, last_answer, begin_with, is_answered, is_of_answer, is_picked, is_due_frame, is_diligent_history}
-use Rattle.trace_law.proofs.Duties.{Duty, Waiting, Progress, Outcome, Credit, Window, Drain, Copies, Settling, Answer, Pick, NothingElse}
+use Rattle.trace_events.specs.Words.{or_else}
+use Rattle.trace_events.specs.Frame.{Frame, frame_read}
+use Rattle.trace_events.specs.Event.{Event, Moment, Out}
+use Rattle.trace_clauses.specs.Written.{spoken_octets}
+use Rattle.trace_events.specs.History.{history}
+use Rattle.trace_duties.specs.Quiet.{none_waits_in_vain, none_stands_still, none_is_untold, none_lacks_credit, none_lacks_window, none_is_undrained, copies_are_sent, none_is_unsettled}
+use Rattle.trace_duties.specs.Diligent.{group, up_to_input, last_answer, begin_with, is_answered, is_of_answer, is_picked, is_due_frame, is_diligent_history}
+use Rattle.trace_duties.proofs.Duties.{Duty, Waiting, Progress, Outcome, Credit, Window, Drain, Copies, Settling, Answer, Pick, NothingElse}
 
 -- ---- what is neglected at a moment
 

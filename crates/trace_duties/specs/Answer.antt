@@ -8,16 +8,17 @@ use Rattle.amqp_perf.specs.declared.flow.Flow.{Flow}
 use Rattle.amqp_perf.specs.Meaning.{Meaning, AnOpen, ABegin, AnAttach, AFlow, ATransfer, ADisposition, ADetach, AnEnd, AClose, AttachFields, flag}
 use Rattle.amqp_perf.specs.Router.{attach_to_producer, attach_to_consumer, attach_refused}
 use Rattle.capture_form.specs.Rules.{RuleText}
-use Rattle.trace_law.specs.declared.fault.Fault.{Fault}
-use Rattle.trace_law.specs.declared.fault.Fault.TheVariants.{Close, End, Refuse, Detach}
-use Rattle.trace_law.specs.Frame.{Body, Says, Spoken}
-use Rattle.trace_law.specs.Event.{Event, Session, Link, Moment, In, Broken}
-use Rattle.trace_law.specs.Said.{handle_in}
-use Rattle.trace_law.specs.Connection.{has_out_open, has_out_close}
-use Rattle.trace_law.specs.Link.{is_consumer}
-use Rattle.trace_law.specs.Credit.{delivery_count, link_credit, given_credit}
-use Rattle.trace_law.specs.Written.{says, written_open, written_close, written_begin, written_end, written_detach, written_session_flow, written_credit, written_count}
-use Rattle.trace_law.specs.ClauseOfConnection.{has_dynamic_source, asked_address, answering_sender_mode}
+use Rattle.trace_events.specs.declared.fault.Fault.{Fault}
+use Rattle.trace_events.specs.declared.fault.Fault.TheVariants.{Close, End, Refuse, Detach}
+use Rattle.trace_events.specs.Frame.{Body, Says, Spoken}
+use Rattle.trace_events.specs.Event.{Event, Link, Moment, In, Broken}
+use Rattle.trace_events.specs.declared.session.Session.{Session}
+use Rattle.trace_events.specs.Said.{handle_in}
+use Rattle.trace_events.specs.Connection.{has_out_open, has_out_close}
+use Rattle.trace_events.specs.Link.{is_consumer}
+use Rattle.trace_events.specs.Credit.{delivery_count, link_credit, given_credit}
+use Rattle.trace_clauses.specs.Written.{says, written_open, written_close, written_begin, written_end, written_detach, written_session_flow, written_credit, written_count}
+use Rattle.trace_clauses.specs.LinkClause.{has_dynamic_source, asked_address, answering_sender_mode}
 
 -- `past` has the event that is answered at its head.
 

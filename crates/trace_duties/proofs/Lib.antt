@@ -1,0 +1,16 @@
+mod Duties
+mod Captures
+mod DutyExamples
+mod FirstNeglected
+mod SharedFrames
+mod DutiesNeglected
+mod FaultsAnswered
+mod AnswersKept
+mod PicksKept
+mod FlowsKept
+mod OutcomesKept
+mod WorkedFrames
+mod Openings
+mod WorkedCredit
+mod WorkedDeliveries
+mod WorkedLinks

@@ -1,0 +1,5 @@
+pub mod Consumers
+pub mod Pick
+pub mod Answer
+pub mod Quiet
+pub mod Diligent
