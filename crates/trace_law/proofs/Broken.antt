@@ -5,12 +5,12 @@ use Rattle.std.proofs.Math.ListN.{take-append-drop}
 use Rattle.std.proofs.lemmas.List.{length-take-le}
 use Rattle.capture_form.specs.declared.records.Record.{Record}
 use Rattle.capture_form.specs.Rules.{RuleText}
-use Rattle.trace_law.specs.declared.clause.Clause.{Clause}
-use Rattle.trace_law.specs.Event.{Event}
-use Rattle.trace_law.specs.History.{judge, continued, history}
-use Rattle.trace_law.specs.Clauses.{first_broken, broken_clause}
-use Rattle.trace_law.specs.Checked.{broken_by_first}
-use Rattle.trace_law.proofs.Lawful.{continued-append, history-push, first_broken-continued}
+use Rattle.trace_clauses.specs.declared.clause.Clause.{Clause}
+use Rattle.trace_events.specs.Event.{Event}
+use Rattle.trace_events.specs.History.{judge, continued, history}
+use Rattle.trace_clauses.specs.Clauses.{first_broken, broken_clause}
+use Rattle.trace_law.specs.Check.{broken_by_first}
+use Rattle.trace_clauses.proofs.Lawful.{continued-append, history-push, first_broken-continued}
 
 -- a list that has so many records has a first one
 first_of : (rs : List Record) (i : ℕ) → i < length rs → Record

@@ -1,8 +1,8 @@
 -- Copies that are due.
 use Rattle.std.proofs.Common.{ℕ, suc, ◌≤◌, Bool, true, false, List, [], ◌∷◌, length, cond, arith}
 use Rattle.capture_form.specs.Rules.{RuleText}
-use Rattle.trace_law.specs.Event.{Event, Link}
-use Rattle.trace_law.specs.Due.{due_count, makes_due}
+use Rattle.trace_events.specs.Event.{Event, Link}
+use Rattle.trace_events.specs.Due.{due_count, makes_due}
 
 -- no more than one by each event
 pub few_due : (rules : List RuleText) (l : Link) (past : List Event) → due_count rules l past ≤ length past

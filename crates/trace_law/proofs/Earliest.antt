@@ -4,7 +4,7 @@ use Rattle.std.specs.Prelude.{find}
 use Rattle.std.specs.Option.{option_or}
 use Rattle.std.proofs.lemmas.List.{reverse-append}
 use Rattle.std.proofs.lemmas.List.Folds.{find-append}
-use Rattle.trace_law.specs.Words.{or_else}
+use Rattle.trace_events.specs.Words.{or_else}
 
 -- the last that passes
 abbrev pub earliest : {X : Type 0} → (X → Bool) → List X → Option X

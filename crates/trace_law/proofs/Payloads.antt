@@ -5,11 +5,11 @@ use Rattle.std.proofs.lemmas.List.{reverse-append, reverse-reverse, length-rever
 use Rattle.std.proofs.lemmas.Slice.Eq.{bytes_eq-Decides}
 use Rattle.std.proofs.lemmas.Bool.Decides.{same_from_decides, Decides-like, leb_tells}
 use Rattle.std.proofs.Math.Seq.{drop-append_seam}
-use Rattle.trace_law.specs.declared.payload.Delivery.TheVariants as deliveries
-use Rattle.trace_law.specs.Event.{Event, Incoming, Outgoing}
-use Rattle.trace_law.specs.Said.{in_spoken, out_spoken}
-use Rattle.trace_law.specs.Delivery as incoming
-use Rattle.trace_law.specs.Sent as outgoing
+use Rattle.trace_law.specs.declared.delivery.payload.Delivery.TheVariants as deliveries
+use Rattle.trace_events.specs.Event.{Event, Incoming, Outgoing}
+use Rattle.trace_events.specs.Said.{in_spoken, out_spoken}
+use Rattle.trace_events.specs.Incoming as incoming
+use Rattle.trace_events.specs.Outgoing as outgoing
 use Rattle.trace_law.specs.Payloads.{part_of, backward, without, begins_with}
 
 backward_test : (test : Bool) (part earlier so_far : List ℕ) → so_far ≡ reverse earlier

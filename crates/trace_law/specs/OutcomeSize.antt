@@ -2,9 +2,9 @@
 use Rattle.std.specs.Prelude.{ℕ, ◌+◌, List, length, Option, Some, None, ◌==◌, if◌then◌else◌}
 use Rattle.amqp_types.specs.Writing.{fits_octet}
 use Rattle.amqp_perf.specs.Router.{delivery_failed}
-use Rattle.trace_law.specs.declared.outcome.Told.{Told}
-use Rattle.trace_law.specs.declared.outcome.Told.TheVariants as told
-use Rattle.trace_law.specs.Outcome.{bare_octets}
+use Rattle.trace_law.specs.declared.delivery.outcome.Told.{Told}
+use Rattle.trace_law.specs.declared.delivery.outcome.Told.TheVariants as told
+use Rattle.trace_clauses.specs.Outcome.{bare_octets}
 
 -- of a uint (part 1, section 1.6.5)
 abbrev pub uint_size : ℕ → ℕ

@@ -1,12 +1,12 @@
 -- The payload of a delivery, read backwards from its last octet.
 use Rattle.std.specs.Prelude.{ℕ, Bool, List, [], ◌∷◌, ◌++◌, reverse, Option, Some, None, option_and_then, bytes_eq, if◌then◌else◌, ◌==◌}
-use Rattle.trace_law.specs.declared.payload.Delivery.{Delivery}
-use Rattle.trace_law.specs.declared.payload.Delivery.TheVariants.{Incoming, Outgoing}
-use Rattle.trace_law.specs.declared.payload.Backward.{Backward}
-use Rattle.trace_law.specs.Words.{is_some_and}
-use Rattle.trace_law.specs.Event.{Event}
-use Rattle.trace_law.specs.Said.{in_spoken, out_spoken}
-use Rattle.trace_law.specs.Delivery.{part_payload}
+use Rattle.trace_law.specs.declared.delivery.payload.Delivery.{Delivery}
+use Rattle.trace_law.specs.declared.delivery.payload.Delivery.TheVariants.{Incoming, Outgoing}
+use Rattle.trace_law.specs.declared.delivery.payload.Backward.{Backward}
+use Rattle.trace_events.specs.Words.{is_some_and}
+use Rattle.trace_events.specs.Event.{Event}
+use Rattle.trace_events.specs.Said.{in_spoken, out_spoken}
+use Rattle.trace_events.specs.Incoming.{part_payload}
 use Rattle.trace_law.specs.View.{events}
 
 -- what an event adds to the delivery's payload

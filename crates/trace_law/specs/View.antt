@@ -1,20 +1,20 @@
 -- What the code's events stand for.
 use Rattle.std.specs.Prelude.{List, [], ◌∷◌, option_map}
 use Rattle.amqp_perf.specs.View as performatives
-use Rattle.trace_law.specs.declared.frame.Frame.{Frame}
-use Rattle.trace_law.specs.declared.frame.Spoken.{Spoken}
-use Rattle.trace_law.specs.declared.frame.Body.{Body}
-use Rattle.trace_law.specs.declared.frame.Body.TheVariants as bodies
-use Rattle.trace_law.specs.declared.event.Link.{Link}
-use Rattle.trace_law.specs.declared.event.Incoming.{Incoming}
-use Rattle.trace_law.specs.declared.event.Outgoing.{Outgoing}
-use Rattle.trace_law.specs.declared.event.Moment.{Moment}
-use Rattle.trace_law.specs.declared.event.Moment.TheVariants as moments
-use Rattle.trace_law.specs.declared.event.Event.{Event}
-use Rattle.trace_law.specs.declared.event.Past.{Past}
-use Rattle.trace_law.specs.declared.event.Past.TheVariants.{Start, After'}
-use Rattle.trace_law.specs.Frame as frames
-use Rattle.trace_law.specs.Event as law
+use Rattle.trace_law.specs.declared.history.frame.Frame.{Frame}
+use Rattle.trace_law.specs.declared.history.frame.Spoken.{Spoken}
+use Rattle.trace_law.specs.declared.history.frame.Body.{Body}
+use Rattle.trace_law.specs.declared.history.frame.Body.TheVariants as bodies
+use Rattle.trace_law.specs.declared.history.event.Link.{Link}
+use Rattle.trace_law.specs.declared.history.event.Incoming.{Incoming}
+use Rattle.trace_law.specs.declared.history.event.Outgoing.{Outgoing}
+use Rattle.trace_law.specs.declared.history.event.Moment.{Moment}
+use Rattle.trace_law.specs.declared.history.event.Moment.TheVariants as moments
+use Rattle.trace_law.specs.declared.history.event.Event.{Event}
+use Rattle.trace_law.specs.declared.history.event.Past.{Past}
+use Rattle.trace_law.specs.declared.history.event.Past.TheVariants.{Start, After'}
+use Rattle.trace_events.specs.Frame as frames
+use Rattle.trace_events.specs.Event as law
 
 abbrev pub spoken_view : Spoken → frames.Spoken
 spoken_view spoken = record {

@@ -2,23 +2,24 @@
 
 ghost use Rattle.std.specs.Prelude.{◌≡◌, Some, None, if◌then◌else◌};
 ghost use Rattle.amqp_perf.specs.View.{disposition_fields};
-ghost use Rattle.trace_law.specs.declared.clause.Clause.TheVariants as clauses;
-ghost use Rattle.trace_law.specs.Clauses as law;
+ghost use Rattle.trace_clauses.specs.declared.clause.Clause.TheVariants as clauses;
+ghost use Rattle.trace_clauses.specs.Clauses as law;
 
-use crate::clause::Clause;
-use crate::event::{Event, Incoming, Moment, Past};
-use crate::frame::{Frame, Spoken};
-use crate::transfer_clause::goes_on_with;
+mod connection;
+mod disposition;
+mod flow;
+mod link;
+mod session;
+mod transfer;
+
+use self::disposition::settles_one;
+use self::transfer::goes_on_with;
+use crate::history::event::{Event, Moment, Past};
+use crate::history::frame::{Frame, Spoken};
 use amqp_perf::{Attach, Disposition, Performative, Role, Transfer};
 use capture_form::Rule;
 use pairing_cert::Note;
-
-/// Settled, and of one id.
-fn settles_one(disposition: &Disposition) -> bool
-    ensures { result ≡ law.settles_one (disposition_fields disposition.now) }
-{
-    disposition.is_settled() && disposition.last_id() == disposition.first
-}
+use trace_clauses::Clause;
 
 /// L14: no note.
 fn has_no_note(note: Note) -> bool
@@ -45,61 +46,13 @@ fn first_broken(clause: Clause, is_met: bool, note: Note) -> Option<Clause>
     }
 }
 
-/// Dispositions (part 2 of the standard, section 2.7.6).
-impl<'p, 'a> Past<'p, 'a> {
-    ghost use Rattle.std.specs.Prelude.{◌≡◌, option_map};
-    ghost use Rattle.amqp_perf.specs.View.{disposition_fields};
-    ghost use Rattle.trace_law.specs.Clauses as law;
-    ghost use Rattle.trace_law.specs.View.{event_view, incoming_view, events};
-
-    /// The row of the note applies to the delivery, with the state that is told.
-    fn tells_by(
-        &self,
-        rules: &[Rule],
-        delivery: &Incoming,
-        note: Note,
-        disposition: &Disposition,
-    ) -> bool
-        ensures { result ≡ law.tells_by rules.now (incoming_view delivery.now) note
-            (option_map (λ s. s.octets) (disposition_fields disposition.now).state) (events self.now) }
-    {
-        let Note::Told(why) = note else {
-            return false;
-        };
-        match (self.row(rules, delivery, why), disposition.state) {
-            (Some(told), Some(state)) => told.has_octets(Some(state.raw())),
-            (Some(told), None) => told.has_octets(None),
-            (None, _) => false,
-        }
-    }
-
-    /// L11: an outcome, of a delivery that may be told one.
-    fn is_outcome(&self, rules: &[Rule], event: &Event, disposition: &Disposition) -> bool
-        ensures { result ≡ law.is_outcome rules.now (event_view event.now) (disposition_fields disposition.now) (events self.now) }
-    {
-        if !settles_one(disposition) {
-            return false;
-        }
-        let Some(number) = event.told else {
-            return false;
-        };
-        match self.incoming_at(number) {
-            Some(delivery) => {
-                self.may_be_told(&delivery)
-                    && self.tells_by(rules, &delivery, event.note, disposition)
-            }
-            None => false,
-        }
-    }
-}
-
 /// The first clause that is broken, by what is written.
 impl<'p, 'a> Past<'p, 'a> {
     ghost use Rattle.std.specs.Prelude.{◌≡◌, ◌<◌, ◌^◌, length, find, not, Some};
     ghost use Rattle.amqp_perf.specs.View.{attach_fields, transfer_fields, disposition_fields};
-    ghost use Rattle.trace_law.specs.Words.{is_some_and};
-    ghost use Rattle.trace_law.specs.ClauseOfConnection.{answers_attach};
-    ghost use Rattle.trace_law.specs.Clauses as law;
+    ghost use Rattle.trace_events.specs.Words.{is_some_and};
+    ghost use Rattle.trace_clauses.specs.LinkClause.{answers_attach};
+    ghost use Rattle.trace_clauses.specs.Clauses as law;
     ghost use Rattle.trace_law.specs.View.{spoken_view, frame_view, event_view, events};
 
     fn broken_by_transfer(
@@ -235,8 +188,8 @@ impl<'p, 'a> Past<'p, 'a> {
 }
 
 ghost use Rattle.amqp_perf.specs.View.{transfer_fields};
-ghost use Rattle.trace_law.specs.Words.{is_some_and};
-ghost use Rattle.trace_law.specs.ClauseOfTransfer as transfers;
+ghost use Rattle.trace_events.specs.Words.{is_some_and};
+ghost use Rattle.trace_clauses.specs.TransferClause as transfers;
 ghost use Rattle.trace_law.specs.View.{event_view};
 
 /// A later transfer goes on with its delivery.

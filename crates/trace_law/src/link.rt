@@ -3,10 +3,14 @@
 ghost use Rattle.std.specs.Prelude.{◌≡◌, option_map};
 ghost use Rattle.amqp_perf.specs.View.{attach_fields};
 ghost use Rattle.amqp_perf.specs.NestedViews.{address_view, terminus_view, target_view};
-ghost use Rattle.trace_law.specs.Link.{opens_link, address_text, source_address, target_address, address_at, first_count, is_settled_mode};
+ghost use Rattle.trace_events.specs.Link.{opens_link, address_text, source_address, target_address, address_at, first_count, is_settled_mode};
 
-use crate::event::{Event, Link, Past, Session};
+pub(crate) mod address;
+pub(crate) mod credit;
+
+use crate::history::event::{Event, Link, Past};
 use amqp_perf::{Address, Attach, Role, SenderSettleMode, Target, Terminus};
+use trace_events::Session;
 
 /// An attach with source and target opens a link; one without both refuses it (2.6.3).
 pub(crate) fn opens_link(attach: &Attach) -> bool
@@ -70,7 +74,7 @@ fn is_settled_mode(mode: SenderSettleMode) -> bool
 impl<'a> Link<'a> {
     ghost use Rattle.std.specs.Prelude.{◌≡◌, option_map};
     ghost use Rattle.amqp_perf.specs.View.{attach_fields};
-    ghost use Rattle.trace_law.specs.Link.{new_link, is_producer, is_consumer};
+    ghost use Rattle.trace_events.specs.Link.{new_link, is_producer, is_consumer};
     ghost use Rattle.trace_law.specs.View.{link_view, event_view};
 
     /// The link that an Out attach, in this record, opens in answer to the client's.
@@ -119,7 +123,7 @@ impl<'a> Link<'a> {
 
 impl<'a> Event<'a> {
     ghost use Rattle.std.specs.Prelude.{◌≡◌, option_map};
-    ghost use Rattle.trace_law.specs.Link.{attaches_in, attaches_out, detaches_in, detaches_out};
+    ghost use Rattle.trace_events.specs.Link.{attaches_in, attaches_out, detaches_in, detaches_out};
     ghost use Rattle.trace_law.specs.View.{link_view, event_view};
 
     fn attaches_in(&self, session: Session, handle: u32) -> bool
@@ -161,8 +165,8 @@ impl<'a> Event<'a> {
 
 impl<'p, 'a> Past<'p, 'a> {
     ghost use Rattle.std.specs.Prelude.{◌≡◌, option_map};
-    ghost use Rattle.trace_law.specs.Link as law;
-    ghost use Rattle.trace_law.specs.ClauseOfConnection.{unanswered_attach, owes_detach};
+    ghost use Rattle.trace_events.specs.Link as law;
+    ghost use Rattle.trace_events.specs.Link.{unanswered_attach, owes_detach};
     ghost use Rattle.trace_law.specs.View.{link_view, event_view, events};
 
     /// The client's last attach of the handle on the session that was heard.

@@ -1,0 +1,103 @@
+//! What a capture holds, counted.
+
+use crate::history::event::{Event, Past};
+use amqp_perf::Role;
+use capture_form::{Capture, Record, Rule};
+use trace_clauses::Tally;
+
+impl<'a> Event<'a> {
+    ghost use Rattle.std.specs.Prelude.{◌≡◌};
+    ghost use Rattle.trace_clauses.specs.Verdict.{tells_outcome};
+    ghost use Rattle.trace_law.specs.View.{event_view};
+
+    fn tells_outcome(&self) -> bool
+        ensures { result ≡ tells_outcome (event_view self.now) }
+    {
+        match self.out_disposition() {
+            Some(disposition) => disposition.role == Role::Receiver,
+            None => false,
+        }
+    }
+}
+
+impl<'p, 'a> Past<'p, 'a> {
+    ghost use Rattle.std.specs.Prelude.{◌≡◌, ◌<◌, ◌^◌, length, count_by};
+    ghost use Rattle.trace_events.specs.Credit.{begins_outgoing};
+    ghost use Rattle.trace_clauses.specs.Verdict.{tells_outcome, tally_of};
+    ghost use Rattle.trace_law.specs.View.{events};
+
+    /// How many deliveries to clients have begun.
+    fn deliveries(&self) -> u64
+        requires few { length (events self.now) < 2 ^ 64 }
+        ensures { result ≡ count_by begins_outgoing (events self.now) }
+    {
+        let mut count = 0;
+        let mut rest = self;
+        while let Past::After(event, earlier) = rest {
+            if event.begins_outgoing() {
+                count += 1;
+            }
+            rest = *earlier;
+        }
+        count
+    }
+
+    /// How many outcomes were told.
+    fn outcomes(&self) -> u64
+        requires few { length (events self.now) < 2 ^ 64 }
+        ensures { result ≡ count_by tells_outcome (events self.now) }
+    {
+        let mut count = 0;
+        let mut rest = self;
+        while let Past::After(event, earlier) = rest {
+            if event.tells_outcome() {
+                count += 1;
+            }
+            rest = *earlier;
+        }
+        count
+    }
+
+    /// What the events hold, so many of them.
+    fn tally(&self, number: u64) -> Tally
+        requires numbered { number ≡ length (events self.now) }
+        ensures { result ≡ tally_of (events self.now) }
+    {
+        Tally {
+            records: number,
+            deliveries: self.deliveries(),
+            outcomes: self.outcomes(),
+        }
+    }
+}
+
+ghost use Rattle.std.specs.Prelude.{◌≡◌, ◌≤◌, length, drop};
+ghost use Rattle.trace_events.specs.History.{history, continued};
+ghost use Rattle.trace_clauses.specs.Verdict.{tally_of};
+ghost use Rattle.trace_law.specs.View.{events};
+
+/// What the capture holds. It takes no memory.
+pub fn tally_capture<'a>(capture: &'a Capture) -> Tally
+    ensures { result ≡ tally_of (history capture.now.rules capture.now.records) }
+{
+    let start: Past<'_, 'a> = Past::Start;
+    tally_after(capture.rules(), capture.records(), 0, &start)
+}
+
+fn tally_after<'p, 'a>(
+    rules: &[Rule],
+    records: &'a [Record],
+    from: usize,
+    past: &'p Past<'p, 'a>,
+) -> Tally
+    requires within { from ≤ length records.now }
+    requires numbered { length (events past.now) ≡ from }
+    ensures { result ≡ tally_of (continued rules.now (events past.now) (drop from records.now)) }
+{
+    if from == records.len() {
+        return past.tally(from as u64);
+    }
+    let event = past.judge(rules, from as u64, &records[from]);
+    let here = Past::After(event, &*past);
+    tally_after(rules, &*records, from + 1, &here)
+}

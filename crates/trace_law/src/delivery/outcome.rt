@@ -1,0 +1,204 @@
+//! What is told of an incoming delivery, and why (states: part 3 of the standard, section 3.4; the rows are a choice of
+//! this router).
+
+ghost use Rattle.std.specs.Prelude.{◌≡◌, ◌≤◌, ◌^◌};
+ghost use Rattle.amqp_perf.specs.View.{disposition_fields};
+ghost use Rattle.trace_clauses.specs.Outcome.{outcome_octets, bare_outcome};
+ghost use Rattle.trace_law.specs.OutcomeSize as law;
+
+use crate::delivery::disposition::terminal_state;
+use crate::delivery::waiting::is_of_multicast;
+use crate::history::event::{Incoming, Outgoing, Past};
+use amqp_perf::{Disposition, Outcome, State};
+use capture_form::Rule;
+use pairing_cert::Why;
+
+/// The state that is told of a delivery.
+#[derive(Clone, Copy)]
+pub(crate) enum Told<'a> {
+    /// None.
+    Nothing,
+    /// An outcome without fields.
+    Bare(Outcome),
+    /// Modified, with delivery-failed true.
+    DeliveryFailed,
+    /// A state as its octets came.
+    Octets(&'a [u8]),
+}
+
+/// How many octets of a frame stand around the fields of a disposition: its header's 8, the descriptor's 3, and code,
+/// size and count of the list (part 1, section 1.6.22; part 2, sections 2.3.1 and 2.7.6).
+const AROUND_SHORT: u64 = 14;
+
+/// The same of a list whose size and count have four octets each.
+const AROUND_LONG: u64 = 20;
+
+/// The role, the absent last id and the settled flag.
+const FIXED_FIELDS: u64 = 3;
+
+/// How many octets a uint has (part 1, section 1.6.5).
+fn uint_size(n: u32) -> u64
+    ensures { result ≡ law.uint_size n }
+{
+    if n == 0 {
+        1
+    } else if n < 256 {
+        2
+    } else {
+        5
+    }
+}
+
+/// How many octets the frame has that tells of the delivery of this id a state of so many octets.
+fn outcome_frame_size(id: u32, state: u64) -> u64
+    requires { state ≤ 2 ^ 32 }
+    ensures { result ≡ law.outcome_frame_size id state }
+{
+    let fields = FIXED_FIELDS + uint_size(id) + state;
+    if fields + 1 < 256 {
+        AROUND_SHORT + fields
+    } else {
+        AROUND_LONG + fields
+    }
+}
+
+/// The outcome that a decision tells, as its octets came; none without a terminal state.
+fn decided<'a>(fields: &Disposition<'a>) -> Told<'a>
+    ensures { law.told_view result ≡ outcome_octets (disposition_fields fields.now) }
+{
+    match terminal_state(fields) {
+        Some(state) => Told::Octets(state.raw()),
+        None => Told::Nothing,
+    }
+}
+
+/// The same outcome without its fields.
+fn decided_bare(fields: &Disposition) -> Told<'static>
+    ensures { law.told_view result ≡ bare_outcome (disposition_fields fields.now) }
+{
+    match terminal_state(fields) {
+        Some(state) => match state.outcome() {
+            Some(outcome) => Told::Bare(outcome),
+            None => Told::Nothing,
+        },
+        None => Told::Nothing,
+    }
+}
+
+impl<'a> Told<'a> {
+    ghost use Rattle.std.specs.Prelude.{◌≡◌};
+    ghost use Rattle.std.specs.Option.{option_copied};
+    ghost use Rattle.trace_law.specs.OutcomeSize.{told_view};
+    ghost use Rattle.trace_events.specs.Words.{are_same_octets};
+
+    /// The state has these octets, or there is none.
+    pub(crate) fn has_octets(&self, state: Option<&[u8]>) -> bool
+        ensures { result ≡ are_same_octets (option_copied state.entry) (told_view self.now) }
+    {
+        let Some(octets) = state else {
+            return matches!(self, Told::Nothing);
+        };
+        match self {
+            Told::Nothing => false,
+            Told::Bare(outcome) => octets == State::of_outcome(*outcome).raw(),
+            Told::DeliveryFailed => octets == State::delivery_failed().raw(),
+            Told::Octets(own) => octets == *own,
+        }
+    }
+}
+
+impl<'p, 'a> Past<'p, 'a> {
+    ghost use Rattle.std.specs.Prelude.{◌≡◌, option_map, is_some};
+    ghost use Rattle.std.specs.Option.{option_copied};
+    ghost use Rattle.amqp_perf.specs.View.{disposition_fields};
+    ghost use Rattle.trace_clauses.specs.Outcome as rows;
+    ghost use Rattle.trace_events.specs.Outgoing.{pairing};
+    ghost use Rattle.trace_law.specs.OutcomeSize.{told_view};
+    ghost use Rattle.trace_law.specs.View.{events, incoming_view, outgoing_view};
+
+    /// The producer takes the frame that tells this state.
+    #[tactic(auto, using(crate::proofs::OutcomeSizes::outcome_long))]
+    fn fits_producer(&self, delivery: &Incoming, state: Option<&[u8]>) -> bool
+        ensures { result ≡ rows.fits_producer (incoming_view delivery.now) (option_copied state.entry) (events self.now) }
+    {
+        let limit = u64::from(self.frame_limit(delivery.link.session.connection));
+        let size = match state {
+            Some(octets) => octets.len() as u64,
+            None => 0,
+        };
+        size <= limit && outcome_frame_size(delivery.id.unwrap_or(0), size) <= limit
+    }
+
+    /// The producer takes the frame that tells the decision's outcome.
+    fn takes_decided(&self, delivery: &Incoming, fields: &Disposition) -> bool
+        ensures { result ≡ rows.fits_producer (incoming_view delivery.now) (rows.outcome_octets (disposition_fields fields.now)) (events self.now) }
+    {
+        match terminal_state(fields) {
+            Some(state) => self.fits_producer(delivery, Some(state.raw())),
+            None => self.fits_producer(delivery, None),
+        }
+    }
+
+    /// The last transfer to a pre-settled link is written.
+    fn is_sent_settled(&self, outgoing: &Outgoing) -> bool
+        ensures { result ≡ rows.is_sent_settled (outgoing_view outgoing.now) (events self.now) }
+    {
+        outgoing.link.is_pre_settled && self.is_sent(outgoing)
+    }
+
+    /// What row `why` tells of an anycast delivery that went to a consumer, where it applies.
+    fn paired_row(
+        &self,
+        delivery: &Incoming,
+        outgoing: &Outgoing,
+        decision: &Option<Disposition<'a>>,
+        why: Why,
+    ) -> Option<Told<'a>>
+        ensures { option_map told_view result
+            ≡ rows.paired_row (incoming_view delivery.now) (outgoing_view outgoing.now) (events self.now) (option_map disposition_fields decision.now) why }
+    {
+        match (decision, why) {
+            (Some(fields), Why::C) if self.takes_decided(delivery, fields) => Some(decided(fields)),
+            (Some(fields), Why::Z) if !self.takes_decided(delivery, fields) => Some(decided_bare(
+                fields,
+            )),
+            (_, Why::S) if self.is_sent_settled(outgoing) => Some(Told::Bare(Outcome::Accepted)),
+            (None, Why::L) if !self.is_live(&outgoing.link) && !self.is_sent_settled(outgoing) =>
+                Some(Told::DeliveryFailed),
+            _ => None,
+        }
+    }
+
+    fn anycast_row(&self, delivery: &Incoming, why: Why) -> Option<Told<'a>>
+        ensures { option_map told_view result
+            ≡ rows.anycast_row (incoming_view delivery.now) (events self.now) why (pairing (incoming_view delivery.now) (events self.now)) }
+    {
+        let outgoing = self.pairing(delivery)?;
+        let decision = self.decision(&outgoing);
+        self.paired_row(delivery, &outgoing, &decision, why)
+    }
+
+    /// What row `why` tells of a delivery, where it applies.
+    pub(crate) fn row(&self, rules: &[Rule], delivery: &Incoming, why: Why) -> Option<Told<'a>>
+        ensures { option_map told_view result ≡ rows.row rules.now (incoming_view delivery.now) (events self.now) why }
+    {
+        match why {
+            Why::N if self.is_gone(rules, delivery) => Some(Told::Bare(Outcome::Released)),
+            Why::N => None,
+            Why::M if is_of_multicast(rules, delivery) => Some(Told::Bare(Outcome::Accepted)),
+            Why::M => None,
+            _ if is_of_multicast(rules, delivery) => None,
+            _ => self.anycast_row(delivery, why),
+        }
+    }
+
+    /// It may be told: complete, of a live link, neither settled nor told.
+    pub(crate) fn may_be_told(&self, delivery: &Incoming) -> bool
+        ensures { result ≡ rows.may_be_told (incoming_view delivery.now) (events self.now) }
+    {
+        self.is_complete(delivery)
+            && !self.is_settled(delivery)
+            && !self.is_told(delivery)
+            && self.is_live(&delivery.link)
+    }
+}

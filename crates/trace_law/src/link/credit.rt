@@ -1,0 +1,239 @@
+//! The credit of a link (part 2 of the standard, section 2.6.7).
+
+use crate::history::event::{Event, Link, Moment, Past};
+use amqp_perf::{Flow, Performative};
+
+/// What moves the credit of a link.
+#[derive(Clone, Copy)]
+pub(crate) enum LinkEvent {
+    /// A flow from the client.
+    TheirFlow(Flow),
+    /// A flow to the client.
+    OurFlow(Flow),
+    /// A delivery begins, from the client or to it.
+    Begun,
+}
+
+impl<'a> Event<'a> {
+    ghost use Rattle.std.specs.Prelude.{◌≡◌, option_map, if◌then◌else◌, None};
+    ghost use Rattle.trace_events.specs.Event.{is_on_link};
+    ghost use Rattle.trace_events.specs.Credit as law;
+    ghost use Rattle.trace_law.specs.View.{event_view, link_view};
+    ghost use Rattle.trace_law.specs.LinkEvents.{link_event_view};
+
+    /// A delivery from the client begins with it.
+    pub(crate) fn begins_incoming(&self) -> bool
+        ensures { result ≡ law.begins_incoming (event_view self.now) }
+    {
+        match self.incoming {
+            Some(delivery) => delivery.number == self.number,
+            None => false,
+        }
+    }
+
+    /// A delivery to the client begins with it.
+    pub(crate) fn begins_outgoing(&self) -> bool
+        ensures { result ≡ law.begins_outgoing (event_view self.now) }
+    {
+        match self.outgoing {
+            Some(delivery) => delivery.number == self.number,
+            None => false,
+        }
+    }
+
+    /// How it moves the credit of the link that it names.
+    fn any_link_event(&self) -> Option<LinkEvent>
+        ensures { option_map link_event_view result ≡ law.link_event (event_view self.now) (event_view self.now).moment }
+    {
+        match self.moment {
+            Moment::In(frame) => match frame.spoken()?.performative {
+                Performative::Flow(flow) => Some(LinkEvent::TheirFlow(flow)),
+                Performative::Transfer(_) if self.begins_incoming() => Some(LinkEvent::Begun),
+                _ => None,
+            },
+            Moment::Out(frame) => match frame.spoken()?.performative {
+                Performative::Flow(flow) => Some(LinkEvent::OurFlow(flow)),
+                Performative::Transfer(_) if self.begins_outgoing() => Some(LinkEvent::Begun),
+                _ => None,
+            },
+            _ => None,
+        }
+    }
+
+    /// How it moves the credit of this link.
+    fn link_event(&self, link: &Link) -> Option<LinkEvent>
+        ensures { option_map link_event_view result
+            ≡ (if is_on_link (link_view link.now) (event_view self.now) then law.link_event (event_view self.now) (event_view self.now).moment else None) }
+    {
+        if self.is_on_link(link) {
+            self.any_link_event()
+        } else {
+            None
+        }
+    }
+}
+
+ghost use Rattle.std.specs.Prelude.{◌≡◌};
+ghost use Rattle.flow_counts.specs.Credit.{is_drain_answer};
+ghost use Rattle.amqp_perf.specs.Meaning.{flag};
+
+/// A flow to the client says that all credit is used up, as drain asks.
+fn is_drain_answer(flow: &Flow) -> bool
+    ensures { result ≡ is_drain_answer flow.now.link_credit (flag flow.now.drain) }
+{
+    flow.link_credit == Some(0) && flow.drains()
+}
+
+impl<'p, 'a> Past<'p, 'a> {
+    ghost use Rattle.std.specs.Prelude.{◌≡◌, ◌<◌, ◌^◌, length};
+    ghost use Rattle.flow_counts.specs.Credit.{granted_credit};
+    ghost use Rattle.flow_counts.specs.GivenCredit.{last_given};
+    ghost use Rattle.trace_events.specs.Credit as law;
+    ghost use Rattle.trace_law.specs.View.{events, link_view};
+
+    /// How many deliveries to the client have begun, as a serial number: the count that it was last told, and those
+    /// that began since.
+    #[tactic(auto, using(crate::proofs::Counts::serial_step))]
+    pub(crate) fn delivery_count(&self, link: &Link) -> u32
+        ensures { result ≡ law.delivery_count (link_view link.now) (events self.now) }
+    {
+        let mut begun: u32 = 0;
+        let mut rest = self;
+        while let Past::After(event, earlier) = rest {
+            match event.link_event(link) {
+                Some(LinkEvent::Begun) => begun = begun.wrapping_add(1),
+                Some(LinkEvent::OurFlow(flow)) => {
+                    if let Some(count) = flow.delivery_count {
+                        return count.wrapping_add(begun);
+                    }
+                }
+                _ => {}
+            }
+            rest = *earlier;
+        }
+        link.our_first_count.wrapping_add(begun)
+    }
+
+    /// What the client's last flow with a link-credit left of it: the deliveries that it did not know of are taken off.
+    /// Nothing without such a flow, nor behind a drain answer.
+    fn granted_credit(&self, link: &Link) -> u32
+        ensures { result ≡ granted_credit (link_view link.now).our_first_count (law.link_events (link_view link.now) (events self.now)) }
+    {
+        let mut rest = self;
+        while let Past::After(event, earlier) = rest {
+            match event.link_event(link) {
+                Some(LinkEvent::TheirFlow(flow)) => {
+                    if let Some(credit) = flow.link_credit {
+                        let known = flow.delivery_count.unwrap_or(link.our_first_count);
+                        let unknown = earlier.delivery_count(link).wrapping_sub(known);
+                        return credit.saturating_sub(unknown);
+                    }
+                }
+                Some(LinkEvent::OurFlow(flow)) if is_drain_answer(&flow) => return 0,
+                _ => {}
+            }
+            rest = *earlier;
+        }
+        0
+    }
+
+    /// How many deliveries to the client may still begin.
+    pub(crate) fn link_credit(&self, link: &Link) -> u32
+        ensures { result ≡ law.link_credit (link_view link.now) (events self.now) }
+    {
+        let mut left = self.granted_credit(link);
+        let mut rest = self;
+        while let Past::After(event, earlier) = rest {
+            match event.link_event(link) {
+                Some(LinkEvent::Begun) => left = left.saturating_sub(1),
+                Some(LinkEvent::TheirFlow(flow)) if flow.link_credit.is_some() => return left,
+                Some(LinkEvent::OurFlow(flow)) if is_drain_answer(&flow) => return left,
+                _ => {}
+            }
+            rest = *earlier;
+        }
+        left
+    }
+
+    /// The client asks that its credit be used up.
+    pub(crate) fn is_draining(&self, link: &Link) -> bool
+        ensures { result ≡ law.is_draining (link_view link.now) (events self.now) }
+    {
+        let mut rest = self;
+        while let Past::After(event, earlier) = rest {
+            match event.link_event(link) {
+                Some(LinkEvent::TheirFlow(flow)) if flow.link_credit.is_some() => {
+                    return flow.drains();
+                }
+                _ => {}
+            }
+            rest = *earlier;
+        }
+        false
+    }
+
+    /// The link-credit of the last flow to the client that has one; nothing before the first.
+    fn last_given(&self, link: &Link) -> u32
+        ensures { result ≡ last_given (law.link_events (link_view link.now) (events self.now)) }
+    {
+        let mut rest = self;
+        while let Past::After(event, earlier) = rest {
+            if let Some(LinkEvent::OurFlow(flow)) = event.link_event(link) {
+                if let Some(credit) = flow.link_credit {
+                    return credit;
+                }
+            }
+            rest = *earlier;
+        }
+        0
+    }
+
+    /// How many deliveries the client may still begin.
+    pub(crate) fn given_credit(&self, link: &Link) -> u32
+        ensures { result ≡ law.given_credit (link_view link.now) (events self.now) }
+    {
+        let mut left = self.last_given(link);
+        let mut rest = self;
+        while let Past::After(event, earlier) = rest {
+            match event.link_event(link) {
+                Some(LinkEvent::Begun) => left = left.saturating_sub(1),
+                Some(LinkEvent::OurFlow(flow)) if flow.link_credit.is_some() => return left,
+                _ => {}
+            }
+            rest = *earlier;
+        }
+        left
+    }
+
+    /// How many deliveries from the client have begun, as a serial number behind that of its attach.
+    #[tactic(auto, using(crate::proofs::Counts::serial_step))]
+    pub(crate) fn received_count(&self, link: &Link) -> u32
+        ensures { result ≡ law.received_count (link_view link.now) (events self.now) }
+    {
+        let mut count = link.their_first_count;
+        let mut rest = self;
+        while let Past::After(event, earlier) = rest {
+            if let Some(LinkEvent::Begun) = event.link_event(link) {
+                count = count.wrapping_add(1);
+            }
+            rest = *earlier;
+        }
+        count
+    }
+
+    /// How many deliveries have begun.
+    pub(crate) fn begun_count(&self, link: &Link) -> u64
+        requires few { length (events self.now) < 2 ^ 64 }
+        ensures { result ≡ law.begun_count (link_view link.now) (events self.now) }
+    {
+        let mut count: u64 = 0;
+        let mut rest = self;
+        while let Past::After(event, earlier) = rest {
+            if let Some(LinkEvent::Begun) = event.link_event(link) {
+                count += 1;
+            }
+            rest = *earlier;
+        }
+        count
+    }
+}
