@@ -7,12 +7,15 @@ use Rattle.capture_form.specs.Text.{Trace}
 use Rattle.capture_form.specs.Reading.{Reads, reading}
 use Rattle.capture_form.specs.Laws.{trace_of}
 use Rattle.capture_form.specs.Gives.{is_refusal, was_refused, IsRefusedRule, IsRefusedRecord}
-use Rattle.trace_law.specs.declared.clause.Clause.{Clause}
-use Rattle.trace_law.specs.declared.tally.Tally.{Tally}
-use Rattle.trace_law.specs.Verdict.{tallied_or}
+use Rattle.trace_clauses.specs.declared.clause.Clause.{Clause}
+use Rattle.trace_clauses.specs.declared.tally.Tally.{Tally}
+use Rattle.trace_clauses.specs.Verdict.{tallied_or}
+use Rattle.trace_clauses.proofs.Keeping.{lawful-keeps}
 use Rattle.audit_core.specs.declared.verdict.Refusal.{Refusal}
 use Rattle.audit_core.specs.declared.verdict.Refusal.TheVariants.{Broken, Memory}
-use Rattle.audit_core.specs.Verdict.{broken_in, tally_in, as_answer, answer_of, verdict_on, Accepts, Refuses, Answers}
+use Rattle.audit_core.specs.declared.verdict.Verdict.{Verdict}
+use Rattle.audit_core.specs.declared.verdict.Verdict.TheVariants.{Accepted}
+use Rattle.audit_core.specs.Verdict.{broken_in, tally_in, as_answer, answer_of, verdict_on, Accepts, Refuses, Answers, IsKept}
 use Rattle.audit_core.proofs.Verdicts.{broken-more, refuses, accepts}
 
 -- ---- a capture's answer says what is broken in it
@@ -80,3 +83,10 @@ module _ (octets : List ℕ) (capture : Trace) where
         let a = accepts octets fits (ap (λ (r : Reads). r.fault) (sym all) ∙ none) (ap (λ (r : Reads). broken_in (trace_of r)) (sym all) ∙ found.0) in
         let counted : tally ≡ tally_in (trace_of (reading octets)) = found.1 ∙ ap (λ (r : Reads). tally_in (trace_of r)) all in
         subst (λ t. Accepts octets t) (sym counted) a
+
+-- ---- what acceptance is worth
+
+pub kept : (octets : List ℕ) (verdict : Verdict) → Answers octets verdict → (tally : Tally) → verdict ≡ Accepted tally → IsKept octets
+kept octets verdict answers tally is =
+    let accepts : Accepts octets tally = subst (λ v. Answers octets v) is answers in
+    record { trace = accepts.trace; bounds = accepts.bounds; whole = accepts.whole; keeps = lawful-keeps accepts.trace.rules accepts.trace.records accepts.lawful }

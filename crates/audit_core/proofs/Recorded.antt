@@ -1,12 +1,12 @@
 -- Judging one record after the other.
 use Rattle.std.proofs.Common.{◌≡◌, refl, sym, ap, ◌∙◌, ℕ, ◌+◌, ◌<◌, length, take, Option, Some, None, Result, Ok, Err}
 use Rattle.capture_form.specs.Text.{Trace}
-use Rattle.trace_law.specs.declared.clause.Clause.{Clause}
-use Rattle.trace_law.specs.declared.tally.Tally.{Tally}
-use Rattle.trace_law.specs.Checked.{as_checked, clause_broken_by}
-use Rattle.trace_law.specs.Clauses.{first_broken}
-use Rattle.trace_law.specs.History.{history}
-use Rattle.trace_law.specs.Verdict.{tallied_or}
+use Rattle.trace_clauses.specs.declared.clause.Clause.{Clause}
+use Rattle.trace_clauses.specs.declared.tally.Tally.{Tally}
+use Rattle.trace_law.specs.Check.{as_checked, clause_broken_by}
+use Rattle.trace_clauses.specs.Clauses.{first_broken}
+use Rattle.trace_events.specs.History.{history}
+use Rattle.trace_clauses.specs.Verdict.{tallied_or}
 use Rattle.trace_law.proofs.Broken.{lawful-next, broken-first}
 use Rattle.audit_core.specs.declared.verdict.Refusal.{Refusal}
 use Rattle.audit_core.specs.declared.verdict.Refusal.TheVariants.{Broken}

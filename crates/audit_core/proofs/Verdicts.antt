@@ -9,10 +9,10 @@ use Rattle.capture_form.specs.Text.{Trace}
 use Rattle.capture_form.specs.Reading.{Reads, reading, head_at}
 use Rattle.capture_form.specs.Laws.{whole_reads, first_records, trace_of}
 use Rattle.capture_form.proofs.ReadingLaws.{reads_on, reads_whole, stands_in_front, spells_whole, headless}
-use Rattle.trace_law.specs.declared.clause.Clause.{Clause}
-use Rattle.trace_law.specs.History.{history}
-use Rattle.trace_law.specs.Clauses.{first_broken}
-use Rattle.trace_law.proofs.Lawful.{broken-stays}
+use Rattle.trace_clauses.specs.declared.clause.Clause.{Clause}
+use Rattle.trace_events.specs.History.{history}
+use Rattle.trace_clauses.specs.Clauses.{first_broken}
+use Rattle.trace_clauses.proofs.Lawful.{broken-stays}
 use Rattle.trace_law.proofs.Broken.{broken_at}
 use Rattle.audit_core.specs.declared.verdict.Verdict.{Verdict}
 use Rattle.audit_core.specs.declared.verdict.Verdict.TheVariants.{Accepted, Refused, Malformed, NoMemory, Unreadable}

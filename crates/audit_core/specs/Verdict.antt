@@ -5,11 +5,12 @@ use Rattle.capture_form.specs.Text.{Trace, IsCapture, text}
 use Rattle.capture_form.specs.Reading.{reading}
 use Rattle.capture_form.specs.Laws.{trace_of}
 use Rattle.capture_form.specs.Gives.{IsRefusedRule, IsRefusedRecord}
-use Rattle.trace_law.specs.declared.clause.Clause.{Clause}
-use Rattle.trace_law.specs.declared.tally.Tally.{Tally}
-use Rattle.trace_law.specs.History.{history}
-use Rattle.trace_law.specs.Clauses.{first_broken}
-use Rattle.trace_law.specs.Verdict.{tally_of, verdict}
+use Rattle.trace_clauses.specs.declared.clause.Clause.{Clause}
+use Rattle.trace_clauses.specs.declared.tally.Tally.{Tally}
+use Rattle.trace_events.specs.History.{history}
+use Rattle.trace_clauses.specs.Clauses.{first_broken}
+use Rattle.trace_clauses.specs.Verdict.{tally_of, verdict}
+use Rattle.trace_clauses.specs.Kept.{Keeps}
 use Rattle.audit_core.specs.declared.verdict.Verdict.{Verdict}
 use Rattle.audit_core.specs.declared.verdict.Verdict.TheVariants.{Accepted, Refused, Malformed, NoMemory, Unreadable}
 use Rattle.audit_core.specs.declared.verdict.Refusal.{Refusal}
@@ -85,3 +86,15 @@ Answers octets (Refused number clause) = Refuses octets number clause
 Answers octets (Malformed offset form_kind) = IsMalformed octets offset form_kind
 Answers octets (NoMemory offset) = IsRefusedAt octets offset
 Answers octets (Unreadable offset) = ⊥
+
+-- ---- what acceptance is worth
+
+-- The octets are the text of a capture in which every transfer that was sent stood within its link's credit and its
+-- session's window, went to a link of the address of the delivery that its note names, and carried that delivery's
+-- octets; each anycast delivery reached at most one consumer; and each outcome that was told is that of the row of its
+-- note, at most one of each delivery.
+pub record IsKept (octets : List ℕ) : Type 0 where
+  pub trace : Trace
+  pub bounds : IsCapture trace
+  pub whole : octets ≡ text trace
+  pub keeps : Keeps trace.rules (history trace.rules trace.records)

@@ -2,7 +2,9 @@
 
 ghost use Rattle.std.specs.Prelude.{◌≡◌, if◌then◌else◌};
 ghost use Rattle.capture_form.specs.Gives.{is_refusal};
-ghost use Rattle.audit_core.specs.Verdict.{Answers, answer_of, verdict_on};
+ghost use Rattle.trace_clauses.specs.declared.tally.Tally.{Tally};
+ghost use Rattle.audit_core.specs.declared.verdict.Verdict.TheVariants.{Accepted};
+ghost use Rattle.audit_core.specs.Verdict.{Answers, IsKept, answer_of, verdict_on};
 
 use crate::verdict::{Refusal, Verdict};
 use capture_form::{Capture, FormFault, FormKind, Reading, read_whole_records};
@@ -26,9 +28,11 @@ pub fn audit(capture: &Capture) -> Result<Tally, Refusal>
     Ok(tally_capture(capture))
 }
 
-/// The verdict of the octets, as the text of a capture. It reads them once, and then judges each whole record.
+/// The verdict of the octets, as the text of a capture. It reads them once, and then judges each whole record. What
+/// `Accepted` is worth is said by `kept`.
 pub fn audit_bytes(alloc: Global, octets: &[u8]) -> Verdict
-    ensures { Answers octets.now result }
+    ensures answers { Answers octets.now result }
+    ensures kept { (tally : Tally) → result ≡ Accepted tally → IsKept octets.now }
 {
     let Reading { capture, fault } = read_whole_records(alloc, octets);
     match audit(&capture) {

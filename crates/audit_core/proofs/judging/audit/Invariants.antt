@@ -1,6 +1,6 @@
 use Rattle.std.proofs.Common.{◌≡◌, take, None}
-use Rattle.trace_law.specs.History.{history}
-use Rattle.trace_law.specs.Clauses.{first_broken}
+use Rattle.trace_events.specs.History.{history}
+use Rattle.trace_clauses.specs.Clauses.{first_broken}
 use Rattle.audit_core.proofs.judging.audit.Given as goal
 
 abbrev pub invariant-loop-i : goal.invariant-loop-i
