@@ -15,23 +15,6 @@ use Rattle.amqp_perf.specs.Nested.{StateFields, AText, TerminusFields, ATerminus
 use Rattle.amqp_perf.specs.Meaning.{OpenFields, AttachFields, TransferFields, DispositionFields, DetachFields, sender_mode, receiver_mode}
 use Rattle.amqp_perf.specs.Conditions.{condition_name}
 
--- ---- the numbers under the names that the law of captures cites
-
-abbrev pub largest_frame : ℕ
-largest_frame = MAX_FRAME_SIZE
-
-abbrev pub highest_channel : ℕ
-highest_channel = CHANNEL_MAX
-
-abbrev pub highest_handle : ℕ
-highest_handle = HANDLE_MAX
-
-abbrev pub window_kept : ℕ
-window_kept = OUTGOING_WINDOW
-
-abbrev pub largest_message : ℕ
-largest_message = MAX_MESSAGE_SIZE
-
 -- ---- connections and sessions
 
 -- 2.7.1

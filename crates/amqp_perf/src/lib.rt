@@ -46,10 +46,6 @@ pub use disposition::Disposition;
 pub use fault::PerfFault;
 pub use fields::{Fields, check_fields};
 pub use flow::Flow;
-pub use flow_counts::{
-    CHANNEL_MAX as HIGHEST_CHANNEL, HANDLE_MAX as HIGHEST_HANDLE, INCOMING_WINDOW,
-    MAX_FRAME_SIZE as LARGEST_FRAME, MAX_MESSAGE_SIZE as LARGEST_MESSAGE, OUTGOING_WINDOW,
-};
 pub use opening::Open;
 pub use performative::Performative;
 pub use slot::{Slot, put_fields};

@@ -1,6 +1,7 @@
 -- Windows and credits with known answers.
 use Rattle.std.specs.Prelude.{◌≡◌, [], ◌∷◌, Some, None, true, false, refl}
-use Rattle.flow_counts.specs.Window.{TheirFlow, Sent, OurFlow, Received, next_id, window}
+use Rattle.flow_counts.specs.declared.events.WindowEvent.TheVariants.{TheirFlow, Sent, OurFlow, Received}
+use Rattle.flow_counts.specs.Window.{next_id, window}
 use Rattle.flow_counts.specs.GivenWindow.{given_window, next_incoming_id}
 use Rattle.flow_counts.specs.Credit as credits
 use Rattle.flow_counts.specs.Credit.{delivery_count, credit, is_draining}

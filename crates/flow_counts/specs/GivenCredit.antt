@@ -3,14 +3,6 @@
 use Rattle.std.specs.Prelude.{ℕ, suc, ◌-◌, List, [], ◌∷◌, Some}
 use Rattle.flow_counts.specs.Serial.{serial_add}
 use Rattle.flow_counts.specs.Credit.{LinkEvent, OurFlow, Begun}
-use Rattle.flow_counts.specs.declared.profile.TheConstants.{CAPACITY, LOW_MARK}
-
--- the numbers under the names that the law of captures cites
-abbrev pub capacity : ℕ
-capacity = CAPACITY
-
-abbrev pub low_mark : ℕ
-low_mark = LOW_MARK
 
 -- how many deliveries began
 abbrev pub begun_count : List LinkEvent → ℕ

@@ -2,15 +2,9 @@
 -- (part 2 of the standard, section 2.5.6).
 use Rattle.std.specs.Prelude.{ℕ, suc, ◌-◌, List, [], ◌∷◌}
 use Rattle.flow_counts.specs.Serial.{serial_add}
-use Rattle.flow_counts.specs.Window.{WindowEvent, OurFlow, Received}
-use Rattle.flow_counts.specs.declared.profile.TheConstants.{INCOMING_WINDOW, RENEWAL_MARK}
-
--- the numbers under the names that the law of captures cites
-abbrev pub incoming_window : ℕ
-incoming_window = INCOMING_WINDOW
-
-abbrev pub renewal_mark : ℕ
-renewal_mark = RENEWAL_MARK
+use Rattle.flow_counts.specs.declared.events.WindowEvent.{WindowEvent}
+use Rattle.flow_counts.specs.declared.events.WindowEvent.TheVariants.{OurFlow, Received}
+use Rattle.flow_counts.specs.declared.profile.TheConstants.{INCOMING_WINDOW}
 
 -- how many transfers were received
 abbrev pub received_count : List WindowEvent → ℕ

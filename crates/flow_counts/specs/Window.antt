@@ -2,27 +2,8 @@
 -- (part 2 of the standard, sections 2.5.6 and 2.7.4).
 use Rattle.std.specs.Prelude.{ℕ, suc, ◌-◌, List, [], ◌∷◌, Option, unwrap_or}
 use Rattle.flow_counts.specs.Serial.{serial_add, serial_sub}
-use Rattle.flow_counts.specs.declared.events.WindowEvent as code
-use Rattle.flow_counts.specs.declared.events.WindowEvent.TheVariants as events
-
--- ---- what moves the windows of a session, under the names that the law of captures cites
-
-abbrev pub WindowEvent : Type 0
-WindowEvent = code.WindowEvent
-
-pattern abbrev pub TheirFlow : Option ℕ → ℕ → WindowEvent
-TheirFlow expected window = events.TheirFlow expected window
-
-pattern abbrev pub Sent : WindowEvent
-Sent = events.Sent
-
-pattern abbrev pub OurFlow : WindowEvent
-OurFlow = events.OurFlow
-
-pattern abbrev pub Received : WindowEvent
-Received = events.Received
-
--- ---- the counts
+use Rattle.flow_counts.specs.declared.events.WindowEvent.{WindowEvent}
+use Rattle.flow_counts.specs.declared.events.WindowEvent.TheVariants.{TheirFlow, Sent, OurFlow, Received}
 
 -- how many transfers were sent
 abbrev pub sent_count : List WindowEvent → ℕ
