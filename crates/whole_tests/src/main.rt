@@ -56,7 +56,7 @@ fn tell(rt: &HostRuntime, name: &str, octets: &[u8]) -> io::Result<String> {
 
 /// Writes the line of a verdict, and what is wrong with a text that is malformed.
 fn tell_verdict(rt: &HostRuntime, name: &str, verdict: Verdict) -> io::Result<String> {
-    let line = line_of(rt, verdict)?;
+    let line = format!(in rt.alloc(); "{verdict}")?;
     println!(rt; "{name}: {line}")?;
     if let Verdict::Malformed(_, kind) = verdict {
         println!(rt; "  fault: {kind:?}")?;
@@ -84,26 +84,6 @@ fn is_audited(capture: &Capture, verdict: Verdict) -> bool {
         Err(Refusal::Broken(i, clause)) => verdict == Verdict::Refused(i, clause),
         Err(Refusal::Memory) => false,
     }
-}
-
-/// The line that the auditor prints for a verdict.
-fn line_of(rt: &HostRuntime, verdict: Verdict) -> io::Result<String> {
-    let line = match verdict {
-        Verdict::Accepted(tally) => {
-            let (records, deliveries) = (tally.records, tally.deliveries);
-            let outcomes = tally.outcomes;
-            format!(in rt.alloc();
-                "accepted records={records} deliveries={deliveries} outcomes={outcomes}"
-            )?
-        }
-        Verdict::Refused(i, clause) => {
-            format!(in rt.alloc(); "refused record={i} clause={clause}")?
-        }
-        Verdict::Malformed(offset, _) => format!(in rt.alloc(); "malformed offset={offset}")?,
-        Verdict::NoMemory(_) => format!(in rt.alloc(); "no memory")?,
-        Verdict::Unreadable(offset) => format!(in rt.alloc(); "unreadable offset={offset}")?,
-    };
-    Ok(line)
 }
 
 /// Writes the verdicts of the capture `open`, cut to each length behind its head, where they change.
