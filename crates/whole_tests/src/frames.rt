@@ -11,6 +11,7 @@ use amqp_perf::{
     Role, SenderSettleMode, State, Target, Terminus, Transfer,
 };
 use capture_form::Frame;
+use flow_counts::MAX_FRAME_SIZE;
 use std::alloc::Global;
 use std::io;
 use std::io::ErrorKind;
@@ -32,7 +33,7 @@ fn too_long() -> io::Error {
 
 /// The frame of these octets.
 pub fn of_octets(alloc: Global, octets: &[u8]) -> io::Result<Frame> {
-    if octets.len() > Frame::MAX_LEN as usize {
+    if octets.len() > MAX_FRAME_SIZE as usize {
         return Err(too_long());
     }
     Ok(Frame::new(alloc, octets)?)
@@ -44,7 +45,7 @@ fn of(alloc: Global, performative: &Performative<'_>, payload: &[u8]) -> io::Res
 {
     let mut body = Vec::new(alloc);
     performative.write(&mut body)?;
-    if body.len() > Frame::MAX_LEN as usize || payload.len() > Frame::MAX_LEN as usize {
+    if body.len() > MAX_FRAME_SIZE as usize || payload.len() > MAX_FRAME_SIZE as usize {
         return Err(too_long());
     }
     let mut octets = Vec::new(alloc);
