@@ -31,7 +31,3 @@ pub use writing::put_frame;
 
 #[cfg(test)]
 mod tests;
-#[cfg(test)]
-mod tests_sasl;
-#[cfg(test)]
-mod tests_writing;

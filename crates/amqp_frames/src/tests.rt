@@ -1,3 +1,8 @@
+//! Frames of known octets, and a splitter that is fed them in pieces.
+
+mod sasl;
+mod writing;
+
 use super::*;
 use crate::splitter::tests::gives;
 use flow_counts::MAX_FRAME_SIZE;

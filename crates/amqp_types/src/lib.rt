@@ -33,7 +33,3 @@ pub use writing::{
 
 #[cfg(test)]
 mod tests;
-#[cfg(test)]
-mod tests_nested;
-#[cfg(test)]
-mod tests_writing;

@@ -1,3 +1,8 @@
+//! Values of known octets.
+
+mod nested;
+mod writing;
+
 use super::*;
 use std::process::Abort;
 use std::test::Fail;

@@ -2,7 +2,7 @@ ghost use Rattle.std.specs.Prelude.{◌≡◌, IfOk, length};
 ghost use Rattle.amqp_types.specs.Grammar.{IsValue, AreItems};
 ghost use Rattle.amqp_types.specs.Writing.{levels_in_list, levels_in_described};
 
-use super::*;
+use crate::*;
 use std::alloc::{AllocError, Global};
 use std::process::Abort;
 use std::test::Fail;

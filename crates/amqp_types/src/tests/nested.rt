@@ -1,4 +1,4 @@
-use super::*;
+use crate::*;
 use std::process::Abort;
 
 // 32 of these in one another around a null: the code, the size, a count of one

@@ -2,7 +2,7 @@
 
 ghost use Rattle.std.specs.Prelude.{◌≡◌};
 
-use super::*;
+use crate::*;
 use amqp_perf::{Open, Performative, Transfer};
 use std::test::Fail;
 

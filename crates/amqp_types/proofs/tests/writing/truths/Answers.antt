@@ -3,7 +3,7 @@ use Rattle.std.proofs.lemmas.List.{length-append}
 use Rattle.amqp_types.specs.Part.{Boolean}
 use Rattle.amqp_types.specs.Writing.{boolean_octets}
 use Rattle.amqp_types.proofs.Written.{one_more}
-use Rattle.amqp_types.proofs.tests_writing.truths.Goals as goal
+use Rattle.amqp_types.proofs.tests.writing.truths.Goals as goal
 
 pub loop-preserved : goal.loop-preserved
 unfolding boolean_octets

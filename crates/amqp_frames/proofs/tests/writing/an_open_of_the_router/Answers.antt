@@ -4,7 +4,7 @@ use Rattle.amqp_perf.specs.Meaning.{AnOpen, OpenFields}
 use Rattle.amqp_perf.specs.Router.{router_open}
 use Rattle.amqp_perf.specs.Writing.{performative_octets}
 use Rattle.amqp_frames.specs.Writing.{frame_size}
-use Rattle.amqp_frames.proofs.tests_writing.an_open_of_the_router.Goals as goal
+use Rattle.amqp_frames.proofs.tests.writing.an_open_of_the_router.Goals as goal
 
 open_fits : frame_size (performative_octets (AnOpen router_open) ++ []) < 2 ^ 32
 unfolding null_octets ushort_octets uint_octets text_octets list_octets

@@ -4,7 +4,7 @@ use Rattle.amqp_perf.specs.Meaning.{ATransfer, TransferFields}
 use Rattle.amqp_perf.specs.Router.{first_transfer}
 use Rattle.amqp_perf.specs.Writing.{performative_octets}
 use Rattle.amqp_frames.specs.Writing.{frame_size}
-use Rattle.amqp_frames.proofs.tests_writing.a_transfer_and_its_payload.Goals as goal
+use Rattle.amqp_frames.proofs.tests.writing.a_transfer_and_its_payload.Goals as goal
 
 transfer_fits : (payload : List ℕ) → length payload ≤ 7 → frame_size (performative_octets (ATransfer (first_transfer 0 0 (0 ∷ 0 ∷ 0 ∷ 0 ∷ []) 0 false false)) ++ payload) < 2 ^ 32
 unfolding boolean_octets uint_octets text_octets list_octets

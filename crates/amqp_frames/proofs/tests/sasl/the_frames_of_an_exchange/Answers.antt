@@ -1,7 +1,7 @@
 use Rattle.std.proofs.Common.{true, arith, rules}
 use Rattle.amqp_types.specs.Writing.{list_octets, text_octets}
 use Rattle.amqp_frames.proofs.SaslWritten.{mechanisms_writable, outcome_writable}
-use Rattle.amqp_frames.proofs.tests_sasl.the_frames_of_an_exchange.Goals as goal
+use Rattle.amqp_frames.proofs.tests.sasl.the_frames_of_an_exchange.Goals as goal
 
 pub sasl_write-requires : goal.sasl_write-requires
 sasl_write-requires g c = mechanisms_writable true

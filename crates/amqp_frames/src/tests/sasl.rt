@@ -1,6 +1,6 @@
 //! SASL frames of known octets.
 
-use super::*;
+use crate::*;
 use amqp_perf::PerfFault;
 use amqp_perf::PerfFault::{MissingField, NotPerformative, TooManyFields, WrongType};
 use amqp_types::{ValueFault, ValueFaultKind};
