@@ -10,6 +10,12 @@ pub data PartEvent : Type 0 where
   Completed : ℕ → PartEvent
   Freed : ℕ → PartEvent
 
+-- the payloads of those events of a list that are parts of one delivery, joined in the order in which they came
+abbrev pub joined_payload : {A : Type 0} → (A → Bool) → (A → List ℕ) → List A → List ℕ
+joined_payload is_part payload_of [] = []
+joined_payload is_part payload_of (event ∷ past) =
+    let earlier = joined_payload is_part payload_of past in if is_part event then earlier ++ payload_of event else earlier
+
 -- a delivery in progress: the number and the id of its first transfer, and the payloads of its parts, joined
 pub record Partial : Type 0 where
   pub number : ℕ

@@ -3,6 +3,7 @@
 use Rattle.std.specs.Prelude.{ℕ, Bool, ◌&&◌, ◌||◌, not, List, [], ◌∷◌, ◌++◌, Option, Some, None, option_map, filter_map, find, nat_lt, ◌==◌, if◌then◌else◌}
 use Rattle.std.specs.List.{list_any}
 use Rattle.amqp_perf.specs.Meaning.{TransferFields, flag}
+use Rattle.flow_counts.specs.Parts.{joined_payload}
 use Rattle.trace_events.specs.Words.{is_some_and, is_number, where_passes}
 use Rattle.trace_events.specs.Frame.{Spoken}
 use Rattle.trace_events.specs.Event.{Event, Link, Incoming, is_on_session}
@@ -37,9 +38,7 @@ part_payload (Some spoken) = spoken.payload
 
 -- the payloads of its parts, joined
 abbrev pub payload : Incoming → List Event → List ℕ
-payload d [] = []
-payload d (e ∷ past) =
-    let earlier = payload d past in if is_part d e then earlier ++ part_payload (in_spoken e) else earlier
+payload d past = joined_payload (is_part d) (λ e. part_payload (in_spoken e)) past
 
 -- a part without more that isn't aborted completes its delivery
 abbrev pub is_last_part : TransferFields → Bool

@@ -3,6 +3,7 @@
 use Rattle.std.specs.Prelude.{ℕ, ◌%◌, ◌^◌, Bool, false, ◌&&◌, ◌||◌, not, List, [], ◌∷◌, ◌++◌, Option, None, is_some, filter_map, find, count_by, nat_lt, ◌==◌, if◌then◌else◌}
 use Rattle.std.specs.List.{list_any}
 use Rattle.amqp_perf.specs.Meaning.{DispositionFields, flag}
+use Rattle.flow_counts.specs.Parts.{joined_payload}
 use Rattle.pairing_cert.specs.declared.note.Note.{Note}
 use Rattle.pairing_cert.specs.declared.note.Note.TheVariants as notes
 use Rattle.trace_events.specs.Words.{is_some_and, is_number, or_else, where_passes}
@@ -29,9 +30,7 @@ is_part j e = is_some_and e.outgoing (λ other. other.number == j.number)
 
 -- the payloads of its parts, joined
 abbrev pub payload : Outgoing → List Event → List ℕ
-payload j [] = []
-payload j (e ∷ past) =
-    let earlier = payload j past in if is_part j e then earlier ++ part_payload (out_spoken e) else earlier
+payload j past = joined_payload (is_part j) (λ e. part_payload (out_spoken e)) past
 
 -- its last part is written
 abbrev pub is_sent : Outgoing → List Event → Bool
