@@ -16,7 +16,7 @@ use Rattle.trace_events.specs.Outgoing.{outgoing_begun, outgoing_deliveries, nam
 use Rattle.trace_events.specs.Waiting.{is_of_multicast, is_unpaired, is_waiting, is_gone, is_undecided, always_had_consumer}
 use Rattle.trace_clauses.specs.Outcome.{row, anycast_row, may_be_told}
 use Rattle.trace_clauses.specs.Clauses.{first_broken}
-use Rattle.trace_clauses.specs.DispositionClause.{tells_by, tells_outcome, settles_one}
+use Rattle.trace_clauses.specs.DispositionClause.{tells_by, is_outcome_of, settles_one}
 use Rattle.trace_events.specs.History.{history}
 use Rattle.trace_clauses.proofs.ClausesMet.{lawful-past}
 use Rattle.trace_events.proofs.Judged.{AreJudged, judged-number, history-judged}
@@ -123,7 +123,7 @@ module _ (rules : List RuleText) (e : Event) (past : List Event) (are : AreJudge
   told-one : (d : Incoming) × (incoming_at n past ≡ Some d) × IsDone rules d past
   told-one =
       let fields = (outcome rules e past are lawful n tells).fields in
-      let h = some-and (option_and_then (λ m. incoming_at m past) e.told) (tells_outcome rules e fields past) (and-right (settles_one fields) _ (eleven rules e past are lawful n tells)) in
+      let h = some-and (option_and_then (λ m. incoming_at m past) e.told) (is_outcome_of rules e fields past) (and-right (settles_one fields) _ (eleven rules e past are lawful n tells)) in
       let found : incoming_at n past ≡ Some h.0 = sym (ap (option_and_then (λ m. incoming_at m past)) tells) ∙ h.1 in
       let may : may_be_told h.0 past ≡ true = and-left (may_be_told h.0 past) _ h.2 in (
         h.0,

@@ -16,7 +16,7 @@ use Rattle.trace_events.specs.Incoming.{incoming_at, is_told}
 use Rattle.trace_events.specs.History.{history, placed, heard, faulted, moment_of, told_by, told_part, told_by_role}
 use Rattle.trace_clauses.specs.Outcome.{may_be_told}
 use Rattle.trace_clauses.specs.Clauses.{first_broken, meaning_meets, disposition_meets}
-use Rattle.trace_clauses.specs.DispositionClause.{is_outcome, settles_one, tells_outcome}
+use Rattle.trace_clauses.specs.DispositionClause.{is_outcome, settles_one, is_outcome_of}
 use Rattle.trace_clauses.specs.Kept.{tellings, ToldOnce}
 use Rattle.trace_clauses.proofs.ClausesMet.{met, lawful-past}
 use Rattle.trace_events.proofs.Judged.{AreJudged, history-judged, and_then-some, if-some-each}
@@ -107,7 +107,7 @@ module _ (rules : List RuleText) (e : Event) (past : List Event) (are : AreJudge
   untold : tellings n past ≡ []
   untold =
       let fields = outcome.fields in
-      let h = some-and (option_and_then (λ m. incoming_at m past) e.told) (tells_outcome rules e fields past) (and-right (settles_one fields) _ eleven) in
+      let h = some-and (option_and_then (λ m. incoming_at m past) e.told) (is_outcome_of rules e fields past) (and-right (settles_one fields) _ eleven) in
       let d = h.0 in
       let found : incoming_at n past ≡ Some d = sym (ap (option_and_then (λ m. incoming_at m past)) tells) ∙ h.1 in
       let at = subst (λ (o : Option Incoming). IfSome o (λ d. (n < length past) × (d.number ≡ n))) found (incoming_at-is rules past n are.1) in

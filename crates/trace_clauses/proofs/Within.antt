@@ -19,7 +19,7 @@ use Rattle.trace_events.specs.Incoming.{incoming_at}
 use Rattle.trace_clauses.specs.Outcome.{may_be_told, row}
 use Rattle.trace_clauses.specs.TransferClause.{has_window, may_be_sent, may_begin}
 use Rattle.trace_clauses.specs.Clauses.{first_broken, meaning_meets, disposition_meets}
-use Rattle.trace_clauses.specs.DispositionClause.{is_outcome, settles_one, tells_outcome, tells_by}
+use Rattle.trace_clauses.specs.DispositionClause.{is_outcome, settles_one, is_outcome_of, tells_by}
 use Rattle.trace_events.specs.History.{history}
 use Rattle.trace_clauses.specs.Kept.{StoodWithin, IsOfRow, AtEach, why_of, told_state}
 use Rattle.trace_clauses.proofs.ClausesMet.{met}
@@ -97,10 +97,10 @@ module _ (rules : List RuleText) (e : Event) (past : List Event) (lawful : first
   OfRow fields = is_receiver fields.role ≡ true → IsSomeAnd e.told (Row fields)
 
   row-told : (fields : DispositionFields) (o : Option ℕ)
-      → is_some_and (option_and_then (λ n. incoming_at n past) o) (tells_outcome rules e fields past) ≡ true → IsSomeAnd o (Row fields)
+      → is_some_and (option_and_then (λ n. incoming_at n past) o) (is_outcome_of rules e fields past) ≡ true → IsSomeAnd o (Row fields)
   row-told fields None tells = absurd cc
   row-told fields (Some n) tells =
-      some-such (incoming_at n past) (tells_outcome rules e fields past) _ tells
+      some-such (incoming_at n past) (is_outcome_of rules e fields past) _ tells
       (λ d is. row-of rules d past (told_state fields) e.note (and-right (may_be_told d past) _ is))
 
   disposition-row : (frame : Frame) (spoken : Spoken) → e.moment ≡ Out frame → spoken_in frame.body ≡ Some spoken → (fields : DispositionFields)

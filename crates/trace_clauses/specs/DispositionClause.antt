@@ -20,14 +20,14 @@ tells_by rules d notes.None state past = false
 tells_by rules d (notes.Pair n) state past = false
 
 -- L11: an outcome, of a delivery that may be told one
-abbrev pub tells_outcome : List RuleText → Event → DispositionFields → List Event → Incoming → Bool
-tells_outcome rules e fields past d =
+abbrev pub is_outcome_of : List RuleText → Event → DispositionFields → List Event → Incoming → Bool
+is_outcome_of rules e fields past d =
     may_be_told d past && tells_by rules d e.note (option_map (λ state. state.octets) fields.state) past
 
 abbrev pub is_outcome : List RuleText → Event → DispositionFields → List Event → Bool
 is_outcome rules e fields past =
     settles_one fields
-    && is_some_and (option_and_then (λ n. incoming_at n past) e.told) (tells_outcome rules e fields past)
+    && is_some_and (option_and_then (λ n. incoming_at n past) e.told) (is_outcome_of rules e fields past)
 
 -- L12: a settling, of a delivery that is to be settled
 abbrev pub is_settling : Event → DispositionFields → Bool

@@ -75,7 +75,7 @@ impl<'p, 'a> Past<'p, 'a> {
         if begins && !self.may_begin(&link, transfer) {
             return Some(Clause::L5);
         }
-        if !begins && !goes_on(event, transfer) {
+        if !begins && !goes_on_alike(event, transfer) {
             return Some(Clause::L6);
         }
         if !self.names_carried(rules, event, transfer, &link) {
@@ -193,7 +193,7 @@ ghost use Rattle.trace_clauses.specs.TransferClause as transfers;
 ghost use Rattle.trace_law.specs.View.{event_view};
 
 /// A later transfer goes on with its delivery.
-fn goes_on(event: &Event, transfer: &Transfer) -> bool
+fn goes_on_alike(event: &Event, transfer: &Transfer) -> bool
     ensures { let e = event_view event.now in
         result ≡ is_some_and e.outgoing (λ j. transfers.goes_on_with j e.note (transfer_fields transfer.now)) }
 {
