@@ -73,6 +73,10 @@ event_view e = record {
   fault = e.fault;
 }
 
+-- those before a record, the newest first
+abbrev pub Events : Type 0
+Events = List law.Event
+
 -- the events, the newest first
 abbrev pub events : Past → List law.Event
 events Start = []

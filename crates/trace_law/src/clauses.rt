@@ -1,9 +1,21 @@
 //! The law: the clauses that each record which the router has written must meet.
 
-ghost use Rattle.std.specs.Prelude.{◌≡◌, Some, None, if◌then◌else◌};
-ghost use Rattle.amqp_perf.specs.View.{disposition_fields};
+ghost use Rattle.std.specs.Prelude.{◌≡◌, Some, None, if◌then◌else◌, ◌<◌, ◌^◌, length, find, not};
+ghost use Rattle.amqp_perf.specs.View.{disposition_fields, transfer_fields, attach_fields};
+ghost use Rattle.trace_events.specs.Words.{is_some_and};
+ghost use Rattle.trace_law.specs.View.{event_view, spoken_view, frame_view, Events};
+ghost use Rattle.trace_clauses.specs.LinkClause.{answers_attach};
 ghost use Rattle.trace_clauses.specs.declared.clause.Clause.TheVariants as clauses;
 ghost use Rattle.trace_clauses.specs.Clauses as law;
+ghost use Rattle.trace_clauses.specs.TransferClause as transfers;
+
+use crate::clauses::connection::{fits_limit, may_be_written};
+use crate::clauses::disposition::is_outcome;
+use crate::clauses::flow::tells_counts;
+use crate::clauses::link::{answers_attach, may_detach};
+use crate::clauses::session::{answers_begin, may_end};
+use crate::clauses::transfer::{carries_noted, may_be_sent, may_begin, may_go_to, names_carried};
+use crate::questions::{Carriage, Counts, Inputs, Openings, Outcomes, Questions};
 
 mod connection;
 mod disposition;
@@ -14,7 +26,7 @@ mod transfer;
 
 use self::disposition::settles_one;
 use self::transfer::goes_on_with;
-use crate::history::event::{Event, Moment, Past};
+use crate::history::event::{Event, Moment};
 use crate::history::frame::{Frame, Spoken};
 use amqp_perf::{Attach, Disposition, Performative, Role, Transfer};
 use capture_form::Rule;
@@ -46,151 +58,158 @@ fn first_broken(clause: Clause, is_met: bool, note: Note) -> Option<Clause>
     }
 }
 
-/// The first clause that is broken, by what is written.
-impl<'p, 'a> Past<'p, 'a> {
-    ghost use Rattle.std.specs.Prelude.{◌≡◌, ◌<◌, ◌^◌, length, find, not, Some};
-    ghost use Rattle.amqp_perf.specs.View.{attach_fields, transfer_fields, disposition_fields};
-    ghost use Rattle.trace_events.specs.Words.{is_some_and};
-    ghost use Rattle.trace_clauses.specs.LinkClause.{answers_attach};
-    ghost use Rattle.trace_clauses.specs.Clauses as law;
-    ghost use Rattle.trace_law.specs.View.{spoken_view, frame_view, event_view, events};
+// The first clause that is broken, by what is written.
 
-    fn broken_by_transfer(
-        &self,
-        rules: &[Rule],
-        event: &Event,
-        transfer: &Transfer,
-        payload: &'a [u8],
-    ) -> Option<Clause>
-        requires few { length (events self.now) < 2 ^ 64 }
-        ensures { result ≡ find (λ clause. not (law.transfer_meets rules.now (event_view event.now) (transfer_fields transfer.now) payload.now (events self.now) clause)) law.clauses }
-    {
-        let begins = event.begins_outgoing();
-        if !self.may_be_sent(event, transfer) {
-            return Some(Clause::L4);
-        }
-        let Some(link) = event.link else {
-            return Some(Clause::L4);
-        };
-        if begins && !self.may_begin(&link, transfer) {
-            return Some(Clause::L5);
-        }
-        if !begins && !goes_on_alike(event, transfer) {
-            return Some(Clause::L6);
-        }
-        if !self.names_carried(rules, event, transfer, &link) {
-            return Some(Clause::L7);
-        }
-        if !self.carries_noted(event, transfer, payload) {
-            return Some(Clause::L8);
-        }
-        unless_met(Clause::L9, !begins || self.may_go_to(rules, event, &link))
+fn broken_by_transfer<'a, P: Outcomes<'a> + Counts + Carriage<'a>>(
+    past: &P,
+    rules: &[Rule],
+    event: &Event,
+    transfer: &Transfer,
+    payload: &'a [u8],
+) -> Option<Clause>
+    requires few { P.is_short past.now }
+    ensures { (history : Events) → P.stands_for past.now history →
+        (result ≡ find (λ clause. not (law.transfer_meets rules.now (event_view event.now) (transfer_fields transfer.now) payload.now history clause)) law.clauses) }
+{
+    let begins = event.begins_outgoing();
+    if !may_be_sent(past, event, transfer) {
+        return Some(Clause::L4);
     }
-
-    fn broken_by_disposition(
-        &self,
-        rules: &[Rule],
-        event: &Event,
-        disposition: &Disposition,
-    ) -> Option<Clause>
-        ensures { result ≡ find (λ clause. not (law.disposition_meets rules.now (event_view event.now) (disposition_fields disposition.now) (events self.now)
-            (disposition_fields disposition.now).role clause)) law.clauses }
-    {
-        match disposition.role {
-            Role::Receiver => unless_met(Clause::L11, self.is_outcome(rules, event, disposition)),
-            Role::Sender if settles_one(disposition) && event.settled.is_some() => {
-                unless_met(Clause::L14, has_no_note(event.note))
-            }
-            Role::Sender => Some(Clause::L12),
-        }
+    let Some(link) = event.link else {
+        return Some(Clause::L4);
+    };
+    if begins && !may_begin(past, &link, transfer) {
+        return Some(Clause::L5);
     }
-
-    /// The clause of what is neither a transfer nor a disposition, apart from its note.
-    fn broken_by_other(&self, rules: &[Rule], event: &Event, spoken: &Spoken) -> Option<Clause>
-        requires few { length (events self.now) < 2 ^ 64 }
-        ensures { result ≡ find (λ clause. not (law.other_meets rules.now (event_view event.now) (spoken_view spoken.now).channel (events self.now)
-            (spoken_view spoken.now).meaning clause)) law.clauses }
-    {
-        let note = event.note;
-        match spoken.performative {
-            Performative::Begin(begin) => {
-                let is_met = self.answers_begin(event.connection, spoken.channel, &begin);
-                first_broken(Clause::L2, is_met, note)
-            }
-            Performative::Attach(attach) => {
-                first_broken(Clause::L3, self.answers_live(rules, event, &attach), note)
-            }
-            Performative::Flow(flow) => {
-                first_broken(Clause::L10, self.tells_counts(rules, event, &flow), note)
-            }
-            Performative::Detach(detach) => {
-                first_broken(Clause::L13, self.may_detach(event, &detach), note)
-            }
-            Performative::End(_) => {
-                first_broken(Clause::L13, self.may_end(event, spoken.channel), note)
-            }
-            _ => unless_met(Clause::L14, has_no_note(note)),
-        }
+    if !begins && !goes_on_alike(event, transfer) {
+        return Some(Clause::L6);
     }
-
-    /// On a live session, the answer to the client's attach.
-    fn answers_live(&self, rules: &[Rule], event: &Event, attach: &Attach) -> bool
-        ensures { result ≡ is_some_and (event_view event.now).session (answers_attach rules.now (attach_fields attach.now) (events self.now)) }
-    {
-        match event.session {
-            Some(session) => self.answers_attach(rules, attach, session),
-            None => false,
-        }
+    if !names_carried(past, rules, event, transfer, &link) {
+        return Some(Clause::L7);
     }
-
-    /// A performative: L1 speaks of each.
-    fn broken_by_spoken(
-        &self,
-        rules: &[Rule],
-        event: &Event<'a>,
-        frame: &Frame,
-        spoken: &Spoken<'a>,
-    ) -> Option<Clause>
-        requires few { length (events self.now) < 2 ^ 64 }
-        ensures { result ≡ law.broken_by rules.now (event_view event.now) (frame_view frame.now) (events self.now) (Some (spoken_view spoken.now)) }
-    {
-        if !self.may_be_written(event.connection, spoken)
-            || !self.fits_limit(event.connection, frame)
-        {
-            return Some(Clause::L1);
-        }
-        match spoken.performative {
-            Performative::Transfer(transfer) => {
-                self.broken_by_transfer(rules, event, &transfer, spoken.payload)
-            }
-            Performative::Disposition(disposition) => self.broken_by_disposition(
-                rules,
-                event,
-                &disposition,
-            ),
-            _ => self.broken_by_other(rules, event, spoken),
-        }
+    if !carries_noted(past, event, transfer, payload) {
+        return Some(Clause::L8);
     }
+    unless_met(Clause::L9, !begins || may_go_to(past, rules, event, &link))
+}
 
-    /// The first clause that an event breaks. A frame that is no performative breaks L1.
-    pub(crate) fn broken_clause(&self, rules: &[Rule], event: &Event<'a>) -> Option<Clause>
-        requires few { length (events self.now) < 2 ^ 64 }
-        ensures { result ≡ law.broken_clause rules.now (event_view event.now) (events self.now) }
-    {
-        let Moment::Out(frame) = event.moment else {
-            return None;
-        };
-        match frame.spoken() {
-            Some(spoken) => self.broken_by_spoken(rules, event, &frame, &spoken),
-            None => Some(Clause::L1),
+fn broken_by_disposition<'a, P: Outcomes<'a>>(
+    past: &P,
+    rules: &[Rule],
+    event: &Event,
+    disposition: &Disposition,
+) -> Option<Clause>
+    ensures { (history : Events) → P.stands_for past.now history →
+        (result ≡ find (λ clause. not (law.disposition_meets rules.now (event_view event.now) (disposition_fields disposition.now) history
+        (disposition_fields disposition.now).role clause)) law.clauses) }
+{
+    match disposition.role {
+        Role::Receiver => unless_met(Clause::L11, is_outcome(past, rules, event, disposition)),
+        Role::Sender if settles_one(disposition) && event.settled.is_some() => {
+            unless_met(Clause::L14, has_no_note(event.note))
         }
+        Role::Sender => Some(Clause::L12),
     }
 }
 
-ghost use Rattle.amqp_perf.specs.View.{transfer_fields};
-ghost use Rattle.trace_events.specs.Words.{is_some_and};
-ghost use Rattle.trace_clauses.specs.TransferClause as transfers;
-ghost use Rattle.trace_law.specs.View.{event_view};
+/// The clause of what is neither a transfer nor a disposition, apart from its note.
+fn broken_by_other<'a, P: Inputs<'a> + Openings<'a> + Counts>(
+    past: &P,
+    rules: &[Rule],
+    event: &Event,
+    spoken: &Spoken,
+) -> Option<Clause>
+    requires few { P.is_short past.now }
+    ensures { (history : Events) → P.stands_for past.now history →
+        (result ≡ find (λ clause. not (law.other_meets rules.now (event_view event.now) (spoken_view spoken.now).channel history
+        (spoken_view spoken.now).meaning clause)) law.clauses) }
+{
+    let note = event.note;
+    match spoken.performative {
+        Performative::Begin(begin) => {
+            let is_met = answers_begin(past, event.connection, spoken.channel, &begin);
+            first_broken(Clause::L2, is_met, note)
+        }
+        Performative::Attach(attach) => {
+            first_broken(Clause::L3, answers_live(past, rules, event, &attach), note)
+        }
+        Performative::Flow(flow) => {
+            first_broken(Clause::L10, tells_counts(past, rules, event, &flow), note)
+        }
+        Performative::Detach(detach) => {
+            first_broken(Clause::L13, may_detach(past, event, &detach), note)
+        }
+        Performative::End(_) => {
+            first_broken(Clause::L13, may_end(past, event, spoken.channel), note)
+        }
+        _ => unless_met(Clause::L14, has_no_note(note)),
+    }
+}
+
+/// On a live session, the answer to the client's attach.
+fn answers_live<'a, P: Openings<'a>>(
+    past: &P,
+    rules: &[Rule],
+    event: &Event,
+    attach: &Attach,
+) -> bool
+    ensures { (history : Events) → P.stands_for past.now history →
+        (result ≡ is_some_and (event_view event.now).session (answers_attach rules.now (attach_fields attach.now) history)) }
+{
+    match event.session {
+        Some(session) => answers_attach(past, rules, attach, session),
+        None => false,
+    }
+}
+
+/// A performative: L1 speaks of each.
+fn broken_by_spoken<'a, P: Questions<'a>>(
+    past: &P,
+    rules: &[Rule],
+    event: &Event<'a>,
+    frame: &Frame,
+    spoken: &Spoken<'a>,
+) -> Option<Clause>
+    requires few { P.is_short past.now }
+    ensures { (history : Events) → P.stands_for past.now history →
+        (result ≡ law.broken_by rules.now (event_view event.now) (frame_view frame.now) history (Some (spoken_view spoken.now))) }
+{
+    if !may_be_written(past, event.connection, spoken)
+        || !fits_limit(past, event.connection, frame)
+    {
+        return Some(Clause::L1);
+    }
+    match spoken.performative {
+        Performative::Transfer(transfer) => {
+            broken_by_transfer(past, rules, event, &transfer, spoken.payload)
+        }
+        Performative::Disposition(disposition) => broken_by_disposition(
+            past,
+            rules,
+            event,
+            &disposition,
+        ),
+        _ => broken_by_other(past, rules, event, spoken),
+    }
+}
+
+/// The first clause that an event breaks. A frame that is no performative breaks L1.
+pub(crate) fn broken_clause<'a, P: Questions<'a>>(
+    past: &P,
+    rules: &[Rule],
+    event: &Event<'a>,
+) -> Option<Clause>
+    requires few { P.is_short past.now }
+    ensures { (history : Events) → P.stands_for past.now history → (result ≡ law.broken_clause rules.now (event_view event.now) history) }
+{
+    let Moment::Out(frame) = event.moment else {
+        return None;
+    };
+    match frame.spoken() {
+        Some(spoken) => broken_by_spoken(past, rules, event, &frame, &spoken),
+        None => Some(Clause::L1),
+    }
+}
 
 /// A later transfer goes on with its delivery.
 fn goes_on_alike(event: &Event, transfer: &Transfer) -> bool

@@ -1,12 +1,22 @@
 //! A record in its place, by those before it.
 
+ghost use Rattle.std.specs.Prelude.{◌≡◌, option_map, length};
+ghost use Rattle.trace_events.specs.History.{written_session, session_of, named_link, written_link, link_on, link_of};
+ghost use Rattle.trace_law.specs.View.{spoken_view, moment_view, link_view, event_view, incoming_view, outgoing_view, Events};
+ghost use Rattle.amqp_perf.specs.View.{disposition_fields};
+ghost use Rattle.trace_events.specs.History as law;
+
+use crate::history::fault::body_fault;
+use crate::history::heard::is_heard_body;
+use crate::questions::{Carriage, Inputs, Openings, Outcomes};
+
 pub(crate) mod event;
 pub(crate) mod fault;
 pub(crate) mod frame;
 pub(crate) mod heard;
 pub(crate) mod said;
 
-use crate::history::event::{Event, Incoming, Link, Moment, Outgoing, Past};
+use crate::history::event::{Event, Incoming, Link, Moment, Outgoing};
 use crate::history::frame::{Frame, Spoken};
 use crate::history::said::handle_in;
 use crate::link::opens_link;
@@ -34,188 +44,225 @@ impl<'a> Moment<'a> {
     }
 }
 
-/// Where a frame stands.
-impl<'p, 'a> Past<'p, 'a> {
-    ghost use Rattle.std.specs.Prelude.{◌≡◌, option_map};
-    ghost use Rattle.trace_events.specs.History.{written_session, session_of, named_link, written_link, link_on, link_of};
-    ghost use Rattle.trace_law.specs.View.{spoken_view, moment_view, link_view, events};
+// Where a frame stands.
 
-    /// The session of what the router writes: a begin begins its own.
-    fn written_session(&self, number: u64, connection: u32, spoken: &Spoken) -> Option<Session>
-        ensures { result ≡ written_session number connection (spoken_view spoken.now).channel (spoken_view spoken.now).meaning (events self.now) }
-    {
-        match spoken.performative {
-            Performative::Begin(begin) => {
-                let theirs = self.last_in_begin(connection, spoken.channel);
-                Some(Session::new(number, connection, spoken.channel, begin, theirs))
-            }
-            _ => self.live_session(connection, spoken.channel),
+/// The session of what the router writes: a begin begins its own.
+fn written_session<'a, P: Inputs<'a> + Openings<'a>>(
+    past: &P,
+    number: u64,
+    connection: u32,
+    spoken: &Spoken,
+) -> Option<Session>
+    ensures { (history : Events) → P.stands_for past.now history →
+        (result ≡ written_session number connection (spoken_view spoken.now).channel (spoken_view spoken.now).meaning history) }
+{
+    match spoken.performative {
+        Performative::Begin(begin) => {
+            let theirs = past.last_in_begin(connection, spoken.channel);
+            Some(Session::new(number, connection, spoken.channel, begin, theirs))
         }
-    }
-
-    fn session_of(&self, number: u64, connection: u32, moment: &Moment) -> Option<Session>
-        ensures { result ≡ session_of number connection (moment_view moment.now) (events self.now) }
-    {
-        match moment {
-            Moment::In(frame) => self.live_session(connection, frame.spoken()?.channel),
-            Moment::Out(frame) => self.written_session(number, connection, &frame.spoken()?),
-            _ => None,
-        }
-    }
-
-    /// The live link of the handle that a flow, transfer or detach names.
-    fn named_link(&self, session: Session, spoken: &Spoken) -> Option<Link<'a>>
-        ensures { option_map link_view result ≡ named_link session (spoken_view spoken.now).meaning (events self.now) }
-    {
-        self.session_link(session, handle_in(&spoken.performative)?)
-    }
-
-    /// The link of what the router writes: an attach with source and target opens its own.
-    fn written_link(&self, number: u64, session: Session, spoken: &Spoken<'a>) -> Option<Link<'a>>
-        ensures { option_map link_view result ≡ written_link number session (spoken_view spoken.now).meaning (events self.now) }
-    {
-        match spoken.performative {
-            Performative::Attach(attach) if opens_link(&attach) => {
-                let theirs = self.last_in_attach(session, attach.handle);
-                Some(Link::new(number, session, &attach, theirs))
-            }
-            Performative::Attach(_) => None,
-            _ => self.named_link(session, spoken),
-        }
-    }
-
-    fn link_on(&self, number: u64, session: Session, moment: &Moment<'a>) -> Option<Link<'a>>
-        ensures { option_map link_view result ≡ link_on number session (moment_view moment.now) (events self.now) }
-    {
-        match moment {
-            Moment::In(frame) => self.named_link(session, &frame.spoken()?),
-            Moment::Out(frame) => self.written_link(number, session, &frame.spoken()?),
-            _ => None,
-        }
-    }
-
-    fn link_of(
-        &self,
-        number: u64,
-        moment: &Moment<'a>,
-        session: Option<Session>,
-    ) -> Option<Link<'a>>
-        ensures { option_map link_view result ≡ link_of number (moment_view moment.now) (events self.now) session }
-    {
-        self.link_on(number, session?, moment)
+        _ => past.live_session(connection, spoken.channel),
     }
 }
 
-/// What a transfer begins or goes on with, and what a disposition tells or settles.
-impl<'p, 'a> Past<'p, 'a> {
-    ghost use Rattle.std.specs.Prelude.{◌≡◌, option_map};
-    ghost use Rattle.amqp_perf.specs.View.{disposition_fields};
-    ghost use Rattle.trace_events.specs.History as law;
-    ghost use Rattle.trace_law.specs.View.{spoken_view, moment_view, event_view, incoming_view, outgoing_view, events};
-
-    /// The delivery in progress on a producer's link, or one that begins.
-    fn incoming_part(&self, event: &Event<'a>, spoken: &Spoken) -> Option<Incoming<'a>>
-        ensures { option_map incoming_view result ≡ law.incoming_part (event_view event.now) (spoken_view spoken.now).meaning (events self.now) }
-    {
-        let Performative::Transfer(transfer) = spoken.performative else {
-            return None;
-        };
-        let link = event.link?;
-        if !link.is_producer() {
-            return None;
-        }
-        match self.incoming_in_progress(&link) {
-            Some(delivery) => Some(delivery),
-            None => Some(Incoming::new(event.number, &transfer, link)),
-        }
+fn session_of<'a, P: Inputs<'a> + Openings<'a>>(
+    past: &P,
+    number: u64,
+    connection: u32,
+    moment: &Moment,
+) -> Option<Session>
+    ensures { (history : Events) → P.stands_for past.now history →
+        (result ≡ session_of number connection (moment_view moment.now) history) }
+{
+    match moment {
+        Moment::In(frame) => past.live_session(connection, frame.spoken()?.channel),
+        Moment::Out(frame) => written_session(past, number, connection, &frame.spoken()?),
+        _ => None,
     }
+}
 
-    /// The delivery of a transfer that is heard and without fault.
-    fn incoming_by(&self, event: &Event<'a>) -> Option<Incoming<'a>>
-        ensures { option_map incoming_view result ≡ law.incoming_by (event_view event.now) (event_view event.now).moment (events self.now) }
-    {
-        match event.moment {
-            Moment::In(frame) if event.is_heard && event.fault.is_none() => {
-                self.incoming_part(event, &frame.spoken()?)
-            }
-            _ => None,
+/// The live link of the handle that a flow, transfer or detach names.
+fn named_link<'a, P: Inputs<'a>>(past: &P, session: Session, spoken: &Spoken) -> Option<Link<'a>>
+    ensures { (history : Events) → P.stands_for past.now history →
+        (option_map link_view result ≡ named_link session (spoken_view spoken.now).meaning history) }
+{
+    past.session_link(session, handle_in(&spoken.performative)?)
+}
+
+/// The link of what the router writes: an attach with source and target opens its own.
+fn written_link<'a, P: Inputs<'a> + Openings<'a>>(
+    past: &P,
+    number: u64,
+    session: Session,
+    spoken: &Spoken<'a>,
+) -> Option<Link<'a>>
+    ensures { (history : Events) → P.stands_for past.now history →
+        (option_map link_view result ≡ written_link number session (spoken_view spoken.now).meaning history) }
+{
+    match spoken.performative {
+        Performative::Attach(attach) if opens_link(&attach) => {
+            let theirs = past.last_in_attach(session, attach.handle);
+            Some(Link::new(number, session, &attach, theirs))
         }
+        Performative::Attach(_) => None,
+        _ => named_link(past, session, spoken),
     }
+}
 
-    /// The delivery in progress on a consumer's link, or one that begins.
-    fn outgoing_part(&self, event: &Event<'a>, spoken: &Spoken) -> Option<Outgoing<'a>>
-        ensures { option_map outgoing_view result ≡ law.outgoing_part (event_view event.now) (spoken_view spoken.now).meaning (events self.now) }
-    {
-        let Performative::Transfer(transfer) = spoken.performative else {
-            return None;
-        };
-        let link = event.link?;
-        if !link.is_consumer() {
-            return None;
-        }
-        match self.outgoing_in_progress(&link) {
-            Some(delivery) => Some(delivery),
-            None => Some(Outgoing::new(event.number, event.note, &transfer, link)),
-        }
+fn link_on<'a, P: Inputs<'a> + Openings<'a>>(
+    past: &P,
+    number: u64,
+    session: Session,
+    moment: &Moment<'a>,
+) -> Option<Link<'a>>
+    ensures { (history : Events) → P.stands_for past.now history →
+        (option_map link_view result ≡ link_on number session (moment_view moment.now) history) }
+{
+    match moment {
+        Moment::In(frame) => named_link(past, session, &frame.spoken()?),
+        Moment::Out(frame) => written_link(past, number, session, &frame.spoken()?),
+        _ => None,
     }
+}
 
-    fn outgoing_by(&self, event: &Event<'a>) -> Option<Outgoing<'a>>
-        ensures { option_map outgoing_view result ≡ law.outgoing_by (event_view event.now) (event_view event.now).moment (events self.now) }
-    {
-        match event.moment {
-            Moment::Out(frame) => self.outgoing_part(event, &frame.spoken()?),
-            _ => None,
-        }
+fn link_of<'a, P: Inputs<'a> + Openings<'a>>(
+    past: &P,
+    number: u64,
+    moment: &Moment<'a>,
+    session: Option<Session>,
+) -> Option<Link<'a>>
+    ensures { (history : Events) → P.stands_for past.now history →
+        (option_map link_view result ≡ link_of number (moment_view moment.now) history session) }
+{
+    link_on(past, number, session?, moment)
+}
+
+// What a transfer begins or goes on with, and what a disposition tells or settles.
+
+/// The delivery in progress on a producer's link, or one that begins.
+fn incoming_part<'a, P: Inputs<'a>>(
+    past: &P,
+    event: &Event<'a>,
+    spoken: &Spoken,
+) -> Option<Incoming<'a>>
+    ensures { (history : Events) → P.stands_for past.now history →
+        (option_map incoming_view result ≡ law.incoming_part (event_view event.now) (spoken_view spoken.now).meaning history) }
+{
+    let Performative::Transfer(transfer) = spoken.performative else {
+        return None;
+    };
+    let link = event.link?;
+    if !link.is_producer() {
+        return None;
     }
-
-    /// The incoming delivery whose outcome a disposition tells, by its first id.
-    fn told_by_role(
-        &self,
-        rules: &[Rule],
-        session: Session,
-        disposition: &Disposition,
-    ) -> Option<u64>
-        ensures { result ≡ law.told_by_role rules.now session (disposition_fields disposition.now).first (disposition_fields disposition.now).role (events self.now) }
-    {
-        match disposition.role {
-            Role::Receiver => Some(self.to_tell(rules, session, disposition.first)?.number),
-            Role::Sender => None,
-        }
+    match past.incoming_in_progress(&link) {
+        Some(delivery) => Some(delivery),
+        None => Some(Incoming::new(event.number, &transfer, link)),
     }
+}
 
-    /// The outgoing delivery that a disposition settles, by its first id.
-    fn settled_by_role(&self, session: Session, disposition: &Disposition) -> Option<u64>
-        ensures { result ≡ law.settled_by_role session (disposition_fields disposition.now).first (disposition_fields disposition.now).role (events self.now) }
-    {
-        match disposition.role {
-            Role::Sender => Some(self.to_settle(session, disposition.first)?.number),
-            Role::Receiver => None,
+/// The delivery of a transfer that is heard and without fault.
+fn incoming_by<'a, P: Inputs<'a>>(past: &P, event: &Event<'a>) -> Option<Incoming<'a>>
+    ensures { (history : Events) → P.stands_for past.now history →
+        (option_map incoming_view result ≡ law.incoming_by (event_view event.now) (event_view event.now).moment history) }
+{
+    match event.moment {
+        Moment::In(frame) if event.is_heard && event.fault.is_none() => {
+            incoming_part(past, event, &frame.spoken()?)
         }
+        _ => None,
     }
+}
 
-    fn told_by(&self, rules: &[Rule], event: &Event) -> Option<u64>
-        ensures { result ≡ law.told_by rules.now (event_view event.now) (event_view event.now).moment (events self.now) }
-    {
-        match event.out_spoken()?.performative {
-            Performative::Disposition(disposition) => self.told_by_role(
-                rules,
-                event.session?,
-                &disposition,
-            ),
-            _ => None,
-        }
+/// The delivery in progress on a consumer's link, or one that begins.
+fn outgoing_part<'a, P: Carriage<'a>>(
+    past: &P,
+    event: &Event<'a>,
+    spoken: &Spoken,
+) -> Option<Outgoing<'a>>
+    ensures { (history : Events) → P.stands_for past.now history →
+        (option_map outgoing_view result ≡ law.outgoing_part (event_view event.now) (spoken_view spoken.now).meaning history) }
+{
+    let Performative::Transfer(transfer) = spoken.performative else {
+        return None;
+    };
+    let link = event.link?;
+    if !link.is_consumer() {
+        return None;
     }
+    match past.outgoing_in_progress(&link) {
+        Some(delivery) => Some(delivery),
+        None => Some(Outgoing::new(event.number, event.note, &transfer, link)),
+    }
+}
 
-    fn settled_by(&self, event: &Event) -> Option<u64>
-        ensures { result ≡ law.settled_by (event_view event.now) (event_view event.now).moment (events self.now) }
-    {
-        match event.out_spoken()?.performative {
-            Performative::Disposition(disposition) => self.settled_by_role(
-                event.session?,
-                &disposition,
-            ),
-            _ => None,
-        }
+fn outgoing_by<'a, P: Carriage<'a>>(past: &P, event: &Event<'a>) -> Option<Outgoing<'a>>
+    ensures { (history : Events) → P.stands_for past.now history →
+        (option_map outgoing_view result ≡ law.outgoing_by (event_view event.now) (event_view event.now).moment history) }
+{
+    match event.moment {
+        Moment::Out(frame) => outgoing_part(past, event, &frame.spoken()?),
+        _ => None,
+    }
+}
+
+/// The incoming delivery whose outcome a disposition tells, by its first id.
+fn told_by_role<'a, P: Outcomes<'a>>(
+    past: &P,
+    rules: &[Rule],
+    session: Session,
+    disposition: &Disposition,
+) -> Option<u64>
+    ensures { (history : Events) → P.stands_for past.now history →
+        (result ≡ law.told_by_role rules.now session (disposition_fields disposition.now).first (disposition_fields disposition.now).role history) }
+{
+    match disposition.role {
+        Role::Receiver => Some(past.to_tell(rules, session, disposition.first)?.number),
+        Role::Sender => None,
+    }
+}
+
+/// The outgoing delivery that a disposition settles, by its first id.
+fn settled_by_role<'a, P: Outcomes<'a>>(
+    past: &P,
+    session: Session,
+    disposition: &Disposition,
+) -> Option<u64>
+    ensures { (history : Events) → P.stands_for past.now history →
+        (result ≡ law.settled_by_role session (disposition_fields disposition.now).first (disposition_fields disposition.now).role history) }
+{
+    match disposition.role {
+        Role::Sender => Some(past.to_settle(session, disposition.first)?.number),
+        Role::Receiver => None,
+    }
+}
+
+fn told_by<'a, P: Outcomes<'a>>(past: &P, rules: &[Rule], event: &Event) -> Option<u64>
+    ensures { (history : Events) → P.stands_for past.now history →
+        (result ≡ law.told_by rules.now (event_view event.now) (event_view event.now).moment history) }
+{
+    match event.out_spoken()?.performative {
+        Performative::Disposition(disposition) => told_by_role(
+            past,
+            rules,
+            event.session?,
+            &disposition,
+        ),
+        _ => None,
+    }
+}
+
+fn settled_by<'a, P: Outcomes<'a>>(past: &P, event: &Event) -> Option<u64>
+    ensures { (history : Events) → P.stands_for past.now history →
+        (result ≡ law.settled_by (event_view event.now) (event_view event.now).moment history) }
+{
+    match event.out_spoken()?.performative {
+        Performative::Disposition(disposition) => settled_by_role(
+            past,
+            event.session?,
+            &disposition,
+        ),
+        _ => None,
     }
 }
 
@@ -258,83 +305,97 @@ impl<'a> Outgoing<'a> {
     }
 }
 
-/// In four steps: where the record stands, whether it is heard, its fault, and the deliveries that it is of.
-impl<'p, 'a> Past<'p, 'a> {
-    ghost use Rattle.std.specs.Prelude.{◌≡◌, length};
-    ghost use Rattle.trace_events.specs.History as law;
-    ghost use Rattle.trace_law.specs.View.{moment_view, event_view, events};
+// In four steps: where the record stands, whether it is heard, its fault, and the deliveries that it is of.
 
-    fn placed(&self, number: u64, connection: u32, moment: Moment<'a>, note: Note) -> Event<'a>
-        requires numbered { number ≡ length (events self.now) }
-        ensures { event_view result ≡ law.placed (events self.now) connection (moment_view moment.entry) note }
-    {
-        let session = self.session_of(number, connection, &moment);
-        Event {
-            number,
-            connection,
-            moment,
-            note,
-            session,
-            link: self.link_of(number, &moment, session),
-            incoming: None,
-            outgoing: None,
-            told: None,
-            settled: None,
-            is_heard: false,
-            fault: None,
-        }
+fn placed<'a, P: Inputs<'a> + Openings<'a>>(
+    past: &P,
+    number: u64,
+    connection: u32,
+    moment: Moment<'a>,
+    note: Note,
+) -> Event<'a>
+    ensures { (history : Events) → P.stands_for past.now history →
+        number ≡ length history → (event_view result ≡ law.placed history connection (moment_view moment.entry) note) }
+{
+    let session = session_of(past, number, connection, &moment);
+    Event {
+        number,
+        connection,
+        moment,
+        note,
+        session,
+        link: link_of(past, number, &moment, session),
+        incoming: None,
+        outgoing: None,
+        told: None,
+        settled: None,
+        is_heard: false,
+        fault: None,
     }
+}
 
-    fn heard(&self, event: Event<'a>) -> Event<'a>
-        ensures { event_view result ≡ law.heard (events self.now) (event_view event.entry) }
-    {
-        let is_heard = match event.moment {
-            Moment::In(frame) => self.is_heard_body(&event, &frame.body),
-            _ => false,
-        };
-        Event { is_heard, ..event }
-    }
+fn with_heard<'a, P: Inputs<'a>>(past: &P, event: Event<'a>) -> Event<'a>
+    ensures { (history : Events) → P.stands_for past.now history → (event_view result ≡ law.heard history (event_view event.entry)) }
+{
+    let is_heard = match event.moment {
+        Moment::In(frame) => is_heard_body(past, &event, &frame.body),
+        _ => false,
+    };
+    Event { is_heard, ..event }
+}
 
-    fn fault_by(&self, rules: &[Rule], event: &Event) -> Option<Fault>
-        ensures { result ≡ law.fault_by rules.now (event_view event.now) (event_view event.now).moment (events self.now) }
-    {
-        match event.moment {
-            Moment::In(frame) if event.is_heard => self.body_fault(rules, event, &frame.body),
-            _ => None,
-        }
+fn fault_by<'a, P: Inputs<'a>>(past: &P, rules: &[Rule], event: &Event) -> Option<Fault>
+    ensures { (history : Events) → P.stands_for past.now history →
+        (result ≡ law.fault_by rules.now (event_view event.now) (event_view event.now).moment history) }
+{
+    match event.moment {
+        Moment::In(frame) if event.is_heard => body_fault(past, rules, event, &frame.body),
+        _ => None,
     }
+}
 
-    fn faulted(&self, rules: &[Rule], event: Event<'a>) -> Event<'a>
-        ensures { event_view result ≡ law.faulted rules.now (events self.now) (event_view event.entry) }
-    {
-        let fault = self.fault_by(rules, &event);
-        Event { fault, ..event }
-    }
+fn faulted<'a, P: Inputs<'a>>(past: &P, rules: &[Rule], event: Event<'a>) -> Event<'a>
+    ensures { (history : Events) → P.stands_for past.now history →
+        (event_view result ≡ law.faulted rules.now history (event_view event.entry)) }
+{
+    let fault = fault_by(past, rules, &event);
+    Event { fault, ..event }
+}
 
-    fn delivered(&self, rules: &[Rule], event: Event<'a>) -> Event<'a>
-        ensures { event_view result ≡ law.delivered rules.now (events self.now) (event_view event.entry) }
-    {
-        Event {
-            incoming: self.incoming_by(&event),
-            outgoing: self.outgoing_by(&event),
-            told: self.told_by(rules, &event),
-            settled: self.settled_by(&event),
-            ..event
-        }
+fn delivered<'a, P: Inputs<'a> + Outcomes<'a> + Carriage<'a>>(
+    past: &P,
+    rules: &[Rule],
+    event: Event<'a>,
+) -> Event<'a>
+    ensures { (history : Events) → P.stands_for past.now history →
+        (event_view result ≡ law.delivered rules.now history (event_view event.entry)) }
+{
+    Event {
+        incoming: incoming_by(past, &event),
+        outgoing: outgoing_by(past, &event),
+        told: told_by(past, rules, &event),
+        settled: settled_by(past, &event),
+        ..event
     }
+}
 
-    /// The record of this number in its place.
-    pub(crate) fn judge(&self, rules: &[Rule], number: u64, entry: &'a Record) -> Event<'a>
-        requires numbered { number ≡ length (events self.now) }
-        ensures { event_view result ≡ law.judge rules.now (events self.now) entry.now }
-    {
-        let placed = self.placed(
-            number,
-            entry.connection,
-            Moment::of(&entry.what),
-            entry.note,
-        );
-        let faulted = self.faulted(rules, self.heard(placed));
-        self.delivered(rules, faulted)
-    }
+/// The record of this number in its place.
+pub(crate) fn judge<'a, P: Inputs<'a> + Outcomes<'a> + Openings<'a> + Carriage<'a>>(
+    past: &P,
+    rules: &[Rule],
+    number: u64,
+    entry: &'a Record,
+) -> Event<'a>
+    ensures { (history : Events) → P.stands_for past.now history →
+        number ≡ length history → (event_view result ≡ law.judge rules.now history entry.now) }
+{
+    let event = placed(
+        past,
+        number,
+        entry.connection,
+        Moment::of(&entry.what),
+        entry.note,
+    );
+    let event = faulted(past, rules, with_heard(past, event));
+    delivered(past, rules, event)
 }

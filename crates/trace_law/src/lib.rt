@@ -22,6 +22,8 @@ mod clauses;
 mod delivery;
 mod history;
 mod link;
+mod questions;
+mod scans;
 mod session;
 
 pub use ask::check::{credit_at, slow_check, waiting_at, window_at};

@@ -1,13 +1,14 @@
 //! L3 and L13: attaches and detaches that the router writes.
 
 ghost use Rattle.std.specs.Prelude.{◌≡◌, decimal, codes, ◌++◌, bytes_eq};
-ghost use Rattle.amqp_perf.specs.View.{attach_fields};
+ghost use Rattle.amqp_perf.specs.View.{attach_fields, detach_fields};
+ghost use Rattle.trace_law.specs.View.{event_view, Events};
 ghost use Rattle.trace_clauses.specs.LinkClause as law;
-ghost use Rattle.trace_law.specs.View.{event_view};
 
-use crate::history::event::{Event, Past};
+use crate::history::event::Event;
 use crate::link::address::has_multicast;
 use crate::link::{address_at, opens_link};
+use crate::questions::Openings;
 use amqp_perf::{Attach, Detach, ReceiverSettleMode, Role, SenderSettleMode};
 use capture_form::Rule;
 use trace_events::{Fault, Session};
@@ -146,33 +147,33 @@ fn answers_one(rules: &[Rule], asking: &Event, theirs: &Attach, ours: &Attach) -
         && accepts_or_refuses(rules, asking, theirs, ours)
 }
 
-impl<'p, 'a> Past<'p, 'a> {
-    ghost use Rattle.std.specs.Prelude.{◌≡◌};
-    ghost use Rattle.amqp_perf.specs.View.{attach_fields, detach_fields};
-    ghost use Rattle.trace_clauses.specs.LinkClause as law;
-    ghost use Rattle.trace_law.specs.View.{event_view, events};
-
-    /// L3: it answers the client's last attach of the handle.
-    pub(crate) fn answers_attach(&self, rules: &[Rule], ours: &Attach, session: Session) -> bool
-        ensures { result ≡ law.answers_attach rules.now (attach_fields ours.now) (events self.now) session }
-    {
-        let Some(asking) = self.unanswered_attach(session, ours.handle) else {
-            return false;
-        };
-        match asking.in_attach() {
-            Some(theirs) => answers_one(rules, &asking, &theirs, ours),
-            None => false,
-        }
+/// L3: it answers the client's last attach of the handle.
+pub(crate) fn answers_attach<'a, P: Openings<'a>>(
+    past: &P,
+    rules: &[Rule],
+    ours: &Attach,
+    session: Session,
+) -> bool
+    ensures { (history : Events) → P.stands_for past.now history →
+        (result ≡ law.answers_attach rules.now (attach_fields ours.now) history session) }
+{
+    let Some(asking) = past.unanswered_attach(session, ours.handle) else {
+        return false;
+    };
+    match asking.in_attach() {
+        Some(theirs) => answers_one(rules, &asking, &theirs, ours),
+        None => false,
     }
+}
 
-    /// L13: the link lives, or the client's detach of it, or a refused attach, is to be answered.
-    pub(crate) fn may_detach(&self, event: &Event, detach: &Detach) -> bool
-        ensures { result ≡ law.may_detach (event_view event.now) (detach_fields detach.now) (events self.now) }
-    {
-        match event.session {
-            _ if event.link.is_some() => true,
-            Some(session) => self.owes_detach(session, detach.handle),
-            None => false,
-        }
+/// L13: the link lives, or the client's detach of it, or a refused attach, is to be answered.
+pub(crate) fn may_detach<'a, P: Openings<'a>>(past: &P, event: &Event, detach: &Detach) -> bool
+    ensures { (history : Events) → P.stands_for past.now history →
+        (result ≡ law.may_detach (event_view event.now) (detach_fields detach.now) history) }
+{
+    match event.session {
+        _ if event.link.is_some() => true,
+        Some(session) => past.owes_detach(session, detach.handle),
+        None => false,
     }
 }

@@ -1,14 +1,20 @@
 //! What is told of an incoming delivery, and why (states: part 3 of the standard, section 3.4; the rows are a choice of
 //! this router).
 
-ghost use Rattle.std.specs.Prelude.{◌≡◌, ◌≤◌, ◌^◌};
+ghost use Rattle.std.specs.Prelude.{◌≡◌, ◌≤◌, ◌^◌, option_map, is_some};
 ghost use Rattle.amqp_perf.specs.View.{disposition_fields};
 ghost use Rattle.trace_clauses.specs.Outcome.{outcome_octets, bare_outcome};
+ghost use Rattle.std.specs.Option.{option_copied};
+ghost use Rattle.trace_events.specs.Outgoing.{pairing};
+ghost use Rattle.trace_law.specs.OutcomeSize.{told_view};
+ghost use Rattle.trace_law.specs.View.{incoming_view, outgoing_view, Events};
 ghost use Rattle.trace_law.specs.OutcomeSize as law;
+ghost use Rattle.trace_clauses.specs.Outcome as rows;
 
 use crate::delivery::disposition::terminal_state;
 use crate::delivery::waiting::is_of_multicast;
-use crate::history::event::{Incoming, Outgoing, Past};
+use crate::history::event::{Incoming, Outgoing};
+use crate::questions::Outcomes;
 use amqp_perf::{Disposition, Outcome, State};
 use capture_form::Rule;
 use pairing_cert::Why;
@@ -107,98 +113,97 @@ impl<'a> Told<'a> {
     }
 }
 
-impl<'p, 'a> Past<'p, 'a> {
-    ghost use Rattle.std.specs.Prelude.{◌≡◌, option_map, is_some};
-    ghost use Rattle.std.specs.Option.{option_copied};
-    ghost use Rattle.amqp_perf.specs.View.{disposition_fields};
-    ghost use Rattle.trace_clauses.specs.Outcome as rows;
-    ghost use Rattle.trace_events.specs.Outgoing.{pairing};
-    ghost use Rattle.trace_law.specs.OutcomeSize.{told_view};
-    ghost use Rattle.trace_law.specs.View.{events, incoming_view, outgoing_view};
+/// The producer takes the frame that tells this state.
+#[tactic(auto, using(crate::proofs::OutcomeSizes::outcome_long))]
+fn fits_producer<'a, P: Outcomes<'a>>(past: &P, delivery: &Incoming, state: Option<&[u8]>) -> bool
+    ensures { (history : Events) → P.stands_for past.now history →
+        (result ≡ rows.fits_producer (incoming_view delivery.now) (option_copied state.entry) history) }
+{
+    let limit = u64::from(past.frame_limit(delivery.link.session.connection));
+    let size = match state {
+        Some(octets) => octets.len() as u64,
+        None => 0,
+    };
+    size <= limit && outcome_frame_size(delivery.id.unwrap_or(0), size) <= limit
+}
 
-    /// The producer takes the frame that tells this state.
-    #[tactic(auto, using(crate::proofs::OutcomeSizes::outcome_long))]
-    fn fits_producer(&self, delivery: &Incoming, state: Option<&[u8]>) -> bool
-        ensures { result ≡ rows.fits_producer (incoming_view delivery.now) (option_copied state.entry) (events self.now) }
-    {
-        let limit = u64::from(self.frame_limit(delivery.link.session.connection));
-        let size = match state {
-            Some(octets) => octets.len() as u64,
-            None => 0,
-        };
-        size <= limit && outcome_frame_size(delivery.id.unwrap_or(0), size) <= limit
+/// The producer takes the frame that tells the decision's outcome.
+fn takes_decided<'a, P: Outcomes<'a>>(past: &P, delivery: &Incoming, fields: &Disposition) -> bool
+    ensures { (history : Events) → P.stands_for past.now history →
+        (result ≡ rows.fits_producer (incoming_view delivery.now) (rows.outcome_octets (disposition_fields fields.now)) history) }
+{
+    match terminal_state(fields) {
+        Some(state) => fits_producer(past, delivery, Some(state.raw())),
+        None => fits_producer(past, delivery, None),
     }
+}
 
-    /// The producer takes the frame that tells the decision's outcome.
-    fn takes_decided(&self, delivery: &Incoming, fields: &Disposition) -> bool
-        ensures { result ≡ rows.fits_producer (incoming_view delivery.now) (rows.outcome_octets (disposition_fields fields.now)) (events self.now) }
-    {
-        match terminal_state(fields) {
-            Some(state) => self.fits_producer(delivery, Some(state.raw())),
-            None => self.fits_producer(delivery, None),
-        }
-    }
+/// The last transfer to a pre-settled link is written.
+fn is_sent_settled<'a, P: Outcomes<'a>>(past: &P, outgoing: &Outgoing) -> bool
+    ensures { (history : Events) → P.stands_for past.now history → (result ≡ rows.is_sent_settled (outgoing_view outgoing.now) history) }
+{
+    outgoing.link.is_pre_settled && past.is_sent(outgoing)
+}
 
-    /// The last transfer to a pre-settled link is written.
-    fn is_sent_settled(&self, outgoing: &Outgoing) -> bool
-        ensures { result ≡ rows.is_sent_settled (outgoing_view outgoing.now) (events self.now) }
-    {
-        outgoing.link.is_pre_settled && self.is_sent(outgoing)
+/// What row `why` tells of an anycast delivery that went to a consumer, where it applies.
+fn paired_row<'a, P: Outcomes<'a>>(
+    past: &P,
+    delivery: &Incoming,
+    outgoing: &Outgoing,
+    decision: &Option<Disposition<'a>>,
+    why: Why,
+) -> Option<Told<'a>>
+    ensures { (history : Events) → P.stands_for past.now history → (option_map told_view result
+        ≡ rows.paired_row (incoming_view delivery.now) (outgoing_view outgoing.now) history (option_map disposition_fields decision.now) why) }
+{
+    match (decision, why) {
+        (Some(fields), Why::C) if takes_decided(past, delivery, fields) => Some(decided(fields)),
+        (Some(fields), Why::Z) if !takes_decided(past, delivery, fields) => Some(decided_bare(
+            fields,
+        )),
+        (_, Why::S) if is_sent_settled(past, outgoing) => Some(Told::Bare(Outcome::Accepted)),
+        (None, Why::L) if !past.is_live(&outgoing.link) && !is_sent_settled(past, outgoing) => Some(
+            Told::DeliveryFailed,
+        ),
+        _ => None,
     }
+}
 
-    /// What row `why` tells of an anycast delivery that went to a consumer, where it applies.
-    fn paired_row(
-        &self,
-        delivery: &Incoming,
-        outgoing: &Outgoing,
-        decision: &Option<Disposition<'a>>,
-        why: Why,
-    ) -> Option<Told<'a>>
-        ensures { option_map told_view result
-            ≡ rows.paired_row (incoming_view delivery.now) (outgoing_view outgoing.now) (events self.now) (option_map disposition_fields decision.now) why }
-    {
-        match (decision, why) {
-            (Some(fields), Why::C) if self.takes_decided(delivery, fields) => Some(decided(fields)),
-            (Some(fields), Why::Z) if !self.takes_decided(delivery, fields) => Some(decided_bare(
-                fields,
-            )),
-            (_, Why::S) if self.is_sent_settled(outgoing) => Some(Told::Bare(Outcome::Accepted)),
-            (None, Why::L) if !self.is_live(&outgoing.link) && !self.is_sent_settled(outgoing) =>
-                Some(Told::DeliveryFailed),
-            _ => None,
-        }
-    }
+fn anycast_row<'a, P: Outcomes<'a>>(past: &P, delivery: &Incoming, why: Why) -> Option<Told<'a>>
+    ensures { (history : Events) → P.stands_for past.now history → (option_map told_view result
+        ≡ rows.anycast_row (incoming_view delivery.now) history why (pairing (incoming_view delivery.now) history)) }
+{
+    let outgoing = past.pairing(delivery)?;
+    let decision = past.decision(&outgoing);
+    paired_row(past, delivery, &outgoing, &decision, why)
+}
 
-    fn anycast_row(&self, delivery: &Incoming, why: Why) -> Option<Told<'a>>
-        ensures { option_map told_view result
-            ≡ rows.anycast_row (incoming_view delivery.now) (events self.now) why (pairing (incoming_view delivery.now) (events self.now)) }
-    {
-        let outgoing = self.pairing(delivery)?;
-        let decision = self.decision(&outgoing);
-        self.paired_row(delivery, &outgoing, &decision, why)
+/// What row `why` tells of a delivery, where it applies.
+pub(crate) fn row<'a, P: Outcomes<'a>>(
+    past: &P,
+    rules: &[Rule],
+    delivery: &Incoming,
+    why: Why,
+) -> Option<Told<'a>>
+    ensures { (history : Events) → P.stands_for past.now history →
+        (option_map told_view result ≡ rows.row rules.now (incoming_view delivery.now) history why) }
+{
+    match why {
+        Why::N if past.is_gone(rules, delivery) => Some(Told::Bare(Outcome::Released)),
+        Why::N => None,
+        Why::M if is_of_multicast(rules, delivery) => Some(Told::Bare(Outcome::Accepted)),
+        Why::M => None,
+        _ if is_of_multicast(rules, delivery) => None,
+        _ => anycast_row(past, delivery, why),
     }
+}
 
-    /// What row `why` tells of a delivery, where it applies.
-    pub(crate) fn row(&self, rules: &[Rule], delivery: &Incoming, why: Why) -> Option<Told<'a>>
-        ensures { option_map told_view result ≡ rows.row rules.now (incoming_view delivery.now) (events self.now) why }
-    {
-        match why {
-            Why::N if self.is_gone(rules, delivery) => Some(Told::Bare(Outcome::Released)),
-            Why::N => None,
-            Why::M if is_of_multicast(rules, delivery) => Some(Told::Bare(Outcome::Accepted)),
-            Why::M => None,
-            _ if is_of_multicast(rules, delivery) => None,
-            _ => self.anycast_row(delivery, why),
-        }
-    }
-
-    /// It may be told: complete, of a live link, neither settled nor told.
-    pub(crate) fn may_be_told(&self, delivery: &Incoming) -> bool
-        ensures { result ≡ rows.may_be_told (incoming_view delivery.now) (events self.now) }
-    {
-        self.is_complete(delivery)
-            && !self.is_settled(delivery)
-            && !self.is_told(delivery)
-            && self.is_live(&delivery.link)
-    }
+/// It may be told: complete, of a live link, neither settled nor told.
+pub(crate) fn may_be_told<'a, P: Outcomes<'a>>(past: &P, delivery: &Incoming) -> bool
+    ensures { (history : Events) → P.stands_for past.now history → (result ≡ rows.may_be_told (incoming_view delivery.now) history) }
+{
+    past.is_complete(delivery)
+        && !past.is_settled(delivery)
+        && !past.is_told(delivery)
+        && past.is_live(&delivery.link)
 }

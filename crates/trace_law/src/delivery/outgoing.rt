@@ -268,3 +268,34 @@ impl<'p, 'a> Past<'p, 'a> {
         false
     }
 }
+
+/// The order of the deliveries of a link.
+impl<'p, 'a> Past<'p, 'a> {
+    ghost use Rattle.std.specs.Prelude.{◌≡◌, option_map, find};
+    ghost use Rattle.trace_events.specs.Outgoing.{is_on, outgoing_deliveries};
+    ghost use Rattle.trace_clauses.specs.TransferClause.{carried_before};
+    ghost use Rattle.trace_law.specs.View.{events, incoming_view, link_view, outgoing_view};
+
+    /// The last delivery that was begun on the link.
+    fn last_begun_on(&self, link: &Link) -> Option<Outgoing<'a>>
+        ensures { option_map outgoing_view result ≡ find (is_on (link_view link.now)) (outgoing_deliveries (events self.now)) }
+    {
+        let mut rest = self;
+        while let Past::After(event, earlier) = rest {
+            if let Some(outgoing) = event.outgoing_begun() {
+                if outgoing.link.number == link.number {
+                    return Some(outgoing);
+                }
+            }
+            rest = *earlier;
+        }
+        None
+    }
+
+    /// The incoming delivery that the last one begun on the link carries.
+    pub(crate) fn carried_before(&self, link: &Link) -> Option<Incoming<'a>>
+        ensures { option_map incoming_view result ≡ carried_before (link_view link.now) (events self.now) }
+    {
+        self.noted(self.last_begun_on(link)?.note)
+    }
+}

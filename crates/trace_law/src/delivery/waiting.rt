@@ -19,6 +19,7 @@ pub(crate) fn is_of_multicast(rules: &[Rule], delivery: &Incoming) -> bool
 impl<'p, 'a> Past<'p, 'a> {
     ghost use Rattle.std.specs.Prelude.{◌≡◌, ◌<◌, ◌^◌, ◌&&◌, length, bytes_eq};
     ghost use Rattle.trace_events.specs.Incoming.{address_of};
+    ghost use Rattle.trace_events.specs.Fault.{is_id_in_use};
     ghost use Rattle.trace_events.specs.Waiting as law;
     ghost use Rattle.trace_law.specs.View.{link_view, incoming_view, events};
 
@@ -122,6 +123,22 @@ impl<'p, 'a> Past<'p, 'a> {
         while let Past::After(event, earlier) = rest {
             if let Some(delivery) = event.incoming_begun() {
                 if self.is_waiting_at(rules, address, &delivery) {
+                    return true;
+                }
+            }
+            rest = *earlier;
+        }
+        false
+    }
+
+    /// A delivery of this id on the session isn't decided yet.
+    pub(crate) fn is_id_in_use(&self, rules: &[Rule], session: Session, id: u32) -> bool
+        ensures { result ≡ is_id_in_use rules.now session id (events self.now) }
+    {
+        let mut rest = self;
+        while let Past::After(event, earlier) = rest {
+            if let Some(delivery) = event.incoming_begun() {
+                if self.is_undecided_of(rules, session, id, &delivery) {
                     return true;
                 }
             }

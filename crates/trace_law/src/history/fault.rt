@@ -6,12 +6,14 @@ ghost use Rattle.amqp_perf.specs.declared.condition.ErrorCondition.TheVariants.{
 ghost use Rattle.trace_events.specs.declared.fault.Fault.TheVariants.{Detach};
 ghost use Rattle.amqp_perf.specs.Meaning.{flag};
 ghost use Rattle.amqp_perf.specs.NestedViews.{address_view, terminus_view, target_view};
-ghost use Rattle.amqp_perf.specs.View.{open_fields, attach_fields, transfer_fields};
+ghost use Rattle.amqp_perf.specs.View.{open_fields, attach_fields, transfer_fields, view};
+ghost use Rattle.trace_law.specs.View.{event_view, incoming_view, link_view, spoken_view, body_view, Events};
+ghost use Rattle.trace_events.specs.Incoming.{in_progress};
 ghost use Rattle.trace_events.specs.Fault as law;
-ghost use Rattle.trace_law.specs.View.{event_view, incoming_view};
 
-use crate::history::event::{Event, Incoming, Link, Past};
+use crate::history::event::{Event, Incoming, Link};
 use crate::history::frame::{Body, Spoken};
+use crate::questions::Inputs;
 use amqp_perf::{
     Address, Attach, Begin, ErrorCondition, Open, Performative, Role, Target, Terminus, Transfer,
 };
@@ -139,202 +141,213 @@ fn open_fault(fields: &Open) -> Option<Fault>
     None
 }
 
-impl<'p, 'a> Past<'p, 'a> {
-    ghost use Rattle.std.specs.Prelude.{◌≡◌, option_map};
-    ghost use Rattle.amqp_perf.specs.View.{attach_fields, transfer_fields, view};
-    ghost use Rattle.trace_events.specs.Fault as law;
-    ghost use Rattle.trace_events.specs.Incoming.{in_progress};
-    ghost use Rattle.trace_law.specs.View.{events, event_view, incoming_view, link_view, spoken_view, body_view};
+fn is_handle_in_use<'a, P: Inputs<'a>>(past: &P, session: Session, handle: u32) -> bool
+    ensures { (history : Events) → P.stands_for past.now history → (result ≡ law.is_handle_in_use session handle history) }
+{
+    past.session_link(session, handle).is_some() || past.awaits_detach(session, handle)
+}
 
-    fn is_handle_in_use(&self, session: Session, handle: u32) -> bool
-        ensures { result ≡ law.is_handle_in_use session handle (events self.now) }
-    {
-        self.session_link(session, handle).is_some() || self.awaits_detach(session, handle)
+fn attach_fault<'a, P: Inputs<'a>>(past: &P, session: Session, attach: &Attach) -> Option<Fault>
+    ensures { (history : Events) → P.stands_for past.now history → (result ≡ law.attach_fault session (attach_fields attach.now) history) }
+{
+    if attach.handle > HANDLE_MAX {
+        return Some(Fault::Close(ErrorCondition::FramingError));
     }
-
-    fn attach_fault(&self, session: Session, attach: &Attach) -> Option<Fault>
-        ensures { result ≡ law.attach_fault session (attach_fields attach.now) (events self.now) }
-    {
-        if attach.handle > HANDLE_MAX {
-            return Some(Fault::Close(ErrorCondition::FramingError));
-        }
-        if self.is_handle_in_use(session, attach.handle) {
-            return Some(Fault::Close(ErrorCondition::HandleInUse));
-        }
-        if attach.name.len() > MAX_LINK_NAME {
-            return Some(Fault::End(ErrorCondition::ResourceLimitExceeded));
-        }
-        terminus_fault(attach)
+    if is_handle_in_use(past, session, attach.handle) {
+        return Some(Fault::Close(ErrorCondition::HandleInUse));
     }
-
-    /// A delivery of this id on the session isn't decided yet.
-    fn is_id_in_use(&self, rules: &[Rule], session: Session, id: u32) -> bool
-        ensures { result ≡ law.is_id_in_use rules.now session id (events self.now) }
-    {
-        let mut rest = self;
-        while let Past::After(event, earlier) = rest {
-            if let Some(delivery) = event.incoming_begun() {
-                if self.is_undecided_of(rules, session, id, &delivery) {
-                    return true;
-                }
-            }
-            rest = *earlier;
-        }
-        false
+    if attach.name.len() > MAX_LINK_NAME {
+        return Some(Fault::End(ErrorCondition::ResourceLimitExceeded));
     }
+    terminus_fault(attach)
+}
 
-    /// Of the first transfer of a delivery: it has an id that no undecided one has, and the link has credit for it.
-    fn first_part_fault(&self, rules: &[Rule], link: &Link, fields: &Transfer) -> Option<Fault>
-        ensures { result ≡ law.first_part_fault rules.now (link_view link.now) (transfer_fields fields.now) (events self.now) }
-    {
-        let Some(id) = fields.delivery_id else {
-            return Some(Fault::Detach(ErrorCondition::InvalidField));
-        };
-        if self.is_id_in_use(rules, link.session, id) {
-            return Some(Fault::Detach(ErrorCondition::NotAllowed));
-        }
-        if self.given_credit(link) == 0 {
-            return Some(Fault::Detach(ErrorCondition::TransferLimitExceeded));
-        }
-        None
+/// Of the first transfer of a delivery: it has an id that no undecided one has, and the link has credit for it.
+fn first_part_fault<'a, P: Inputs<'a>>(
+    past: &P,
+    rules: &[Rule],
+    link: &Link,
+    fields: &Transfer,
+) -> Option<Fault>
+    ensures { (history : Events) → P.stands_for past.now history →
+        (result ≡ law.first_part_fault rules.now (link_view link.now) (transfer_fields fields.now) history) }
+{
+    let Some(id) = fields.delivery_id else {
+        return Some(Fault::Detach(ErrorCondition::InvalidField));
+    };
+    if past.is_id_in_use(rules, link.session, id) {
+        return Some(Fault::Detach(ErrorCondition::NotAllowed));
     }
-
-    /// Of a transfer that goes on with the link's delivery in progress, or begins one.
-    fn part_fault(
-        &self,
-        rules: &[Rule],
-        link: &Link,
-        fields: &Transfer,
-        octets: &[u8],
-    ) -> Option<Fault>
-        ensures { result ≡ law.part_fault rules.now (link_view link.now) (transfer_fields fields.now) octets.now (events self.now)
-            (in_progress (link_view link.now) (events self.now)) }
-    {
-        match self.incoming_in_progress(link) {
-            Some(delivery) => match next_part_fault(&delivery, fields) {
-                Some(fault) => Some(fault),
-                None => size_fault(fields, self.is_longer(MAX_MESSAGE_SIZE, &delivery, octets)),
-            },
-            None => match self.first_part_fault(rules, link, fields) {
-                Some(fault) => Some(fault),
-                None => size_fault(fields, octets.len() as u64 > MAX_MESSAGE_SIZE),
-            },
-        }
+    if past.given_credit(link) == 0 {
+        return Some(Fault::Detach(ErrorCondition::TransferLimitExceeded));
     }
+    None
+}
 
-    fn link_transfer_fault(
-        &self,
-        rules: &[Rule],
-        link: &Link,
-        fields: &Transfer,
-        octets: &[u8],
-    ) -> Option<Fault>
-        ensures { result ≡ law.link_transfer_fault rules.now (link_view link.now) (transfer_fields fields.now) octets.now (events self.now) }
-    {
-        if link.is_consumer() {
-            return Some(Fault::End(ErrorCondition::NotAllowed));
-        }
-        if fields.is_resumed() {
-            return Some(Fault::Detach(ErrorCondition::NotImplemented));
-        }
-        match fields.delivery_tag {
-            Some(tag) if tag.len() > MAX_DELIVERY_TAG => Some(Fault::Detach(
-                ErrorCondition::InvalidField,
-            )),
-            _ => self.part_fault(rules, link, fields, octets),
-        }
+/// Of a transfer that goes on with the link's delivery in progress, or begins one.
+fn part_fault<'a, P: Inputs<'a>>(
+    past: &P,
+    rules: &[Rule],
+    link: &Link,
+    fields: &Transfer,
+    octets: &[u8],
+) -> Option<Fault>
+    ensures { (history : Events) → P.stands_for past.now history →
+        (result ≡ law.part_fault rules.now (link_view link.now) (transfer_fields fields.now) octets.now history
+        (in_progress (link_view link.now) history)) }
+{
+    match past.incoming_in_progress(link) {
+        Some(delivery) => match next_part_fault(&delivery, fields) {
+            Some(fault) => Some(fault),
+            None => size_fault(fields, past.is_longer(MAX_MESSAGE_SIZE, &delivery, octets)),
+        },
+        None => match first_part_fault(past, rules, link, fields) {
+            Some(fault) => Some(fault),
+            None => size_fault(fields, octets.len() as u64 > MAX_MESSAGE_SIZE),
+        },
     }
+}
 
-    fn transfer_fault(
-        &self,
-        rules: &[Rule],
-        session: Session,
-        event: &Event,
-        fields: &Transfer,
-        octets: &[u8],
-    ) -> Option<Fault>
-        ensures { result ≡ law.transfer_fault rules.now session (event_view event.now) (transfer_fields fields.now) octets.now (events self.now) }
-    {
-        if self.given_window(session) == 0 {
-            return Some(Fault::End(ErrorCondition::WindowViolation));
-        }
-        match &event.link {
-            Some(link) => self.link_transfer_fault(rules, link, fields, octets),
-            None => Some(Fault::End(ErrorCondition::UnattachedHandle)),
-        }
+fn link_transfer_fault<'a, P: Inputs<'a>>(
+    past: &P,
+    rules: &[Rule],
+    link: &Link,
+    fields: &Transfer,
+    octets: &[u8],
+) -> Option<Fault>
+    ensures { (history : Events) → P.stands_for past.now history →
+        (result ≡ law.link_transfer_fault rules.now (link_view link.now) (transfer_fields fields.now) octets.now history) }
+{
+    if link.is_consumer() {
+        return Some(Fault::End(ErrorCondition::NotAllowed));
     }
-
-    /// Of what stands on a session.
-    fn session_fault(
-        &self,
-        rules: &[Rule],
-        session: Session,
-        event: &Event,
-        spoken: &Spoken,
-    ) -> Option<Fault>
-        ensures { result ≡ law.session_fault rules.now session (event_view event.now) (spoken_view spoken.now) (view spoken.now.performative) (events self.now) }
-    {
-        match &spoken.performative {
-            Performative::Attach(attach) => self.attach_fault(session, attach),
-            Performative::Transfer(fields) => self.transfer_fault(
-                rules,
-                session,
-                event,
-                fields,
-                spoken.payload,
-            ),
-            Performative::Flow(flow) if flow.handle.is_some() => handle_fault(event),
-            Performative::Detach(_) => handle_fault(event),
-            _ => None,
-        }
+    if fields.is_resumed() {
+        return Some(Fault::Detach(ErrorCondition::NotImplemented));
     }
-
-    /// Of what stands on a channel: a begin, or what wants a session.
-    fn channel_fault(&self, rules: &[Rule], event: &Event, spoken: &Spoken) -> Option<Fault>
-        ensures { result ≡ law.channel_fault rules.now (event_view event.now) (spoken_view spoken.now) (view spoken.now.performative) (events self.now) }
-    {
-        match (&spoken.performative, event.session) {
-            (Performative::Begin(begin), _) => begin_fault(event, begin),
-            (_, Some(session)) => self.session_fault(rules, session, event, spoken),
-            (_, None) => Some(Fault::Close(ErrorCondition::NotAllowed)),
-        }
+    match fields.delivery_tag {
+        Some(tag) if tag.len() > MAX_DELIVERY_TAG => Some(Fault::Detach(
+            ErrorCondition::InvalidField,
+        )),
+        _ => part_fault(past, rules, link, fields, octets),
     }
+}
 
-    /// Of what wants an open connection.
-    fn opened_fault(&self, rules: &[Rule], event: &Event, spoken: &Spoken) -> Option<Fault>
-        ensures { result ≡ law.opened_fault rules.now (event_view event.now) (spoken_view spoken.now) (events self.now) }
-    {
-        if !self.has_in_open(event.connection) {
-            return Some(Fault::Close(ErrorCondition::NotAllowed));
-        }
-        if spoken.channel > CHANNEL_MAX {
-            return Some(Fault::Close(ErrorCondition::FramingError));
-        }
-        self.channel_fault(rules, event, spoken)
+fn transfer_fault<'a, P: Inputs<'a>>(
+    past: &P,
+    rules: &[Rule],
+    session: Session,
+    event: &Event,
+    fields: &Transfer,
+    octets: &[u8],
+) -> Option<Fault>
+    ensures { (history : Events) → P.stands_for past.now history →
+        (result ≡ law.transfer_fault rules.now session (event_view event.now) (transfer_fields fields.now) octets.now history) }
+{
+    if past.given_window(session) == 0 {
+        return Some(Fault::End(ErrorCondition::WindowViolation));
     }
-
-    fn spoken_fault(&self, rules: &[Rule], event: &Event, spoken: &Spoken) -> Option<Fault>
-        ensures { result ≡ law.spoken_fault rules.now (event_view event.now) (spoken_view spoken.now) (view spoken.now.performative) (events self.now) }
-    {
-        match &spoken.performative {
-            Performative::Open(_) if self.has_in_open(event.connection) => {
-                Some(Fault::Close(ErrorCondition::NotAllowed))
-            }
-            Performative::Open(fields) => open_fault(fields),
-            Performative::Close(_) => None,
-            _ => self.opened_fault(rules, event, spoken),
-        }
+    match &event.link {
+        Some(link) => link_transfer_fault(past, rules, link, fields, octets),
+        None => Some(Fault::End(ErrorCondition::UnattachedHandle)),
     }
+}
 
-    /// The fault of a client's frame.
-    pub(crate) fn body_fault(&self, rules: &[Rule], event: &Event, body: &Body) -> Option<Fault>
-        ensures { result ≡ law.body_fault rules.now (event_view event.now) (body_view body.now) (events self.now) }
-    {
-        match body {
-            Body::NoFrame => Some(Fault::Close(ErrorCondition::FramingError)),
-            Body::NoPerformative(_) => Some(Fault::Close(ErrorCondition::DecodeError)),
-            Body::Empty(_) => None,
-            Body::Says(spoken) => self.spoken_fault(rules, event, spoken),
+/// Of what stands on a session.
+fn session_fault<'a, P: Inputs<'a>>(
+    past: &P,
+    rules: &[Rule],
+    session: Session,
+    event: &Event,
+    spoken: &Spoken,
+) -> Option<Fault>
+    ensures { (history : Events) → P.stands_for past.now history →
+        (result ≡ law.session_fault rules.now session (event_view event.now) (spoken_view spoken.now) (view spoken.now.performative) history) }
+{
+    match &spoken.performative {
+        Performative::Attach(attach) => attach_fault(past, session, attach),
+        Performative::Transfer(fields) => transfer_fault(
+            past,
+            rules,
+            session,
+            event,
+            fields,
+            spoken.payload,
+        ),
+        Performative::Flow(flow) if flow.handle.is_some() => handle_fault(event),
+        Performative::Detach(_) => handle_fault(event),
+        _ => None,
+    }
+}
+
+/// Of what stands on a channel: a begin, or what wants a session.
+fn channel_fault<'a, P: Inputs<'a>>(
+    past: &P,
+    rules: &[Rule],
+    event: &Event,
+    spoken: &Spoken,
+) -> Option<Fault>
+    ensures { (history : Events) → P.stands_for past.now history →
+        (result ≡ law.channel_fault rules.now (event_view event.now) (spoken_view spoken.now) (view spoken.now.performative) history) }
+{
+    match (&spoken.performative, event.session) {
+        (Performative::Begin(begin), _) => begin_fault(event, begin),
+        (_, Some(session)) => session_fault(past, rules, session, event, spoken),
+        (_, None) => Some(Fault::Close(ErrorCondition::NotAllowed)),
+    }
+}
+
+/// Of what wants an open connection.
+fn opened_fault<'a, P: Inputs<'a>>(
+    past: &P,
+    rules: &[Rule],
+    event: &Event,
+    spoken: &Spoken,
+) -> Option<Fault>
+    ensures { (history : Events) → P.stands_for past.now history →
+        (result ≡ law.opened_fault rules.now (event_view event.now) (spoken_view spoken.now) history) }
+{
+    if !past.has_in_open(event.connection) {
+        return Some(Fault::Close(ErrorCondition::NotAllowed));
+    }
+    if spoken.channel > CHANNEL_MAX {
+        return Some(Fault::Close(ErrorCondition::FramingError));
+    }
+    channel_fault(past, rules, event, spoken)
+}
+
+fn spoken_fault<'a, P: Inputs<'a>>(
+    past: &P,
+    rules: &[Rule],
+    event: &Event,
+    spoken: &Spoken,
+) -> Option<Fault>
+    ensures { (history : Events) → P.stands_for past.now history →
+        (result ≡ law.spoken_fault rules.now (event_view event.now) (spoken_view spoken.now) (view spoken.now.performative) history) }
+{
+    match &spoken.performative {
+        Performative::Open(_) if past.has_in_open(event.connection) => {
+            Some(Fault::Close(ErrorCondition::NotAllowed))
         }
+        Performative::Open(fields) => open_fault(fields),
+        Performative::Close(_) => None,
+        _ => opened_fault(past, rules, event, spoken),
+    }
+}
+
+/// The fault of a client's frame.
+pub(crate) fn body_fault<'a, P: Inputs<'a>>(
+    past: &P,
+    rules: &[Rule],
+    event: &Event,
+    body: &Body,
+) -> Option<Fault>
+    ensures { (history : Events) → P.stands_for past.now history →
+        (result ≡ law.body_fault rules.now (event_view event.now) (body_view body.now) history) }
+{
+    match body {
+        Body::NoFrame => Some(Fault::Close(ErrorCondition::FramingError)),
+        Body::NoPerformative(_) => Some(Fault::Close(ErrorCondition::DecodeError)),
+        Body::Empty(_) => None,
+        Body::Says(spoken) => spoken_fault(past, rules, event, spoken),
     }
 }

@@ -1,0 +1,64 @@
+//! What is asked of the past when a transfer carries an incoming delivery to a consumer.
+
+use crate::history::event::{Incoming, Link, Outgoing};
+use crate::questions::History;
+use capture_form::Rule;
+use pairing_cert::Note;
+
+/// What is asked of the past when a transfer carries an incoming delivery to a consumer.
+pub(crate) trait Carriage<'a>: History {
+    ghost use Rattle.std.specs.Prelude.{◌≡◌, ◌++◌, option_map};
+    ghost use Rattle.trace_events.specs.Due as due;
+    ghost use Rattle.trace_events.specs.Incoming as received;
+    ghost use Rattle.trace_events.specs.Outgoing as sent;
+    ghost use Rattle.trace_clauses.specs.TransferClause as transfers;
+    ghost use Rattle.trace_law.specs.View.{Events, incoming_view, link_view, outgoing_view};
+
+    /// The delivery of a consumer's link whose last part isn't written yet.
+    fn outgoing_in_progress(&self, link: &Link) -> Option<Outgoing<'a>>
+        ensures { (history : Events) → Self.stands_for self.now history →
+            (option_map outgoing_view result ≡ sent.in_progress (link_view link.now) history) };
+
+    /// The incoming delivery that a note names.
+    fn noted(&self, note: Note) -> Option<Incoming<'a>>
+        ensures { (history : Events) → Self.stands_for self.now history → (option_map incoming_view result ≡ sent.noted note history) };
+
+    /// The incoming delivery that the last one begun on the link carries.
+    fn carried_before(&self, link: &Link) -> Option<Incoming<'a>>
+        ensures { (history : Events) → Self.stands_for self.now history →
+            (option_map incoming_view result ≡ transfers.carried_before (link_view link.now) history) };
+
+    /// The one was completed before the other.
+    fn completed_before(&self, a: &Incoming, b: &Incoming) -> bool
+        ensures { (history : Events) → Self.stands_for self.now history →
+            (result ≡ received.completed_before (incoming_view a.now) (incoming_view b.now) history) };
+
+    /// The payload of the outgoing delivery with these octets behind it is the first part of the incoming one's, and all of
+    /// it where no more follows.
+    fn is_payload_so_far(
+        &self,
+        more: bool,
+        delivery: &Incoming,
+        outgoing: &Outgoing,
+        octets: &'a [u8],
+    ) -> bool
+        ensures { (history : Events) → Self.stands_for self.now history →
+            (result ≡ transfers.is_payload_so_far more (received.payload (incoming_view delivery.now) history)
+            (sent.payload (outgoing_view outgoing.now) history ++ octets.now)) };
+
+    /// It went to a consumer, or began to.
+    fn is_paired(&self, delivery: &Incoming) -> bool
+        ensures { (history : Events) → Self.stands_for self.now history →
+            (result ≡ sent.is_paired (incoming_view delivery.now) history) };
+
+    /// A transfer on the link names it.
+    fn is_named_on(&self, delivery: &Incoming, link: &Link) -> bool
+        ensures { (history : Events) → Self.stands_for self.now history →
+            (result ≡ sent.is_named_on (incoming_view delivery.now) (link_view link.now) history) };
+
+    /// A copy of it is due to the link.
+    fn is_due(&self, rules: &[Rule], delivery: &Incoming, link: &Link) -> bool
+        requires few { Self.is_short self.now }
+        ensures { (history : Events) → Self.stands_for self.now history →
+            (result ≡ due.is_due rules.now (incoming_view delivery.now) (link_view link.now) history) };
+}

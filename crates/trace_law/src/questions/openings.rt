@@ -1,0 +1,58 @@
+//! What is asked of the past when the router opens a connection, a session or a link, or ends one.
+
+use crate::history::event::Event;
+use crate::questions::History;
+use amqp_perf::Begin;
+use trace_events::Session;
+
+/// What is asked of the past when the router opens a connection, a session or a link, or ends one.
+pub(crate) trait Openings<'a>: History {
+    ghost use Rattle.std.specs.Prelude.{◌≡◌, option_map};
+    ghost use Rattle.trace_events.specs.Connection as connections;
+    ghost use Rattle.trace_events.specs.Link as links;
+    ghost use Rattle.trace_events.specs.Session as sessions;
+    ghost use Rattle.trace_law.specs.View.{Events, event_view};
+
+    /// The connection was opened.
+    fn was_opened(&self, connection: u32) -> bool
+        ensures { (history : Events) → Self.stands_for self.now history → (result ≡ connections.was_opened connection history) };
+
+    /// It is lost, or the router has closed it.
+    fn was_finished(&self, connection: u32) -> bool
+        ensures { (history : Events) → Self.stands_for self.now history → (result ≡ connections.was_finished connection history) };
+
+    /// The client has closed it, or sent octets that are no frames.
+    fn was_stopped(&self, connection: u32) -> bool
+        ensures { (history : Events) → Self.stands_for self.now history → (result ≡ connections.was_stopped connection history) };
+
+    /// A frame was written on it.
+    fn has_out_frame(&self, connection: u32) -> bool
+        ensures { (history : Events) → Self.stands_for self.now history → (result ≡ connections.has_out_frame connection history) };
+
+    /// A begin of the client's on the channel is still to be answered.
+    fn has_unanswered_begin(&self, connection: u32, channel: u16) -> bool
+        ensures { (history : Events) → Self.stands_for self.now history →
+            (result ≡ sessions.has_unanswered_begin connection channel history) };
+
+    /// The client's last begin on the channel.
+    fn last_in_begin(&self, connection: u32, channel: u16) -> Option<Begin>
+        ensures { (history : Events) → Self.stands_for self.now history → (result ≡ sessions.last_in_begin connection channel history) };
+
+    /// An end of the client's on the channel is still to be answered.
+    fn owes_end(&self, connection: u32, channel: u16) -> bool
+        ensures { (history : Events) → Self.stands_for self.now history → (result ≡ sessions.owes_end connection channel history) };
+
+    /// The event of the client's last attach of the handle.
+    fn last_in_attach(&self, session: Session, handle: u32) -> Option<Event<'a>>
+        ensures { (history : Events) → Self.stands_for self.now history →
+            (option_map event_view result ≡ links.last_in_attach session handle history) };
+
+    /// The event of an attach of the client's that is still to be answered.
+    fn unanswered_attach(&self, session: Session, handle: u32) -> Option<Event<'a>>
+        ensures { (history : Events) → Self.stands_for self.now history →
+            (option_map event_view result ≡ links.unanswered_attach session handle history) };
+
+    /// A detach of the client's, or an attach of its that was refused, is still to be answered.
+    fn owes_detach(&self, session: Session, handle: u32) -> bool
+        ensures { (history : Events) → Self.stands_for self.now history → (result ≡ links.owes_detach session handle history) };
+}

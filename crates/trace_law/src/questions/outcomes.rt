@@ -1,0 +1,78 @@
+//! What is asked of the past when an outcome is told or a delivery is settled.
+
+use crate::history::event::{Incoming, Link, Outgoing};
+use crate::questions::History;
+use amqp_perf::Disposition;
+use capture_form::Rule;
+use trace_events::Session;
+
+/// What is asked of the past when an outcome is told or a delivery is settled.
+pub(crate) trait Outcomes<'a>: History {
+    ghost use Rattle.std.specs.Prelude.{◌≡◌, option_map};
+    ghost use Rattle.amqp_perf.specs.View.{disposition_fields};
+    ghost use Rattle.trace_events.specs.Connection as connections;
+    ghost use Rattle.trace_events.specs.Incoming as received;
+    ghost use Rattle.trace_events.specs.Link as links;
+    ghost use Rattle.trace_events.specs.Outgoing as sent;
+    ghost use Rattle.trace_events.specs.Settling as settling;
+    ghost use Rattle.trace_events.specs.Waiting as waiting;
+    ghost use Rattle.trace_law.specs.View.{Events, incoming_view, link_view, outgoing_view};
+
+    /// The undecided delivery of the id on the session, whose outcome may be told.
+    fn to_tell(&self, rules: &[Rule], session: Session, id: u32) -> Option<Incoming<'a>>
+        ensures { (history : Events) → Self.stands_for self.now history →
+            (option_map incoming_view result ≡ settling.to_tell rules.now session id history) };
+
+    /// The earliest delivery of the id on the session that the router is to settle.
+    fn to_settle(&self, session: Session, id: u32) -> Option<Outgoing<'a>>
+        ensures { (history : Events) → Self.stands_for self.now history →
+            (option_map outgoing_view result ≡ settling.to_settle session id history) };
+
+    /// The delivery of a client that begins in the record of this number.
+    fn incoming_at(&self, number: u64) -> Option<Incoming<'a>>
+        ensures { (history : Events) → Self.stands_for self.now history →
+            (option_map incoming_view result ≡ received.incoming_at number history) };
+
+    /// Its last part has come.
+    fn is_complete(&self, delivery: &Incoming) -> bool
+        ensures { (history : Events) → Self.stands_for self.now history →
+            (result ≡ received.is_complete (incoming_view delivery.now) history) };
+
+    /// A part of it, or a disposition of its producer, says that it is settled.
+    fn is_settled(&self, delivery: &Incoming) -> bool
+        ensures { (history : Events) → Self.stands_for self.now history →
+            (result ≡ received.is_settled (incoming_view delivery.now) history) };
+
+    /// Its outcome was told.
+    fn is_told(&self, delivery: &Incoming) -> bool
+        ensures { (history : Events) → Self.stands_for self.now history →
+            (result ≡ received.is_told (incoming_view delivery.now) history) };
+
+    /// It found no consumer, or lost the last one, and goes to none any more.
+    fn is_gone(&self, rules: &[Rule], delivery: &Incoming) -> bool
+        ensures { (history : Events) → Self.stands_for self.now history →
+            (result ≡ waiting.is_gone rules.now (incoming_view delivery.now) history) };
+
+    /// The link lives.
+    fn is_live(&self, link: &Link) -> bool
+        ensures { (history : Events) → Self.stands_for self.now history → (result ≡ links.is_live history (link_view link.now)) };
+
+    /// The last outgoing delivery that carries it.
+    fn pairing(&self, delivery: &Incoming) -> Option<Outgoing<'a>>
+        ensures { (history : Events) → Self.stands_for self.now history →
+            (option_map outgoing_view result ≡ sent.pairing (incoming_view delivery.now) history) };
+
+    /// The consumer's decision; on a pre-settled link there is none.
+    fn decision(&self, delivery: &Outgoing) -> Option<Disposition<'a>>
+        ensures { (history : Events) → Self.stands_for self.now history →
+            (option_map disposition_fields result ≡ sent.decision (outgoing_view delivery.now) history) };
+
+    /// Its last part is written.
+    fn is_sent(&self, delivery: &Outgoing) -> bool
+        ensures { (history : Events) → Self.stands_for self.now history →
+            (result ≡ sent.is_sent (outgoing_view delivery.now) history) };
+
+    /// The longest frame that may be written on the connection, in octets.
+    fn frame_limit(&self, connection: u32) -> u32
+        ensures { (history : Events) → Self.stands_for self.now history → (result ≡ connections.frame_limit connection history) };
+}

@@ -1,0 +1,274 @@
+//! The answers of the plain checker: each by a scan of the events on the stack.
+
+use crate::clauses::broken_clause;
+use crate::history::event::{Event, Incoming, Link, Outgoing, Past};
+use crate::history::judge;
+use crate::questions::{Carriage, Counts, History, Inputs, Openings, Outcomes, Questions};
+use amqp_perf::{Begin, Disposition};
+use capture_form::{Record, Rule};
+use pairing_cert::Note;
+use trace_clauses::Clause;
+use trace_events::Session;
+
+impl<'p, 'a> History for Past<'p, 'a> {
+    ghost use Rattle.std.specs.Prelude.{◌≡◌, ◌<◌, ◌^◌, length};
+    ghost use Rattle.trace_law.specs.View.{events};
+
+    ghost stands_for = { λ past history. events past ≡ history };
+
+    ghost is_short = { λ past. length (events past) < 2 ^ 64 };
+}
+
+impl<'p, 'a> Questions<'a> for Past<'p, 'a> {}
+
+impl<'p, 'a> Inputs<'a> for Past<'p, 'a> {
+    fn is_over(&self, connection: u32) -> bool {
+        self.is_over(connection)
+    }
+
+    fn has_in_open(&self, connection: u32) -> bool {
+        self.has_in_open(connection)
+    }
+
+    fn live_session(&self, connection: u32, channel: u16) -> Option<Session> {
+        self.live_session(connection, channel)
+    }
+
+    fn awaits_end(&self, connection: u32, channel: u16) -> bool {
+        self.awaits_end(connection, channel)
+    }
+
+    fn session_link(&self, session: Session, handle: u32) -> Option<Link<'a>> {
+        self.session_link(session, handle)
+    }
+
+    fn awaits_detach(&self, session: Session, handle: u32) -> bool {
+        self.awaits_detach(session, handle)
+    }
+
+    fn given_window(&self, session: Session) -> u32 {
+        self.given_window(session)
+    }
+
+    fn given_credit(&self, link: &Link) -> u32 {
+        self.given_credit(link)
+    }
+
+    fn incoming_in_progress(&self, link: &Link) -> Option<Incoming<'a>> {
+        self.incoming_in_progress(link)
+    }
+
+    fn is_longer(&self, limit: u64, delivery: &Incoming, octets: &[u8]) -> bool {
+        self.is_longer(limit, delivery, octets)
+    }
+
+    fn is_id_in_use(&self, rules: &[Rule], session: Session, id: u32) -> bool {
+        self.is_id_in_use(rules, session, id)
+    }
+}
+
+impl<'p, 'a> Outcomes<'a> for Past<'p, 'a> {
+    fn to_tell(&self, rules: &[Rule], session: Session, id: u32) -> Option<Incoming<'a>> {
+        self.to_tell(rules, session, id)
+    }
+
+    fn to_settle(&self, session: Session, id: u32) -> Option<Outgoing<'a>> {
+        self.to_settle(session, id)
+    }
+
+    fn incoming_at(&self, number: u64) -> Option<Incoming<'a>> {
+        self.incoming_at(number)
+    }
+
+    fn is_complete(&self, delivery: &Incoming) -> bool {
+        self.is_complete(delivery)
+    }
+
+    fn is_settled(&self, delivery: &Incoming) -> bool {
+        self.is_settled(delivery)
+    }
+
+    fn is_told(&self, delivery: &Incoming) -> bool {
+        self.is_told(delivery)
+    }
+
+    fn is_gone(&self, rules: &[Rule], delivery: &Incoming) -> bool {
+        self.is_gone(rules, delivery)
+    }
+
+    fn is_live(&self, link: &Link) -> bool {
+        self.is_live(link)
+    }
+
+    fn pairing(&self, delivery: &Incoming) -> Option<Outgoing<'a>> {
+        self.pairing(delivery)
+    }
+
+    fn decision(&self, delivery: &Outgoing) -> Option<Disposition<'a>> {
+        self.decision(delivery)
+    }
+
+    fn is_sent(&self, delivery: &Outgoing) -> bool {
+        self.is_sent(delivery)
+    }
+
+    fn frame_limit(&self, connection: u32) -> u32 {
+        self.frame_limit(connection)
+    }
+}
+
+impl<'p, 'a> Openings<'a> for Past<'p, 'a> {
+    fn was_opened(&self, connection: u32) -> bool {
+        self.was_opened(connection)
+    }
+
+    fn was_finished(&self, connection: u32) -> bool {
+        self.was_finished(connection)
+    }
+
+    fn was_stopped(&self, connection: u32) -> bool {
+        self.was_stopped(connection)
+    }
+
+    fn has_out_frame(&self, connection: u32) -> bool {
+        self.has_out_frame(connection)
+    }
+
+    fn has_unanswered_begin(&self, connection: u32, channel: u16) -> bool {
+        self.has_unanswered_begin(connection, channel)
+    }
+
+    fn last_in_begin(&self, connection: u32, channel: u16) -> Option<Begin> {
+        self.last_in_begin(connection, channel)
+    }
+
+    fn owes_end(&self, connection: u32, channel: u16) -> bool {
+        self.owes_end(connection, channel)
+    }
+
+    fn last_in_attach(&self, session: Session, handle: u32) -> Option<Event<'a>> {
+        self.last_in_attach(session, handle)
+    }
+
+    fn unanswered_attach(&self, session: Session, handle: u32) -> Option<Event<'a>> {
+        self.unanswered_attach(session, handle)
+    }
+
+    fn owes_detach(&self, session: Session, handle: u32) -> bool {
+        self.owes_detach(session, handle)
+    }
+}
+
+impl<'p, 'a> Counts for Past<'p, 'a> {
+    fn session_window(&self, session: Session) -> u32 {
+        self.session_window(session)
+    }
+
+    fn next_outgoing_id(&self, session: Session) -> u32 {
+        self.next_outgoing_id(session)
+    }
+
+    fn next_incoming_id(&self, session: Session) -> u32 {
+        self.next_incoming_id(session)
+    }
+
+    fn next_delivery_id(&self, session: Session) -> u32 {
+        self.next_delivery_id(session)
+    }
+
+    fn link_credit(&self, link: &Link) -> u32 {
+        self.link_credit(link)
+    }
+
+    fn delivery_count(&self, link: &Link) -> u32 {
+        self.delivery_count(link)
+    }
+
+    fn is_draining(&self, link: &Link) -> bool {
+        self.is_draining(link)
+    }
+
+    fn received_count(&self, link: &Link) -> u32 {
+        self.received_count(link)
+    }
+
+    fn undecided_count(&self, rules: &[Rule], link: &Link) -> u64 {
+        self.undecided_count(rules, link)
+    }
+
+    fn has_consumer(&self, address: &[u8]) -> bool {
+        self.has_consumer(address)
+    }
+
+    fn has_waiting(&self, rules: &[Rule], address: &[u8]) -> bool {
+        self.has_waiting(rules, address)
+    }
+
+    fn has_unsent(&self, rules: &[Rule], link: &Link) -> bool {
+        self.has_unsent(rules, link)
+    }
+}
+
+impl<'p, 'a> Carriage<'a> for Past<'p, 'a> {
+    fn outgoing_in_progress(&self, link: &Link) -> Option<Outgoing<'a>> {
+        self.outgoing_in_progress(link)
+    }
+
+    fn noted(&self, note: Note) -> Option<Incoming<'a>> {
+        self.noted(note)
+    }
+
+    fn carried_before(&self, link: &Link) -> Option<Incoming<'a>> {
+        self.carried_before(link)
+    }
+
+    fn completed_before(&self, a: &Incoming, b: &Incoming) -> bool {
+        self.completed_before(a, b)
+    }
+
+    fn is_payload_so_far(
+        &self,
+        more: bool,
+        delivery: &Incoming,
+        outgoing: &Outgoing,
+        octets: &'a [u8],
+    ) -> bool {
+        self.is_payload_so_far(more, delivery, outgoing, octets)
+    }
+
+    fn is_paired(&self, delivery: &Incoming) -> bool {
+        self.is_paired(delivery)
+    }
+
+    fn is_named_on(&self, delivery: &Incoming, link: &Link) -> bool {
+        self.is_named_on(delivery, link)
+    }
+
+    fn is_due(&self, rules: &[Rule], delivery: &Incoming, link: &Link) -> bool {
+        self.is_due(rules, delivery, link)
+    }
+}
+
+/// A record, judged by the events on the stack.
+impl<'p, 'a> Past<'p, 'a> {
+    ghost use Rattle.std.specs.Prelude.{◌≡◌, ◌<◌, ◌^◌, length};
+    ghost use Rattle.trace_clauses.specs.Clauses.{broken_clause};
+    ghost use Rattle.trace_events.specs.History.{judge};
+    ghost use Rattle.trace_law.specs.View.{events, event_view};
+
+    /// The record of this number in its place.
+    pub(crate) fn judge(&self, rules: &[Rule], number: u64, entry: &'a Record) -> Event<'a>
+        requires numbered { number ≡ length (events self.now) }
+        ensures { event_view result ≡ judge rules.now (events self.now) entry.now }
+    {
+        judge(self, rules, number, entry)
+    }
+
+    /// The first clause that an event breaks.
+    pub(crate) fn broken_clause(&self, rules: &[Rule], event: &Event<'a>) -> Option<Clause>
+        requires few { length (events self.now) < 2 ^ 64 }
+        ensures { result ≡ broken_clause rules.now (event_view event.now) (events self.now) }
+    {
+        broken_clause(self, rules, event)
+    }
+}
