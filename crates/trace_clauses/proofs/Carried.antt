@@ -15,13 +15,13 @@ use Rattle.trace_events.specs.Incoming.{is_complete, part_payload}
 use Rattle.trace_events.specs.Incoming as incoming
 use Rattle.trace_events.specs.Outgoing.{noted}
 use Rattle.trace_events.specs.Outgoing as outgoing
-use Rattle.trace_clauses.specs.TransferClause.{carries, carries_noted, names_carried, may_carry, is_payload_so_far}
+use Rattle.trace_clauses.specs.TransferClause.{carries, carries_noted, names_carried, to_carry, is_alike, is_payload_so_far}
 use Rattle.trace_clauses.specs.Clauses.{first_broken, meaning_meets}
 use Rattle.trace_events.specs.History.{history}
 use Rattle.trace_clauses.specs.Kept.{HasCarried, WentToAddress, AreFirst, AtEach}
 use Rattle.trace_clauses.proofs.ClausesMet.{met}
 use Rattle.trace_clauses.proofs.WrittenFrames.{of_written, where_some, at_each, transfer-is}
-use Rattle.trace_clauses.proofs.OneConsumer.{some-and, and-left}
+use Rattle.trace_clauses.proofs.OneConsumer.{some-and, and-left, passes-some}
 use Rattle.trace_clauses.proofs.OneOutcome.{and-right}
 use Rattle.trace_clauses.proofs.Within.{some-each}
 
@@ -37,24 +37,18 @@ module _ (rules : List RuleText) (e : Event) (past : List Event) (lawful : first
   seven : is_some_and e.link (names_carried rules e fields past) ≡ true
   seven = sym (ap (λ m. meaning_meets rules e spoken past m L7) means) ∙ met rules e past lawful frame written spoken says L7
 
-  eight : carries_noted e fields spoken.payload past ≡ true
+  eight : carries_noted rules e fields spoken.payload past ≡ true
   eight = sym (ap (λ m. meaning_meets rules e spoken past m L8) means) ∙ met rules e past lawful frame written spoken says L8
-
-  complete : (d : Incoming) → noted e.note past ≡ Some d → is_complete d past ≡ true
-  complete d is =
-      let l = some-and e.link (names_carried rules e fields past) seven in
-      let carries_d : may_carry rules e l.0 fields past d ≡ true = sym (ap (λ o. is_some_and o (may_carry rules e l.0 fields past)) is) ∙ l.2 in
-      and-left _ _ (and-left _ _ (and-left _ _ carries_d))
 
   -- the link that the transfer names has the address of the delivery
   addressed : IsSomeAnd (noted e.note past) (λ d. IsSomeAnd e.link (λ l. l.address ≡ d.link.address))
   addressed =
       let l = some-and e.link (names_carried rules e fields past) seven in
-      some-each (noted e.note past) (may_carry rules e l.0 fields past) _ l.2 (λ d is.
-      let carries_d : may_carry rules e l.0 fields past d ≡ true = sym (ap (λ o. is_some_and o (may_carry rules e l.0 fields past)) is) ∙ l.2 in
-      let same : bytes_eq d.link.address l.0.address ≡ true = and-right _ _ (and-left _ _ carries_d) in
-      let here : l.0.address ≡ d.link.address = sym ((bytes_decides d.link.address l.0.address).0 same) in
-      subst (λ o. IsSomeAnd o (λ (m : Link). m.address ≡ d.link.address)) (sym l.1) here)
+      let d = some-and (to_carry rules e.note past) (is_alike e l.0 fields) l.2 in
+      let is = passes-some _ (noted e.note past) d.0 d.1 in
+      let here : l.0.address ≡ d.0.link.address = sym ((bytes_decides d.0.link.address l.0.address).0 (and-left _ _ d.2)) in
+      subst (λ o. IsSomeAnd o (λ (d : Incoming). IsSomeAnd e.link (λ l. l.address ≡ d.link.address))) (sym is.0)
+      (subst (λ o. IsSomeAnd o (λ (m : Link). m.address ≡ d.0.link.address)) (sym l.1) here)
 
   joined : (j : Outgoing) → e.outgoing ≡ Some j → outgoing.payload j (e ∷ past) ≡ outgoing.payload j past ++ spoken.payload
   joined j is =
@@ -67,14 +61,16 @@ module _ (rules : List RuleText) (e : Event) (past : List Event) (lawful : first
       (is_complete d past ≡ true) × AreFirst (outgoing.payload j (e ∷ past)) (incoming.payload d past)
       × (flag fields.more ≡ false → outgoing.payload j (e ∷ past) ≡ incoming.payload d past)))
   carried =
-      some-each (noted e.note past) (λ d. is_some_and e.outgoing (λ j. carries j fields spoken.payload past d)) _ eight (λ d is.
-      let inner : is_some_and e.outgoing (λ j. carries j fields spoken.payload past d) ≡ true =
-      sym (ap (λ o. is_some_and o (λ x. is_some_and e.outgoing (λ j. carries j fields spoken.payload past x))) is) ∙ eight in
-      some-each e.outgoing (λ j. carries j fields spoken.payload past d) _ inner (λ j is_j.
-      let here : carries j fields spoken.payload past d ≡ true = sym (ap (λ o. is_some_and o (λ k. carries k fields spoken.payload past d)) is_j) ∙ inner in
-      let h = so-far (flag fields.more) (incoming.payload d past) (outgoing.payload j past ++ spoken.payload) here in
+      let d = some-and (to_carry rules e.note past) (λ d. is_some_and e.outgoing (λ j. carries j fields spoken.payload past d)) eight in
+      let is = passes-some _ (noted e.note past) d.0 d.1 in
+      subst (λ o. IsSomeAnd o (λ (d : Incoming). IsSomeAnd e.outgoing (λ j.
+      (is_complete d past ≡ true) × AreFirst (outgoing.payload j (e ∷ past)) (incoming.payload d past)
+      × (flag fields.more ≡ false → outgoing.payload j (e ∷ past) ≡ incoming.payload d past)))) (sym is.0)
+      (some-each e.outgoing (λ j. carries j fields spoken.payload past d.0) _ d.2 (λ j is_j.
+      let here : carries j fields spoken.payload past d.0 ≡ true = sym (ap (λ o. is_some_and o (λ k. carries k fields spoken.payload past d.0)) is_j) ∙ d.2 in
+      let h = so-far (flag fields.more) (incoming.payload d.0 past) (outgoing.payload j past ++ spoken.payload) here in
       let all = joined j is_j in
-      (complete d is, subst (λ xs. AreFirst xs (incoming.payload d past)) (sym all) h.0, λ last. all ∙ h.1 last)))
+      (and-left _ _ is.1, subst (λ xs. AreFirst xs (incoming.payload d.0 past)) (sym all) h.0, λ last. all ∙ h.1 last)))
 
 module _ (rules : List RuleText) (e : Event) (past : List Event) (lawful : first_broken rules (e ∷ past) ≡ None) where
   abbrev Carried : TransferFields → Type 0

@@ -15,7 +15,7 @@ use Rattle.trace_events.specs.Outgoing.{outgoing_begun, outgoing_deliveries, nam
 use Rattle.trace_events.specs.Waiting.{is_of_multicast}
 use Rattle.trace_events.specs.History.{history}
 use Rattle.trace_clauses.specs.Clauses.{first_broken, meaning_meets}
-use Rattle.trace_clauses.specs.TransferClause.{may_go_to, is_first_to, is_in_order}
+use Rattle.trace_clauses.specs.TransferClause.{may_go_to, to_carry, is_first_to, is_in_order}
 use Rattle.trace_clauses.specs.Kept.{carriers, ReachesOne}
 use Rattle.trace_clauses.proofs.ClausesMet.{met, lawful-past}
 use Rattle.trace_events.proofs.Judged.{AreJudged, IsTransfer, IsBorn, history-judged, judged-born, judged-number, judged-transfer}
@@ -152,11 +152,11 @@ module _ (rules : List RuleText) (e : Event) (past : List Event) (are : AreJudge
   begun-facts : Begins rules e past j
   begun-facts =
       let l = some-and e.link (may_go_to rules e past) goes in
-      let d = some-and (noted e.note past) (λ x. is_first_to rules l.0 past x && is_in_order l.0 past x) l.2 in
+      let d = some-and (to_carry rules e.note past) (λ x. is_first_to rules l.0 past x && is_in_order l.0 past x) l.2 in
       record {
         note = own-note;
         carried = d.0;
-        is = d.1;
+        is = (passes-some _ (noted e.note past) d.0 d.1).0;
         first = λ anycast. not-true (is_paired d.0 past)
             (otherwise (is_of_multicast rules d.0) _ (not (is_paired d.0 past)) anycast (and-left _ _ d.2));
       }

@@ -34,7 +34,7 @@ transfer_meets rules e fields octets past L4 = may_be_sent e fields past
 transfer_meets rules e fields octets past L5 = not (begins_outgoing e) || is_some_and e.link (λ l. may_begin l fields past)
 transfer_meets rules e fields octets past L6 = begins_outgoing e || is_some_and e.outgoing (λ j. goes_on_with j e.note fields)
 transfer_meets rules e fields octets past L7 = is_some_and e.link (names_carried rules e fields past)
-transfer_meets rules e fields octets past L8 = carries_noted e fields octets past
+transfer_meets rules e fields octets past L8 = carries_noted rules e fields octets past
 transfer_meets rules e fields octets past L9 = not (begins_outgoing e) || is_some_and e.link (may_go_to rules e past)
 transfer_meets rules e fields octets past _ = true
 

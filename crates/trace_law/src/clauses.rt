@@ -1,6 +1,6 @@
 //! The law: the clauses that each record which the router has written must meet.
 
-ghost use Rattle.std.specs.Prelude.{◌≡◌, Some, None, if◌then◌else◌, ◌<◌, ◌^◌, length, find, not};
+ghost use Rattle.std.specs.Prelude.{◌≡◌, Some, None, if◌then◌else◌, find, not};
 ghost use Rattle.amqp_perf.specs.View.{disposition_fields, transfer_fields, attach_fields};
 ghost use Rattle.trace_events.specs.Words.{is_some_and};
 ghost use Rattle.trace_law.specs.View.{event_view, spoken_view, frame_view, Events};
@@ -14,7 +14,7 @@ use crate::clauses::disposition::is_outcome;
 use crate::clauses::flow::tells_counts;
 use crate::clauses::link::{answers_attach, may_detach};
 use crate::clauses::session::{answers_begin, may_end};
-use crate::clauses::transfer::{carries_noted, may_be_sent, may_begin, may_go_to, names_carried};
+use crate::clauses::transfer::{carries, is_alike, may_be_sent, may_begin, may_go_to};
 use crate::questions::{Carriage, Counts, Inputs, Openings, Outcomes, Questions};
 
 mod connection;
@@ -60,7 +60,7 @@ fn first_broken(clause: Clause, is_met: bool, note: Note) -> Option<Clause>
 
 // The first clause that is broken, by what is written.
 
-fn broken_by_transfer<'a, P: Outcomes<'a> + Counts + Carriage<'a>>(
+fn broken_by_transfer<'a, P: Counts + Carriage<'a>>(
     past: &P,
     rules: &[Rule],
     event: &Event,
@@ -84,13 +84,17 @@ fn broken_by_transfer<'a, P: Outcomes<'a> + Counts + Carriage<'a>>(
     if !begins && !goes_on_alike(event, transfer) {
         return Some(Clause::L6);
     }
-    if !names_carried(past, rules, event, transfer, &link) {
+    let Some(delivery) = past.to_carry(rules, event.note) else {
+        return Some(Clause::L7);
+    };
+    if !is_alike(event, &link, transfer, &delivery) {
         return Some(Clause::L7);
     }
-    if !carries_noted(past, event, transfer, payload) {
+    if !carries(past, event, transfer, payload, &delivery) {
         return Some(Clause::L8);
     }
-    unless_met(Clause::L9, !begins || may_go_to(past, rules, event, &link))
+    let is_met = !begins || may_go_to(past, rules, &link, &delivery);
+    unless_met(Clause::L9, is_met)
 }
 
 fn broken_by_disposition<'a, P: Outcomes<'a>>(

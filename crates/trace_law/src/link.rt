@@ -122,9 +122,9 @@ impl<'a> Link<'a> {
 }
 
 impl<'a> Event<'a> {
-    ghost use Rattle.std.specs.Prelude.{◌≡◌, option_map};
+    ghost use Rattle.std.specs.Prelude.{◌≡◌};
     ghost use Rattle.trace_events.specs.Link.{attaches_in, attaches_out, detaches_in, detaches_out};
-    ghost use Rattle.trace_law.specs.View.{link_view, event_view};
+    ghost use Rattle.trace_law.specs.View.{event_view};
 
     fn attaches_in(&self, session: Session, handle: u32) -> bool
         ensures { result ≡ attaches_in session handle (event_view self.now) }

@@ -214,8 +214,8 @@ impl<'p, 'a> Carriage<'a> for Past<'p, 'a> {
         self.outgoing_in_progress(link)
     }
 
-    fn noted(&self, note: Note) -> Option<Incoming<'a>> {
-        self.noted(note)
+    fn to_carry(&self, rules: &[Rule], note: Note) -> Option<Incoming<'a>> {
+        self.to_carry(rules, note)
     }
 
     fn carried_before(&self, link: &Link) -> Option<Incoming<'a>> {

@@ -2,7 +2,7 @@
 //! time. The events stand on the stack, one call for each record, so a capture of many thousand records asks for more
 //! stack than a thread has; no memory of the heap is taken.
 
-ghost use Rattle.std.specs.Prelude.{◌≡◌, ℕ, ◌<◌, ◌≤◌, length, drop, slice_range};
+ghost use Rattle.std.specs.Prelude.{◌≡◌, ◌<◌, ◌≤◌, length, drop, slice_range};
 ghost use Rattle.trace_law.specs.Check as checked;
 ghost use Rattle.trace_events.specs.History.{continued};
 ghost use Rattle.trace_law.specs.View.{events};

@@ -1,16 +1,14 @@
 //! What each transfer that the router writes keeps to, L4 to L9.
 
-ghost use Rattle.std.specs.Prelude.{◌≡◌, ◌&&◌, ◌||◌, not, bytes_eq, ◌<◌, ◌^◌, length, option_map, find};
+ghost use Rattle.std.specs.Prelude.{◌≡◌, ◌&&◌, ◌||◌};
 ghost use Rattle.amqp_perf.specs.View.{transfer_fields};
-ghost use Rattle.trace_events.specs.Credit.{begins_outgoing};
-ghost use Rattle.trace_events.specs.Incoming.{address_of};
 ghost use Rattle.trace_law.specs.View.{event_view, incoming_view, link_view, outgoing_view, Events};
-ghost use Rattle.trace_events.specs.Outgoing.{is_on, outgoing_deliveries};
 ghost use Rattle.trace_clauses.specs.TransferClause as law;
+ghost use Rattle.trace_events.specs.Words.{is_some_and};
 
 use crate::delivery::waiting::is_of_multicast;
 use crate::history::event::{Event, Incoming, Link, Outgoing};
-use crate::questions::{Carriage, Counts, Outcomes};
+use crate::questions::{Carriage, Counts};
 use amqp_perf::Transfer;
 use capture_form::Rule;
 use pairing_cert::Note;
@@ -52,9 +50,8 @@ fn has_form(delivery: &Incoming, link: &Link, fields: &Transfer) -> bool
 }
 
 /// It has the link's address, and its form where it begins.
-fn is_alike(event: &Event, link: &Link, fields: &Transfer, delivery: &Incoming) -> bool
-    ensures { result ≡ (bytes_eq (address_of (incoming_view delivery.now)) link.now.address.now
-        && (not (begins_outgoing (event_view event.now)) || law.has_form (incoming_view delivery.now) (link_view link.now) (transfer_fields fields.now))) }
+pub(crate) fn is_alike(event: &Event, link: &Link, fields: &Transfer, delivery: &Incoming) -> bool
+    ensures { result ≡ law.is_alike (event_view event.now) (link_view link.now) (transfer_fields fields.now) (incoming_view delivery.now) }
 {
     delivery.address() == link.address
         && (!event.begins_outgoing() || has_form(delivery, link, fields))
@@ -86,57 +83,20 @@ pub(crate) fn may_begin<P: Counts>(past: &P, link: &Link, fields: &Transfer) -> 
         && fields.delivery_id == Some(past.next_delivery_id(link.session))
 }
 
-fn may_carry<'a, P: Outcomes<'a>>(
-    past: &P,
-    rules: &[Rule],
-    event: &Event,
-    link: &Link,
-    fields: &Transfer,
-    delivery: &Incoming,
-) -> bool
-    ensures { (history : Events) → P.stands_for past.now history →
-        (result ≡ law.may_carry rules.now (event_view event.now) (link_view link.now) (transfer_fields fields.now) history (incoming_view delivery.now)) }
-{
-    past.is_complete(delivery)
-        && !past.is_gone(rules, delivery)
-        && is_alike(event, link, fields, delivery)
-}
-
-/// L7: the incoming delivery that the note names may go to the link.
-pub(crate) fn names_carried<'a, P: Outcomes<'a> + Carriage<'a>>(
-    past: &P,
-    rules: &[Rule],
-    event: &Event,
-    fields: &Transfer,
-    link: &Link,
-) -> bool
-    ensures { (history : Events) → P.stands_for past.now history →
-        (result ≡ law.names_carried rules.now (event_view event.now) (transfer_fields fields.now) history (link_view link.now)) }
-{
-    match past.noted(event.note) {
-        Some(delivery) => may_carry(past, rules, event, link, fields, &delivery),
-        None => false,
-    }
-}
-
-/// L8: the payloads so far are the first octets of that delivery's payload, and at the last transfer all of it.
-pub(crate) fn carries_noted<'a, P: Carriage<'a>>(
+/// L8: the payloads so far are the first octets of the delivery's payload, and at the last transfer all of it.
+pub(crate) fn carries<'a, P: Carriage<'a>>(
     past: &P,
     event: &Event,
     fields: &Transfer,
     octets: &'a [u8],
+    delivery: &Incoming,
 ) -> bool
     ensures { (history : Events) → P.stands_for past.now history →
-        (result ≡ law.carries_noted (event_view event.now) (transfer_fields fields.now) octets.now history) }
+        (result ≡ is_some_and (event_view event.now).outgoing (λ j. law.carries j (transfer_fields fields.now) octets.now history (incoming_view delivery.now))) }
 {
-    match (past.noted(event.note), &event.outgoing) {
-        (Some(delivery), Some(outgoing)) => past.is_payload_so_far(
-            fields.has_more(),
-            &delivery,
-            outgoing,
-            octets,
-        ),
-        _ => false,
+    match &event.outgoing {
+        Some(outgoing) => past.is_payload_so_far(fields.has_more(), delivery, outgoing, octets),
+        None => false,
     }
 }
 
@@ -172,16 +132,12 @@ fn is_in_order<'a, P: Carriage<'a>>(past: &P, link: &Link, delivery: &Incoming) 
 pub(crate) fn may_go_to<'a, P: Carriage<'a>>(
     past: &P,
     rules: &[Rule],
-    event: &Event,
     link: &Link,
+    delivery: &Incoming,
 ) -> bool
     requires few { P.is_short past.now }
     ensures { (history : Events) → P.stands_for past.now history →
-        (result ≡ law.may_go_to rules.now (event_view event.now) history (link_view link.now)) }
+        (result ≡ (law.is_first_to rules.now (link_view link.now) history (incoming_view delivery.now) && law.is_in_order (link_view link.now) history (incoming_view delivery.now))) }
 {
-    match past.noted(event.note) {
-        Some(delivery) => is_first_to(past, rules, link, &delivery)
-            && is_in_order(past, link, &delivery),
-        None => false,
-    }
+    is_first_to(past, rules, link, delivery) && is_in_order(past, link, delivery)
 }

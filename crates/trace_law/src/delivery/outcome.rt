@@ -1,7 +1,7 @@
 //! What is told of an incoming delivery, and why (states: part 3 of the standard, section 3.4; the rows are a choice of
 //! this router).
 
-ghost use Rattle.std.specs.Prelude.{◌≡◌, ◌≤◌, ◌^◌, option_map, is_some};
+ghost use Rattle.std.specs.Prelude.{◌≡◌, ◌≤◌, ◌^◌, option_map};
 ghost use Rattle.amqp_perf.specs.View.{disposition_fields};
 ghost use Rattle.trace_clauses.specs.Outcome.{outcome_octets, bare_outcome};
 ghost use Rattle.std.specs.Option.{option_copied};

@@ -28,7 +28,7 @@ impl<'a> Event<'a> {
     ghost use Rattle.trace_events.specs.Words.{is_some_and};
     ghost use Rattle.trace_events.specs.Said.{out_transfer};
     ghost use Rattle.trace_events.specs.Outgoing as law;
-    ghost use Rattle.trace_law.specs.View.{link_view, incoming_view, outgoing_view, event_view};
+    ghost use Rattle.trace_law.specs.View.{link_view, outgoing_view, event_view};
 
     /// It is one of the delivery's parts.
     fn is_outgoing_part(&self, delivery: &Outgoing) -> bool

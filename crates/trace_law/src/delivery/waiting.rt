@@ -7,6 +7,7 @@ ghost use Rattle.trace_law.specs.View.{incoming_view};
 use crate::history::event::{Incoming, Link, Past};
 use crate::link::address::has_multicast;
 use capture_form::Rule;
+use pairing_cert::Note;
 use trace_events::Session;
 
 /// Its address goes to all its consumers.
@@ -17,8 +18,9 @@ pub(crate) fn is_of_multicast(rules: &[Rule], delivery: &Incoming) -> bool
 }
 
 impl<'p, 'a> Past<'p, 'a> {
-    ghost use Rattle.std.specs.Prelude.{◌≡◌, ◌<◌, ◌^◌, ◌&&◌, length, bytes_eq};
+    ghost use Rattle.std.specs.Prelude.{◌≡◌, ◌<◌, ◌^◌, ◌&&◌, length, bytes_eq, option_map};
     ghost use Rattle.trace_events.specs.Incoming.{address_of};
+    ghost use Rattle.trace_clauses.specs.TransferClause.{to_carry};
     ghost use Rattle.trace_events.specs.Fault.{is_id_in_use};
     ghost use Rattle.trace_events.specs.Waiting as law;
     ghost use Rattle.trace_law.specs.View.{link_view, incoming_view, events};
@@ -59,6 +61,18 @@ impl<'p, 'a> Past<'p, 'a> {
         ensures { result ≡ law.is_gone rules.now (incoming_view delivery.now) (events self.now) }
     {
         self.is_unpaired(rules, delivery) && !self.always_had_consumer(delivery)
+    }
+
+    /// The delivery that a note names, where it may go to consumers: it is complete, and not gone.
+    pub(crate) fn to_carry(&self, rules: &[Rule], note: Note) -> Option<Incoming<'a>>
+        ensures { option_map incoming_view result ≡ to_carry rules.now note (events self.now) }
+    {
+        let delivery = self.noted(note)?;
+        if self.is_complete(&delivery) && !self.is_gone(rules, &delivery) {
+            Some(delivery)
+        } else {
+            None
+        }
     }
 
     /// Of a live link: it isn't complete, it waits, or it is neither settled nor told; an aborted one is decided.

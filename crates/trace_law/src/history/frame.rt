@@ -33,8 +33,8 @@ pub(crate) struct Frame<'a> {
 
 impl<'a> Frame<'a> {
     ghost use Rattle.std.specs.Prelude.{◌≡◌, option_map};
-    ghost use Rattle.trace_events.specs.Frame.{frame_read, body_in, spoken_in, channel_in};
-    ghost use Rattle.trace_law.specs.View.{frame_view, body_view, spoken_view};
+    ghost use Rattle.trace_events.specs.Frame.{frame_read, spoken_in, channel_in};
+    ghost use Rattle.trace_law.specs.View.{frame_view, spoken_view};
 
     /// The octets, read.
     #[tactic(auto, unfolding(trace_events::specs::Frame::frame_read))]

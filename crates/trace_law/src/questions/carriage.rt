@@ -19,9 +19,10 @@ pub(crate) trait Carriage<'a>: History {
         ensures { (history : Events) → Self.stands_for self.now history →
             (option_map outgoing_view result ≡ sent.in_progress (link_view link.now) history) };
 
-    /// The incoming delivery that a note names.
-    fn noted(&self, note: Note) -> Option<Incoming<'a>>
-        ensures { (history : Events) → Self.stands_for self.now history → (option_map incoming_view result ≡ sent.noted note history) };
+    /// The incoming delivery that a note names, where it may go to consumers: it is complete, and not gone.
+    fn to_carry(&self, rules: &[Rule], note: Note) -> Option<Incoming<'a>>
+        ensures { (history : Events) → Self.stands_for self.now history →
+            (option_map incoming_view result ≡ transfers.to_carry rules.now note history) };
 
     /// The incoming delivery that the last one begun on the link carries.
     fn carried_before(&self, link: &Link) -> Option<Incoming<'a>>
