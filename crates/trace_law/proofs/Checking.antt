@@ -1,12 +1,10 @@
 -- The records of a capture, taken one after the other.
-use Rattle.std.proofs.Common.{◌≡◌, sym, ap, ◌∙◌, ℕ, suc, ◌+◌, ◌-◌, ◌<◌, ◌≤◌, List, [], ◌∷◌, length, take, drop, slice_range, get_or, add-one, arith}
+use Rattle.std.proofs.Common.{◌≡◌, sym, ap, ◌∙◌, ℕ, suc, ◌+◌, ◌-◌, ◌<◌, ◌≤◌, List, ◌∷◌, length, take, drop, slice_range, get_or, add-one, arith}
 use Rattle.std.proofs.Math.Seq.{drop-cons}
 use Rattle.capture_form.specs.declared.records.Record.{Record}
 use Rattle.capture_form.specs.Rules.{RuleText}
 use Rattle.trace_events.specs.Event.{Event}
 use Rattle.trace_events.specs.History.{judge, continued}
-use Rattle.trace_clauses.specs.Clauses.{broken_clause}
-use Rattle.trace_law.specs.Check.{broken_by_first}
 
 module _ (rules : List RuleText) (past : List Event) (records : List Record) (from end : ℕ) (r : Record) (e : Event) (same : r ≡ get_or records from r) (judged : e ≡ judge rules past r) where
   first : from < length records → drop from records ≡ r ∷ drop (from + 1) records
@@ -21,24 +19,3 @@ module _ (rules : List RuleText) (past : List Event) (records : List Record) (fr
   pub events-next : end ≤ length records → from < end → continued rules (e ∷ past) (slice_range records (from + 1) end) ≡ continued rules past (slice_range records from end)
   events-next le lt =
       ap (λ x. continued rules (x ∷ past) (slice_range records (from + 1) end)) judged ∙ sym (ap (continued rules past) (split lt le))
-
-  pub events-on : from < length records → continued rules (e ∷ past) (drop (from + 1) records) ≡ continued rules past (drop from records)
-  events-on lt = ap (λ x. continued rules (x ∷ past) (drop (from + 1) records)) judged ∙ sym (ap (continued rules past) (first lt))
-
-  -- the record that is asked of
-  pub broken-here : from < length records → broken_clause rules e past ≡ broken_by_first rules past (drop from records)
-  broken-here lt =
-      ap (λ x. broken_clause rules x past) judged
-      ∙ sym (ap (broken_by_first rules past) (first lt))
-
-  none : from ≡ end → slice_range records from end ≡ []
-  none is = ap (λ n. take n (drop from records)) (nothing is)
-    where
-      nothing : from ≡ end → end - from ≡ 0
-      nothing e = omega (arith, e)
-
-  pub broken-at : from ≡ end → end < length records → broken_clause rules e past ≡ broken_by_first rules (continued rules past (slice_range records from end)) (drop end records)
-  broken-at is lt =
-      broken-here (omega (arith, is, lt))
-      ∙ ap (λ rs. broken_by_first rules (continued rules past rs) (drop from records)) (sym (none is))
-      ∙ ap (λ n. broken_by_first rules (continued rules past (slice_range records from end)) (drop n records)) is

@@ -1,4 +1,5 @@
-//! What may be asked of a capture at one of its records.
+//! What the plain checker is asked of a capture.
 
 pub(crate) mod check;
 pub(crate) mod tally;
+pub(crate) mod walk;

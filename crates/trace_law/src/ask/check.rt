@@ -1,54 +1,122 @@
 //! The plain checker: what the law says of a capture at one of its records, computed from the records below it anew each
-//! time. The events stand on the stack, one call for each record, so a capture of many thousand records asks for more
-//! stack than a thread has; no memory of the heap is taken.
+//! time.
 
-ghost use Rattle.std.specs.Prelude.{◌≡◌, ◌<◌, ◌≤◌, length, drop, slice_range};
+ghost use Rattle.std.specs.Prelude.{◌≡◌, ◌<◌, length};
 ghost use Rattle.trace_law.specs.Check as checked;
-ghost use Rattle.trace_events.specs.History.{continued};
-ghost use Rattle.trace_law.specs.View.{events};
 
+use crate::ask::walk::{Asked, walk};
 use crate::history::event::Past;
 use capture_form::{Capture, Record, Rule};
 use trace_clauses::Clause;
 
-/// A handle of a channel of a connection.
+/// How many transfers may still be sent on the live session of a channel.
 #[derive(Clone, Copy)]
-struct Place {
+struct WindowOn {
+    connection: u32,
+    channel: u16,
+}
+
+impl Asked for WindowOn {
+    ghost use Rattle.std.specs.Prelude.{◌≡◌};
+    ghost use Rattle.trace_law.specs.Check.{window_on};
+
+    type Answer = Option<u32>;
+
+    ghost is_answer = { λ asked rules past rest answer. answer ≡ window_on asked.connection asked.channel past };
+
+    fn answer<'a>(
+        &self,
+        rules: &[Rule],
+        past: &Past<'_, 'a>,
+        number: u64,
+        rest: &'a [Record],
+    ) -> Option<u32> {
+        let session = past.live_session(self.connection, self.channel)?;
+        Some(past.session_window(session))
+    }
+}
+
+/// How many deliveries may still begin on the live link of a handle.
+#[derive(Clone, Copy)]
+struct CreditOn {
     connection: u32,
     channel: u16,
     handle: u32,
 }
 
-impl<'p, 'a> Past<'p, 'a> {
+impl Asked for CreditOn {
     ghost use Rattle.std.specs.Prelude.{◌≡◌};
-    ghost use Rattle.trace_law.specs.Check as checked;
-    ghost use Rattle.trace_law.specs.View.{events};
+    ghost use Rattle.trace_law.specs.Check.{credit_on};
 
-    fn window_on(&self, connection: u32, channel: u16) -> Option<u32>
-        ensures { result ≡ checked.window_on connection channel (events self.now) }
-    {
-        let session = self.live_session(connection, channel)?;
-        Some(self.session_window(session))
-    }
+    type Answer = Option<u32>;
 
-    fn credit_on(&self, place: Place) -> Option<u32>
-        ensures { result ≡ checked.credit_on place.connection place.channel place.handle (events self.now) }
-    {
-        let link = self.live_link(place.connection, place.channel, place.handle)?;
+    ghost is_answer = { λ asked rules past rest answer. answer ≡ credit_on asked.connection asked.channel asked.handle past };
+
+    fn answer<'a>(
+        &self,
+        rules: &[Rule],
+        past: &Past<'_, 'a>,
+        number: u64,
+        rest: &'a [Record],
+    ) -> Option<u32> {
+        let link = past.live_link(self.connection, self.channel, self.handle)?;
         if link.is_consumer() {
-            Some(self.link_credit(&link))
+            Some(past.link_credit(&link))
         } else {
             None
         }
     }
+}
 
-    fn waits(&self, rules: &[Rule], number: u64) -> bool
-        ensures { result ≡ checked.waits rules.now number (events self.now) }
-    {
-        match self.incoming_at(number) {
-            Some(delivery) => self.is_waiting(rules, &delivery),
+/// Whether the delivery that begins in a record waits for a consumer.
+#[derive(Clone, Copy)]
+struct Waits {
+    delivery: u64,
+}
+
+impl Asked for Waits {
+    ghost use Rattle.std.specs.Prelude.{◌≡◌};
+    ghost use Rattle.trace_law.specs.Check.{waits};
+
+    type Answer = bool;
+
+    ghost is_answer = { λ asked rules past rest answer. answer ≡ waits rules asked.delivery past };
+
+    fn answer<'a>(
+        &self,
+        rules: &[Rule],
+        past: &Past<'_, 'a>,
+        number: u64,
+        rest: &'a [Record],
+    ) -> bool {
+        match past.incoming_at(self.delivery) {
+            Some(delivery) => past.is_waiting(rules, &delivery),
             None => false,
         }
+    }
+}
+
+/// The first clause that the next record breaks.
+#[derive(Clone, Copy)]
+struct BrokenByNext;
+
+impl Asked for BrokenByNext {
+    ghost use Rattle.std.specs.Prelude.{◌≡◌};
+    ghost use Rattle.trace_law.specs.Check.{broken_by_first};
+
+    type Answer = Option<Clause>;
+
+    ghost is_answer = { λ asked rules past rest answer. answer ≡ broken_by_first rules past rest };
+
+    fn answer<'a>(
+        &self,
+        rules: &[Rule],
+        past: &Past<'_, 'a>,
+        number: u64,
+        rest: &'a [Record],
+    ) -> Option<Clause> {
+        let event = past.judge(rules, number, rest.first()?);
+        past.broken_clause(rules, &event)
     }
 }
 
@@ -61,32 +129,12 @@ pub fn slow_check<'a>(capture: &'a Capture, i: usize) -> Result<(), Clause>
     requires { i < length capture.now.records }
     ensures { result ≡ checked.as_checked (checked.clause_broken_by i capture.now) }
 {
+    let records = capture.records();
     let start: Past<'_, 'a> = Past::Start;
-    match broken_after(capture.rules(), capture.records(), 0, i, &start) {
+    match walk(&BrokenByNext, capture.rules(), records, 0, i, &start) {
         None => Ok(()),
         Some(clause) => Err(clause),
     }
-}
-
-/// The clause that the record `at` breaks first, where those below `from` are past.
-fn broken_after<'p, 'a>(
-    rules: &[Rule],
-    records: &'a [Record],
-    from: usize,
-    at: usize,
-    past: &'p Past<'p, 'a>,
-) -> Option<Clause>
-    requires ordered { from ≤ at }
-    requires within { at < length records.now }
-    requires numbered { length (events past.now) ≡ from }
-    ensures { result ≡ checked.broken_by_first rules.now (continued rules.now (events past.now) (slice_range records.now from at)) (drop at records.now) }
-{
-    let event = past.judge(rules, from as u64, &records[from]);
-    if from == at {
-        return past.broken_clause(rules, &event);
-    }
-    let here = Past::After(event, &*past);
-    broken_after(rules, &*records, from + 1, at, &here)
 }
 
 /// How many transfers may still be sent on the live session of a channel, by the records below this number (by all, where
@@ -96,30 +144,12 @@ pub fn window_at<'a>(capture: &'a Capture, i: usize, conn: u32, channel: u16) ->
 {
     let records = capture.records();
     let end = i.min(records.len());
+    let window = WindowOn {
+        connection: conn,
+        channel,
+    };
     let start: Past<'_, 'a> = Past::Start;
-    window_after(capture.rules(), records, 0, end, &start, conn, channel)
-}
-
-fn window_after<'p, 'a>(
-    rules: &[Rule],
-    records: &'a [Record],
-    from: usize,
-    end: usize,
-    past: &'p Past<'p, 'a>,
-    connection: u32,
-    channel: u16,
-) -> Option<u32>
-    requires ordered { from ≤ end }
-    requires within { end ≤ length records.now }
-    requires numbered { length (events past.now) ≡ from }
-    ensures { result ≡ checked.window_on connection channel (continued rules.now (events past.now) (slice_range records.now from end)) }
-{
-    if from == end {
-        return past.window_on(connection, channel);
-    }
-    let event = past.judge(rules, from as u64, &records[from]);
-    let here = Past::After(event, &*past);
-    window_after(rules, &*records, from + 1, end, &here, connection, channel)
+    walk(&window, capture.rules(), records, 0, end, &start)
 }
 
 /// How many deliveries may still begin on the live link of a handle, by the records below this number (by all, where there
@@ -135,34 +165,13 @@ pub fn credit_at<'a>(
 {
     let records = capture.records();
     let end = i.min(records.len());
-    let place = Place {
+    let credit = CreditOn {
         connection: conn,
         channel,
         handle,
     };
     let start: Past<'_, 'a> = Past::Start;
-    credit_after(capture.rules(), records, 0, end, &start, place)
-}
-
-fn credit_after<'p, 'a>(
-    rules: &[Rule],
-    records: &'a [Record],
-    from: usize,
-    end: usize,
-    past: &'p Past<'p, 'a>,
-    place: Place,
-) -> Option<u32>
-    requires ordered { from ≤ end }
-    requires within { end ≤ length records.now }
-    requires numbered { length (events past.now) ≡ from }
-    ensures { result ≡ checked.credit_on place.connection place.channel place.handle (continued rules.now (events past.now) (slice_range records.now from end)) }
-{
-    if from == end {
-        return past.credit_on(place);
-    }
-    let event = past.judge(rules, from as u64, &records[from]);
-    let here = Past::After(event, &*past);
-    credit_after(rules, &*records, from + 1, end, &here, place)
+    walk(&credit, capture.rules(), records, 0, end, &start)
 }
 
 /// Whether the delivery that begins in record `d` waits for a consumer, by the records below this number (by all, where
@@ -173,26 +182,12 @@ pub fn waiting_at<'a>(capture: &'a Capture, i: usize, d: u64) -> bool
     let records = capture.records();
     let end = i.min(records.len());
     let start: Past<'_, 'a> = Past::Start;
-    waiting_after(capture.rules(), records, 0, end, &start, d)
-}
-
-fn waiting_after<'p, 'a>(
-    rules: &[Rule],
-    records: &'a [Record],
-    from: usize,
-    end: usize,
-    past: &'p Past<'p, 'a>,
-    number: u64,
-) -> bool
-    requires ordered { from ≤ end }
-    requires within { end ≤ length records.now }
-    requires numbered { length (events past.now) ≡ from }
-    ensures { result ≡ checked.waits rules.now number (continued rules.now (events past.now) (slice_range records.now from end)) }
-{
-    if from == end {
-        return past.waits(rules, number);
-    }
-    let event = past.judge(rules, from as u64, &records[from]);
-    let here = Past::After(event, &*past);
-    waiting_after(rules, &*records, from + 1, end, &here, number)
+    walk(
+        &Waits { delivery: d },
+        capture.rules(),
+        records,
+        0,
+        end,
+        &start,
+    )
 }

@@ -1,5 +1,6 @@
 //! What a capture holds, counted.
 
+use crate::ask::walk::{Asked, walk};
 use crate::history::event::{Event, Past};
 use amqp_perf::Role;
 use capture_form::{Capture, Record, Rule};
@@ -71,33 +72,38 @@ impl<'p, 'a> Past<'p, 'a> {
     }
 }
 
-ghost use Rattle.std.specs.Prelude.{◌≡◌, ◌≤◌, length, drop};
-ghost use Rattle.trace_events.specs.History.{history, continued};
+/// What all records hold.
+#[derive(Clone, Copy)]
+struct Tallied;
+
+impl Asked for Tallied {
+    ghost use Rattle.std.specs.Prelude.{◌≡◌};
+    ghost use Rattle.trace_clauses.specs.Verdict.{tally_of};
+
+    type Answer = Tally;
+
+    ghost is_answer = { λ asked rules past rest answer. answer ≡ tally_of past };
+
+    fn answer<'a>(
+        &self,
+        rules: &[Rule],
+        past: &Past<'_, 'a>,
+        number: u64,
+        rest: &'a [Record],
+    ) -> Tally {
+        past.tally(number)
+    }
+}
+
+ghost use Rattle.std.specs.Prelude.{◌≡◌};
+ghost use Rattle.trace_events.specs.History.{history};
 ghost use Rattle.trace_clauses.specs.Verdict.{tally_of};
-ghost use Rattle.trace_law.specs.View.{events};
 
 /// What the capture holds. It takes no memory.
 pub fn tally_capture<'a>(capture: &'a Capture) -> Tally
     ensures { result ≡ tally_of (history capture.now.rules capture.now.records) }
 {
+    let records = capture.records();
     let start: Past<'_, 'a> = Past::Start;
-    tally_after(capture.rules(), capture.records(), 0, &start)
-}
-
-fn tally_after<'p, 'a>(
-    rules: &[Rule],
-    records: &'a [Record],
-    from: usize,
-    past: &'p Past<'p, 'a>,
-) -> Tally
-    requires within { from ≤ length records.now }
-    requires numbered { length (events past.now) ≡ from }
-    ensures { result ≡ tally_of (continued rules.now (events past.now) (drop from records.now)) }
-{
-    if from == records.len() {
-        return past.tally(from as u64);
-    }
-    let event = past.judge(rules, from as u64, &records[from]);
-    let here = Past::After(event, &*past);
-    tally_after(rules, &*records, from + 1, &here)
+    walk(&Tallied, capture.rules(), records, 0, records.len(), &start)
 }

@@ -1,6 +1,6 @@
 //! Flows that the router writes (part 2 of the standard, sections 2.5.6, 2.6.7 and 2.7.4).
 
-ghost use Rattle.std.specs.Prelude.{◌≡◌, ◌<◌};
+ghost use Rattle.std.specs.Prelude.{◌≡◌};
 ghost use Rattle.trace_law.specs.View.{event_view, link_view, Events};
 ghost use Rattle.trace_clauses.specs.FlowClause as law;
 
