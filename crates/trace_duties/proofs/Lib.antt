@@ -14,3 +14,4 @@ mod Openings
 mod WorkedCredit
 mod WorkedDeliveries
 mod WorkedLinks
+mod ConsumerCounts
