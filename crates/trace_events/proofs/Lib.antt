@@ -17,3 +17,4 @@ pub mod Sessions
 pub mod Links
 pub mod Judged
 pub mod Fates
+pub mod LinkLives
