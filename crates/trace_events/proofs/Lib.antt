@@ -18,3 +18,4 @@ pub mod Links
 pub mod Judged
 pub mod Fates
 pub mod LinkLives
+pub mod LinkNumbers
