@@ -1,10 +1,11 @@
 -- What lists of events do to the consumers that are counted over them.
-use Rattle.std.proofs.Common.{◌≡◌, refl, sym, ap, ◌∙◌, ℕ, suc, ◌-◌, ◌+◌, Bool, true, false, ◌&&◌, ◌||◌, not, List, [], ◌∷◌, ◌++◌, Option, Some, None, is_none, filter, map, unwrap_or, if◌then◌else◌, ◌==◌, arith}
-use Rattle.std.specs.List.{list_any}
+use Rattle.std.proofs.Common.{◌≡◌, refl, sym, ap, ◌∙◌, ℕ, suc, ◌-◌, Bool, true, false, ◌&&◌, ◌||◌, not, List, [], ◌∷◌, ◌++◌, Option, Some, None, is_none, filter, map, unwrap_or, if◌then◌else◌, ◌==◌, arith}
+use Rattle.std.specs.List.{list_any, count_by}
 use Rattle.std.specs.Option.{option_map}
 use Rattle.std.specs.Str.{bytes_eq}
 use Rattle.std.proofs.lemmas.Bool.{eqb-true, eq-eqb, ne_eqb}
 use Rattle.std.proofs.lemmas.List.Folds.{list_any-append}
+use Rattle.trace_events.proofs.StepWords.{count-passes, count-fails}
 use Rattle.flow_counts.specs.Picks.{AddressEvent, Attached, Detached, Begun, Decided, Consumer, attached, begun, decided, consumer, is_at, consumers}
 
 -- ---- tests of numbers
@@ -153,3 +154,31 @@ module _ {A : Type 0} (number : A → ℕ) where
           → (if b then None else consumer link (map (λ x. Detached (number x)) xs ++ past)) ≡ (if b || list_any (λ x. link == number x) xs then None else consumer link past)
       by true is = refl
       by false is = is
+
+-- with some deliveries of the consumer decided
+abbrev pub fewer : ℕ → Consumer → Consumer
+fewer count consumer = record consumer { undecided = consumer.undecided - count }
+
+none-fewer : (o : Option Consumer) → option_map (fewer 0) o ≡ o
+none-fewer None = refl
+none-fewer (Some c) = let same : c.undecided - 0 ≡ c.undecided = omega arith in ap (λ n. Some (record c { undecided = n })) same
+
+one-fewer : (count : ℕ) (o : Option Consumer) → option_map decided (option_map (fewer count) o) ≡ option_map (fewer (suc count)) o
+one-fewer count None = refl
+one-fewer count (Some c) = let same : (c.undecided - count) - 1 ≡ c.undecided - suc count = omega arith in ap (λ n. Some (record c { undecided = n })) same
+
+module _ {A : Type 0} (number : A → ℕ) where
+  pub consumer-all_decided : (link : ℕ) (xs : List A) (past : List AddressEvent)
+      → consumer link (map (λ x. Decided (number x)) xs ++ past) ≡ option_map (fewer (count_by (λ x. link == number x) xs)) (consumer link past)
+  consumer-all_decided link [] past = sym (none-fewer (consumer link past))
+  consumer-all_decided link (x ∷ xs) past = by (link == number x) refl (consumer-all_decided link xs past)
+    where
+      by : (b : Bool) → (link == number x) ≡ b
+          → consumer link (map (λ x. Decided (number x)) xs ++ past) ≡ option_map (fewer (count_by (λ x. link == number x) xs)) (consumer link past)
+          → (if b then option_map decided (consumer link (map (λ x. Decided (number x)) xs ++ past)) else consumer link (map (λ x. Decided (number x)) xs ++ past))
+          ≡ option_map (fewer (count_by (λ x. link == number x) (x ∷ xs))) (consumer link past)
+      by true is rest =
+          ap (option_map decided) rest
+          ∙ (one-fewer (count_by (λ x. link == number x) xs) (consumer link past)
+          ∙ ap (λ n. option_map (fewer n) (consumer link past)) (sym (count-passes (λ x. link == number x) x xs is)))
+      by false is rest = rest ∙ ap (λ n. option_map (fewer n) (consumer link past)) (sym (count-fails (λ x. link == number x) x xs is))

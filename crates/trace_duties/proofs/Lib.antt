@@ -14,4 +14,5 @@ mod Openings
 mod WorkedCredit
 mod WorkedDeliveries
 mod WorkedLinks
-mod ConsumerCounts
+pub mod ConsumerCounts
+pub mod ConsumersCounted
