@@ -19,3 +19,4 @@ pub mod Judged
 pub mod Fates
 pub mod LinkLives
 pub mod LinkNumbers
+pub mod OutgoingLinks
