@@ -3,19 +3,13 @@ use Rattle.std.proofs.Common.{◌≡◌, refl, sym, ap, ◌∙◌, ℕ, suc, ◌
 use Rattle.std.specs.List.{list_any, count_by}
 use Rattle.std.specs.Option.{option_map}
 use Rattle.std.specs.Str.{bytes_eq}
-use Rattle.std.proofs.lemmas.Bool.{eqb-true, eq-eqb, ne_eqb}
+use Rattle.std.proofs.lemmas.Bool.{eqb-true}
 use Rattle.std.proofs.lemmas.List.Folds.{list_any-append}
-use Rattle.trace_events.proofs.StepWords.{count-passes, count-fails}
+use Rattle.trace_events.proofs.StepWords.{filter-both, count-passes, count-fails}
+use Rattle.trace_events.proofs.LinkNumbers.{same-sym}
 use Rattle.flow_counts.specs.Picks.{AddressEvent, Attached, Detached, Begun, Decided, Consumer, attached, begun, decided, consumer, is_at, consumers}
 
--- ---- tests of numbers
-
-pub same-sym : (m n : ℕ) → (m == n) ≡ (n == m)
-same-sym m n = by (m == n) refl
-  where
-    by : (b : Bool) → (m == n) ≡ b → b ≡ (n == m)
-    by true is = sym (eq-eqb n m (sym (eqb-true m n is)))
-    by false is = sym (ne_eqb n m (λ same. let yes : (m == n) ≡ true = eq-eqb m n (sym same) in absurd cc))
+-- ---- numbers without one
 
 any-without : (link on : ℕ) → (link == on) ≡ false → (xs : List ℕ) → list_any (λ x. x == link) (filter (λ x. not (x == on)) xs) ≡ list_any (λ x. x == link) xs
 any-without link on other [] = refl
@@ -114,15 +108,6 @@ keep-all : {A : Type 0} (xs : List A) → filter (λ x. true) xs ≡ xs
 keep-all [] = refl
 keep-all (x ∷ xs) = ap (λ rest. x ∷ rest) (keep-all xs)
 
-filter-both : {A : Type 0} (p q r : A → Bool) → ((x : A) → p x ≡ q x && r x) → (xs : List A) → filter p xs ≡ filter r (filter q xs)
-filter-both p q r both [] = refl
-filter-both p q r both (x ∷ xs) =
-    ap (λ b. if b then x ∷ filter p xs else filter p xs) (both x) ∙ (ap (λ rest. if q x && r x then x ∷ rest else rest) (filter-both p q r both xs) ∙ by (q x) refl)
-  where
-    by : (b : Bool) → q x ≡ b → (if b && r x then x ∷ filter r (filter q xs) else filter r (filter q xs)) ≡ filter r (if b then x ∷ filter q xs else filter q xs)
-    by true is = refl
-    by false is = refl
-
 neither : (a b : Bool) → not (a || b) ≡ not b && not a
 neither true true = refl
 neither true false = refl
@@ -159,7 +144,7 @@ module _ {A : Type 0} (number : A → ℕ) where
 abbrev pub fewer : ℕ → Consumer → Consumer
 fewer count consumer = record consumer { undecided = consumer.undecided - count }
 
-none-fewer : (o : Option Consumer) → option_map (fewer 0) o ≡ o
+pub none-fewer : (o : Option Consumer) → option_map (fewer 0) o ≡ o
 none-fewer None = refl
 none-fewer (Some c) = let same : c.undecided - 0 ≡ c.undecided = omega arith in ap (λ n. Some (record c { undecided = n })) same
 

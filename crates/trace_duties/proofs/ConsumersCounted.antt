@@ -70,7 +70,7 @@ consumer-begun : (n : ℕ) (o : Option Outgoing) (number : ℕ) (past : List Add
 consumer-begun n None number past = refl
 consumer-begun n (Some j) number past = refl
 
-consumer-other : (n : ℕ) (o : Option Link) (past : List AddressEvent) → is_some_and o (λ l. n == l.number) ≡ false → consumer n (attached_as o ++ past) ≡ consumer n past
+pub consumer-other : (n : ℕ) (o : Option Link) (past : List AddressEvent) → is_some_and o (λ l. n == l.number) ≡ false → consumer n (attached_as o ++ past) ≡ consumer n past
 consumer-other n None past other = refl
 consumer-other n (Some l) past other = by (is_consumer l)
   where
@@ -79,14 +79,14 @@ consumer-other n (Some l) past other = by (is_consumer l)
     by false = refl
 
 -- an event begins a delivery on the link of the number
-abbrev begins_on : ℕ → Event → Bool
+abbrev pub begins_on : ℕ → Event → Bool
 begins_on n e = begins_outgoing e && is_some_and e.outgoing (λ j. n == j.link.number)
 
-abbrev with_begun : ℕ → Event → Option Consumer → Option Consumer
+abbrev pub with_begun : ℕ → Event → Option Consumer → Option Consumer
 with_begun n e o = if begins_on n e then option_map (begun e.number) o else o
 
 -- how many deliveries on it the event decides
-abbrev decided_count : ℕ → Event → List Event → ℕ
+abbrev pub decided_count : ℕ → Event → List Event → ℕ
 decided_count n e past = count_by (λ j. n == j.link.number) (filter (decides e past) (outgoing_deliveries past))
 
 consumer-begun_by : (n : ℕ) (e : Event) (past : List AddressEvent) → consumer n (begun_by e ++ past) ≡ with_begun n e (consumer n past)
@@ -99,7 +99,7 @@ consumer-begun_by n e past = by (begins_outgoing e)
 
 -- the event as a whole
 module _ (rules : List RuleText) (e : Event) (past : List Event) (are : AreJudged rules past) where
-  consumer-step : (n : ℕ) → consumer n (address_events (e ∷ past))
+  pub consumer-step : (n : ℕ) → consumer n (address_events (e ∷ past))
       ≡ (if is_some_and (link_at n past) (ends_link e past) then None else option_map (fewer (decided_count n e past)) (with_begun n e (consumer n (attached_as (own_link e) ++ address_events past))))
   consumer-step n =
       let before = attached_as (own_link e) ++ address_events past in
@@ -116,11 +116,11 @@ later-attached : (n : ℕ) (e : Event) (past : List Event) (events : List Addres
 later-attached n e past events le None own = refl
 later-attached n e past events le (Some l) own = consumer-other n (Some l) events (ne_eqb n l.number (λ same. omega (arith, same, own l refl, le)))
 
-consumer-nothing : (ended : Bool) (count : ℕ) (n : ℕ) (e : Event) (o : Option Consumer) → o ≡ None
+pub consumer-nothing : (ended : Bool) (count : ℕ) (n : ℕ) (e : Event) (o : Option Consumer) → o ≡ None
     → (if ended then None else option_map (fewer count) (with_begun n e o)) ≡ None
 consumer-nothing ended count n e o is = consumer-none ended (option_map (fewer count) (with_begun n e o)) (ap (option_map (fewer count)) (consumer-mapped_none (begins_on n e) (begun e.number) o is))
 
-consumer-later : (rules : List RuleText) (past : List Event) → AreJudged rules past → (n : ℕ) → length past ≤ n → consumer n (address_events past) ≡ None
+pub consumer-later : (rules : List RuleText) (past : List Event) → AreJudged rules past → (n : ℕ) → length past ≤ n → consumer n (address_events past) ≡ None
 consumer-later rules [] are n le = refl
 consumer-later rules (e ∷ past) are n le =
     consumer-step rules e past are.1 n

@@ -16,3 +16,4 @@ mod WorkedDeliveries
 mod WorkedLinks
 pub mod ConsumerCounts
 pub mod ConsumersCounted
+pub mod LinksCounted

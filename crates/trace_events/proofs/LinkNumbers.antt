@@ -1,5 +1,5 @@
 -- The links of a history by their numbers: those of the records that opened them, each another's.
-use Rattle.std.proofs.Common.{◌≡◌, refl, sym, ap, ◌∙◌, ℕ, ◌<◌, ◌≤◌, Bool, true, false, ◌||◌, List, [], ◌∷◌, length, Option, Some, None, filter, find, if◌then◌else◌, ◌==◌, arith}
+use Rattle.std.proofs.Common.{◌≡◌, refl, sym, ap, subst, ◌∙◌, ℕ, ◌<◌, ◌≤◌, Bool, true, false, ◌||◌, List, [], ◌∷◌, length, Option, Some, None, filter, find, if◌then◌else◌, ◌==◌, arith}
 use Rattle.std.specs.List.{AllByRecursion, cons_option, list_any}
 use Rattle.std.proofs.lemmas.Bool.{eqb-true, eq-eqb, ne_eqb}
 use Rattle.capture_form.specs.Rules.{RuleText}
@@ -7,7 +7,7 @@ use Rattle.trace_events.specs.Words.{is_some_and}
 use Rattle.trace_events.specs.Event.{Event, Link}
 use Rattle.trace_events.specs.Link.{own_link, links, link_at}
 use Rattle.trace_events.proofs.Judged.{AreJudged, judged-number}
-use Rattle.trace_events.proofs.Links.{link_opened_number}
+use Rattle.trace_events.proofs.Links.{AreFound, found_step, none_found, link_opened_number}
 
 -- a link that an event opens has the number of events before it
 pub own_link-number : (rules : List RuleText) (e : Event) (past : List Event) (l : Link) → AreJudged rules (e ∷ past) → own_link e ≡ Some l → l.number ≡ length past
@@ -42,7 +42,7 @@ find-above n m (l ∷ ls) h le =
     ap (λ b. if b then Some l else find (λ l. l.number == n) ls) (ne_eqb l.number n (λ same. omega (arith, same, le, h.0)))
     ∙ find-above n l.number ls h.1 (omega (arith, le, h.0))
 
-each-weaker : (P Q : Link → Type 0) → ((l : Link) → P l → Q l) → (ls : List Link) → AllByRecursion P ls → AllByRecursion Q ls
+pub each-weaker : (P Q : Link → Type 0) → ((l : Link) → P l → Q l) → (ls : List Link) → AllByRecursion P ls → AllByRecursion Q ls
 each-weaker P Q f [] h = tt
 each-weaker P Q f (l ∷ ls) h = (f l h.0, each-weaker P Q f ls h.1)
 
@@ -58,7 +58,7 @@ each-found n (l ∷ ls) h = (
 
 -- ---- of those that pass a test, one has a number where the link of the number passes
 
-same-sym : (m n : ℕ) → (m == n) ≡ (n == m)
+pub same-sym : (m n : ℕ) → (m == n) ≡ (n == m)
 same-sym m n = by (m == n) refl
   where
     by : (b : Bool) → (m == n) ≡ b → b ≡ (n == m)
@@ -98,3 +98,8 @@ module _ (rules : List RuleText) (past : List Event) (are : AreJudged rules past
 
   pub any-at : (test : Link → Bool) (n : ℕ) → list_any (λ l. n == l.number) (filter test (links past)) ≡ is_some_and (link_at n past) test
   any-at test n = any-found test n (length past) (links past) (judged-falling rules past are)
+
+-- the link that is found by a number has it
+pub judged-found : (rules : List RuleText) (past : List Event) → AreJudged rules past → AreFound past
+judged-found rules [] are = none_found
+judged-found rules (e ∷ past) ((r, is), are) = subst (λ (x : Event). AreFound (x ∷ past)) (sym is) (found_step rules past r (judged-found rules past are))
