@@ -14,3 +14,6 @@ mod Openings
 mod WorkedCredit
 mod WorkedDeliveries
 mod WorkedLinks
+pub mod ConsumerCounts
+pub mod ConsumersCounted
+pub mod LinksCounted

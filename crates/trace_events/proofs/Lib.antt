@@ -17,3 +17,6 @@ pub mod Sessions
 pub mod Links
 pub mod Judged
 pub mod Fates
+pub mod LinkLives
+pub mod LinkNumbers
+pub mod OutgoingLinks
