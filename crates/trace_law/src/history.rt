@@ -37,30 +37,14 @@ impl<'a> Moment<'a> {
 /// Where a frame stands.
 impl<'p, 'a> Past<'p, 'a> {
     ghost use Rattle.std.specs.Prelude.{◌≡◌, option_map};
-    ghost use Rattle.trace_events.specs.History.{written_session, session_of, named_link, written_link, link_on, link_of};
+    ghost use Rattle.trace_events.specs.History.{session_of, named_link, link_of};
     ghost use Rattle.trace_law.specs.View.{spoken_view, moment_view, link_view, events};
 
-    /// The session of what the router writes: a begin begins its own.
-    fn written_session(&self, number: u64, connection: u32, spoken: &Spoken) -> Option<Session>
-        ensures { result ≡ written_session number connection (spoken_view spoken.now).channel (spoken_view spoken.now).meaning (events self.now) }
+    /// The live session of a frame's channel.
+    fn session_of(&self, connection: u32, moment: &Moment) -> Option<Session>
+        ensures { result ≡ session_of connection (moment_view moment.now) (events self.now) }
     {
-        match spoken.performative {
-            Performative::Begin(begin) => {
-                let theirs = self.last_in_begin(connection, spoken.channel);
-                Some(Session::new(number, connection, spoken.channel, begin, theirs))
-            }
-            _ => self.live_session(connection, spoken.channel),
-        }
-    }
-
-    fn session_of(&self, number: u64, connection: u32, moment: &Moment) -> Option<Session>
-        ensures { result ≡ session_of number connection (moment_view moment.now) (events self.now) }
-    {
-        match moment {
-            Moment::In(frame) => self.live_session(connection, frame.spoken()?.channel),
-            Moment::Out(frame) => self.written_session(number, connection, &frame.spoken()?),
-            _ => None,
-        }
+        self.live_session(connection, moment.spoken()?.channel)
     }
 
     /// The live link of the handle that a flow, transfer or detach names.
@@ -70,39 +54,10 @@ impl<'p, 'a> Past<'p, 'a> {
         self.session_link(session, handle_in(&spoken.performative)?)
     }
 
-    /// The link of what the router writes: an attach with source and target opens its own.
-    fn written_link(&self, number: u64, session: Session, spoken: &Spoken<'a>) -> Option<Link<'a>>
-        ensures { option_map link_view result ≡ written_link number session (spoken_view spoken.now).meaning (events self.now) }
+    fn link_of(&self, moment: &Moment, session: Option<Session>) -> Option<Link<'a>>
+        ensures { option_map link_view result ≡ link_of (moment_view moment.now) (events self.now) session }
     {
-        match spoken.performative {
-            Performative::Attach(attach) if opens_link(&attach) => {
-                let theirs = self.last_in_attach(session, attach.handle);
-                Some(Link::new(number, session, &attach, theirs))
-            }
-            Performative::Attach(_) => None,
-            _ => self.named_link(session, spoken),
-        }
-    }
-
-    fn link_on(&self, number: u64, session: Session, moment: &Moment<'a>) -> Option<Link<'a>>
-        ensures { option_map link_view result ≡ link_on number session (moment_view moment.now) (events self.now) }
-    {
-        match moment {
-            Moment::In(frame) => self.named_link(session, &frame.spoken()?),
-            Moment::Out(frame) => self.written_link(number, session, &frame.spoken()?),
-            _ => None,
-        }
-    }
-
-    fn link_of(
-        &self,
-        number: u64,
-        moment: &Moment<'a>,
-        session: Option<Session>,
-    ) -> Option<Link<'a>>
-        ensures { option_map link_view result ≡ link_of number (moment_view moment.now) (events self.now) session }
-    {
-        self.link_on(number, session?, moment)
+        self.named_link(session?, &moment.spoken()?)
     }
 }
 
@@ -258,7 +213,46 @@ impl<'a> Outgoing<'a> {
     }
 }
 
-/// In four steps: where the record stands, whether it is heard, its fault, and the deliveries that it is of.
+/// What the router opens.
+impl<'p, 'a> Past<'p, 'a> {
+    ghost use Rattle.std.specs.Prelude.{◌≡◌, option_map};
+    ghost use Rattle.trace_events.specs.History as law;
+    ghost use Rattle.trace_law.specs.View.{event_view, link_view, events};
+
+    /// The session that an Out begin begins.
+    fn opened_session(&self, event: &Event) -> Option<Session>
+        ensures { result ≡ law.opened_session (event_view event.now) (events self.now) }
+    {
+        let spoken = event.out_spoken()?;
+        let Performative::Begin(begin) = spoken.performative else {
+            return None;
+        };
+        let theirs = self.last_in_begin(event.connection, spoken.channel);
+        Some(Session::new(
+            event.number,
+            event.connection,
+            spoken.channel,
+            begin,
+            theirs,
+        ))
+    }
+
+    /// The link that an Out attach with source and target opens on a live session.
+    fn opened_link(&self, event: &Event<'a>) -> Option<Link<'a>>
+        ensures { option_map link_view result ≡ law.opened_link (event_view event.now) (events self.now) }
+    {
+        let attach = event.out_attach()?;
+        let session = event.session?;
+        if !opens_link(&attach) {
+            return None;
+        }
+        let theirs = self.last_in_attach(session, attach.handle);
+        Some(Link::new(event.number, session, &attach, theirs))
+    }
+}
+
+/// In five steps: where the record stands, whether it is heard, its fault, the deliveries that it is of, and what it
+/// opens.
 impl<'p, 'a> Past<'p, 'a> {
     ghost use Rattle.std.specs.Prelude.{◌≡◌, length};
     ghost use Rattle.trace_events.specs.History as law;
@@ -268,14 +262,14 @@ impl<'p, 'a> Past<'p, 'a> {
         requires numbered { number ≡ length (events self.now) }
         ensures { event_view result ≡ law.placed (events self.now) connection (moment_view moment.entry) note }
     {
-        let session = self.session_of(number, connection, &moment);
+        let session = self.session_of(connection, &moment);
         Event {
             number,
             connection,
             moment,
             note,
             session,
-            link: self.link_of(number, &moment, session),
+            link: self.link_of(&moment, session),
             incoming: None,
             outgoing: None,
             told: None,
@@ -323,6 +317,25 @@ impl<'p, 'a> Past<'p, 'a> {
         }
     }
 
+    /// An Out begin stands on its own session, and an Out attach names its own link; any other event stays as it was.
+    fn opened(&self, event: Event<'a>) -> Event<'a>
+        ensures { event_view result ≡ law.opened (events self.now) (event_view event.entry) }
+    {
+        let session = match self.opened_session(&event) {
+            Some(own) => Some(own),
+            None => event.session,
+        };
+        let link = match self.opened_link(&event) {
+            Some(own) => Some(own),
+            None => event.link,
+        };
+        Event {
+            session,
+            link,
+            ..event
+        }
+    }
+
     /// The record of this number in its place.
     pub(crate) fn judge(&self, rules: &[Rule], number: u64, entry: &'a Record) -> Event<'a>
         requires numbered { number ≡ length (events self.now) }
@@ -335,6 +348,6 @@ impl<'p, 'a> Past<'p, 'a> {
             entry.note,
         );
         let faulted = self.faulted(rules, self.heard(placed));
-        self.delivered(rules, faulted)
+        self.opened(self.delivered(rules, faulted))
     }
 }
