@@ -1,5 +1,6 @@
 pub mod Lawful
 pub mod ClausesMet
+pub mod Unopened
 pub mod OneConsumer
 pub mod OneOutcome
 pub mod WrittenFrames

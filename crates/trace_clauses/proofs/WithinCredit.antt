@@ -15,12 +15,13 @@ use Rattle.trace_events.specs.Event.{Event, Link, Incoming, Moment, Opened, In, 
 use Rattle.trace_events.specs.Link.{is_sender, is_receiver, is_consumer, is_producer, own_link, links, link_at}
 use Rattle.trace_events.specs.Incoming as incoming
 use Rattle.trace_events.specs.Credit.{begins_incoming, begins_outgoing, in_link_event, out_link_event, link_event, link_events, link_credit}
-use Rattle.trace_events.specs.History.{judge, history, moment_of, incoming_part, incoming_by, new_incoming}
+use Rattle.trace_events.specs.History.{judge, judge_unopened, history, moment_of, incoming_part, incoming_by, new_incoming}
 use Rattle.trace_clauses.specs.Clauses.{first_broken}
 use Rattle.trace_clauses.specs.Laws.{IsWithinCredit}
 use Rattle.trace_clauses.proofs.ClausesMet.{lawful-past}
 use Rattle.trace_clauses.proofs.Within.{in_credit}
 use Rattle.trace_events.proofs.Along.{some_such, along, and_first, and_then_some, if_some, some_passes, standing}
+use Rattle.trace_events.proofs.Opens.{opened-link}
 use Rattle.trace_events.proofs.Links.{IsKnown, known_still, event_known, named_known, Stands, stands_step, none_stands, AreFound, found_step, none_found, link_opened_number, passing, attach_in, of_kind}
 
 -- ---- nothing stands on a link before its record
@@ -115,6 +116,14 @@ comes_from e Opened past d is = absurd cc
 comes_from e Lost past d is = absurd cc
 comes_from e Broken past d is = absurd cc
 
+-- and is no attach that the router writes
+comes_in : (e : Event) (m : Moment) (past : List Event) (d : Incoming) → incoming_by e m past ≡ Some d → attach_in m ≡ None
+comes_in e (In frame) past d is = refl
+comes_in e (Out frame) past d is = absurd cc
+comes_in e Opened past d is = absurd cc
+comes_in e Lost past d is = absurd cc
+comes_in e Broken past d is = absurd cc
+
 not_both : (l : Link) → is_producer l ≡ true → is_consumer l ≡ true → ⊥
 not_both l p c = by l.role p c
   where
@@ -168,7 +177,9 @@ older rules past r l known is kept h consumer =
           | inl comes ↦
               let d = some_passes (λ (d : Incoming). d.number == e.number) e.incoming comes in
               let from = comes_from (standing rules past r) (moment_of r.what) past d.0 d.1 in
-              let one = same_link rules past r l from.0 known is from.1 on.0 in
+              let unopened : e.link ≡ (standing rules past r).link =
+              opened-link (judge_unopened rules past r.connection (moment_of r.what) r.note) past (comes_in (standing rules past r) (moment_of r.what) past d.0 d.1) in
+              let one = same_link rules past r l from.0 known is (unopened ∙ from.1) on.0 in
               absurd (not_both l (subst (λ (m : Link). is_producer m ≡ true) one from.2) consumer)
           | inr goes ↦
               let there = had_credit rules e past kept goes in
@@ -204,7 +215,7 @@ newer rules past r l known unused is consumer =
     let e = judge rules past r in
     let opened = link_opened_number e l is in
     let none : link_events l past ≡ [] = unused l (omega (arith, opened.1)) in
-    let still : link_event e e.moment ≡ None = elim (of_kind (length past) (moment_of r.what) past e.session l opened.0) [
+    let still : link_event e e.moment ≡ None = elim (of_kind rules past r l opened.0) [
       | inl opens ↦ opens_still e e.moment opens
       | inr named ↦ absurd (omega (arith, opened.1, (named_known rules past r l known named.0 named.1 named.2).1))
     ] in

@@ -24,7 +24,7 @@ own_link-by : (rules : List RuleText) (past : List Event) (r : Record) (o : Opti
 own_link-by rules past r None is stands none = is
 own_link-by rules past r (Some l) is stands none =
     let own = link_opened_number (judge rules past r) l is in
-    elim (of_kind (length past) (moment_of r.what) past (judge rules past r).session l own.0) [
+    elim (of_kind rules past r l own.0) [
       | inl opens ↦ let not_any : is_some (attach_in (moment_of r.what)) ≡ false = ap is_some none in absurd cc
       | inr named ↦
           let below : l.number < length past = (named_known rules past r l stands named.0 named.1 named.2).1 in

@@ -13,6 +13,7 @@ pub mod IdleSteps
 pub mod HistorySteps
 pub mod Steps
 pub mod Along
+pub mod Opens
 pub mod Sessions
 pub mod Links
 pub mod Judged

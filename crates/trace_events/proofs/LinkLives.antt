@@ -6,18 +6,19 @@ use Rattle.amqp_perf.specs.Meaning.{Meaning, AnOpen, ABegin, AnAttach, AFlow, AT
 use Rattle.capture_form.specs.declared.records.Record.{Record}
 use Rattle.capture_form.specs.Rules.{RuleText}
 use Rattle.trace_events.specs.Words.{is_some_and, or_else, where_passes}
-use Rattle.trace_events.specs.Frame.{Spoken, spoken_in}
-use Rattle.trace_events.specs.Event.{Event, Link, Moment, Opened, In, Out, Lost, Broken}
+use Rattle.trace_events.specs.Frame.{Spoken}
+use Rattle.trace_events.specs.Event.{Event, Link, spoken_of}
 use Rattle.trace_events.specs.declared.session.Session.{Session}
 use Rattle.trace_events.specs.Said.{as_attach, out_meaning, out_begin, out_attach}
 use Rattle.trace_events.specs.Connection.{is_final, is_over}
 use Rattle.trace_events.specs.Session.{live_session, last_session, last_in_begin, new_session, session_begun, ends_in, ends_out, begins_out}
 use Rattle.trace_events.specs.Link.{opens_link, new_link, link_opened, last_in_attach, session_link, attaches_out, detaches_in, detaches_out, is_live, own_link}
-use Rattle.trace_events.specs.History.{judge, moment_of, session_of, link_of, link_on, written_session, written_link}
-use Rattle.trace_events.proofs.Along.{if_some}
+use Rattle.trace_events.specs.History.{judge, judge_unopened, moment_of, session_of, link_of}
+use Rattle.trace_events.proofs.Along.{and_then_some}
 use Rattle.trace_events.proofs.EventKinds.{kinds, out_said}
 use Rattle.trace_events.proofs.Judged.{AreJudged}
-use Rattle.trace_events.proofs.Links.{HaveNoLink, Stands, stands_step, none_stands, attach_in, of_kind, named_known, link_opened_number}
+use Rattle.trace_events.proofs.Links.{HaveNoLink, Stands, stands_step, none_stands, attach_in, attach_begins, attach_link, opened_by, first_of_both, of_kind, named_known, link_opened_number}
+use Rattle.trace_events.proofs.Opens.{opened-session}
 use Rattle.trace_events.proofs.LinkSteps.{session_link-opened, live_link-of, is_live-is}
 use Rattle.trace_events.proofs.SessionSteps.{live_session-same}
 
@@ -152,67 +153,61 @@ module _ (e : Event) (past : List Event) (ours : AttachFields) (is : out_meaning
   lives_now =
       is_live-is opened_here e past opened_here (live_link-of s.connection s.channel ours.handle e past s session_now ∙ link_now) ∙ eq-eqb e.number e.number refl
 
--- what a moment says that opens a link of this record on the session
-record Opens (number c : ℕ) (said : Option Meaning) (past : List Event) (s : Session) (l : Link) : Type 0 where
+-- the link that an attach opens on a session
+record Opens (number : ℕ) (attach : Option AttachFields) (session : Option Session) (past : List Event) (l : Link) : Type 0 where
   ours : AttachFields
-  says : said ≡ Some (AnAttach ours)
-  own : s.connection ≡ c
-  live : live_session s.connection s.channel past ≡ Some s
+  on : Session
+  says : attach ≡ Some ours
+  stands : session ≡ Some on
   opens : opens_link ours ≡ true
-  same : new_link number s ours (last_in_attach s ours.handle past) ≡ l
+  same : new_link number on ours (last_in_attach on ours.handle past) ≡ l
 
-meaning_opens : (number c channel : ℕ) (meaning : Meaning) (past : List Event) (s : Session) (l : Link) → is_some (as_attach meaning) ≡ true
-    → written_session number c channel meaning past ≡ Some s → written_link number s meaning past ≡ Some l → Opens number c (Some meaning) past s l
-meaning_opens number c channel (AnAttach a) past s l is on e =
-    let at = live_session-at c channel past s on in
-    let opened = if_some (opens_link a) (Some (new_link number s a (last_in_attach s a.handle past))) l e in
-    let some : Some (new_link number s a (last_in_attach s a.handle past)) ≡ Some l = opened.1 in
-    record {
-      ours = a;
-      says = refl;
-      own = at.0;
-      live = ap (λ n. live_session n s.channel past) at.0 ∙ (ap (λ n. live_session c n past) at.1 ∙ on);
-      opens = opened.0;
-      same = cc;
-    }
-meaning_opens number c channel (ABegin b) past s l is on e = absurd cc
-meaning_opens number c channel (AnOpen o) past s l is on e = absurd cc
-meaning_opens number c channel (AFlow f) past s l is on e = absurd cc
-meaning_opens number c channel (ATransfer f) past s l is on e = absurd cc
-meaning_opens number c channel (ADisposition f) past s l is on e = absurd cc
-meaning_opens number c channel (ADetach f) past s l is on e = absurd cc
-meaning_opens number c channel (AnEnd x) past s l is on e = absurd cc
-meaning_opens number c channel (AClose x) past s l is on e = absurd cc
+opens_by : (number : ℕ) (attach : Option AttachFields) (session : Option Session) (past : List Event) (l : Link) → opened_by number attach session past ≡ Some l → Opens number attach session past l
+opens_by number None session past l e = absurd cc
+opens_by number (Some a) None past l e = absurd cc
+opens_by number (Some a) (Some s) past l e = by (opens_link a) refl e
+  where
+    by : (b : Bool) → opens_link a ≡ b → option_map (λ (ours : AttachFields). new_link number s ours (last_in_attach s a.handle past)) (if b then Some a else None) ≡ Some l
+        → Opens number (Some a) (Some s) past l
+    by true is e = record { ours = a; on = s; says = refl; stands = refl; opens = is; same = cc }
+    by false is e = absurd cc
 
-said_opens : (number c : ℕ) (o : Option Spoken) (past : List Event) (s : Session) (l : Link) → is_some (option_and_then as_attach (option_map (λ (spoken : Spoken). spoken.meaning) o)) ≡ true
-    → option_and_then (λ (spoken : Spoken). written_session number c spoken.channel spoken.meaning past) o ≡ Some s
-    → option_and_then (λ (spoken : Spoken). written_link number s spoken.meaning past) o ≡ Some l
-    → Opens number c (option_map (λ (spoken : Spoken). spoken.meaning) o) past s l
-said_opens number c None past s l is on e = absurd cc
-said_opens number c (Some spoken) past s l is on e = meaning_opens number c spoken.channel spoken.meaning past s l is on e
+said_attach : (meaning : Meaning) (a : AttachFields) → as_attach meaning ≡ Some a → meaning ≡ AnAttach a
+said_attach (AnAttach b) a is = cc
+said_attach (ABegin b) a is = absurd cc
+said_attach (AnOpen o) a is = absurd cc
+said_attach (AFlow f) a is = absurd cc
+said_attach (ATransfer f) a is = absurd cc
+said_attach (ADisposition f) a is = absurd cc
+said_attach (ADetach f) a is = absurd cc
+said_attach (AnEnd x) a is = absurd cc
+said_attach (AClose x) a is = absurd cc
 
-moment_opens : (number c : ℕ) (m : Moment) (past : List Event) (s : Session) (l : Link) → is_some (attach_in m) ≡ true → session_of number c m past ≡ Some s → link_on number s m past ≡ Some l
-    → Opens number c (out_said m) past s l
-moment_opens number c (Out frame) past s l is on e = said_opens number c (spoken_in frame.body) past s l is on e
-moment_opens number c (In frame) past s l is on e = absurd cc
-moment_opens number c Opened past s l is on e = absurd cc
-moment_opens number c Lost past s l is on e = absurd cc
-moment_opens number c Broken past s l is on e = absurd cc
+option_said : (o : Option Meaning) (a : AttachFields) → option_and_then as_attach o ≡ Some a → o ≡ Some (AnAttach a)
+option_said None a is = absurd cc
+option_said (Some meaning) a is = ap (λ m. Some m) (said_attach meaning a is)
 
 module _ (rules : List RuleText) (past : List Event) (r : Record) where
-  on_opens : (o : Option Session) (l : Link) → is_some (attach_in (moment_of r.what)) ≡ true → (judge rules past r).session ≡ o → link_of (length past) (moment_of r.what) past o ≡ Some l
-      → is_live (judge rules past r ∷ past) l ≡ true
-  on_opens None l is on e = absurd cc
-  on_opens (Some s) l is on e =
-      let h = moment_opens (length past) r.connection (moment_of r.what) past s l is on e in
+  opened_lives : (l : Link) → is_some (attach_in (moment_of r.what)) ≡ true → (judge rules past r).link ≡ Some l → is_live (judge rules past r ∷ past) l ≡ true
+  opened_lives l attaches is =
+      let m = moment_of r.what in
+      let c = r.connection in
+      let session = session_of c m past in
+      let h = opens_by (length past) (attach_in m) session past l
+      (first_of_both (opened_by (length past) (attach_in m) session past) (link_of m past session) l (attach_link m past session attaches) is) in
+      let found = and_then_some (λ (spoken : Spoken). live_session c spoken.channel past) (spoken_of m) h.on h.stands in
+      let at = live_session-at c found.0.channel past h.on found.2 in
+      let on : (judge rules past r).session ≡ Some h.on = opened-session (judge_unopened rules past c m r.note) past (attach_begins m attaches) ∙ h.stands in
+      let live : live_session h.on.connection h.on.channel past ≡ Some h.on =
+      ap (λ n. live_session n h.on.channel past) at.0 ∙ (ap (λ n. live_session c n past) at.1 ∙ found.2) in
       ap (is_live (judge rules past r ∷ past)) (sym h.same)
-      ∙ lives_now (judge rules past r) past h.ours h.says s on (eq-eqb r.connection s.connection (sym h.own)) h.live h.opens
+      ∙ lives_now (judge rules past r) past h.ours (option_said (out_said m) h.ours h.says) h.on on (eq-eqb c h.on.connection (sym at.0)) live h.opens
 
   judged_lives : (l : Link) → Stands past → own_link (judge rules past r) ≡ Some l → is_live (judge rules past r ∷ past) l ≡ true
   judged_lives l stands is =
       let own = link_opened_number (judge rules past r) l is in
-      elim (of_kind (length past) (moment_of r.what) past (judge rules past r).session l own.0) [
-        | inl opens ↦ on_opens (judge rules past r).session l opens refl own.0
+      elim (of_kind rules past r l own.0) [
+        | inl opens ↦ opened_lives l opens own.0
         | inr named ↦
             let below : l.number < length past = (named_known rules past r l stands named.0 named.1 named.2).1 in
             let same : l.number ≡ length past = own.1 in

@@ -7,15 +7,16 @@ use Rattle.capture_form.specs.declared.records.Record.{Record}
 use Rattle.capture_form.specs.Rules.{RuleText}
 use Rattle.trace_events.specs.Words.{is_some_and, or_else, where_passes}
 use Rattle.trace_events.specs.Frame.{Frame, Spoken, spoken_in}
-use Rattle.trace_events.specs.Said.{as_attach, out_begin, out_attach, in_detach, out_detach, handle_in}
-use Rattle.trace_events.specs.Event.{Event, Link, Moment, Opened, In, Out, Lost, Broken, out_frame, is_on_session}
+use Rattle.trace_events.specs.Said.{as_begin, as_attach, out_begin, out_attach, in_detach, out_detach, handle_in}
+use Rattle.trace_events.specs.Event.{Event, Link, Moment, Opened, In, Out, Lost, Broken, out_frame, spoken_of, is_on_session}
 use Rattle.trace_events.specs.declared.session.Session.{Session}
 use Rattle.trace_events.specs.Link.{last_in_attach, opens_link, new_link, session_link, attaches_out, detaches_in, detaches_out, link_opened, own_link, links, link_at}
-use Rattle.trace_events.specs.History.{judge, moment_of, link_of, link_on, named_link, written_link}
+use Rattle.trace_events.specs.History.{judge, judge_unopened, moment_of, session_of, link_of, named_link}
 use Rattle.trace_events.specs.Session.{own_session, session_at}
 use Rattle.trace_events.proofs.Along.{and_first, and_last, and_then_some, if_some, some_passes}
+use Rattle.trace_events.proofs.Opens.{opened-session}
 use Rattle.trace_events.proofs.Sessions as sessions
-use Rattle.trace_events.proofs.Sessions.{not_on}
+use Rattle.trace_events.proofs.Sessions.{not_on, begin_in}
 
 find_kinds : {A : Type 0} (p : A → Bool) (x : A) (xs : List A) (y : A) → find p (x ∷ xs) ≡ Some y → ((p x ≡ true) × (x ≡ y)) ⊎ (find p xs ≡ Some y)
 find_kinds p x xs y e = by (p x) refl e
@@ -33,37 +34,67 @@ attach_in m = option_and_then as_attach (option_map (λ (spoken : Spoken). spoke
 some_is : {A : Type 0} (x y : A) → Some x ≡ Some y → x ≡ y
 some_is x y e = cc
 
-written_number : (number : ℕ) (s : Session) (meaning : Meaning) (past : List Event) (l : Link) → is_some (as_attach meaning) ≡ true → written_link number s meaning past ≡ Some l → l.number ≡ number
-written_number number s (AnAttach a) past l is e =
-    ap (λ (l : Link). l.number) (sym (some_is (new_link number s a (last_in_attach s a.handle past)) l (if_some (opens_link a) (Some (new_link number s a (last_in_attach s a.handle past))) l e).1))
-written_number number s (ABegin b) past l is e = absurd cc
-written_number number s (AnOpen o) past l is e = absurd cc
-written_number number s (AFlow f) past l is e = absurd cc
-written_number number s (ATransfer f) past l is e = absurd cc
-written_number number s (ADisposition f) past l is e = absurd cc
-written_number number s (ADetach f) past l is e = absurd cc
-written_number number s (AnEnd x) past l is e = absurd cc
-written_number number s (AClose x) past l is e = absurd cc
+abbrev pub opened_by : ℕ → Option AttachFields → Option Session → List Event → Option Link
+opened_by number attach session past = option_and_then (λ (fields : AttachFields).
+    option_and_then (λ (s : Session). option_map (λ (ours : AttachFields). new_link number s ours (last_in_attach s fields.handle past)) (where_passes opens_link attach)) session
+    ) attach
 
-said_number : (number : ℕ) (s : Session) (o : Option Spoken) (past : List Event) (l : Link) → is_some (option_and_then as_attach (option_map (λ (spoken : Spoken). spoken.meaning) o)) ≡ true
-    → option_and_then (λ (spoken : Spoken). written_link number s spoken.meaning past) o ≡ Some l → l.number ≡ number
-said_number number s None past l is e = absurd cc
-said_number number s (Some spoken) past l is e = written_number number s spoken.meaning past l is e
+opened_by-number : (number : ℕ) (attach : Option AttachFields) (session : Option Session) (past : List Event) (l : Link) → opened_by number attach session past ≡ Some l → l.number ≡ number
+opened_by-number number None session past l e = absurd cc
+opened_by-number number (Some a) None past l e = absurd cc
+opened_by-number number (Some a) (Some s) past l e = by (opens_link a) e
+  where
+    by : (b : Bool) → option_map (λ (ours : AttachFields). new_link number s ours (last_in_attach s a.handle past)) (if b then Some a else None) ≡ Some l → l.number ≡ number
+    by true e = ap (λ (l : Link). l.number) (sym (some_is (new_link number s a (last_in_attach s a.handle past)) l e))
+    by false e = absurd cc
 
-on_number : (number : ℕ) (s : Session) (m : Moment) (past : List Event) (l : Link) → is_some (attach_in m) ≡ true → link_on number s m past ≡ Some l → l.number ≡ number
-on_number number s (Out frame) past l is e = said_number number s (spoken_in frame.body) past l is e
-on_number number s (In frame) past l is e = absurd cc
-on_number number s Opened past l is e = absurd cc
-on_number number s Lost past l is e = absurd cc
-on_number number s Broken past l is e = absurd cc
+-- an attach names no handle of a link that lives, and begins no session
+attach_names : (meaning : Meaning) → is_some (as_attach meaning) ≡ true → (handle_in meaning ≡ None) × (as_begin meaning ≡ None)
+attach_names (AnAttach a) is = (refl, refl)
+attach_names (ABegin b) is = absurd cc
+attach_names (AnOpen o) is = absurd cc
+attach_names (AFlow f) is = absurd cc
+attach_names (ATransfer f) is = absurd cc
+attach_names (ADisposition f) is = absurd cc
+attach_names (ADetach f) is = absurd cc
+attach_names (AnEnd x) is = absurd cc
+attach_names (AClose x) is = absurd cc
 
-opened_by : (number : ℕ) (m : Moment) (past : List Event) (o : Option Session) (l : Link) → is_some (attach_in m) ≡ true → link_of number m past o ≡ Some l → l.number ≡ number
-opened_by number m past None l is e = absurd cc
-opened_by number m past (Some s) l is e = on_number number s m past l is e
+attach_said : (o : Option Spoken) → is_some (option_and_then as_attach (option_map (λ (spoken : Spoken). spoken.meaning) o)) ≡ true
+    → (option_and_then (λ (spoken : Spoken). handle_in spoken.meaning) o ≡ None) × (option_and_then as_begin (option_map (λ (spoken : Spoken). spoken.meaning) o) ≡ None)
+attach_said None is = absurd cc
+attach_said (Some spoken) is = attach_names spoken.meaning is
+
+pub attach_begins : (m : Moment) → is_some (attach_in m) ≡ true → begin_in m ≡ None
+attach_begins (Out frame) is = (attach_said (spoken_in frame.body) is).1
+attach_begins (In frame) is = absurd cc
+attach_begins Opened is = absurd cc
+attach_begins Lost is = absurd cc
+attach_begins Broken is = absurd cc
+
+named_none : (s : Session) (o : Option Spoken) (past : List Event) → option_and_then (λ (spoken : Spoken). handle_in spoken.meaning) o ≡ None → option_and_then (λ (spoken : Spoken). named_link s spoken.meaning past) o ≡ None
+named_none s None past none = refl
+named_none s (Some spoken) past none = ap (option_and_then (λ (handle : ℕ). session_link s handle past)) none
+
+pub attach_link : (m : Moment) (past : List Event) (session : Option Session) → is_some (attach_in m) ≡ true → link_of m past session ≡ None
+attach_link m past None is = refl
+attach_link (Out frame) past (Some s) is = named_none s (spoken_in frame.body) past (attach_said (spoken_in frame.body) is).0
+attach_link (In frame) past (Some s) is = absurd cc
+attach_link Opened past (Some s) is = absurd cc
+attach_link Lost past (Some s) is = absurd cc
+attach_link Broken past (Some s) is = absurd cc
+
+pub first_of_both : {A : Type 0} (o p : Option A) (x : A) → p ≡ None → or_else o p ≡ Some x → o ≡ Some x
+first_of_both None p x none e = let never : ◌≡◌ {A = Option _} None (Some x) = sym none ∙ e in absurd cc
+first_of_both (Some y) p x none e = e
 
 -- a link has the number of the record that opens it
 pub opened_number : (rules : List RuleText) (past : List Event) (r : Record) (l : Link) → is_some (out_attach (judge rules past r)) ≡ true → (judge rules past r).link ≡ Some l → l.number ≡ length past
-opened_number rules past r l is e = opened_by (length past) (moment_of r.what) past (judge rules past r).session l is e
+opened_number rules past r l is e =
+    let m = moment_of r.what in
+    let session = session_of r.connection m past in
+    opened_by-number (length past) (attach_in m) session past l
+    (first_of_both (opened_by (length past) (attach_in m) session past) (link_of m past session) l (attach_link m past session is) e)
 
 -- ---- the links that are known
 
@@ -160,41 +191,11 @@ known_or_own rules past r s found known = by (own_session (judge rules past r)) 
           | inr before ↦ inl (record { at = before; before = (found s.number s before).1 })
         ]
 
-attach_is : (number : ℕ) (s : Session) (handle : ℕ) (a : AttachFields) (past : List Event) (l : Link) → (a.handle == handle) ≡ true
-    → option_map (λ (ours : AttachFields). new_link number s ours (last_in_attach s handle past)) (where_passes opens_link (Some a)) ≡ Some l → written_link number s (AnAttach a) past ≡ Some l
-attach_is number s handle a past l same e = by (opens_link a) refl e
-  where
-    by : (b : Bool) → opens_link a ≡ b → option_map (λ (ours : AttachFields). new_link number s ours (last_in_attach s handle past)) (if b then Some a else None) ≡ Some l
-        → (if b then Some (new_link number s a (last_in_attach s a.handle past)) else None) ≡ Some l
-    by true is e = ap (λ (h : ℕ). Some (new_link number s a (last_in_attach s h past))) (eqb-true a.handle handle same) ∙ e
-    by false is e = absurd cc
-
-meaning_is : (number : ℕ) (s : Session) (handle : ℕ) (meaning : Meaning) (past : List Event) (l : Link) → is_some_and (as_attach meaning) (λ (fields : AttachFields). fields.handle == handle) ≡ true
-    → option_map (λ (ours : AttachFields). new_link number s ours (last_in_attach s handle past)) (where_passes opens_link (as_attach meaning)) ≡ Some l → written_link number s meaning past ≡ Some l
-meaning_is number s handle (AnAttach a) past l same e = attach_is number s handle a past l same e
-meaning_is number s handle (ABegin b) past l same e = absurd cc
-meaning_is number s handle (AnOpen o) past l same e = absurd cc
-meaning_is number s handle (AFlow f) past l same e = absurd cc
-meaning_is number s handle (ATransfer f) past l same e = absurd cc
-meaning_is number s handle (ADisposition f) past l same e = absurd cc
-meaning_is number s handle (ADetach f) past l same e = absurd cc
-meaning_is number s handle (AnEnd x) past l same e = absurd cc
-meaning_is number s handle (AClose x) past l same e = absurd cc
-
-said_is : (number : ℕ) (s : Session) (handle : ℕ) (o : Option Spoken) (past : List Event) (l : Link)
-    → is_some_and (option_and_then as_attach (option_map (λ (spoken : Spoken). spoken.meaning) o)) (λ (fields : AttachFields). fields.handle == handle) ≡ true
-    → option_map (λ (ours : AttachFields). new_link number s ours (last_in_attach s handle past)) (where_passes opens_link (option_and_then as_attach (option_map (λ (spoken : Spoken). spoken.meaning) o))) ≡ Some l
-    → option_and_then (λ (spoken : Spoken). written_link number s spoken.meaning past) o ≡ Some l
-said_is number s handle None past l same e = absurd cc
-said_is number s handle (Some spoken) past l same e = meaning_is number s handle spoken.meaning past l same e
-
-moment_is : (number : ℕ) (s : Session) (handle : ℕ) (m : Moment) (past : List Event) (l : Link) → is_some_and (attach_in m) (λ (fields : AttachFields). fields.handle == handle) ≡ true
-    → option_map (λ (ours : AttachFields). new_link number s ours (last_in_attach s handle past)) (where_passes opens_link (attach_in m)) ≡ Some l → link_on number s m past ≡ Some l
-moment_is number s handle (Out frame) past l same e = said_is number s handle (spoken_in frame.body) past l same e
-moment_is number s handle (In frame) past l same e = absurd cc
-moment_is number s handle Opened past l same e = absurd cc
-moment_is number s handle Lost past l same e = absurd cc
-moment_is number s handle Broken past l same e = absurd cc
+attach_is : (number : ℕ) (s : Session) (handle : ℕ) (attach : Option AttachFields) (past : List Event) (l : Link) → is_some_and attach (λ (fields : AttachFields). fields.handle == handle) ≡ true
+    → option_map (λ (ours : AttachFields). new_link number s ours (last_in_attach s handle past)) (where_passes opens_link attach) ≡ Some l → opened_by number attach (Some s) past ≡ Some l
+attach_is number s handle None past l same e = absurd cc
+attach_is number s handle (Some a) past l same e =
+    ap (λ (h : ℕ). option_map (λ (ours : AttachFields). new_link number s ours (last_in_attach s h past)) (where_passes opens_link (Some a))) (eqb-true a.handle handle same) ∙ e
 
 -- the session of an event that stands on this one is this one
 session_is : (rules : List RuleText) (past : List Event) (r : Record) (s : Session) → sessions.AreKnown past → sessions.IsKnown (judge rules past r ∷ past) s → is_on_session s (judge rules past r) ≡ true → (judge rules past r).session ≡ Some s
@@ -211,7 +212,12 @@ opened_is rules past r s handle l known is attaches e =
     let e' = judge rules past r in
     let same = and_first (is_some_and (out_attach e') (λ (fields : AttachFields). fields.handle == handle)) (is_on_session s e') attaches in
     let on = and_last (is_some_and (out_attach e') (λ (fields : AttachFields). fields.handle == handle)) (is_on_session s e') attaches in
-    ap (link_of (length past) (moment_of r.what) past) (session_is rules past r s known is on) ∙ moment_is (length past) s handle (moment_of r.what) past l same e
+    let m = moment_of r.what in
+    let session = session_of r.connection m past in
+    let unbegun : session ≡ (judge rules past r).session =
+    sym (opened-session (judge_unopened rules past r.connection m r.note) past (attach_begins m (is_some_of (attach_in m) (λ (fields : AttachFields). fields.handle == handle) same))) in
+    ap (λ (o : Option Link). or_else o (link_of m past session))
+    (ap (λ (o : Option Session). opened_by (length past) (attach_in m) o past) (unbegun ∙ session_is rules past r s known is on) ∙ attach_is (length past) s handle (attach_in m) past l same e)
 
 earlier_known : (rules : List RuleText) (past : List Event) (r : Record) (s : Session) (handle : ℕ) (l : Link) → AreKnown past → HaveNoLink past → sessions.IsKnown past s ⊎ (s.number ≡ length past)
     → session_link s handle past ≡ Some l → IsKnown (judge rules past r ∷ past) l
@@ -251,40 +257,42 @@ none_known s handle l own e = absurd cc
 abbrev pub Named : List Event → Session → Link → Type 0
 Named past s l = (handle : ℕ) × (session_link s handle past ≡ Some l)
 
-named_by : (s : Session) (meaning : Meaning) (past : List Event) (l : Link) → named_link s meaning past ≡ Some l → Named past s l
-named_by s meaning past l e = let step = and_then_some (λ (handle : ℕ). session_link s handle past) (handle_in meaning) l e in (step.0, step.2)
+named_begins : (meaning : Meaning) (handle : ℕ) → handle_in meaning ≡ Some handle → as_begin meaning ≡ None
+named_begins (ABegin b) handle is = absurd cc
+named_begins (AnOpen o) handle is = refl
+named_begins (AnAttach a) handle is = refl
+named_begins (AFlow f) handle is = refl
+named_begins (ATransfer f) handle is = refl
+named_begins (ADisposition f) handle is = refl
+named_begins (ADetach f) handle is = refl
+named_begins (AnEnd x) handle is = refl
+named_begins (AClose x) handle is = refl
 
-written_kind : (number : ℕ) (s : Session) (meaning : Meaning) (past : List Event) (l : Link) → written_link number s meaning past ≡ Some l → (is_some (as_attach meaning) ≡ true) ⊎ Named past s l
-written_kind number s (AnAttach a) past l e = inl refl
-written_kind number s (ABegin b) past l e = inr (named_by s (ABegin b) past l e)
-written_kind number s (AnOpen o) past l e = inr (named_by s (AnOpen o) past l e)
-written_kind number s (AFlow f) past l e = inr (named_by s (AFlow f) past l e)
-written_kind number s (ATransfer f) past l e = inr (named_by s (ATransfer f) past l e)
-written_kind number s (ADisposition f) past l e = inr (named_by s (ADisposition f) past l e)
-written_kind number s (ADetach f) past l e = inr (named_by s (ADetach f) past l e)
-written_kind number s (AnEnd x) past l e = inr (named_by s (AnEnd x) past l e)
-written_kind number s (AClose x) past l e = inr (named_by s (AClose x) past l e)
+handle_begins : (m : Moment) (spoken : Spoken) (handle : ℕ) → spoken_of m ≡ Some spoken → handle_in spoken.meaning ≡ Some handle → begin_in m ≡ None
+handle_begins (Out frame) spoken handle says is =
+    ap (λ (o : Option Spoken). option_and_then as_begin (option_map (λ (spoken : Spoken). spoken.meaning) o)) says ∙ named_begins spoken.meaning handle is
+handle_begins (In frame) spoken handle says is = refl
+handle_begins Opened spoken handle says is = refl
+handle_begins Lost spoken handle says is = refl
+handle_begins Broken spoken handle says is = refl
 
-said_kind : (number : ℕ) (s : Session) (o : Option Spoken) (past : List Event) (l : Link) → option_and_then (λ (spoken : Spoken). written_link number s spoken.meaning past) o ≡ Some l
-    → (is_some (option_and_then as_attach (option_map (λ (spoken : Spoken). spoken.meaning) o)) ≡ true) ⊎ Named past s l
-said_kind number s None past l e = absurd cc
-said_kind number s (Some spoken) past l e = written_kind number s spoken.meaning past l e
-
-on_kind : (number : ℕ) (s : Session) (m : Moment) (past : List Event) (l : Link) → link_on number s m past ≡ Some l → (is_some (attach_in m) ≡ true) ⊎ Named past s l
-on_kind number s (Out frame) past l e = said_kind number s (spoken_in frame.body) past l e
-on_kind number s (In frame) past l e =
-    let step = and_then_some (λ (spoken : Spoken). named_link s spoken.meaning past) (spoken_in frame.body) l e in inr (named_by s step.0.meaning past l step.2)
-on_kind number s Opened past l e = absurd cc
-on_kind number s Lost past l e = absurd cc
-on_kind number s Broken past l e = absurd cc
-
-pub of_kind : (number : ℕ) (m : Moment) (past : List Event) (o : Option Session) (l : Link) → link_of number m past o ≡ Some l
-    → (is_some (attach_in m) ≡ true) ⊎ ((s : Session) × (o ≡ Some s) × Named past s l)
-of_kind number m past None l e = absurd cc
-of_kind number m past (Some s) l e = elim (on_kind number s m past l e) [
-  | inl opens ↦ inl opens
-  | inr named ↦ inr (s, refl, named)
-]
+-- the link of an event is its own, or one that it names on its session
+pub of_kind : (rules : List RuleText) (past : List Event) (r : Record) (l : Link) → (judge rules past r).link ≡ Some l
+    → (is_some (attach_in (moment_of r.what)) ≡ true) ⊎ ((s : Session) × ((judge rules past r).session ≡ Some s) × Named past s l)
+of_kind rules past r l e = by (attach_in (moment_of r.what)) refl e
+  where
+    by : (attach : Option AttachFields) → attach_in (moment_of r.what) ≡ attach
+        → or_else (opened_by (length past) attach (session_of r.connection (moment_of r.what) past) past) (link_of (moment_of r.what) past (session_of r.connection (moment_of r.what) past)) ≡ Some l
+        → (is_some (attach_in (moment_of r.what)) ≡ true) ⊎ ((s : Session) × ((judge rules past r).session ≡ Some s) × Named past s l)
+    by (Some a) is e = inl (ap is_some is)
+    by None is e =
+        let m = moment_of r.what in
+        let on = and_then_some (λ (s : Session). option_and_then (λ (spoken : Spoken). named_link s spoken.meaning past) (spoken_of m)) (session_of r.connection m past) l e in
+        let says = and_then_some (λ (spoken : Spoken). named_link on.0 spoken.meaning past) (spoken_of m) l on.2 in
+        let names = and_then_some (λ (handle : ℕ). session_link on.0 handle past) (handle_in says.0.meaning) l says.2 in
+        let unbegun : (judge rules past r).session ≡ session_of r.connection m past =
+        opened-session (judge_unopened rules past r.connection m r.note) past (handle_begins m says.0 names.0 says.1 names.1) in
+        inr (on.0, unbegun ∙ on.1, (names.0, names.2))
 
 -- what a link of a history stands on
 pub record Stands (past : List Event) : Type 0 where
@@ -305,7 +313,7 @@ named_known rules past r l stands s on named = elim (known_or_own rules past r s
 
 -- the link of an event is known
 pub event_known : (rules : List RuleText) (past : List Event) (r : Record) (l : Link) → Stands past → (judge rules past r).link ≡ Some l → IsKnown (judge rules past r ∷ past) l
-event_known rules past r l stands e = elim (of_kind (length past) (moment_of r.what) past (judge rules past r).session l e) [
+event_known rules past r l stands e = elim (of_kind rules past r l e) [
   | inl opens ↦ known_opened rules past r l opens e
   | inr named ↦ (named_known rules past r l stands named.0 named.1 named.2).0
 ]

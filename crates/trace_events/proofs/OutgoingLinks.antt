@@ -12,11 +12,12 @@ use Rattle.trace_events.specs.Said.{as_attach, out_transfer}
 use Rattle.trace_events.specs.Event.{Event, Link, Outgoing, Moment, Opened, In, Out, Lost, Broken}
 use Rattle.trace_events.specs.Link.{is_consumer}
 use Rattle.trace_events.specs.Outgoing.{in_progress, outgoing_deliveries, answering, deciding, first_deciding, decision}
-use Rattle.trace_events.specs.History.{judge, moment_of, outgoing_by, outgoing_part, new_outgoing}
+use Rattle.trace_events.specs.History.{judge, moment_of, outgoing_by, outgoing_part, new_outgoing, judge_unopened}
 use Rattle.trace_events.proofs.Along.{standing}
 use Rattle.trace_events.proofs.Elsewhere.{if-some}
 use Rattle.trace_events.proofs.EventKinds.{out_said}
 use Rattle.trace_events.proofs.Judged.{AreJudged, judged-number}
+use Rattle.trace_events.proofs.Opens.{opened-link}
 use Rattle.trace_events.proofs.Links.{Stands, passing, attach_in, of_kind, named_known}
 use Rattle.trace_events.proofs.LinkLives.{judged-stands}
 use Rattle.trace_events.proofs.OutgoingSteps.{first_deciding-same, deciding-none}
@@ -56,11 +57,14 @@ on_link n e fields past (Some l) known before = or_else-earlier n (in_progress l
 
 -- a link that a transfer names was opened before
 named_earlier : (rules : List RuleText) (past : List Event) (r : Record) (fields : TransferFields) (l : Link) → Stands past → out_said (moment_of r.what) ≡ Some (ATransfer fields)
-    → (judge rules past r).link ≡ Some l → l.number < length past
-named_earlier rules past r fields l stands is on = elim (of_kind (length past) (moment_of r.what) past (judge rules past r).session l on) [
-  | inl opens ↦ let none : is_some (attach_in (moment_of r.what)) ≡ false = ap (λ o. is_some (option_and_then as_attach o)) is in absurd cc
-  | inr named ↦ (named_known rules past r l stands named.0 named.1 named.2).1
-]
+    → (standing rules past r).link ≡ Some l → l.number < length past
+named_earlier rules past r fields l stands is on =
+    let none : attach_in (moment_of r.what) ≡ None = ap (option_and_then as_attach) is in
+    let linked : (judge rules past r).link ≡ Some l = opened-link (judge_unopened rules past r.connection (moment_of r.what) r.note) past none ∙ on in
+    elim (of_kind rules past r l linked) [
+      | inl opens ↦ let never : is_some (attach_in (moment_of r.what)) ≡ false = ap is_some none in absurd cc
+      | inr named ↦ (named_known rules past r l stands named.0 named.1 named.2).1
+    ]
 
 module _ (rules : List RuleText) (past : List Event) (r : Record) (stands : Stands past) (before : (l : Link) → IfSome (in_progress l past) (IsOnEarlier (length past))) where
   part_earlier : (meaning : Meaning) → out_said (moment_of r.what) ≡ Some meaning → IfSome (outgoing_part (standing rules past r) meaning past) (IsOnEarlier (length past))

@@ -3,17 +3,16 @@ use Rattle.std.proofs.Common.{◌≡◌, refl, sym, ap, ◌∙◌, ℕ, suc, ◌
 use Rattle.std.specs.List.{filter_map, cons_option}
 use Rattle.std.proofs.lemmas.Bool.{eqb-true, eq-eqb}
 use Rattle.amqp_perf.specs.declared.begin.Begin.{Begin}
-use Rattle.amqp_perf.specs.Meaning.{Meaning, AnOpen, ABegin, AnAttach, AFlow, ATransfer, ADisposition, ADetach, AnEnd, AClose}
 use Rattle.capture_form.specs.declared.records.Record.{Record}
 use Rattle.capture_form.specs.Rules.{RuleText}
-use Rattle.trace_events.specs.Words.{is_number, is_some_and}
+use Rattle.trace_events.specs.Words.{is_number, is_some_and, or_else}
 use Rattle.trace_events.specs.Frame.{Frame, Body, NoFrame, Empty, NoPerformative, Says, Spoken, spoken_in, channel_in}
 use Rattle.trace_events.specs.Said.{as_begin, out_begin}
 use Rattle.trace_events.specs.Event.{Event, Moment, Opened, In, Out, Lost, Broken, out_frame, channel_of, is_on_channel}
 use Rattle.trace_events.specs.declared.session.Session.{Session}
 use Rattle.trace_events.specs.Connection.{is_over}
 use Rattle.trace_events.specs.Session.{last_in_begin, new_session, last_session, live_session, begins_out, ends_in, ends_out, session_begun, own_session, session_at}
-use Rattle.trace_events.specs.History.{judge, moment_of, session_of, written_session}
+use Rattle.trace_events.specs.History.{judge, moment_of, session_of}
 use Rattle.trace_events.proofs.Along.{and_first, and_last, and_then_some, if_some}
 
 -- ---- the session that a record begins
@@ -26,26 +25,35 @@ new_number number c channel ours None = refl
 abbrev pub begin_in : Moment → Option Begin
 begin_in m = option_and_then as_begin (option_map (λ (spoken : Spoken). spoken.meaning) (option_and_then (λ (frame : Frame). spoken_in frame.body) (out_frame m)))
 
-written_number : (number c channel : ℕ) (meaning : Meaning) (past : List Event) (t : Session) → is_some (as_begin meaning) ≡ true → written_session number c channel meaning past ≡ Some t → t.number ≡ number
-written_number number c channel (ABegin b) past t is e = ap (λ (s : Session). s.number) (sym some) ∙ new_number number c channel b (last_in_begin c channel past)
+abbrev begin_of : Option Spoken → Option Begin
+begin_of o = option_and_then as_begin (option_map (λ (spoken : Spoken). spoken.meaning) o)
+
+abbrev begun_on : ℕ → ℕ → ℕ → Option Begin → List Event → Option Session
+begun_on number c channel begin past = option_map (λ (ours : Begin). new_session number c channel ours (last_in_begin c channel past)) begin
+
+-- the session of what is written, and of any moment
+abbrev session_said : ℕ → ℕ → Option Spoken → List Event → Option Session
+session_said number c o past =
+    or_else (option_and_then (λ (spoken : Spoken). begun_on number c spoken.channel (begin_of o) past) o) (option_and_then (λ (spoken : Spoken). live_session c spoken.channel past) o)
+
+abbrev session_in : ℕ → ℕ → Moment → List Event → Option Session
+session_in number c m past =
+    or_else (option_and_then (λ (spoken : Spoken). begun_on number c spoken.channel (begin_in m) past) (option_and_then (λ (frame : Frame). spoken_in frame.body) (out_frame m)))
+    (session_of c m past)
+
+begun_on-number : (number c channel : ℕ) (begin : Option Begin) (live : Option Session) (past : List Event) (t : Session) → is_some begin ≡ true
+    → or_else (begun_on number c channel begin past) live ≡ Some t → t.number ≡ number
+begun_on-number number c channel None live past t is e = absurd cc
+begun_on-number number c channel (Some b) live past t is e = ap (λ (s : Session). s.number) (sym some) ∙ new_number number c channel b (last_in_begin c channel past)
   where
     some : new_session number c channel b (last_in_begin c channel past) ≡ t
     some = cc
-written_number number c channel (AnOpen o) past t is e = absurd cc
-written_number number c channel (AnAttach a) past t is e = absurd cc
-written_number number c channel (AFlow f) past t is e = absurd cc
-written_number number c channel (ATransfer f) past t is e = absurd cc
-written_number number c channel (ADisposition f) past t is e = absurd cc
-written_number number c channel (ADetach f) past t is e = absurd cc
-written_number number c channel (AnEnd x) past t is e = absurd cc
-written_number number c channel (AClose x) past t is e = absurd cc
 
-said_number : (number c : ℕ) (o : Option Spoken) (past : List Event) (t : Session) → is_some (option_and_then as_begin (option_map (λ (spoken : Spoken). spoken.meaning) o)) ≡ true
-    → option_and_then (λ (spoken : Spoken). written_session number c spoken.channel spoken.meaning past) o ≡ Some t → t.number ≡ number
+said_number : (number c : ℕ) (o : Option Spoken) (past : List Event) (t : Session) → is_some (begin_of o) ≡ true → session_said number c o past ≡ Some t → t.number ≡ number
 said_number number c None past t is e = absurd cc
-said_number number c (Some spoken) past t is e = written_number number c spoken.channel spoken.meaning past t is e
+said_number number c (Some spoken) past t is e = begun_on-number number c spoken.channel (as_begin spoken.meaning) (live_session c spoken.channel past) past t is e
 
-begun_number_by : (number c : ℕ) (m : Moment) (past : List Event) (t : Session) → is_some (begin_in m) ≡ true → session_of number c m past ≡ Some t → t.number ≡ number
+begun_number_by : (number c : ℕ) (m : Moment) (past : List Event) (t : Session) → is_some (begin_in m) ≡ true → session_in number c m past ≡ Some t → t.number ≡ number
 begun_number_by number c (Out frame) past t is e = said_number number c (spoken_in frame.body) past t is e
 begun_number_by number c (In frame) past t is e = absurd cc
 begun_number_by number c Opened past t is e = absurd cc
@@ -58,32 +66,18 @@ begun_number rules past r t is e = begun_number_by (length past) r.connection (m
 
 -- ---- it is the one that is found on its channel
 
-own_meaning : (number c channel : ℕ) (meaning : Meaning) (past : List Event) (s : Session)
-    → option_map (λ (ours : Begin). new_session number c channel ours (last_in_begin c channel past)) (as_begin meaning) ≡ Some s → written_session number c channel meaning past ≡ Some s
-own_meaning number c channel (ABegin b) past s e = e
-own_meaning number c channel (AnOpen o) past s e = absurd cc
-own_meaning number c channel (AnAttach a) past s e = absurd cc
-own_meaning number c channel (AFlow f) past s e = absurd cc
-own_meaning number c channel (ATransfer f) past s e = absurd cc
-own_meaning number c channel (ADisposition f) past s e = absurd cc
-own_meaning number c channel (ADetach f) past s e = absurd cc
-own_meaning number c channel (AnEnd x) past s e = absurd cc
-own_meaning number c channel (AClose x) past s e = absurd cc
-
-own_body : (number c own channel : ℕ) (body : Body) (past : List Event) (s : Session)
-    → option_map (λ (ours : Begin). new_session number c channel ours (last_in_begin c channel past)) (option_and_then as_begin (option_map (λ (spoken : Spoken). spoken.meaning) (spoken_in body))) ≡ Some s
-    → (is_number (channel_in body) channel && (own == c)) ≡ true → option_and_then (λ (spoken : Spoken). written_session number own spoken.channel spoken.meaning past) (spoken_in body) ≡ Some s
+own_body : (number c own channel : ℕ) (body : Body) (past : List Event) (s : Session) → begun_on number c channel (begin_of (spoken_in body)) past ≡ Some s
+    → (is_number (channel_in body) channel && (own == c)) ≡ true → session_said number own (spoken_in body) past ≡ Some s
 own_body number c own channel NoFrame past s e on = absurd cc
 own_body number c own channel (Empty other) past s e on = absurd cc
 own_body number c own channel (NoPerformative other) past s e on = absurd cc
 own_body number c own channel (Says spoken) past s e on =
     let same_channel : spoken.channel ≡ channel = eqb-true spoken.channel channel (and_first (spoken.channel == channel) (own == c) on) in
     let same : own ≡ c = eqb-true own c (and_last (spoken.channel == channel) (own == c) on) in
-    rw (same_channel, same) (own_meaning number c channel spoken.meaning past s e)
+    rw (same_channel, same) (ap (λ (o : Option Session). or_else o (live_session c channel past)) e)
 
-own_moment : (number c own channel : ℕ) (m : Moment) (past : List Event) (s : Session)
-    → option_map (λ (ours : Begin). new_session number c channel ours (last_in_begin c channel past)) (begin_in m) ≡ Some s
-    → (is_number (channel_of m) channel && (own == c)) ≡ true → session_of number own m past ≡ Some s
+own_moment : (number c own channel : ℕ) (m : Moment) (past : List Event) (s : Session) → begun_on number c channel (begin_in m) past ≡ Some s
+    → (is_number (channel_of m) channel && (own == c)) ≡ true → session_in number own m past ≡ Some s
 own_moment number c own channel (Out frame) past s e on = own_body number c own channel frame.body past s e on
 own_moment number c own channel (In frame) past s e on = absurd cc
 own_moment number c own channel Opened past s e on = absurd cc
@@ -160,32 +154,25 @@ live_known past c channel s known e = by (is_over c past) e
     by true e = absurd cc
     by false e = known c channel s e
 
-said_on : (number c : ℕ) (channel : ℕ) (meaning : Meaning) (past : List Event) (s : Session) → written_session number c channel meaning past ≡ Some s
-    → (is_some (as_begin meaning) ≡ true) ⊎ (live_session c channel past ≡ Some s)
-said_on number c channel (ABegin b) past s e = inl refl
-said_on number c channel (AnOpen o) past s e = inr e
-said_on number c channel (AnAttach a) past s e = inr e
-said_on number c channel (AFlow f) past s e = inr e
-said_on number c channel (ATransfer f) past s e = inr e
-said_on number c channel (ADisposition f) past s e = inr e
-said_on number c channel (ADetach f) past s e = inr e
-said_on number c channel (AnEnd x) past s e = inr e
-said_on number c channel (AClose x) past s e = inr e
-
 -- it begins one, or stands on a live one
 abbrev StandsOn : ℕ → Moment → List Event → Session → Type 0
 StandsOn c m past s = (is_some (begin_in m) ≡ true) ⊎ ((channel : ℕ) × (live_session c channel past ≡ Some s))
 
-written_on : (number c : ℕ) (o : Option Spoken) (past : List Event) (s : Session) → option_and_then (λ (spoken : Spoken). written_session number c spoken.channel spoken.meaning past) o ≡ Some s
-    → (is_some (option_and_then as_begin (option_map (λ (spoken : Spoken). spoken.meaning) o)) ≡ true) ⊎ ((channel : ℕ) × (live_session c channel past ≡ Some s))
-written_on number c None past s e = absurd cc
-written_on number c (Some spoken) past s e = elim (said_on number c spoken.channel spoken.meaning past s e) [
+begun_or_live : (number c channel : ℕ) (begin : Option Begin) (past : List Event) (s : Session) → or_else (begun_on number c channel begin past) (live_session c channel past) ≡ Some s
+    → (is_some begin ≡ true) ⊎ (live_session c channel past ≡ Some s)
+begun_or_live number c channel (Some b) past s e = inl refl
+begun_or_live number c channel None past s e = inr e
+
+said_on : (number c : ℕ) (o : Option Spoken) (past : List Event) (s : Session) → session_said number c o past ≡ Some s
+    → (is_some (begin_of o) ≡ true) ⊎ ((channel : ℕ) × (live_session c channel past ≡ Some s))
+said_on number c None past s e = absurd cc
+said_on number c (Some spoken) past s e = elim (begun_or_live number c spoken.channel (as_begin spoken.meaning) past s e) [
   | inl begins ↦ inl begins
   | inr live ↦ inr (spoken.channel, live)
 ]
 
-stands_on : (number c : ℕ) (m : Moment) (past : List Event) (s : Session) → session_of number c m past ≡ Some s → StandsOn c m past s
-stands_on number c (Out frame) past s e = written_on number c (spoken_in frame.body) past s e
+stands_on : (number c : ℕ) (m : Moment) (past : List Event) (s : Session) → session_in number c m past ≡ Some s → StandsOn c m past s
+stands_on number c (Out frame) past s e = said_on number c (spoken_in frame.body) past s e
 stands_on number c (In frame) past s e =
     let step = and_then_some (λ (spoken : Spoken). live_session c spoken.channel past) (spoken_in frame.body) s e in
     inr (step.0.channel, step.2)

@@ -7,7 +7,7 @@ use Rattle.trace_events.specs.declared.fault.Fault.{Fault}
 -- that of the client's begin (part 2 of the standard, section 2.5).
 use Rattle.trace_events.specs.declared.session.Session.{Session}
 use Rattle.trace_events.specs.Words.{is_some_and, is_number}
-use Rattle.trace_events.specs.Frame.{Frame, channel_in}
+use Rattle.trace_events.specs.Frame.{Frame, Spoken, spoken_in, channel_in}
 
 -- A link, named by the record of its Out attach, whose role it has: a receiver's is a producer's link, a sender's a
 -- consumer's. The counts are the initial-delivery-counts of either side (part 2, section 2.6).
@@ -92,6 +92,12 @@ is_out (Out frame) = true
 is_out _ = false
 
 -- ---- where they stand
+
+-- the performative of a frame, in either direction
+abbrev pub spoken_of : Moment → Option Spoken
+spoken_of (In frame) = spoken_in frame.body
+spoken_of (Out frame) = spoken_in frame.body
+spoken_of _ = None
 
 -- the channel of a whole frame, in either direction
 abbrev pub channel_of : Moment → Option ℕ

@@ -2,7 +2,7 @@
 use Rattle.std.specs.Prelude.{ℕ, Bool, false, ◌&&◌, List, [], ◌∷◌, length, Option, Some, None, is_none, option_and_then, option_map, unwrap_or, if◌then◌else◌}
 use Rattle.amqp_perf.specs.declared.attach.Role.{Role}
 use Rattle.amqp_perf.specs.declared.attach.Role.TheVariants.{Sender, Receiver}
-use Rattle.amqp_perf.specs.Meaning.{Meaning, ABegin, AnAttach, ATransfer, ADisposition, TransferFields, flag}
+use Rattle.amqp_perf.specs.Meaning.{Meaning, ATransfer, ADisposition, TransferFields, flag}
 use Rattle.pairing_cert.specs.declared.note.Note.{Note}
 use Rattle.capture_form.specs.declared.records.Record.{Record}
 use Rattle.capture_form.specs.declared.records.What.{What}
@@ -11,11 +11,11 @@ use Rattle.capture_form.specs.Rules.{RuleText}
 use Rattle.trace_events.specs.declared.fault.Fault.{Fault}
 use Rattle.trace_events.specs.Words.{or_else, where_passes}
 use Rattle.trace_events.specs.Frame.{frame_read, spoken_in}
-use Rattle.trace_events.specs.Event.{Event, Link, Incoming, Outgoing, Moment, Opened, In, Out, Lost, Broken}
+use Rattle.trace_events.specs.Event.{Event, Link, Incoming, Outgoing, Moment, Opened, In, Out, Lost, Broken, spoken_of}
 use Rattle.trace_events.specs.declared.session.Session.{Session}
-use Rattle.trace_events.specs.Said.{handle_in}
-use Rattle.trace_events.specs.Session.{live_session, last_in_begin, new_session}
-use Rattle.trace_events.specs.Link.{session_link, opens_link, new_link, last_in_attach, is_producer, is_consumer}
+use Rattle.trace_events.specs.Said.{handle_in, out_spoken, out_attach}
+use Rattle.trace_events.specs.Session.{live_session, session_begun}
+use Rattle.trace_events.specs.Link.{session_link, link_opened, is_producer, is_consumer}
 use Rattle.trace_events.specs.Incoming as incoming
 use Rattle.trace_events.specs.Outgoing as outgoing
 use Rattle.trace_events.specs.Settling.{to_tell, to_settle}
@@ -31,39 +31,18 @@ moment_of (whats.Out octets) = Out (frame_read octets)
 moment_of whats.Lost = Lost
 moment_of whats.Broken = Broken
 
--- ---- the session
+-- ---- where it stands
 
--- of what the router writes: a begin begins its own
-abbrev pub written_session : ℕ → ℕ → ℕ → Meaning → List Event → Option Session
-written_session number c channel (ABegin begin) past = Some (new_session number c channel begin (last_in_begin c channel past))
-written_session number c channel _ past = live_session c channel past
-
-abbrev pub session_of : ℕ → ℕ → Moment → List Event → Option Session
-session_of number c (In frame) past = option_and_then (λ spoken. live_session c spoken.channel past) (spoken_in frame.body)
-session_of number c (Out frame) past =
-    option_and_then (λ spoken. written_session number c spoken.channel spoken.meaning past) (spoken_in frame.body)
-session_of number c _ past = None
-
--- ---- the link
+-- the live session of a frame's channel
+abbrev pub session_of : ℕ → Moment → List Event → Option Session
+session_of c moment past = option_and_then (λ spoken. live_session c spoken.channel past) (spoken_of moment)
 
 -- the live link of the handle that a flow, transfer or detach names
 abbrev pub named_link : Session → Meaning → List Event → Option Link
 named_link s meaning past = option_and_then (λ handle. session_link s handle past) (handle_in meaning)
 
--- of what the router writes: an attach with source and target opens its own
-abbrev pub written_link : ℕ → Session → Meaning → List Event → Option Link
-written_link number s (AnAttach fields) past =
-    if opens_link fields then Some (new_link number s fields (last_in_attach s fields.handle past)) else None
-written_link number s meaning past = named_link s meaning past
-
-abbrev pub link_on : ℕ → Session → Moment → List Event → Option Link
-link_on number s (In frame) past = option_and_then (λ spoken. named_link s spoken.meaning past) (spoken_in frame.body)
-link_on number s (Out frame) past = option_and_then (λ spoken. written_link number s spoken.meaning past) (spoken_in frame.body)
-link_on number s _ past = None
-
-abbrev pub link_of : ℕ → Moment → List Event → Option Session → Option Link
-link_of number moment past None = None
-link_of number moment past (Some s) = link_on number s moment past
+abbrev pub link_of : Moment → List Event → Option Session → Option Link
+link_of moment past session = option_and_then (λ s. option_and_then (λ spoken. named_link s spoken.meaning past) (spoken_of moment)) session
 
 -- ---- whether it is heard, and its fault
 
@@ -133,19 +112,28 @@ abbrev pub settled_by : Event → Moment → List Event → Option ℕ
 settled_by e (Out frame) past = option_and_then (λ spoken. settled_part e spoken.meaning past) (spoken_in frame.body)
 settled_by e _ past = None
 
--- ---- in four steps: where the record stands, whether it is heard, its fault, and the deliveries that it is of
+-- ---- what the router opens
+
+-- the session that an Out begin begins
+abbrev pub opened_session : Event → List Event → Option Session
+opened_session e past = option_and_then (λ spoken. session_begun e.connection spoken.channel e past) (out_spoken e)
+
+-- the link that an Out attach with source and target opens on a live session
+abbrev pub opened_link : Event → List Event → Option Link
+opened_link e past = option_and_then (λ fields. option_and_then (λ s. link_opened s fields.handle e past) e.session) (out_attach e)
+
+-- ---- in five steps: where the record stands, whether it is heard, its fault, the deliveries that it is of, and what it opens
 
 abbrev pub placed : List Event → ℕ → Moment → Note → Event
 placed past c moment note =
-    let number = length past in
-    let s = session_of number c moment past in
+    let s = session_of c moment past in
     record {
-      number = number;
+      number = length past;
       connection = c;
       moment = moment;
       note = note;
       session = s;
-      link = link_of number moment past s;
+      link = link_of moment past s;
       incoming = None;
       outgoing = None;
       told = None;
@@ -168,9 +156,17 @@ delivered rules past e = record e {
   settled = settled_by e e.moment past;
 }
 
+-- an Out begin stands on its own session, and an Out attach names its own link; any other event stays as it was
+abbrev pub opened : List Event → Event → Event
+opened past e = record e { session = or_else (opened_session e past) e.session; link = or_else (opened_link e past) e.link }
+
+-- before the last step: the law can be asked there, since no clause reads what a begin or an attach opens
+abbrev pub judge_unopened : List RuleText → List Event → ℕ → Moment → Note → Event
+judge_unopened rules past c moment note = delivered rules past (faulted rules past (heard past (placed past c moment note)))
+
 -- a moment of a connection, with its note, in its place
 abbrev pub judge_moment : List RuleText → List Event → ℕ → Moment → Note → Event
-judge_moment rules past c moment note = delivered rules past (faulted rules past (heard past (placed past c moment note)))
+judge_moment rules past c moment note = opened past (judge_unopened rules past c moment note)
 
 -- a record in its place
 abbrev pub judge : List RuleText → List Event → Record → Event

@@ -1,7 +1,7 @@
 //! A record in its place, by those before it.
 
 ghost use Rattle.std.specs.Prelude.{◌≡◌, option_map, length};
-ghost use Rattle.trace_events.specs.History.{written_session, session_of, named_link, written_link, link_on, link_of};
+ghost use Rattle.trace_events.specs.History.{session_of, named_link, link_of};
 ghost use Rattle.trace_law.specs.View.{spoken_view, moment_view, link_view, event_view, incoming_view, outgoing_view, Events};
 ghost use Rattle.amqp_perf.specs.View.{disposition_fields};
 ghost use Rattle.trace_events.specs.History as law;
@@ -46,95 +46,28 @@ impl<'a> Moment<'a> {
 
 // Where a frame stands.
 
-/// The session of what the router writes: a begin begins its own.
-fn written_session<'a, P: Inputs<'a> + Openings<'a>>(
-    past: &P,
-    number: u64,
-    connection: u32,
-    spoken: &Spoken,
-) -> Option<Session>
-    ensures { (history : Events) → P.stands_for past.now history →
-        (result ≡ written_session number connection (spoken_view spoken.now).channel (spoken_view spoken.now).meaning history) }
+/// The live session of a frame's channel.
+fn session_of<'a, P: Inputs<'a>>(past: &P, connection: u32, moment: &Moment) -> Option<Session>
+    ensures { (history : Events) → P.stands_for past.now history → (result ≡ session_of connection (moment_view moment.now) history) }
 {
-    match spoken.performative {
-        Performative::Begin(begin) => {
-            let theirs = past.last_in_begin(connection, spoken.channel);
-            Some(Session::new(number, connection, spoken.channel, begin, theirs))
-        }
-        _ => past.live_session(connection, spoken.channel),
-    }
-}
-
-fn session_of<'a, P: Inputs<'a> + Openings<'a>>(
-    past: &P,
-    number: u64,
-    connection: u32,
-    moment: &Moment,
-) -> Option<Session>
-    ensures { (history : Events) → P.stands_for past.now history →
-        (result ≡ session_of number connection (moment_view moment.now) history) }
-{
-    match moment {
-        Moment::In(frame) => past.live_session(connection, frame.spoken()?.channel),
-        Moment::Out(frame) => written_session(past, number, connection, &frame.spoken()?),
-        _ => None,
-    }
+    past.live_session(connection, moment.spoken()?.channel)
 }
 
 /// The live link of the handle that a flow, transfer or detach names.
 fn named_link<'a, P: Inputs<'a>>(past: &P, session: Session, spoken: &Spoken) -> Option<Link<'a>>
-    ensures { (history : Events) → P.stands_for past.now history →
-        (option_map link_view result ≡ named_link session (spoken_view spoken.now).meaning history) }
+    ensures { (history : Events) → P.stands_for past.now history → (option_map link_view result ≡ named_link session (spoken_view spoken.now).meaning history) }
 {
     past.session_link(session, handle_in(&spoken.performative)?)
 }
 
-/// The link of what the router writes: an attach with source and target opens its own.
-fn written_link<'a, P: Inputs<'a> + Openings<'a>>(
+fn link_of<'a, P: Inputs<'a>>(
     past: &P,
-    number: u64,
-    session: Session,
-    spoken: &Spoken<'a>,
-) -> Option<Link<'a>>
-    ensures { (history : Events) → P.stands_for past.now history →
-        (option_map link_view result ≡ written_link number session (spoken_view spoken.now).meaning history) }
-{
-    match spoken.performative {
-        Performative::Attach(attach) if opens_link(&attach) => {
-            let theirs = past.last_in_attach(session, attach.handle);
-            Some(Link::new(number, session, &attach, theirs))
-        }
-        Performative::Attach(_) => None,
-        _ => named_link(past, session, spoken),
-    }
-}
-
-fn link_on<'a, P: Inputs<'a> + Openings<'a>>(
-    past: &P,
-    number: u64,
-    session: Session,
-    moment: &Moment<'a>,
-) -> Option<Link<'a>>
-    ensures { (history : Events) → P.stands_for past.now history →
-        (option_map link_view result ≡ link_on number session (moment_view moment.now) history) }
-{
-    match moment {
-        Moment::In(frame) => named_link(past, session, &frame.spoken()?),
-        Moment::Out(frame) => written_link(past, number, session, &frame.spoken()?),
-        _ => None,
-    }
-}
-
-fn link_of<'a, P: Inputs<'a> + Openings<'a>>(
-    past: &P,
-    number: u64,
-    moment: &Moment<'a>,
+    moment: &Moment,
     session: Option<Session>,
 ) -> Option<Link<'a>>
-    ensures { (history : Events) → P.stands_for past.now history →
-        (option_map link_view result ≡ link_of number (moment_view moment.now) history session) }
+    ensures { (history : Events) → P.stands_for past.now history → (option_map link_view result ≡ link_of (moment_view moment.now) history session) }
 {
-    link_on(past, number, session?, moment)
+    named_link(past, session?, &moment.spoken()?)
 }
 
 // What a transfer begins or goes on with, and what a disposition tells or settles.
@@ -145,8 +78,7 @@ fn incoming_part<'a, P: Inputs<'a>>(
     event: &Event<'a>,
     spoken: &Spoken,
 ) -> Option<Incoming<'a>>
-    ensures { (history : Events) → P.stands_for past.now history →
-        (option_map incoming_view result ≡ law.incoming_part (event_view event.now) (spoken_view spoken.now).meaning history) }
+    ensures { (history : Events) → P.stands_for past.now history → (option_map incoming_view result ≡ law.incoming_part (event_view event.now) (spoken_view spoken.now).meaning history) }
 {
     let Performative::Transfer(transfer) = spoken.performative else {
         return None;
@@ -163,8 +95,7 @@ fn incoming_part<'a, P: Inputs<'a>>(
 
 /// The delivery of a transfer that is heard and without fault.
 fn incoming_by<'a, P: Inputs<'a>>(past: &P, event: &Event<'a>) -> Option<Incoming<'a>>
-    ensures { (history : Events) → P.stands_for past.now history →
-        (option_map incoming_view result ≡ law.incoming_by (event_view event.now) (event_view event.now).moment history) }
+    ensures { (history : Events) → P.stands_for past.now history → (option_map incoming_view result ≡ law.incoming_by (event_view event.now) (event_view event.now).moment history) }
 {
     match event.moment {
         Moment::In(frame) if event.is_heard && event.fault.is_none() => {
@@ -180,8 +111,7 @@ fn outgoing_part<'a, P: Carriage<'a>>(
     event: &Event<'a>,
     spoken: &Spoken,
 ) -> Option<Outgoing<'a>>
-    ensures { (history : Events) → P.stands_for past.now history →
-        (option_map outgoing_view result ≡ law.outgoing_part (event_view event.now) (spoken_view spoken.now).meaning history) }
+    ensures { (history : Events) → P.stands_for past.now history → (option_map outgoing_view result ≡ law.outgoing_part (event_view event.now) (spoken_view spoken.now).meaning history) }
 {
     let Performative::Transfer(transfer) = spoken.performative else {
         return None;
@@ -197,8 +127,7 @@ fn outgoing_part<'a, P: Carriage<'a>>(
 }
 
 fn outgoing_by<'a, P: Carriage<'a>>(past: &P, event: &Event<'a>) -> Option<Outgoing<'a>>
-    ensures { (history : Events) → P.stands_for past.now history →
-        (option_map outgoing_view result ≡ law.outgoing_by (event_view event.now) (event_view event.now).moment history) }
+    ensures { (history : Events) → P.stands_for past.now history → (option_map outgoing_view result ≡ law.outgoing_by (event_view event.now) (event_view event.now).moment history) }
 {
     match event.moment {
         Moment::Out(frame) => outgoing_part(past, event, &frame.spoken()?),
@@ -213,8 +142,7 @@ fn told_by_role<'a, P: Outcomes<'a>>(
     session: Session,
     disposition: &Disposition,
 ) -> Option<u64>
-    ensures { (history : Events) → P.stands_for past.now history →
-        (result ≡ law.told_by_role rules.now session (disposition_fields disposition.now).first (disposition_fields disposition.now).role history) }
+    ensures { (history : Events) → P.stands_for past.now history → (result ≡ law.told_by_role rules.now session (disposition_fields disposition.now).first (disposition_fields disposition.now).role history) }
 {
     match disposition.role {
         Role::Receiver => Some(past.to_tell(rules, session, disposition.first)?.number),
@@ -228,8 +156,7 @@ fn settled_by_role<'a, P: Outcomes<'a>>(
     session: Session,
     disposition: &Disposition,
 ) -> Option<u64>
-    ensures { (history : Events) → P.stands_for past.now history →
-        (result ≡ law.settled_by_role session (disposition_fields disposition.now).first (disposition_fields disposition.now).role history) }
+    ensures { (history : Events) → P.stands_for past.now history → (result ≡ law.settled_by_role session (disposition_fields disposition.now).first (disposition_fields disposition.now).role history) }
 {
     match disposition.role {
         Role::Sender => Some(past.to_settle(session, disposition.first)?.number),
@@ -238,8 +165,7 @@ fn settled_by_role<'a, P: Outcomes<'a>>(
 }
 
 fn told_by<'a, P: Outcomes<'a>>(past: &P, rules: &[Rule], event: &Event) -> Option<u64>
-    ensures { (history : Events) → P.stands_for past.now history →
-        (result ≡ law.told_by rules.now (event_view event.now) (event_view event.now).moment history) }
+    ensures { (history : Events) → P.stands_for past.now history → (result ≡ law.told_by rules.now (event_view event.now) (event_view event.now).moment history) }
 {
     match event.out_spoken()?.performative {
         Performative::Disposition(disposition) => told_by_role(
@@ -253,8 +179,7 @@ fn told_by<'a, P: Outcomes<'a>>(past: &P, rules: &[Rule], event: &Event) -> Opti
 }
 
 fn settled_by<'a, P: Outcomes<'a>>(past: &P, event: &Event) -> Option<u64>
-    ensures { (history : Events) → P.stands_for past.now history →
-        (result ≡ law.settled_by (event_view event.now) (event_view event.now).moment history) }
+    ensures { (history : Events) → P.stands_for past.now history → (result ≡ law.settled_by (event_view event.now) (event_view event.now).moment history) }
 {
     match event.out_spoken()?.performative {
         Performative::Disposition(disposition) => settled_by_role(
@@ -305,26 +230,59 @@ impl<'a> Outgoing<'a> {
     }
 }
 
-// In four steps: where the record stands, whether it is heard, its fault, and the deliveries that it is of.
+// What the router opens.
 
-fn placed<'a, P: Inputs<'a> + Openings<'a>>(
+/// The session that an Out begin begins.
+fn opened_session<'a, P: Openings<'a>>(past: &P, event: &Event) -> Option<Session>
+    ensures { (history : Events) → P.stands_for past.now history → (result ≡ law.opened_session (event_view event.now) history) }
+{
+    let spoken = event.out_spoken()?;
+    let Performative::Begin(begin) = spoken.performative else {
+        return None;
+    };
+    let theirs = past.last_in_begin(event.connection, spoken.channel);
+    Some(Session::new(
+        event.number,
+        event.connection,
+        spoken.channel,
+        begin,
+        theirs,
+    ))
+}
+
+/// The link that an Out attach with source and target opens on a live session.
+fn opened_link<'a, P: Openings<'a>>(past: &P, event: &Event<'a>) -> Option<Link<'a>>
+    ensures { (history : Events) → P.stands_for past.now history → (option_map link_view result ≡ law.opened_link (event_view event.now) history) }
+{
+    let attach = event.out_attach()?;
+    let session = event.session?;
+    if !opens_link(&attach) {
+        return None;
+    }
+    let theirs = past.last_in_attach(session, attach.handle);
+    Some(Link::new(event.number, session, &attach, theirs))
+}
+
+// In five steps: where the record stands, whether it is heard, its fault, the deliveries that it is of, and what it
+/// opens.
+
+fn placed<'a, P: Inputs<'a>>(
     past: &P,
     number: u64,
     connection: u32,
     moment: Moment<'a>,
     note: Note,
 ) -> Event<'a>
-    ensures { (history : Events) → P.stands_for past.now history →
-        number ≡ length history → (event_view result ≡ law.placed history connection (moment_view moment.entry) note) }
+    ensures { (history : Events) → P.stands_for past.now history → number ≡ length history → (event_view result ≡ law.placed history connection (moment_view moment.entry) note) }
 {
-    let session = session_of(past, number, connection, &moment);
+    let session = session_of(past, connection, &moment);
     Event {
         number,
         connection,
         moment,
         note,
         session,
-        link: link_of(past, number, &moment, session),
+        link: link_of(past, &moment, session),
         incoming: None,
         outgoing: None,
         told: None,
@@ -345,8 +303,7 @@ fn with_heard<'a, P: Inputs<'a>>(past: &P, event: Event<'a>) -> Event<'a>
 }
 
 fn fault_by<'a, P: Inputs<'a>>(past: &P, rules: &[Rule], event: &Event) -> Option<Fault>
-    ensures { (history : Events) → P.stands_for past.now history →
-        (result ≡ law.fault_by rules.now (event_view event.now) (event_view event.now).moment history) }
+    ensures { (history : Events) → P.stands_for past.now history → (result ≡ law.fault_by rules.now (event_view event.now) (event_view event.now).moment history) }
 {
     match event.moment {
         Moment::In(frame) if event.is_heard => body_fault(past, rules, event, &frame.body),
@@ -355,8 +312,7 @@ fn fault_by<'a, P: Inputs<'a>>(past: &P, rules: &[Rule], event: &Event) -> Optio
 }
 
 fn faulted<'a, P: Inputs<'a>>(past: &P, rules: &[Rule], event: Event<'a>) -> Event<'a>
-    ensures { (history : Events) → P.stands_for past.now history →
-        (event_view result ≡ law.faulted rules.now history (event_view event.entry)) }
+    ensures { (history : Events) → P.stands_for past.now history → (event_view result ≡ law.faulted rules.now history (event_view event.entry)) }
 {
     let fault = fault_by(past, rules, &event);
     Event { fault, ..event }
@@ -367,8 +323,7 @@ fn delivered<'a, P: Inputs<'a> + Outcomes<'a> + Carriage<'a>>(
     rules: &[Rule],
     event: Event<'a>,
 ) -> Event<'a>
-    ensures { (history : Events) → P.stands_for past.now history →
-        (event_view result ≡ law.delivered rules.now history (event_view event.entry)) }
+    ensures { (history : Events) → P.stands_for past.now history → (event_view result ≡ law.delivered rules.now history (event_view event.entry)) }
 {
     Event {
         incoming: incoming_by(past, &event),
@@ -379,15 +334,34 @@ fn delivered<'a, P: Inputs<'a> + Outcomes<'a> + Carriage<'a>>(
     }
 }
 
-/// The record of this number in its place.
-pub(crate) fn judge<'a, P: Inputs<'a> + Outcomes<'a> + Openings<'a> + Carriage<'a>>(
+/// An Out begin stands on its own session, and an Out attach names its own link; any other event stays as it was.
+fn opened<'a, P: Openings<'a>>(past: &P, event: Event<'a>) -> Event<'a>
+    ensures { (history : Events) → P.stands_for past.now history → (event_view result ≡ law.opened history (event_view event.entry)) }
+{
+    let session = match opened_session(past, &event) {
+        Some(own) => Some(own),
+        None => event.session,
+    };
+    let link = match opened_link(past, &event) {
+        Some(own) => Some(own),
+        None => event.link,
+    };
+    Event {
+        session,
+        link,
+        ..event
+    }
+}
+
+/// What happened, with its note, as the event of this number, but for what it opens: the law can be asked here.
+pub(crate) fn judge_unopened<'a, P: Inputs<'a> + Outcomes<'a> + Carriage<'a>>(
     past: &P,
     rules: &[Rule],
     number: u64,
     entry: &'a Record,
 ) -> Event<'a>
-    ensures { (history : Events) → P.stands_for past.now history →
-        number ≡ length history → (event_view result ≡ law.judge rules.now history entry.now) }
+    ensures { (history : Events) → P.stands_for past.now history → number ≡ length history →
+        (event_view result ≡ law.judge_unopened rules.now history entry.now.connection (law.moment_of entry.now.what) entry.now.note) }
 {
     let event = placed(
         past,
@@ -398,4 +372,17 @@ pub(crate) fn judge<'a, P: Inputs<'a> + Outcomes<'a> + Openings<'a> + Carriage<'
     );
     let event = faulted(past, rules, with_heard(past, event));
     delivered(past, rules, event)
+}
+
+/// The record of this number in its place.
+pub(crate) fn judge<'a, P: Inputs<'a> + Outcomes<'a> + Openings<'a> + Carriage<'a>>(
+    past: &P,
+    rules: &[Rule],
+    number: u64,
+    entry: &'a Record,
+) -> Event<'a>
+    ensures { (history : Events) → P.stands_for past.now history → number ≡ length history →
+        (event_view result ≡ law.judge rules.now history entry.now) }
+{
+    opened(past, judge_unopened(past, rules, number, entry))
 }

@@ -2,7 +2,7 @@
 
 use crate::clauses::broken_clause;
 use crate::history::event::{Event, Incoming, Link, Outgoing, Past};
-use crate::history::judge;
+use crate::history::{judge, judge_unopened};
 use crate::questions::{Carriage, Counts, History, Inputs, Openings, Outcomes, Questions};
 use amqp_perf::{Begin, Disposition};
 use capture_form::{Record, Rule};
@@ -251,7 +251,7 @@ impl<'p, 'a> Carriage<'a> for Past<'p, 'a> {
 
 /// A record, judged by the events on the stack.
 impl<'p, 'a> Past<'p, 'a> {
-    ghost use Rattle.std.specs.Prelude.{◌≡◌, ◌<◌, ◌^◌, length};
+    ghost use Rattle.std.specs.Prelude.{◌≡◌, length};
     ghost use Rattle.trace_clauses.specs.Clauses.{broken_clause};
     ghost use Rattle.trace_events.specs.History.{judge};
     ghost use Rattle.trace_law.specs.View.{events, event_view};
@@ -264,11 +264,12 @@ impl<'p, 'a> Past<'p, 'a> {
         judge(self, rules, number, entry)
     }
 
-    /// The first clause that an event breaks.
-    pub(crate) fn broken_clause(&self, rules: &[Rule], event: &Event<'a>) -> Option<Clause>
-        requires few { length (events self.now) < 2 ^ 64 }
-        ensures { result ≡ broken_clause rules.now (event_view event.now) (events self.now) }
+    /// The first clause that the record of this number breaks.
+    pub(crate) fn broken_by(&self, rules: &[Rule], number: u64, entry: &'a Record) -> Option<Clause>
+        requires numbered { number ≡ length (events self.now) }
+        ensures { result ≡ broken_clause rules.now (judge rules.now (events self.now) entry.now) (events self.now) }
     {
-        broken_clause(self, rules, event)
+        let event = judge_unopened(self, rules, number, entry);
+        broken_clause(self, rules, &event)
     }
 }

@@ -115,8 +115,7 @@ impl Asked for BrokenByNext {
         number: u64,
         rest: &'a [Record],
     ) -> Option<Clause> {
-        let event = past.judge(rules, number, rest.first()?);
-        past.broken_clause(rules, &event)
+        past.broken_by(rules, number, rest.first()?)
     }
 }
 

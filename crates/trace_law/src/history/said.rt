@@ -8,8 +8,8 @@ use trace_events::Session;
 
 impl<'a> Moment<'a> {
     ghost use Rattle.std.specs.Prelude.{◌≡◌, option_map};
-    ghost use Rattle.trace_events.specs.Event.{in_frame, out_frame, is_opened, is_lost, is_broken, is_out, channel_of};
-    ghost use Rattle.trace_law.specs.View.{frame_view, moment_view};
+    ghost use Rattle.trace_events.specs.Event.{in_frame, out_frame, is_opened, is_lost, is_broken, is_out, spoken_of, channel_of};
+    ghost use Rattle.trace_law.specs.View.{spoken_view, frame_view, moment_view};
 
     fn in_frame(&self) -> Option<Frame<'a>>
         ensures { option_map frame_view result ≡ in_frame (moment_view self.now) }
@@ -51,6 +51,16 @@ impl<'a> Moment<'a> {
         ensures { result ≡ is_out (moment_view self.now) }
     {
         matches!(self, Moment::Out(_))
+    }
+
+    /// The performative of a frame, in either direction.
+    pub(crate) fn spoken(&self) -> Option<Spoken<'a>>
+        ensures { option_map spoken_view result ≡ spoken_of (moment_view self.now) }
+    {
+        match self {
+            Moment::In(frame) | Moment::Out(frame) => frame.spoken(),
+            _ => None,
+        }
     }
 
     /// The channel of a whole frame, in either direction.
