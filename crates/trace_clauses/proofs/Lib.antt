@@ -7,6 +7,7 @@ pub mod Within
 pub mod Carried
 pub mod Keeping
 pub mod Incomings
+pub mod Parts
 pub mod Decided
 pub mod WithinWindow
 pub mod WithinCredit
