@@ -8,6 +8,7 @@ pub mod Carried
 pub mod Keeping
 pub mod Incomings
 pub mod Parts
+pub mod PartsCounted
 pub mod Decided
 pub mod WithinWindow
 pub mod WithinCredit
