@@ -10,6 +10,7 @@ pub mod Incomings
 pub mod Parts
 pub mod PartsCounted
 pub mod Decided
+pub mod Undecided
 pub mod WithinWindow
 pub mod WithinCredit
 pub mod Captures

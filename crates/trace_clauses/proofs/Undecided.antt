@@ -1,0 +1,174 @@
+-- A delivery from a client that is decided once is never undecided again; one in progress on a live link is undecided.
+use Rattle.std.proofs.Common.{◌≡◌, refl, sym, ap, ◌∙◌, subst, ℕ, ◌<◌, ◌≤◌, ◌⊎◌, inl, inr, List, [], ◌∷◌, length, Bool, true, false, not, ◌&&◌, ◌||◌, ◌==◌, Option, Some, None, IfSome, is_some, option_and_then, option_map, arith, eqb-true, eq-eqb, ne_eqb}
+use Rattle.std.specs.Prelude.{if◌then◌else◌}
+use Rattle.amqp_perf.specs.declared.begin.Begin.{Begin}
+use Rattle.amqp_perf.specs.Meaning.{AttachFields, TransferFields, flag}
+use Rattle.capture_form.specs.declared.records.Record.{Record}
+use Rattle.capture_form.specs.Rules.{RuleText}
+use Rattle.trace_events.specs.Words.{is_some_and, or_else, where_passes}
+use Rattle.trace_events.specs.Frame.{Frame, Spoken, spoken_in}
+use Rattle.trace_events.specs.Event.{Event, Link, Incoming, Moment, Opened, In, Out, Lost, Broken, is_on_session}
+use Rattle.trace_events.specs.declared.session.Session.{Session}
+use Rattle.trace_events.specs.Said.{in_transfer, out_begin, out_attach}
+use Rattle.trace_events.specs.Connection.{is_over, is_final}
+use Rattle.trace_events.specs.Session.{new_session, last_in_begin, session_begun, last_session, live_session, begins_out, ends_in, ends_out}
+use Rattle.trace_events.specs.Link.{opens_link, new_link, last_in_attach, link_opened, session_link, live_link, attaches_out, detaches_in, detaches_out, is_live, link_at}
+use Rattle.trace_events.specs.Incoming.{goes_on, in_progress, is_part, is_complete, is_aborted, is_settled, is_told}
+use Rattle.trace_events.specs.Waiting.{is_waiting, is_undecided}
+use Rattle.trace_events.specs.History.{judge, history, moment_of, session_of, new_incoming}
+use Rattle.trace_events.proofs.Along.{along, and_then_some, if_some, some_passes, and_first}
+use Rattle.trace_events.proofs.IncomingSteps.{is_part_on, is_aborted-same, is_aborted-no_part}
+use Rattle.trace_events.proofs.Judged.{AreJudged}
+use Rattle.trace_events.proofs.Fates.{complete-stays, settled-stays, told-stays, aborted-stays}
+use Rattle.trace_events.proofs.Links.{IsKnown, known_still, event_known, HaveNoLink, attach_in, of_kind, passing}
+use Rattle.trace_clauses.proofs.Incomings.{judged-part, judged-sound, others}
+use Rattle.trace_clauses.proofs.Decided.{IsDone, done-stays}
+use Rattle.trace_clauses.proofs.Parts.{IsPart, record_part, EachPart, each_such, progress_holds, IsKept, AreKept, kept_step, none_kept}
+
+-- ---- a link that is not live stays so
+
+mapped : {A B : Type 0} (f : A → B) (o : Option A) (y : B) → option_map f o ≡ Some y → (x : A) × (o ≡ Some x) × (f x ≡ y)
+mapped f None y e = absurd cc
+mapped f (Some x) y e = (x, refl, cc)
+
+either_some : {A : Type 0} (o p : Option A) (x : A) → or_else o p ≡ Some x → (o ≡ Some x) ⊎ (p ≡ Some x)
+either_some None p x e = inr e
+either_some (Some y) p x e = inl e
+
+opened_one : (s : Session) (handle : ℕ) (e : Event) (past : List Event) (l : Link) → attaches_out s handle e ≡ true → link_opened s handle e past ≡ Some l
+    → (l.number ≡ e.number) × (l.session ≡ s) × (l.handle ≡ handle)
+opened_one s handle e past l attaches is =
+    let ours = mapped (λ (ours : AttachFields). new_link e.number s ours (last_in_attach s handle past)) (where_passes opens_link (out_attach e)) l is in
+    let there = and_first (is_some_and (out_attach e) (λ (fields : AttachFields). fields.handle == handle)) (is_on_session s e) attaches in
+    let same : (ours.0.handle == handle) ≡ true = sym (ap (λ (o : Option AttachFields). is_some_and o (λ fields. fields.handle == handle)) (passing opens_link (out_attach e) ours.0 ours.1).0) ∙ there in
+    (ap (λ (m : Link). m.number) (sym ours.2), ap (λ (m : Link). m.session) (sym ours.2), ap (λ (m : Link). m.handle) (sym ours.2) ∙ eqb-true ours.0.handle handle same)
+
+-- the link of a handle is that of before, or opens with the event
+link_kinds : (s : Session) (handle : ℕ) (e : Event) (past : List Event) (l : Link) (detached attached : Bool) → attaches_out s handle e ≡ attached
+    → (if detached then None else if attached then or_else (link_opened s handle e past) (session_link s handle past) else session_link s handle past) ≡ Some l
+    → (session_link s handle past ≡ Some l) ⊎ ((l.number ≡ e.number) × (l.session ≡ s) × (l.handle ≡ handle))
+link_kinds s handle e past l true attached attaches is = absurd cc
+link_kinds s handle e past l false false attaches is = inl is
+link_kinds s handle e past l false true attaches is = elim (either_some (link_opened s handle e past) (session_link s handle past) l is) [
+  | inl opened ↦ inr (opened_one s handle e past l attaches opened)
+  | inr before ↦ inl before
+]
+
+link_step : (s : Session) (handle : ℕ) (e : Event) (past : List Event) (l : Link) → session_link s handle (e ∷ past) ≡ Some l
+    → (session_link s handle past ≡ Some l) ⊎ ((l.number ≡ e.number) × (l.session ≡ s) × (l.handle ≡ handle))
+link_step s handle e past l is = link_kinds s handle e past l (detaches_in s handle e || detaches_out s handle e) (attaches_out s handle e) refl is
+
+-- it is of that session and that handle
+pub link_of_session : (s : Session) (handle : ℕ) (past : List Event) (l : Link) → session_link s handle past ≡ Some l → (l.session ≡ s) × (l.handle ≡ handle)
+link_of_session s handle [] l is = absurd cc
+link_of_session s handle (e ∷ past) l is = elim (link_step s handle e past l is) [
+  | inl before ↦ link_of_session s handle past l before
+  | inr opened ↦ (opened.1, opened.2)
+]
+
+begun_one : (number c channel : ℕ) (ours : Begin) (theirs : Option Begin) → let s = new_session number c channel ours theirs in (s.number ≡ number) × (s.connection ≡ c) × (s.channel ≡ channel)
+begun_one number c channel ours None = (refl, refl, refl)
+begun_one number c channel ours (Some theirs) = (refl, refl, refl)
+
+-- the session of a channel is that of before, or begins with the event
+session_kinds : (c channel : ℕ) (e : Event) (past : List Event) (s : Session) (ended begun : Bool)
+    → (if ended then None else if begun then session_begun c channel e past else last_session c channel past) ≡ Some s
+    → (last_session c channel past ≡ Some s) ⊎ ((s.number ≡ e.number) × (s.connection ≡ c) × (s.channel ≡ channel))
+session_kinds c channel e past s true begun is = absurd cc
+session_kinds c channel e past s false false is = inl is
+session_kinds c channel e past s false true is =
+    let ours = mapped (λ (ours : Begin). new_session e.number c channel ours (last_in_begin c channel past)) (out_begin e) s is in
+    inr (subst (λ (t : Session). (t.number ≡ e.number) × (t.connection ≡ c) × (t.channel ≡ channel)) ours.2 (begun_one e.number c channel ours.0 (last_in_begin c channel past)))
+
+session_step : (c channel : ℕ) (e : Event) (past : List Event) (s : Session) → last_session c channel (e ∷ past) ≡ Some s
+    → (last_session c channel past ≡ Some s) ⊎ ((s.number ≡ e.number) × (s.connection ≡ c) × (s.channel ≡ channel))
+session_step c channel e past s is = session_kinds c channel e past s (ends_in c channel e || ends_out c channel e) (begins_out c channel e) is
+
+-- it is of that channel
+last_of_channel : (c channel : ℕ) (past : List Event) (s : Session) → last_session c channel past ≡ Some s → (s.connection ≡ c) × (s.channel ≡ channel)
+last_of_channel c channel [] s is = absurd cc
+last_of_channel c channel (e ∷ past) s is = elim (session_step c channel e past s is) [
+  | inl before ↦ last_of_channel c channel past s before
+  | inr begun ↦ (begun.1, begun.2)
+]
+
+not_over : (b : Bool) (o : Option Session) (s : Session) → (if b then None else o) ≡ Some s → (b ≡ false) × (o ≡ Some s)
+not_over true o s is = absurd cc
+not_over false o s is = (refl, is)
+
+pub session_of_channel : (c channel : ℕ) (past : List Event) (s : Session) → live_session c channel past ≡ Some s → (s.connection ≡ c) × (s.channel ≡ channel)
+session_of_channel c channel past s is = last_of_channel c channel past s (not_over (is_over c past) (last_session c channel past) s is).1
+
+neither_true : (b c : Bool) → b || c ≡ false → c ≡ false
+neither_true true c e = absurd cc
+neither_true false c e = e
+
+-- a live session was live before, or begins with the event
+live_step : (c channel : ℕ) (e : Event) (past : List Event) (s : Session) → live_session c channel (e ∷ past) ≡ Some s → (live_session c channel past ≡ Some s) ⊎ (s.number ≡ e.number)
+live_step c channel e past s is =
+    let open_still = not_over (is_over c (e ∷ past)) (last_session c channel (e ∷ past)) s is in
+    let open_then : is_over c past ≡ false = neither_true (is_final e.moment && (e.connection == c)) (is_over c past) open_still.0 in
+    elim (session_step c channel e past s open_still.1) [
+      | inl before ↦ inl (ap (λ (b : Bool). if b then None else last_session c channel past) open_then ∙ before)
+      | inr begun ↦ inr begun.0
+    ]
+
+-- a live link was live before, unless it opens with the event
+live_before : (e : Event) (past : List Event) (l : Link) → e.number ≡ length past → HaveNoLink past → l.number < length past → is_live (e ∷ past) l ≡ true → is_live past l ≡ true
+live_before e past l number none before live =
+    let c = l.session.connection in
+    let channel = l.session.channel in
+    let there = some_passes (λ (m : Link). m.number == l.number) (live_link c channel l.handle (e ∷ past)) live in
+    let on = and_then_some (λ (s : Session). session_link s l.handle (e ∷ past)) (live_session c channel (e ∷ past)) there.0 there.1 in
+    let same : there.0.number ≡ l.number = eqb-true there.0.number l.number there.2 in
+    let linked : session_link on.0 l.handle past ≡ Some there.0 = elim (link_step on.0 l.handle e past there.0 on.2) [
+      | inl earlier ↦ earlier
+      | inr opened ↦ absurd (omega (arith, opened.0, same, number, before))
+    ] in
+    elim (live_step c channel e past on.0 on.1) [
+      | inl earlier ↦
+          ap (λ (o : Option Session). is_some_and (option_and_then (λ (s : Session). session_link s l.handle past) o) (λ m. m.number == l.number)) earlier
+          ∙ (ap (λ (o : Option Link). is_some_and o (λ m. m.number == l.number)) linked ∙ there.2)
+      | inr begun ↦
+          let nothing : session_link on.0 l.handle past ≡ None = none on.0 l.handle (omega (arith, begun, number)) in
+          let never : ◌≡◌ {A = Option Link} None (Some there.0) = sym nothing ∙ linked in
+          absurd cc
+    ]
+
+-- ---- what is decided stays decided
+
+undecided_by : (live aborted complete waiting closed live_now aborted_now complete_now waiting_now closed_now : Bool)
+    → (live_now ≡ true → live ≡ true) → (aborted ≡ true → aborted_now ≡ true) → (complete ≡ true → waiting ≡ false → (complete_now ≡ true) × (waiting_now ≡ false)) → (closed ≡ true → closed_now ≡ true)
+    → live_now && not aborted_now && (not complete_now || waiting_now || not closed_now) ≡ true → live && not aborted && (not complete || waiting || not closed) ≡ true
+undecided_by live aborted complete waiting closed false aborted_now complete_now waiting_now closed_now l a d c now = absurd cc
+undecided_by live aborted complete waiting closed true true complete_now waiting_now closed_now l a d c now = absurd cc
+undecided_by false aborted complete waiting closed true false complete_now waiting_now closed_now l a d c now = let dead : false ≡ true = l refl in absurd cc
+undecided_by true true complete waiting closed true false complete_now waiting_now closed_now l a d c now = let gone : false ≡ true = a refl in absurd cc
+undecided_by true false false waiting closed true false complete_now waiting_now closed_now l a d c now = refl
+undecided_by true false true true closed true false complete_now waiting_now closed_now l a d c now = refl
+undecided_by true false true false false true false complete_now waiting_now closed_now l a d c now = refl
+undecided_by true false true false true true false complete_now waiting_now closed_now l a d c now =
+    let done = d refl refl in
+    let never : false ≡ true = sym (rw (done.0, done.1, c refl) refl) ∙ now in
+    absurd cc
+
+or_stays : (b c b_now c_now : Bool) → (b ≡ true → b_now ≡ true) → (c ≡ true → c_now ≡ true) → b || c ≡ true → b_now || c_now ≡ true
+or_stays true c b_now c_now f g e = ap (λ (x : Bool). x || c_now) (f refl)
+or_stays false c b_now c_now f g e = ap (λ (x : Bool). b_now || x) (g e) ∙ on b_now
+  where
+    on : (b : Bool) → b || true ≡ true
+    on true = refl
+    on false = refl
+
+-- one that is undecided was undecided before
+pub undecided_before : (rules : List RuleText) (past : List Event) (r : Record) (d : Incoming) → AreKept rules past → d.link.number < length past
+    → is_undecided rules d (judge rules past r ∷ past) ≡ true → is_undecided rules d past ≡ true
+undecided_before rules past r d all before now =
+    let e = judge rules past r in
+    undecided_by (is_live past d.link) (is_aborted d past) (is_complete d past) (is_waiting rules d past) (is_settled d past || is_told d past)
+    (is_live (e ∷ past) d.link) (is_aborted d (e ∷ past)) (is_complete d (e ∷ past)) (is_waiting rules d (e ∷ past)) (is_settled d (e ∷ past) || is_told d (e ∷ past))
+    (live_before e past d.link refl all.stands.no_link before)
+    (aborted-stays d e past)
+    (λ complete quiet. let done = done-stays rules e past ((r, refl), all.are) d (record { complete = complete; quiet = quiet }) in (done.complete, done.quiet))
+    (or_stays (is_settled d past) (is_told d past) (is_settled d (e ∷ past)) (is_told d (e ∷ past)) (settled-stays d e past) (told-stays d e past))
+    now
