@@ -1,5 +1,5 @@
 -- A delivery from a client that is decided once is never undecided again; one in progress on a live link is undecided.
-use Rattle.std.proofs.Common.{◌≡◌, refl, sym, ap, ◌∙◌, subst, ℕ, ◌<◌, ◌≤◌, ◌⊎◌, inl, inr, List, [], ◌∷◌, length, Bool, true, false, not, ◌&&◌, ◌||◌, ◌==◌, Option, Some, None, IfSome, is_some, option_and_then, option_map, arith, eqb-true, eq-eqb, ne_eqb}
+use Rattle.std.proofs.Common.{◌≡◌, refl, sym, ap, ◌∙◌, subst, ℕ, ◌<◌, ◌⊎◌, inl, inr, List, [], ◌∷◌, length, Bool, true, false, not, ◌&&◌, ◌||◌, ◌==◌, Option, Some, None, IfSome, is_some, option_and_then, option_map, arith, eqb-true, eq-eqb, ne_eqb}
 use Rattle.std.specs.Prelude.{if◌then◌else◌}
 use Rattle.amqp_perf.specs.declared.begin.Begin.{Begin}
 use Rattle.amqp_perf.specs.Meaning.{AttachFields, TransferFields, flag}
@@ -7,7 +7,7 @@ use Rattle.capture_form.specs.declared.records.Record.{Record}
 use Rattle.capture_form.specs.Rules.{RuleText}
 use Rattle.trace_events.specs.Words.{is_some_and, or_else, where_passes}
 use Rattle.trace_events.specs.Frame.{Frame, Spoken, spoken_in}
-use Rattle.trace_events.specs.Event.{Event, Link, Incoming, Moment, Opened, In, Out, Lost, Broken, is_on_session}
+use Rattle.trace_events.specs.Event.{Event, Link, Incoming, Moment, In, is_on_session}
 use Rattle.trace_events.specs.declared.session.Session.{Session}
 use Rattle.trace_events.specs.Said.{in_transfer, out_begin, out_attach}
 use Rattle.trace_events.specs.Connection.{is_over, is_final}
@@ -15,15 +15,14 @@ use Rattle.trace_events.specs.Session.{new_session, last_in_begin, session_begun
 use Rattle.trace_events.specs.Link.{opens_link, new_link, last_in_attach, link_opened, session_link, live_link, attaches_out, detaches_in, detaches_out, is_live, link_at}
 use Rattle.trace_events.specs.Incoming.{goes_on, in_progress, is_part, is_complete, is_aborted, is_settled, is_told}
 use Rattle.trace_events.specs.Waiting.{is_waiting, is_undecided}
-use Rattle.trace_events.specs.History.{judge, history, moment_of, session_of, new_incoming}
-use Rattle.trace_events.proofs.Along.{along, and_then_some, if_some, some_passes, and_first}
+use Rattle.trace_events.specs.History.{judge, moment_of, session_of, new_incoming}
+use Rattle.trace_events.proofs.Along.{and_then_some, some_passes, and_first}
 use Rattle.trace_events.proofs.IncomingSteps.{is_part_on, is_aborted-same, is_aborted-no_part}
-use Rattle.trace_events.proofs.Judged.{AreJudged}
-use Rattle.trace_events.proofs.Fates.{complete-stays, settled-stays, told-stays, aborted-stays}
-use Rattle.trace_events.proofs.Links.{IsKnown, known_still, event_known, HaveNoLink, attach_in, of_kind, passing}
+use Rattle.trace_events.proofs.Fates.{settled-stays, told-stays, aborted-stays}
+use Rattle.trace_events.proofs.Links.{known_still, event_known, HaveNoLink, attach_in, of_kind, passing}
 use Rattle.trace_clauses.proofs.Incomings.{judged-part, judged-sound, others}
-use Rattle.trace_clauses.proofs.Decided.{IsDone, done-stays}
-use Rattle.trace_clauses.proofs.Parts.{IsPart, record_part, EachPart, each_such, progress_holds, IsKept, AreKept, kept_step, none_kept}
+use Rattle.trace_clauses.proofs.Decided.{done-stays}
+use Rattle.trace_clauses.proofs.Parts.{IsPart, record_part, EachPart, each_such, progress_holds, IsKept, AreKept}
 
 -- ---- a link that is not live stays so
 
@@ -172,3 +171,116 @@ undecided_before rules past r d all before now =
     (λ complete quiet. let done = done-stays rules e past ((r, refl), all.are) d (record { complete = complete; quiet = quiet }) in (done.complete, done.quiet))
     (or_stays (is_settled d past) (is_told d past) (is_settled d (e ∷ past)) (is_told d (e ∷ past)) (settled-stays d e past) (told-stays d e past))
     now
+
+-- ---- a delivery in progress is not aborted
+
+off_is : (n : ℕ) (o : Option Incoming) → IfSome o (λ d. (d.number == n) ≡ false) → is_some_and o (λ d. d.number == n) ≡ false
+off_is n None h = refl
+off_is n (Some d) h = h
+
+-- one that is still to begin is neither aborted nor complete
+pub begins_whole : (past : List Event) (n : ℕ) → EachPart (λ d. (d.number == n) ≡ false) past → (d : Incoming) → d.number ≡ n → is_aborted d past ≡ false
+begins_whole [] n each d same = refl
+begins_whole (e ∷ past) n each d same =
+    is_aborted-no_part e past d (ap (λ (m : ℕ). is_some_and e.incoming (λ x. x.number == m)) same ∙ off_is n e.incoming each.0) ∙ begins_whole past n each.1 d same
+
+pub all_before : (past : List Event) → EachPart (IsKept past) past → EachPart (λ d. (d.number == length past) ≡ false) past
+all_before past each =
+    each_such (IsKept past) (λ d. (d.number == length past) ≡ false) past (λ d kept. ne_eqb d.number (length past) (λ is. let lt = kept.before in absurd (omega (arith, is, lt)))) each
+
+going_not_aborted : (o : Option TransferFields) → is_some_and o goes_on ≡ true → is_some_and o (λ fields. flag fields.aborted) ≡ false
+going_not_aborted None e = refl
+going_not_aborted (Some fields) e = by (flag fields.more) (flag fields.aborted) e
+  where
+    by : (more aborted : Bool) → more && not aborted ≡ true → aborted ≡ false
+    by more false e = refl
+    by true true e = absurd cc
+    by false true e = absurd cc
+
+off_and : (b c : Bool) → c ≡ false → b && c ≡ false
+off_and true c e = e
+off_and false c e = refl
+
+progress_kinds : (l : Link) (e : Event) (past : List Event) (d : Incoming) (on more : Bool) → is_part_on l e ≡ on → is_some_and (in_transfer e) goes_on ≡ more
+    → (if on then (if more then e.incoming else None) else in_progress l past) ≡ Some d
+    → ((e.incoming ≡ Some d) × (is_some_and (in_transfer e) goes_on ≡ true)) ⊎ ((is_part_on l e ≡ false) × (in_progress l past ≡ Some d))
+progress_kinds l e past d true true part goes is = inl (is, goes)
+progress_kinds l e past d true false part goes is = absurd cc
+progress_kinds l e past d false more part goes is = inr (part, is)
+
+abbrev pub AreWhole : List Event → Type 0
+AreWhole past = (l : Link) (d : Incoming) → in_progress l past ≡ Some d → is_aborted d past ≡ false
+
+module _ (rules : List RuleText) (past : List Event) (r : Record) (all : AreKept rules past) (whole : AreWhole past) where
+  abbrev now : Event
+  now = judge rules past r
+
+  -- the delivery of a part was not aborted
+  pub part_whole : (d : Incoming) → now.incoming ≡ Some d → (p : IsPart now past d) → (in_progress p.part.link past ≡ Some d) ⊎ ((in_progress p.part.link past ≡ None) × (d ≡ new_incoming (length past) p.fields p.part.link))
+      → is_aborted d past ≡ false
+  part_whole d here p (inl going) = whole p.part.link d going
+  part_whole d here p (inr new) = begins_whole past (length past) (all_before past all.each) d (ap (λ (x : Incoming). x.number) new.1)
+
+  whole_step : AreWhole (now ∷ past)
+  whole_step l d is = elim (progress_kinds l now past d (is_part_on l now) (is_some_and (in_transfer now) goes_on) refl refl is) [
+    | inl here ↦
+        let p = record_part rules past r d here.0 in
+        is_aborted-same now past d (off_and (is_part d now) (is_some_and (in_transfer now) (λ fields. flag fields.aborted)) (going_not_aborted (in_transfer now) here.1))
+        ∙ part_whole d here.0 p p.part.kind
+    | inr before ↦
+        is_aborted-no_part now past d (off_is d.number now.incoming
+        (others now past refl (judged-part rules now past ((r, refl), all.are)) (judged-sound rules past all.are) l d before.1 now.incoming before.0 (judged-part rules now past ((r, refl), all.are))))
+        ∙ whole l d before.1
+  ]
+
+-- ---- and a link that an event of the client names is live
+
+channel_in_progress : (number c : ℕ) (m : Moment) (frame : Frame) (past : List Event) (s : Session) → m ≡ In frame → session_of number c m past ≡ Some s → (channel : ℕ) × (live_session c channel past ≡ Some s)
+channel_in_progress number c m frame past s came is =
+    let step = and_then_some (λ (spoken : Spoken). live_session c spoken.channel past) (spoken_in frame.body) s (sym (ap (λ (m : Moment). session_of number c m past) came) ∙ is) in
+    (step.0.channel, step.2)
+
+live_is : (c channel handle : ℕ) (past : List Event) (s : Session) (l : Link) → live_session c channel past ≡ Some s → session_link s handle past ≡ Some l → is_live past l ≡ true
+live_is c channel handle past s l live linked =
+    let at = session_of_channel c channel past s live in
+    let of = link_of_session s handle past l linked in
+    let connection : l.session.connection ≡ c = ap (λ (t : Session). t.connection) of.0 ∙ at.0 in
+    let on_channel : l.session.channel ≡ channel = ap (λ (t : Session). t.channel) of.0 ∙ at.1 in
+    ap (λ (n : ℕ). is_some_and (live_link n l.session.channel l.handle past) (λ m. m.number == l.number)) connection
+    ∙ (ap (λ (n : ℕ). is_some_and (live_link c n l.handle past) (λ m. m.number == l.number)) on_channel
+    ∙ (ap (λ (n : ℕ). is_some_and (live_link c channel n past) (λ m. m.number == l.number)) of.1
+    ∙ (ap (λ (o : Option Session). is_some_and (option_and_then (λ (t : Session). session_link t handle past) o) (λ m. m.number == l.number)) live
+    ∙ (ap (λ (o : Option Link). is_some_and o (λ m. m.number == l.number)) linked ∙ eq-eqb l.number l.number refl))))
+
+named_live : (rules : List RuleText) (past : List Event) (r : Record) (frame : Frame) (l : Link) → moment_of r.what ≡ In frame → (judge rules past r).link ≡ Some l → is_live past l ≡ true
+named_live rules past r frame l came on = elim (of_kind (length past) (moment_of r.what) past (judge rules past r).session l on) [
+  | inl opens ↦ let never : false ≡ true = sym (ap (λ (m : Moment). is_some (attach_in m)) came) ∙ opens in absurd cc
+  | inr named ↦
+      let channel = channel_in_progress (length past) r.connection (moment_of r.what) frame past named.0 came named.1 in
+      live_is r.connection channel.0 named.2.0 past named.0 l channel.1 named.2.1
+]
+
+-- the link of a part is that of its delivery
+pub part_link : (rules : List RuleText) (past : List Event) (r : Record) (d : Incoming) → AreKept rules past → (p : IsPart (judge rules past r) past d)
+    → (in_progress p.part.link past ≡ Some d) ⊎ ((in_progress p.part.link past ≡ None) × (d ≡ new_incoming (length past) p.fields p.part.link)) → p.part.link ≡ d.link
+part_link rules past r d all p (inr new) = sym (ap (λ (x : Incoming). x.link) new.1)
+part_link rules past r d all p (inl going) =
+    let e = judge rules past r in
+    let kept = progress_holds (IsKept past) p.part.link past d all.each going in
+    let mine = known_still rules past r d.link kept.link in
+    let named = event_known rules past r p.part.link all.stands p.part.on in
+    let same : d.link.number ≡ p.part.link.number = (judged-sound rules past all.are).own p.part.link d going in
+    let one : ◌≡◌ {A = Option Link} (Some p.part.link) (Some d.link) = sym named.at ∙ (ap (λ (n : ℕ). link_at n (e ∷ past)) (sym same) ∙ mine.at) in
+    cc
+
+undecided_is : (live aborted complete waiting closed : Bool) → live ≡ true → aborted ≡ false → complete ≡ false → live && not aborted && (not complete || waiting || not closed) ≡ true
+undecided_is live aborted complete waiting closed l a c = rw (l, a, c) refl
+
+-- a part is of a delivery that was undecided before it, or begins
+pub part_undecided : (rules : List RuleText) (past : List Event) (r : Record) (d : Incoming) → AreKept rules past → AreWhole past → (judge rules past r).incoming ≡ Some d → (p : IsPart (judge rules past r) past d)
+    → in_progress p.part.link past ≡ Some d → is_undecided rules d past ≡ true
+part_undecided rules past r d all whole here p going =
+    undecided_is (is_live past d.link) (is_aborted d past) (is_complete d past) (is_waiting rules d past) (is_settled d past || is_told d past)
+    (subst (λ (l : Link). is_live past l ≡ true) (part_link rules past r d all p (inl going)) (named_live rules past r p.frame p.part.link p.came p.part.on))
+    (whole p.part.link d going)
+    ((judged-sound rules past all.are).going p.part.link d going)
