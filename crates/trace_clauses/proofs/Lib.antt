@@ -11,6 +11,7 @@ pub mod Parts
 pub mod PartsCounted
 pub mod Decided
 pub mod Undecided
+pub mod IdsApart
 pub mod WithinWindow
 pub mod WithinCredit
 pub mod Captures
