@@ -12,6 +12,7 @@ pub mod PartsCounted
 pub mod Decided
 pub mod Undecided
 pub mod IdsApart
+pub mod IdsInUse
 pub mod WithinWindow
 pub mod WithinCredit
 pub mod Captures

@@ -25,7 +25,7 @@ freed_same : (link : ℕ) (ids : List ℕ) (rest : List PartEvent) → counted.i
 freed_same link [] rest = refl
 freed_same link (id ∷ ids) rest = freed_same link ids rest
 
-equal_turned : (m n : ℕ) (b : Bool) → (m == n) ≡ b → (n == m) ≡ b
+pub equal_turned : (m n : ℕ) (b : Bool) → (m == n) ≡ b → (n == m) ≡ b
 equal_turned m n true is = eq-eqb n m (sym (eqb-true m n is))
 equal_turned m n false is = by (n == m) refl
   where
@@ -181,11 +181,11 @@ module _ (rules : List RuleText) (s : Session) (l : Link) (past : List Event) (r
 
 -- ---- along a history
 
-record IsCounted (rules : List RuleText) (s : Session) (l : Link) (past : List Event) : Type 0 where
-  kept : AreKept rules past
-  counts : EachPart (IsOf s l) past → counted.in_progress l.number (part_events rules s past) ≡ option_map (partial_of past) (in_progress l past)
+pub record IsCounted (rules : List RuleText) (s : Session) (l : Link) (past : List Event) : Type 0 where
+  pub kept : AreKept rules past
+  pub counts : EachPart (IsOf s l) past → counted.in_progress l.number (part_events rules s past) ≡ option_map (partial_of past) (in_progress l past)
 
-counted_step : (rules : List RuleText) (s : Session) (l : Link) (past : List Event) (r : Record) → IsCounted rules s l past → IsCounted rules s l (judge rules past r ∷ past)
+pub counted_step : (rules : List RuleText) (s : Session) (l : Link) (past : List Event) (r : Record) → IsCounted rules s l past → IsCounted rules s l (judge rules past r ∷ past)
 counted_step rules s l past r h = record {
   kept = kept_step rules past r h.kept;
   counts = λ of.

@@ -221,7 +221,7 @@ module _ (rules : List RuleText) (past : List Event) (r : Record) (all : AreKept
   part_whole d here p (inl going) = whole p.part.link d going
   part_whole d here p (inr new) = begins_whole past (length past) (all_before past all.each) d (ap (λ (x : Incoming). x.number) new.1)
 
-  whole_step : AreWhole (now ∷ past)
+  pub whole_step : AreWhole (now ∷ past)
   whole_step l d is = elim (progress_kinds l now past d (is_part_on l now) (is_some_and (in_transfer now) goes_on) refl refl is) [
     | inl here ↦
         let p = record_part rules past r d here.0 in
