@@ -248,7 +248,7 @@ pub record AreKept (rules : List RuleText) (past : List Event) : Type 0 where
   pub stands : Stands past
   pub each : EachPart (IsKept past) past
 
-kept_still : (rules : List RuleText) (past : List Event) (r : Record) (d : Incoming) → AreKept rules past → IsKept past d → IsKept (judge rules past r ∷ past) d
+pub kept_still : (rules : List RuleText) (past : List Event) (r : Record) (d : Incoming) → AreKept rules past → IsKept past d → IsKept (judge rules past r ∷ past) d
 kept_still rules past r d all kept =
     let e = judge rules past r in
     let lt = kept.before in
