@@ -20,3 +20,4 @@ pub mod Made
 mod ClauseExamples
 mod FaultExamples
 mod ReadingExamples
+mod PartsExamples
