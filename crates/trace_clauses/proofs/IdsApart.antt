@@ -12,18 +12,10 @@ use Rattle.trace_events.specs.Waiting.{is_undecided, is_undecided_of}
 use Rattle.trace_events.specs.History.{judge, history, new_incoming}
 use Rattle.trace_events.proofs.Along.{along, and_first, and_last}
 use Rattle.trace_events.proofs.Links.{passing}
-use Rattle.trace_clauses.proofs.Parts.{IsPart, record_part, first_free, IsFree, EachPart, holds_some, progress_holds, IsKept, AreKept, kept_step, none_kept}
+use Rattle.trace_clauses.proofs.Parts.{IsPart, record_part, first_free, IsFree, progress_holds, IsKept, AreKept, kept_step, none_kept, AllOf, all_such, each_delivery}
 use Rattle.trace_clauses.proofs.Undecided.{undecided_before}
 
 -- ---- on lists
-
-abbrev pub AllOf : {A : Type 0} → (A → Type 0) → List A → Type 0
-AllOf P [] = Unit {0}
-AllOf P (x ∷ xs) = P x × AllOf P xs
-
-pub all_such : {A : Type 0} (P Q : A → Type 0) (xs : List A) → ((x : A) → P x → Q x) → AllOf P xs → AllOf Q xs
-all_such P Q [] more h = tt
-all_such P Q (x ∷ xs) more h = (more x h.0, all_such P Q xs more h.1)
 
 -- at most one passes
 abbrev pub AtMostOne : {A : Type 0} → (A → Bool) → List A → Type 0
@@ -92,14 +84,6 @@ one_found u p q (z ∷ zs) x y one found other first second = by (p z) (q z) (λ
     by false false later found other = later found other
 
 -- ---- on the deliveries of a history
-
-pub each_delivery : (P : Incoming → Type 0) (past : List Event) → EachPart P past → AllOf P (incoming_deliveries past)
-each_delivery P [] each = tt
-each_delivery P (e ∷ past) each = by (incoming_begun e) refl (each_delivery P past each.1)
-  where
-    by : (o : Option Incoming) → incoming_begun e ≡ o → AllOf P (incoming_deliveries past) → AllOf P (cons_option o (incoming_deliveries past))
-    by None is earlier = earlier
-    by (Some d) is earlier = (holds_some P e.incoming d (passing (λ (x : Incoming). x.number == e.number) e.incoming d is).0 each.0, earlier)
 
 keep_by : (on has before now : Bool) → (now ≡ true → before ≡ true) → on && has && now ≡ true → on && has && before ≡ true
 keep_by true true before now keeps is = keeps is

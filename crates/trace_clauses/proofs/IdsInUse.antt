@@ -19,10 +19,10 @@ use Rattle.trace_events.specs.Parts.{parts_on, parts_of, frees, freed_id, freed_
 use Rattle.trace_events.specs.History.{judge, history, new_incoming}
 use Rattle.trace_events.proofs.Along.{along}
 use Rattle.trace_events.proofs.IncomingSteps.{aborts, is_aborted-same, is_aborted-here}
-use Rattle.trace_clauses.proofs.Parts.{IsPart, record_part, each_such, holds_some, kept_still, progress_holds, IsKept, AreKept, kept_step, none_kept}
+use Rattle.trace_clauses.proofs.Parts.{IsPart, record_part, each_such, holds_some, kept_still, progress_holds, IsKept, AreKept, kept_step, none_kept, AllOf, all_such, each_delivery}
 use Rattle.trace_clauses.proofs.PartsCounted.{equal_turned, IsOf, IsCounted, counted_step, link_is_of}
 use Rattle.trace_clauses.proofs.Undecided.{AreWhole, whole_step, part_whole, part_link, part_undecided}
-use Rattle.trace_clauses.proofs.IdsApart.{AllOf, all_such, AtMostOne, Keeps, none_passes, none_but, each_delivery, of_before, all_keep, free_of, begun_free, AreApart, apart_step}
+use Rattle.trace_clauses.proofs.IdsApart.{AtMostOne, Keeps, none_passes, none_but, of_before, all_keep, free_of, begun_free, AreApart, apart_step}
 
 -- ---- on lists
 

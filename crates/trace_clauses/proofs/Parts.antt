@@ -1,7 +1,8 @@
 -- Each part of a delivery from a client: on which link it came, what it says, and that it had no fault; and what holds of
 -- every delivery of a history.
 use Rattle.std.proofs.Common.{◌≡◌, refl, sym, ap, ◌∙◌, subst, ℕ, ◌<◌, ◌⊎◌, inl, inr, List, [], ◌∷◌, length, Bool, true, false, not, ◌&&◌, ◌==◌, Option, Some, None, IfSome, is_some, option_and_then, option_map, arith}
-use Rattle.std.specs.Prelude.{is_none, if◌then◌else◌}
+use Rattle.std.specs.Prelude.{is_none, find, if◌then◌else◌}
+use Rattle.std.specs.List.{cons_option}
 use Rattle.amqp_perf.specs.Meaning.{Meaning, AnOpen, ABegin, AnAttach, AFlow, ATransfer, ADisposition, ADetach, AnEnd, AClose, TransferFields, flag}
 use Rattle.capture_form.specs.declared.records.Record.{Record}
 use Rattle.capture_form.specs.Rules.{RuleText}
@@ -14,7 +15,7 @@ use Rattle.trace_events.specs.Said.{as_transfer, in_transfer}
 use Rattle.trace_events.specs.Connection.{has_in_open}
 use Rattle.trace_events.specs.Window.{given_window}
 use Rattle.trace_events.specs.Link.{is_producer, is_consumer}
-use Rattle.trace_events.specs.Incoming.{goes_on, in_progress, incoming_at}
+use Rattle.trace_events.specs.Incoming.{goes_on, in_progress, incoming_begun, incoming_deliveries, incoming_at}
 use Rattle.trace_events.specs.Fault.{body_fault, spoken_fault, opened_fault, channel_fault, on_session_fault, session_fault, attached_fault, link_transfer_fault, part_fault, first_part_fault, size_fault, is_id_in_use}
 use Rattle.trace_events.specs.History.{judge, history, moment_of, heard, placed, fault_by, incoming_part, incoming_by, new_incoming}
 use Rattle.trace_events.proofs.Along.{along, and_then_some, if_some, standing}
@@ -289,3 +290,37 @@ none_kept rules = record { are = tt; stands = none_stands; each = tt }
 
 pub history_kept : (rules : List RuleText) (rs : List Record) → AreKept rules (history rules rs)
 history_kept rules rs = along rules (AreKept rules) (none_kept rules) (kept_step rules) rs
+
+-- ---- the deliveries themselves
+
+abbrev pub AllOf : {A : Type 0} → (A → Type 0) → List A → Type 0
+AllOf P [] = Unit {0}
+AllOf P (x ∷ xs) = P x × AllOf P xs
+
+pub all_such : {A : Type 0} (P Q : A → Type 0) (xs : List A) → ((x : A) → P x → Q x) → AllOf P xs → AllOf Q xs
+all_such P Q [] more h = tt
+all_such P Q (x ∷ xs) more h = (more x h.0, all_such P Q xs more h.1)
+
+pub found_holds : {A : Type 0} (P : A → Type 0) (test : A → Bool) (xs : List A) (x : A) → AllOf P xs → find test xs ≡ Some x → P x
+found_holds P test [] x h found = absurd cc
+found_holds P test (y ∷ ys) x h found = by (test y) (found_holds P test ys x h.1) found
+  where
+    by : (b : Bool) → (find test ys ≡ Some x → P x) → (if b then Some y else find test ys) ≡ Some x → P x
+    by true later found = let same : y ≡ x = cc in subst P same h.0
+    by false later found = later found
+
+pub each_delivery : (P : Incoming → Type 0) (past : List Event) → EachPart P past → AllOf P (incoming_deliveries past)
+each_delivery P [] each = tt
+each_delivery P (e ∷ past) each = by (incoming_begun e) refl (each_delivery P past each.1)
+  where
+    by : (o : Option Incoming) → incoming_begun e ≡ o → AllOf P (incoming_deliveries past) → AllOf P (cons_option o (incoming_deliveries past))
+    by None is earlier = earlier
+    by (Some d) is earlier = (holds_some P e.incoming d (passing (λ (x : Incoming). x.number == e.number) e.incoming d is).0 each.0, earlier)
+
+pub delivery_kept : (rules : List RuleText) (past : List Event) (n : ℕ) (d : Incoming) → AreKept rules past → incoming_at n past ≡ Some d → IsKept past d
+delivery_kept rules past n d all found =
+    found_holds (IsKept past) (λ (x : Incoming). x.number == n) (incoming_deliveries past) d (each_delivery (IsKept past) past all.each) found
+
+-- of a capture: each delivery from a client has an id
+pub delivery_has_id : (rules : List RuleText) (rs : List Record) (n : ℕ) (d : Incoming) → incoming_at n (history rules rs) ≡ Some d → is_some d.id ≡ true
+delivery_has_id rules rs n d found = (delivery_kept rules (history rules rs) n d (history_kept rules rs) found).given

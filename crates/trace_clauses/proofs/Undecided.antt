@@ -1,5 +1,5 @@
 -- A delivery from a client that is decided once is never undecided again; one in progress on a live link is undecided.
-use Rattle.std.proofs.Common.{◌≡◌, refl, sym, ap, ◌∙◌, subst, ℕ, ◌<◌, ◌⊎◌, inl, inr, List, [], ◌∷◌, length, Bool, true, false, not, ◌&&◌, ◌||◌, ◌==◌, Option, Some, None, IfSome, is_some, option_and_then, option_map, arith, eqb-true, eq-eqb, ne_eqb}
+use Rattle.std.proofs.Common.{◌≡◌, refl, sym, ap, ◌∙◌, subst, ℕ, ◌<◌, ◌⊎◌, inl, inr, List, [], ◌∷◌, ◌++◌, length, Bool, true, false, not, ◌&&◌, ◌||◌, ◌==◌, Option, Some, None, IfSome, is_some, option_and_then, option_map, arith, eqb-true, eq-eqb, ne_eqb}
 use Rattle.std.specs.Prelude.{if◌then◌else◌}
 use Rattle.amqp_perf.specs.declared.begin.Begin.{Begin}
 use Rattle.amqp_perf.specs.Meaning.{AttachFields, TransferFields, flag}
@@ -13,16 +13,17 @@ use Rattle.trace_events.specs.Said.{in_transfer, out_begin, out_attach}
 use Rattle.trace_events.specs.Connection.{is_over, is_final}
 use Rattle.trace_events.specs.Session.{new_session, last_in_begin, session_begun, last_session, live_session, begins_out, ends_in, ends_out}
 use Rattle.trace_events.specs.Link.{opens_link, new_link, last_in_attach, link_opened, session_link, live_link, attaches_out, detaches_in, detaches_out, is_live, link_at}
-use Rattle.trace_events.specs.Incoming.{goes_on, in_progress, is_part, is_complete, is_aborted, is_settled, is_told}
+use Rattle.trace_events.specs.Incoming.{goes_on, in_progress, is_part, is_complete, is_aborted, is_settled, is_told, incoming_at}
 use Rattle.trace_events.specs.Waiting.{is_waiting, is_undecided}
-use Rattle.trace_events.specs.History.{judge, moment_of, session_of, new_incoming}
+use Rattle.trace_events.specs.History.{judge, continued, history, moment_of, session_of, new_incoming}
 use Rattle.trace_events.proofs.Along.{and_then_some, some_passes, and_first}
 use Rattle.trace_events.proofs.IncomingSteps.{is_part_on, is_aborted-same, is_aborted-no_part}
 use Rattle.trace_events.proofs.Fates.{settled-stays, told-stays, aborted-stays}
 use Rattle.trace_events.proofs.Links.{known_still, event_known, HaveNoLink, attach_in, of_kind, passing}
 use Rattle.trace_clauses.proofs.Incomings.{judged-part, judged-sound, others}
 use Rattle.trace_clauses.proofs.Decided.{done-stays}
-use Rattle.trace_clauses.proofs.Parts.{IsPart, record_part, EachPart, each_such, progress_holds, IsKept, AreKept}
+use Rattle.trace_clauses.proofs.Parts.{IsPart, record_part, EachPart, each_such, progress_holds, IsKept, AreKept, kept_still, kept_step, history_kept, delivery_kept}
+use Rattle.trace_clauses.proofs.Lawful.{continued-append}
 
 -- ---- a link that is not live stays so
 
@@ -171,6 +172,24 @@ undecided_before rules past r d all before now =
     (λ complete quiet. let done = done-stays rules e past ((r, refl), all.are) d (record { complete = complete; quiet = quiet }) in (done.complete, done.quiet))
     (or_stays (is_settled d past) (is_told d past) (is_settled d (e ∷ past)) (is_told d (e ∷ past)) (settled-stays d e past) (told-stays d e past))
     now
+
+not_now : (now before : Bool) → (now ≡ true → before ≡ true) → before ≡ false → now ≡ false
+not_now false before undecided decided = refl
+not_now true before undecided decided = let yes : before ≡ true = undecided refl in absurd cc
+
+decided_continued : (rules : List RuleText) (past : List Event) (rs : List Record) (d : Incoming) → AreKept rules past → IsKept past d → is_undecided rules d past ≡ false
+    → is_undecided rules d (continued rules past rs) ≡ false
+decided_continued rules past [] d all kept decided = decided
+decided_continued rules past (r ∷ rs) d all kept decided =
+    decided_continued rules (judge rules past r ∷ past) rs d (kept_step rules past r all) (kept_still rules past r d all kept)
+    (not_now (is_undecided rules d (judge rules past r ∷ past)) (is_undecided rules d past) (undecided_before rules past r d all kept.link.before) decided)
+
+-- of a capture: what is decided stays so, whatever is recorded later
+pub decided_stays : (rules : List RuleText) (rs more : List Record) (n : ℕ) (d : Incoming) → incoming_at n (history rules rs) ≡ Some d → is_undecided rules d (history rules rs) ≡ false
+    → is_undecided rules d (history rules (rs ++ more)) ≡ false
+decided_stays rules rs more n d found decided =
+    ap (is_undecided rules d) (continued-append rules [] rs more)
+    ∙ decided_continued rules (history rules rs) more d (history_kept rules rs) (delivery_kept rules (history rules rs) n d (history_kept rules rs) found) decided
 
 -- ---- a delivery in progress is not aborted
 
