@@ -208,6 +208,8 @@ link_is_of rules past l all at =
     ap (λ (m : Link). m.session.number) one) all.each
 
 -- of each link of a capture: the delivery in progress is the one counted over the parts of the link's session
-pub in_progress_counted : (rules : List RuleText) (rs : List Record) (l : Link) → link_at l.number (history rules rs) ≡ Some l
-    → counted.in_progress l.number (part_events rules l.session (history rules rs)) ≡ option_map (partial_of (history rules rs)) (in_progress l (history rules rs))
-in_progress_counted rules rs l at = in_progress_counted_of rules l.session l rs (link_is_of rules (history rules rs) l (history_kept rules rs) at)
+pub in_progress_counted : (rules : List RuleText) (rs : List Record) (s : Session) (l : Link) → link_at l.number (history rules rs) ≡ Some l → l.session.number ≡ s.number
+    → counted.in_progress l.number (part_events rules s (history rules rs)) ≡ option_map (partial_of (history rules rs)) (in_progress l (history rules rs))
+in_progress_counted rules rs s l at own =
+    in_progress_counted_of rules s l rs
+    (each_such (IsOf l.session l) (IsOf s l) (history rules rs) (λ d of same. of same ∙ own) (link_is_of rules (history rules rs) l (history_kept rules rs) at))
