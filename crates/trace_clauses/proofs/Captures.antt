@@ -1,5 +1,5 @@
 -- Captures as literals, and what the law computes of them.
-use Rattle.std.specs.Prelude.{ℕ, List, [], ◌∷◌, ◌++◌, replicate, Bool, false, Option, None, Result}
+use Rattle.std.specs.Prelude.{ℕ, List, [], ◌∷◌, ◌++◌, replicate, Bool, false, Option, Some, None, Result}
 use Rattle.std.specs.Fmt.{digits}
 use Rattle.amqp_perf.proofs.Opened.{read, written}
 use Rattle.amqp_frames.specs.Writing.{frame_octets}
@@ -14,6 +14,10 @@ use Rattle.trace_clauses.specs.declared.clause.Clause.{Clause}
 use Rattle.trace_events.specs.declared.fault.Fault.{Fault}
 use Rattle.trace_events.specs.Frame.{frame_read}
 use Rattle.trace_events.specs.Event.{Event}
+use Rattle.flow_counts.specs.Parts.{PartEvent}
+use Rattle.trace_events.specs.declared.session.Session.{Session}
+use Rattle.trace_events.specs.Session.{session_at}
+use Rattle.trace_events.specs.Parts.{part_events}
 use Rattle.trace_events.specs.History.{history, judge}
 use Rattle.trace_clauses.specs.Clauses.{first_broken}
 use Rattle.trace_clauses.specs.Written.{spoken_octets}
@@ -82,3 +86,12 @@ is_last_heard rules records = last_heard (history rules records)
 unfoldable pub fault_behind : List RuleText → List Record → ℕ → Record → Option Fault
 unfolding frame_read whole_frame frame_at sized_frame headed_frame read digits spoken_octets frame_octets written
 fault_behind rules records n record_again = fault_again rules n record_again (history rules records)
+
+-- what moved the deliveries of the session that began in this record
+abbrev pub parts_of_one : List RuleText → Option Session → List Event → List PartEvent
+parts_of_one rules None past = []
+parts_of_one rules (Some s) past = part_events rules s past
+
+unfoldable pub parts_in : List RuleText → List Record → ℕ → List PartEvent
+unfolding frame_read whole_frame frame_at sized_frame headed_frame read digits spoken_octets frame_octets written
+parts_in rules records n = let past = history rules records in parts_of_one rules (session_at n past) past

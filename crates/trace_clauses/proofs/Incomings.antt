@@ -100,10 +100,10 @@ module _ (e : Event) (past : List Event) (number : e.number ≡ length past) (pa
       let other : (d.number == n) ≡ false = ne_eqb d.number n (λ same. absurd (omega (arith, same, here, number, lt))) in
       ap (λ b. cond b (Some d) (incoming_at n past)) other
 
-  at-step : (n : ℕ) → n < length past → incoming_at n (e ∷ past) ≡ incoming_at n past
+  pub at-step : (n : ℕ) → n < length past → incoming_at n (e ∷ past) ≡ incoming_at n past
   at-step n lt = by-begun n lt (incoming_begun e) refl
 
-  at-new : (d : Incoming) → e.incoming ≡ Some d → d.number ≡ length past → incoming_at d.number (e ∷ past) ≡ Some d
+  pub at-new : (d : Incoming) → e.incoming ≡ Some d → d.number ≡ length past → incoming_at d.number (e ∷ past) ≡ Some d
   at-new d is same =
       let mine : (d.number == e.number) ≡ true = eq-eqb d.number e.number (same ∙ sym number) in
       let begun : incoming_begun e ≡ Some d = ap (λ o. where_passes (λ (x : Incoming). x.number == e.number) o) is ∙ ap (λ b. if b then Some d else None) mine in
@@ -166,7 +166,7 @@ module _ (e : Event) (past : List Event) (number : e.number ≡ length past) (pa
       let yes : (x.link.number == l.number) ≡ true = eq-eqb x.link.number l.number linked in
       absurd cc
 
-  others : (l : Link) (d : Incoming) → in_progress l past ≡ Some d → (o : Option Incoming) → is_some_and o (λ x. x.link.number == l.number) ≡ false → IfSome o (IsPartOf past)
+  pub others : (l : Link) (d : Incoming) → in_progress l past ≡ Some d → (o : Option Incoming) → is_some_and o (λ x. x.link.number == l.number) ≡ false → IfSome o (IsPartOf past)
       → IfSome o (λ x. (x.number == d.number) ≡ false)
   others l d is None apart of = tt
   others l d is (Some x) apart of = other-part l d is x apart of (x.number == d.number) refl

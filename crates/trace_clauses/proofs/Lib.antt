@@ -8,7 +8,12 @@ pub mod Within
 pub mod Carried
 pub mod Keeping
 pub mod Incomings
+pub mod Parts
+pub mod PartsCounted
 pub mod Decided
+pub mod Undecided
+pub mod IdsApart
+pub mod IdsInUse
 pub mod WithinWindow
 pub mod WithinCredit
 pub mod Captures
@@ -16,3 +21,4 @@ pub mod Made
 mod ClauseExamples
 mod FaultExamples
 mod ReadingExamples
+mod PartsExamples

@@ -1,17 +1,20 @@
 //! What each lawful capture keeps.
 
-ghost use Rattle.std.specs.Prelude.{◌≡◌, ℕ, List, ◌∷◌, ◌++◌, ◌==◌, true, false, IsTrue, ◌&&◌, Some};
+ghost use Rattle.std.specs.Prelude.{◌≡◌, ℕ, List, ◌∷◌, ◌++◌, ◌==◌, true, false, IsTrue, ◌&&◌, Some, is_some, option_map};
 ghost use Rattle.capture_form.specs.declared.records.Record.{Record};
 ghost use Rattle.capture_form.specs.Rules.{RuleText};
 ghost use Rattle.trace_clauses.specs.declared.clause.Clause.{Clause};
-ghost use Rattle.trace_events.specs.Event.{Event, Incoming};
+ghost use Rattle.flow_counts.specs.Parts as counted;
+ghost use Rattle.trace_events.specs.Event.{Event, Link, Incoming};
 ghost use Rattle.trace_events.specs.declared.session.Session.{Session};
 ghost use Rattle.trace_events.specs.Session.{live_session, session_at};
 ghost use Rattle.trace_events.specs.Link.{session_link, link_at};
 ghost use Rattle.trace_events.specs.History.{history};
 ghost use Rattle.trace_clauses.specs.Clauses.{first_broken, is_lawful};
-ghost use Rattle.trace_events.specs.Incoming.{incoming_at, is_complete, is_told, payload};
-ghost use Rattle.trace_events.specs.Waiting.{is_undecided, is_waiting, is_gone};
+ghost use Rattle.trace_events.specs.Incoming.{incoming_at, in_progress, is_complete, is_told, payload};
+ghost use Rattle.trace_events.specs.Waiting.{is_undecided, is_undecided_of, is_waiting, is_gone};
+ghost use Rattle.trace_events.specs.Fault.{is_id_in_use};
+ghost use Rattle.trace_events.specs.Parts.{part_events, partial_of};
 ghost use Rattle.trace_clauses.specs.Laws.{IsWithinWindow, IsWithinCredit};
 ghost use Rattle.trace_clauses.specs.Kept.{AtEach, StoodWithin, WentToAddress, HasCarried, IsOfRow, ReachesOne, ToldOnce};
 
@@ -38,6 +41,19 @@ pub fn laws_of_captures()
     // A delivery that was told is not undecided.
     ensures decided { (rules : List RuleText) (records : List Record) → IsTrue (is_lawful rules records) → (n : ℕ) (delivery : Incoming)
         → incoming_at n (history rules records) ≡ Some delivery → is_told delivery (history rules records) ≡ true → is_undecided rules delivery (history rules records) ≡ false }
+    // Each delivery from a client has an id, also in a capture that is not lawful; so it is with the four laws that follow.
+    ensures identified { (rules : List RuleText) (records : List Record) (n : ℕ) (delivery : Incoming) → incoming_at n (history rules records) ≡ Some delivery → is_some delivery.id ≡ true }
+    // Two deliveries of one session that are undecided have different ids.
+    ensures distinct { (rules : List RuleText) (records : List Record) (s : Session) (id m n : ℕ) (one other : Incoming) → incoming_at m (history rules records) ≡ Some one → incoming_at n (history rules records) ≡ Some other
+        → is_undecided_of rules s id (history rules records) one ≡ true → is_undecided_of rules s id (history rules records) other ≡ true → one ≡ other }
+    // A delivery that is decided stays so, whatever is recorded later.
+    ensures for_good { (rules : List RuleText) (records more : List Record) (n : ℕ) (delivery : Incoming) → incoming_at n (history rules records) ≡ Some delivery
+        → is_undecided rules delivery (history rules records) ≡ false → is_undecided rules delivery (history rules (records ++ more)) ≡ false }
+    // The delivery in progress on a link is the one that is counted over the parts of its session.
+    ensures parts { (rules : List RuleText) (records : List Record) (s : Session) (l : Link) → link_at l.number (history rules records) ≡ Some l → l.session.number ≡ s.number
+        → counted.in_progress l.number (part_events rules s (history rules records)) ≡ option_map (partial_of (history rules records)) (in_progress l (history rules records)) }
+    // The ids that are in use on a session are those counted over its parts.
+    ensures in_use { (rules : List RuleText) (records : List Record) (s : Session) (id : ℕ) → counted.is_in_use id (part_events rules s (history rules records)) ≡ is_id_in_use rules s id (history rules records) }
     // The first records of a lawful capture are lawful.
     ensures before { (rules : List RuleText) (records more : List Record) → IsTrue (is_lawful rules (records ++ more)) → IsTrue (is_lawful rules records) }
     // What is broken first stays so, whatever is recorded later.

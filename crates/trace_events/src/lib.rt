@@ -3,7 +3,8 @@
 //! plain variables, in `proofs/`. Whatever judges records stands on them: clauses, duties, plain scans, tables.
 //!
 //! Reading order in `specs/`: `Frame`, `Event`, `Said`; `Connection`, `Session`, `Link`, `Window`, `Credit`,
-//! `Address`; `Disposition`, `Incoming`, `Outgoing`, `Waiting`, `Due`, `Settling`; `Heard`, `Fault`, `History`.
+//! `Address`; `Disposition`, `Incoming`, `Outgoing`, `Waiting`, `Parts`, `Due`, `Settling`; `Heard`, `Fault`,
+//! `History`.
 //!
 //! In `proofs/`: the ruleset `kinds` of `EventKinds` says what each kind of event is to each test, `steps` of `Steps`
 //! what each definition is after an event of which the tests are known, `history_steps` of `HistorySteps` what they ask

@@ -9,6 +9,11 @@ use Rattle.trace_events.proofs.Elsewhere.{live_session-other, session_link-other
 use Rattle.trace_events.proofs.Fates.{not_both}
 use Rattle.trace_clauses.proofs.WithinWindow.{within_window}
 use Rattle.trace_clauses.proofs.WithinCredit.{within_credit}
+use Rattle.trace_clauses.proofs.Parts.{delivery_has_id}
+use Rattle.trace_clauses.proofs.Undecided.{decided_stays}
+use Rattle.trace_clauses.proofs.IdsApart.{undecided_one}
+use Rattle.trace_clauses.proofs.PartsCounted.{in_progress_counted}
+use Rattle.trace_clauses.proofs.IdsInUse.{id_in_use_counted}
 use Rattle.trace_clauses.proofs.laws.laws_of_captures.Goals as goal
 
 pub returns-clause-within : goal.returns-clause-within
@@ -58,3 +63,18 @@ returns-clause-links c = λ connection handle s e past other of. session_link-ot
 
 pub returns-clause-decided : goal.returns-clause-decided
 returns-clause-decided c = λ rules records lawful. told-decided rules records (unbroken-of rules records lawful)
+
+pub returns-clause-identified : goal.returns-clause-identified
+returns-clause-identified c = delivery_has_id
+
+pub returns-clause-distinct : goal.returns-clause-distinct
+returns-clause-distinct c = undecided_one
+
+pub returns-clause-for_good : goal.returns-clause-for_good
+returns-clause-for_good c = decided_stays
+
+pub returns-clause-parts : goal.returns-clause-parts
+returns-clause-parts c = in_progress_counted
+
+pub returns-clause-in_use : goal.returns-clause-in_use
+returns-clause-in_use c = id_in_use_counted
