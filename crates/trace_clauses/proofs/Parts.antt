@@ -17,10 +17,11 @@ use Rattle.trace_events.specs.Window.{given_window}
 use Rattle.trace_events.specs.Link.{is_producer, is_consumer}
 use Rattle.trace_events.specs.Incoming.{goes_on, in_progress, incoming_begun, incoming_deliveries, incoming_at}
 use Rattle.trace_events.specs.Fault.{body_fault, spoken_fault, opened_fault, channel_fault, on_session_fault, session_fault, attached_fault, link_transfer_fault, part_fault, first_part_fault, size_fault, is_id_in_use}
-use Rattle.trace_events.specs.History.{judge, history, moment_of, heard, placed, fault_by, incoming_part, incoming_by, new_incoming}
+use Rattle.trace_events.specs.History.{judge, judge_unopened, history, moment_of, heard, placed, fault_by, incoming_part, incoming_by, new_incoming}
 use Rattle.trace_events.proofs.Along.{along, and_then_some, if_some, standing}
 use Rattle.trace_events.proofs.Judged.{AreJudged}
-use Rattle.trace_events.proofs.Links.{IsKnown, known_still, event_known, Stands, stands_step, none_stands, passing}
+use Rattle.trace_events.proofs.Opens.{opened-link}
+use Rattle.trace_events.proofs.Links.{attach_in, IsKnown, known_still, event_known, Stands, stands_step, none_stands, passing}
 use Rattle.trace_clauses.proofs.Incomings.{judged-part, judged-sound, at-step, at-new}
 
 -- ---- a part
@@ -115,6 +116,11 @@ part_by e Opened past d came is = absurd cc
 part_by e Lost past d came is = absurd cc
 part_by e Broken past d came is = absurd cc
 
+-- a frame of the client opens nothing
+pub came_link : (rules : List RuleText) (past : List Event) (r : Record) (frame : Frame) → moment_of r.what ≡ In frame → (judge rules past r).link ≡ (standing rules past r).link
+came_link rules past r frame came =
+    opened-link (judge_unopened rules past r.connection (moment_of r.what) r.note) past (ap (λ (m : Moment). attach_in m) came)
+
 pub record_part : (rules : List RuleText) (past : List Event) (r : Record) (d : Incoming) → (judge rules past r).incoming ≡ Some d → IsPart (judge rules past r) past d
 record_part rules past r d is =
     let p = part_by (standing rules past r) (moment_of r.what) past d refl is in
@@ -128,7 +134,7 @@ record_part rules past r d is =
       says = p.says;
       heard = p.heard;
       faultless = p.faultless;
-      part = record { link = p.part.link; on = p.part.on; kind = p.part.kind };
+      part = record { link = p.part.link; on = came_link rules past r p.frame p.came ∙ p.part.on; kind = p.part.kind };
     }
 
 pub judged_is_part : (rules : List RuleText) (e : Event) (past : List Event) → AreJudged rules (e ∷ past) → (d : Incoming) → e.incoming ≡ Some d → IsPart e past d
@@ -178,7 +184,7 @@ pub part_allowed : (rules : List RuleText) (past : List Event) (r : Record) (d :
 part_allowed rules past r d p =
     let e = heard past (placed past r.connection (moment_of r.what) r.note) in
     let none : fault_by rules e (In p.frame) past ≡ None = sym (ap (λ m. fault_by rules e m past) p.came) ∙ p.faultless in
-    body_allows rules e p.spoken p.fields p.part.link past p.means p.part.on p.frame.body p.said
+    body_allows rules e p.spoken p.fields p.part.link past p.means (sym (came_link rules past r p.frame p.came) ∙ p.part.on) p.frame.body p.said
     (where_heard e.is_heard (body_fault rules e p.frame.body past) p.heard none)
 
 first_is : (rules : List RuleText) (l : Link) (fields : TransferFields) (octets : List ℕ) (past : List Event) → in_progress l past ≡ None → link_transfer_fault rules l fields octets past ≡ None

@@ -15,10 +15,12 @@ use Rattle.trace_events.specs.Session.{new_session, last_in_begin, session_begun
 use Rattle.trace_events.specs.Link.{opens_link, new_link, last_in_attach, link_opened, session_link, live_link, attaches_out, detaches_in, detaches_out, is_live, link_at}
 use Rattle.trace_events.specs.Incoming.{goes_on, in_progress, is_part, is_complete, is_aborted, is_settled, is_told, incoming_at}
 use Rattle.trace_events.specs.Waiting.{is_waiting, is_undecided}
-use Rattle.trace_events.specs.History.{judge, continued, history, moment_of, session_of, new_incoming}
+use Rattle.trace_events.specs.History.{judge, judge_unopened, continued, history, moment_of, session_of, new_incoming}
 use Rattle.trace_events.proofs.Along.{and_then_some, some_passes, and_first}
 use Rattle.trace_events.proofs.IncomingSteps.{is_part_on, is_aborted-same, is_aborted-no_part}
 use Rattle.trace_events.proofs.Fates.{settled-stays, told-stays, aborted-stays}
+use Rattle.trace_events.proofs.Opens.{opened-session}
+use Rattle.trace_events.proofs.Sessions.{begin_in}
 use Rattle.trace_events.proofs.Links.{known_still, event_known, HaveNoLink, attach_in, of_kind, passing}
 use Rattle.trace_clauses.proofs.Incomings.{judged-part, judged-sound, others}
 use Rattle.trace_clauses.proofs.Decided.{done-stays}
@@ -254,9 +256,9 @@ module _ (rules : List RuleText) (past : List Event) (r : Record) (all : AreKept
 
 -- ---- and a link that an event of the client names is live
 
-channel_in_progress : (number c : ℕ) (m : Moment) (frame : Frame) (past : List Event) (s : Session) → m ≡ In frame → session_of number c m past ≡ Some s → (channel : ℕ) × (live_session c channel past ≡ Some s)
-channel_in_progress number c m frame past s came is =
-    let step = and_then_some (λ (spoken : Spoken). live_session c spoken.channel past) (spoken_in frame.body) s (sym (ap (λ (m : Moment). session_of number c m past) came) ∙ is) in
+channel_in_progress : (c : ℕ) (m : Moment) (frame : Frame) (past : List Event) (s : Session) → m ≡ In frame → session_of c m past ≡ Some s → (channel : ℕ) × (live_session c channel past ≡ Some s)
+channel_in_progress c m frame past s came is =
+    let step = and_then_some (λ (spoken : Spoken). live_session c spoken.channel past) (spoken_in frame.body) s (sym (ap (λ (m : Moment). session_of c m past) came) ∙ is) in
     (step.0.channel, step.2)
 
 live_is : (c channel handle : ℕ) (past : List Event) (s : Session) (l : Link) → live_session c channel past ≡ Some s → session_link s handle past ≡ Some l → is_live past l ≡ true
@@ -272,10 +274,11 @@ live_is c channel handle past s l live linked =
     ∙ (ap (λ (o : Option Link). is_some_and o (λ m. m.number == l.number)) linked ∙ eq-eqb l.number l.number refl))))
 
 named_live : (rules : List RuleText) (past : List Event) (r : Record) (frame : Frame) (l : Link) → moment_of r.what ≡ In frame → (judge rules past r).link ≡ Some l → is_live past l ≡ true
-named_live rules past r frame l came on = elim (of_kind (length past) (moment_of r.what) past (judge rules past r).session l on) [
+named_live rules past r frame l came on = elim (of_kind rules past r l on) [
   | inl opens ↦ let never : false ≡ true = sym (ap (λ (m : Moment). is_some (attach_in m)) came) ∙ opens in absurd cc
   | inr named ↦
-      let channel = channel_in_progress (length past) r.connection (moment_of r.what) frame past named.0 came named.1 in
+      let unbegun = opened-session (judge_unopened rules past r.connection (moment_of r.what) r.note) past (ap (λ (m : Moment). begin_in m) came) in
+      let channel = channel_in_progress r.connection (moment_of r.what) frame past named.0 came (sym unbegun ∙ named.1) in
       live_is r.connection channel.0 named.2.0 past named.0 l channel.1 named.2.1
 ]
 
