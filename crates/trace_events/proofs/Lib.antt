@@ -1,3 +1,4 @@
+pub mod Standing
 pub mod StepWords
 pub mod EventKinds
 pub mod Elsewhere

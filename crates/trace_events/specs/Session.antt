@@ -1,5 +1,5 @@
 -- The session on a channel (part 2 of the standard, section 2.5).
-use Rattle.std.specs.Prelude.{ℕ, Bool, true, false, ◌&&◌, ◌||◌, List, [], ◌∷◌, Option, Some, None, is_some, is_none, option_map, filter, filter_map, find, ◌==◌, if◌then◌else◌}
+use Rattle.std.specs.Prelude.{ℕ, Bool, true, false, ◌&&◌, ◌||◌, List, [], ◌∷◌, Option, Some, None, IfSome, is_some, is_none, option_map, filter, filter_map, find, ◌==◌, ◌≡◌, if◌then◌else◌}
 use Rattle.amqp_perf.specs.declared.begin.Begin.{Begin}
 use Rattle.trace_events.specs.Words.{is_some_and}
 use Rattle.trace_events.specs.Event.{Event, is_on_channel}
@@ -93,3 +93,11 @@ owes_end c channel (e ∷ past) =
 -- the session that began in this record
 abbrev pub session_at : ℕ → List Event → Option Session
 session_at n past = find (λ s. s.number == n) (filter_map own_session past)
+
+-- it is the live session of its channel
+abbrev pub IsLiveOn : Session → List Event → Type 0
+IsLiveOn s past = live_session s.connection s.channel past ≡ Some s
+
+-- where an event stands on a session, that one lives before it; what the event opens itself is no such
+abbrev pub StandsLive : Event → List Event → Type 0
+StandsLive e past = IfSome e.session (λ s. IsLiveOn s past)

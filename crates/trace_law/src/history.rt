@@ -2,6 +2,7 @@
 
 ghost use Rattle.std.specs.Prelude.{◌≡◌, option_map, length};
 ghost use Rattle.trace_events.specs.History.{session_of, named_link, link_of};
+ghost use Rattle.trace_events.specs.Session.{StandsLive};
 ghost use Rattle.trace_law.specs.View.{spoken_view, moment_view, link_view, event_view, incoming_view, outgoing_view, Events};
 ghost use Rattle.amqp_perf.specs.View.{disposition_fields};
 ghost use Rattle.trace_events.specs.History as law;
@@ -293,7 +294,7 @@ fn placed<'a, P: Inputs<'a>>(
 }
 
 fn with_heard<'a, P: Inputs<'a>>(past: &P, event: Event<'a>) -> Event<'a>
-    ensures { (history : Events) → P.stands_for past.now history → (event_view result ≡ law.heard history (event_view event.entry)) }
+    ensures { (history : Events) → P.stands_for past.now history → StandsLive (event_view event.entry) history → (event_view result ≡ law.heard history (event_view event.entry)) }
 {
     let is_heard = match event.moment {
         Moment::In(frame) => is_heard_body(past, &event, &frame.body),
@@ -303,7 +304,7 @@ fn with_heard<'a, P: Inputs<'a>>(past: &P, event: Event<'a>) -> Event<'a>
 }
 
 fn fault_by<'a, P: Inputs<'a>>(past: &P, rules: &[Rule], event: &Event) -> Option<Fault>
-    ensures { (history : Events) → P.stands_for past.now history → (result ≡ law.fault_by rules.now (event_view event.now) (event_view event.now).moment history) }
+    ensures { (history : Events) → P.stands_for past.now history → StandsLive (event_view event.now) history → (result ≡ law.fault_by rules.now (event_view event.now) (event_view event.now).moment history) }
 {
     match event.moment {
         Moment::In(frame) if event.is_heard => body_fault(past, rules, event, &frame.body),
@@ -312,7 +313,7 @@ fn fault_by<'a, P: Inputs<'a>>(past: &P, rules: &[Rule], event: &Event) -> Optio
 }
 
 fn faulted<'a, P: Inputs<'a>>(past: &P, rules: &[Rule], event: Event<'a>) -> Event<'a>
-    ensures { (history : Events) → P.stands_for past.now history → (event_view result ≡ law.faulted rules.now history (event_view event.entry)) }
+    ensures { (history : Events) → P.stands_for past.now history → StandsLive (event_view event.entry) history → (event_view result ≡ law.faulted rules.now history (event_view event.entry)) }
 {
     let fault = fault_by(past, rules, &event);
     Event { fault, ..event }

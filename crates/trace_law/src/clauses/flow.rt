@@ -1,6 +1,7 @@
 //! Flows that the router writes (part 2 of the standard, sections 2.5.6, 2.6.7 and 2.7.4).
 
 ghost use Rattle.std.specs.Prelude.{◌≡◌};
+ghost use Rattle.trace_events.specs.Session.{IsLiveOn, StandsLive};
 ghost use Rattle.trace_law.specs.View.{event_view, link_view, Events};
 ghost use Rattle.trace_clauses.specs.FlowClause as law;
 
@@ -14,7 +15,7 @@ use trace_events::Session;
 
 /// The flow has the session's ids and windows.
 fn has_session_numbers<P: Counts>(past: &P, flow: &Flow, session: Session) -> bool
-    ensures { (history : Events) → P.stands_for past.now history → (result ≡ law.has_session_numbers flow.now history session) }
+    ensures { (history : Events) → P.stands_for past.now history → IsLiveOn session history → (result ≡ law.has_session_numbers flow.now history session) }
 {
     flow.incoming_window == INCOMING_WINDOW
         && flow.outgoing_window == OUTGOING_WINDOW
@@ -136,7 +137,7 @@ pub(crate) fn tells_counts<'a, P: Inputs<'a> + Counts>(
     flow: &Flow,
 ) -> bool
     requires few { P.is_short past.now }
-    ensures { (history : Events) → P.stands_for past.now history →
+    ensures { (history : Events) → P.stands_for past.now history → StandsLive (event_view event.now) history →
         (result ≡ law.tells_counts rules.now (event_view event.now) flow.now history) }
 {
     let Some(session) = event.session else {

@@ -2,6 +2,7 @@
 
 ghost use Rattle.std.specs.Prelude.{◌≡◌, ◌&&◌, ◌||◌};
 ghost use Rattle.amqp_perf.specs.View.{transfer_fields};
+ghost use Rattle.trace_events.specs.Session.{StandsLive};
 ghost use Rattle.trace_law.specs.View.{event_view, incoming_view, link_view, outgoing_view, Events};
 ghost use Rattle.trace_clauses.specs.TransferClause as law;
 ghost use Rattle.trace_events.specs.Words.{is_some_and};
@@ -59,7 +60,7 @@ pub(crate) fn is_alike(event: &Event, link: &Link, fields: &Transfer, delivery: 
 
 /// L4: on a consumer's live link, within the session's window (part 2, section 2.5.6).
 pub(crate) fn may_be_sent<P: Counts>(past: &P, event: &Event, fields: &Transfer) -> bool
-    ensures { (history : Events) → P.stands_for past.now history →
+    ensures { (history : Events) → P.stands_for past.now history → StandsLive (event_view event.now) history →
         (result ≡ law.may_be_sent (event_view event.now) (transfer_fields fields.now) history) }
 {
     match (&event.link, event.session) {

@@ -7,6 +7,7 @@ ghost use Rattle.trace_events.specs.declared.fault.Fault.TheVariants.{Detach};
 ghost use Rattle.amqp_perf.specs.Meaning.{flag};
 ghost use Rattle.amqp_perf.specs.NestedViews.{address_view, terminus_view, target_view};
 ghost use Rattle.amqp_perf.specs.View.{open_fields, attach_fields, transfer_fields, view};
+ghost use Rattle.trace_events.specs.Session.{IsLiveOn, StandsLive};
 ghost use Rattle.trace_law.specs.View.{event_view, incoming_view, link_view, spoken_view, body_view, Events};
 ghost use Rattle.trace_events.specs.Incoming.{in_progress};
 ghost use Rattle.trace_events.specs.Fault as law;
@@ -142,13 +143,13 @@ fn open_fault(fields: &Open) -> Option<Fault>
 }
 
 fn is_handle_in_use<'a, P: Inputs<'a>>(past: &P, session: Session, handle: u32) -> bool
-    ensures { (history : Events) → P.stands_for past.now history → (result ≡ law.is_handle_in_use session handle history) }
+    ensures { (history : Events) → P.stands_for past.now history → IsLiveOn session history → (result ≡ law.is_handle_in_use session handle history) }
 {
     past.session_link(session, handle).is_some() || past.awaits_detach(session, handle)
 }
 
 fn attach_fault<'a, P: Inputs<'a>>(past: &P, session: Session, attach: &Attach) -> Option<Fault>
-    ensures { (history : Events) → P.stands_for past.now history → (result ≡ law.attach_fault session (attach_fields attach.now) history) }
+    ensures { (history : Events) → P.stands_for past.now history → IsLiveOn session history → (result ≡ law.attach_fault session (attach_fields attach.now) history) }
 {
     if attach.handle > HANDLE_MAX {
         return Some(Fault::Close(ErrorCondition::FramingError));
@@ -240,7 +241,7 @@ fn transfer_fault<'a, P: Inputs<'a>>(
     fields: &Transfer,
     octets: &[u8],
 ) -> Option<Fault>
-    ensures { (history : Events) → P.stands_for past.now history →
+    ensures { (history : Events) → P.stands_for past.now history → IsLiveOn session history →
         (result ≡ law.transfer_fault rules.now session (event_view event.now) (transfer_fields fields.now) octets.now history) }
 {
     if past.given_window(session) == 0 {
@@ -260,7 +261,7 @@ fn session_fault<'a, P: Inputs<'a>>(
     event: &Event,
     spoken: &Spoken,
 ) -> Option<Fault>
-    ensures { (history : Events) → P.stands_for past.now history →
+    ensures { (history : Events) → P.stands_for past.now history → IsLiveOn session history →
         (result ≡ law.session_fault rules.now session (event_view event.now) (spoken_view spoken.now) (view spoken.now.performative) history) }
 {
     match &spoken.performative {
@@ -286,7 +287,7 @@ fn channel_fault<'a, P: Inputs<'a>>(
     event: &Event,
     spoken: &Spoken,
 ) -> Option<Fault>
-    ensures { (history : Events) → P.stands_for past.now history →
+    ensures { (history : Events) → P.stands_for past.now history → StandsLive (event_view event.now) history →
         (result ≡ law.channel_fault rules.now (event_view event.now) (spoken_view spoken.now) (view spoken.now.performative) history) }
 {
     match (&spoken.performative, event.session) {
@@ -303,7 +304,7 @@ fn opened_fault<'a, P: Inputs<'a>>(
     event: &Event,
     spoken: &Spoken,
 ) -> Option<Fault>
-    ensures { (history : Events) → P.stands_for past.now history →
+    ensures { (history : Events) → P.stands_for past.now history → StandsLive (event_view event.now) history →
         (result ≡ law.opened_fault rules.now (event_view event.now) (spoken_view spoken.now) history) }
 {
     if !past.has_in_open(event.connection) {
@@ -321,7 +322,7 @@ fn spoken_fault<'a, P: Inputs<'a>>(
     event: &Event,
     spoken: &Spoken,
 ) -> Option<Fault>
-    ensures { (history : Events) → P.stands_for past.now history →
+    ensures { (history : Events) → P.stands_for past.now history → StandsLive (event_view event.now) history →
         (result ≡ law.spoken_fault rules.now (event_view event.now) (spoken_view spoken.now) (view spoken.now.performative) history) }
 {
     match &spoken.performative {
@@ -341,7 +342,7 @@ pub(crate) fn body_fault<'a, P: Inputs<'a>>(
     event: &Event,
     body: &Body,
 ) -> Option<Fault>
-    ensures { (history : Events) → P.stands_for past.now history →
+    ensures { (history : Events) → P.stands_for past.now history → StandsLive (event_view event.now) history →
         (result ≡ law.body_fault rules.now (event_view event.now) (body_view body.now) history) }
 {
     match body {

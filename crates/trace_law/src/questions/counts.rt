@@ -13,20 +13,21 @@ pub(crate) trait Counts: History {
     ghost use Rattle.trace_events.specs.Due as due;
     ghost use Rattle.trace_events.specs.Outgoing as sent;
     ghost use Rattle.trace_events.specs.Waiting as waiting;
+    ghost use Rattle.trace_events.specs.Session.{IsLiveOn};
     ghost use Rattle.trace_events.specs.Window as windows;
     ghost use Rattle.trace_law.specs.View.{Events, link_view};
 
     /// How many transfers may still be sent on the session.
     fn session_window(&self, session: Session) -> u32
-        ensures { (history : Events) → Self.stands_for self.now history → (result ≡ windows.session_window session history) };
+        ensures { (history : Events) → Self.stands_for self.now history → IsLiveOn session history → (result ≡ windows.session_window session history) };
 
     /// The id of the router's next transfer on the session.
     fn next_outgoing_id(&self, session: Session) -> u32
-        ensures { (history : Events) → Self.stands_for self.now history → (result ≡ windows.next_outgoing_id session history) };
+        ensures { (history : Events) → Self.stands_for self.now history → IsLiveOn session history → (result ≡ windows.next_outgoing_id session history) };
 
     /// The id of the client's next transfer on the session.
     fn next_incoming_id(&self, session: Session) -> u32
-        ensures { (history : Events) → Self.stands_for self.now history → (result ≡ windows.next_incoming_id session history) };
+        ensures { (history : Events) → Self.stands_for self.now history → IsLiveOn session history → (result ≡ windows.next_incoming_id session history) };
 
     /// The id of the session's next delivery to the client.
     fn next_delivery_id(&self, session: Session) -> u32

@@ -16,6 +16,7 @@ pub(crate) trait Inputs<'a>: History {
     ghost use Rattle.trace_events.specs.Incoming as received;
     ghost use Rattle.trace_events.specs.Link as links;
     ghost use Rattle.trace_events.specs.Session as sessions;
+    ghost use Rattle.trace_events.specs.Session.{IsLiveOn};
     ghost use Rattle.trace_events.specs.Window as windows;
     ghost use Rattle.trace_law.specs.View.{Events, incoming_view, link_view};
 
@@ -42,11 +43,11 @@ pub(crate) trait Inputs<'a>: History {
 
     /// The router has detached a link of the handle, or refused it, and the client's detach isn't heard yet.
     fn awaits_detach(&self, session: Session, handle: u32) -> bool
-        ensures { (history : Events) → Self.stands_for self.now history → (result ≡ links.awaits_detach session handle history) };
+        ensures { (history : Events) → Self.stands_for self.now history → IsLiveOn session history → (result ≡ links.awaits_detach session handle history) };
 
     /// How many transfers the client may still send on the session.
     fn given_window(&self, session: Session) -> u32
-        ensures { (history : Events) → Self.stands_for self.now history → (result ≡ windows.given_window session history) };
+        ensures { (history : Events) → Self.stands_for self.now history → IsLiveOn session history → (result ≡ windows.given_window session history) };
 
     /// How many deliveries may still begin on a producer's link.
     fn given_credit(&self, link: &Link) -> u32

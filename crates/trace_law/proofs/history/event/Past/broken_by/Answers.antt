@@ -1,14 +1,21 @@
-use Rattle.std.proofs.Common.{refl, sym, ap, ◌∙◌}
+use Rattle.std.proofs.Common.{refl, sym, ap, subst, ◌∙◌}
 use Rattle.trace_events.specs.Event.{Event}
+use Rattle.trace_events.specs.Session.{StandsLive}
+use Rattle.trace_events.specs.History.{moment_of}
+use Rattle.trace_events.proofs.Standing.{placed-stands}
 use Rattle.trace_clauses.specs.Clauses.{broken_clause}
 use Rattle.trace_clauses.proofs.Unopened.{broken-unopened}
 use Rattle.trace_law.specs.View.{events}
 use Rattle.trace_law.proofs.history.event.Past.broken_by.Goals as goal
 
+-- the law is asked before what the record opens is filled in
 pub returns : goal.returns
 returns c =
     let past = events c.args.self.now in
     let rules = c.args.rules.now in
-    c.broken_clause.ensures past refl
-    ∙ (ap (λ (e : Event). broken_clause rules e past) (c.judge_unopened-event.ensures past refl c.requires.numbered)
-    ∙ sym (broken-unopened rules past c.args.entry.now))
+    let entry = c.args.entry.now in
+    let judged = c.judge_unopened-event.ensures past refl c.requires.numbered in
+    let live = subst (λ (e : Event). StandsLive e past) (sym judged) (placed-stands past entry.connection (moment_of entry.what) entry.note) in
+    c.broken_clause.ensures past refl live
+    ∙ (ap (λ (e : Event). broken_clause rules e past) judged
+    ∙ sym (broken-unopened rules past entry))
