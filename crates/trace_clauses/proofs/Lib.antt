@@ -7,6 +7,7 @@ pub mod WrittenFrames
 pub mod Within
 pub mod Carried
 pub mod Keeping
+pub mod LiveLinks
 pub mod Incomings
 pub mod Parts
 pub mod PartsCounted

@@ -1,5 +1,5 @@
 -- The link of a handle (part 2 of the standard, section 2.6).
-use Rattle.std.specs.Prelude.{ℕ, Bool, true, false, ◌&&◌, ◌||◌, List, [], ◌∷◌, Option, Some, None, is_some, is_none, option_map, option_and_then, unwrap_or, find, filter, filter_map, ◌==◌, if◌then◌else◌}
+use Rattle.std.specs.Prelude.{ℕ, Bool, true, false, ◌&&◌, ◌||◌, List, [], ◌∷◌, Option, Some, None, IfSome, is_some, is_none, option_map, option_and_then, unwrap_or, find, filter, filter_map, ◌==◌, ◌≡◌, if◌then◌else◌}
 use Rattle.amqp_perf.specs.declared.attach.Role.{Role}
 use Rattle.amqp_perf.specs.declared.attach.Role.TheVariants.{Sender, Receiver}
 use Rattle.amqp_perf.specs.declared.attach.SenderSettleMode.{SenderSettleMode}
@@ -10,7 +10,7 @@ use Rattle.trace_events.specs.Words.{or_else, is_some_and, where_passes}
 use Rattle.trace_events.specs.Event.{Event, Link, is_on_session}
 use Rattle.trace_events.specs.declared.session.Session.{Session}
 use Rattle.trace_events.specs.Said.{in_attach, out_attach, in_detach, out_detach}
-use Rattle.trace_events.specs.Session.{live_session}
+use Rattle.trace_events.specs.Session.{live_session, IsLiveOn}
 
 abbrev pub is_sender : Role → Bool
 is_sender Sender = true
@@ -156,3 +156,11 @@ owes_detach s handle (e ∷ past) =
 -- the link that opened in this record
 abbrev pub link_at : ℕ → List Event → Option Link
 link_at n past = find (λ l. l.number == n) (links past)
+
+-- it is the live link of its handle, on a live session
+abbrev pub IsLiveLink : Link → List Event → Type 0
+IsLiveLink l past = IsLiveOn l.session past × (session_link l.session l.handle past ≡ Some l)
+
+-- where an event names a link, that one lives before it; one that the event opens itself is no such
+abbrev pub NamesLive : Event → List Event → Type 0
+NamesLive e past = IfSome e.link (λ l. IsLiveLink l past)

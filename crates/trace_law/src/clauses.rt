@@ -4,6 +4,7 @@ ghost use Rattle.std.specs.Prelude.{◌≡◌, Some, None, if◌then◌else◌, 
 ghost use Rattle.amqp_perf.specs.View.{disposition_fields, transfer_fields, attach_fields};
 ghost use Rattle.trace_events.specs.Words.{is_some_and};
 ghost use Rattle.trace_events.specs.Session.{StandsLive};
+ghost use Rattle.trace_events.specs.Link.{NamesLive};
 ghost use Rattle.trace_law.specs.View.{event_view, spoken_view, frame_view, Events};
 ghost use Rattle.trace_clauses.specs.LinkClause.{answers_attach};
 ghost use Rattle.trace_clauses.specs.declared.clause.Clause.TheVariants as clauses;
@@ -69,7 +70,7 @@ fn broken_by_transfer<'a, P: Counts + Carriage<'a>>(
     payload: &'a [u8],
 ) -> Option<Clause>
     requires few { P.is_short past.now }
-    ensures { (history : Events) → P.stands_for past.now history → StandsLive (event_view event.now) history →
+    ensures { (history : Events) → P.stands_for past.now history → StandsLive (event_view event.now) history → NamesLive (event_view event.now) history →
         (result ≡ find (λ clause. not (law.transfer_meets rules.now (event_view event.now) (transfer_fields transfer.now) payload.now history clause)) law.clauses) }
 {
     let begins = event.begins_outgoing();
@@ -125,7 +126,7 @@ fn broken_by_other<'a, P: Inputs<'a> + Openings<'a> + Counts>(
     spoken: &Spoken,
 ) -> Option<Clause>
     requires few { P.is_short past.now }
-    ensures { (history : Events) → P.stands_for past.now history → StandsLive (event_view event.now) history →
+    ensures { (history : Events) → P.stands_for past.now history → StandsLive (event_view event.now) history → NamesLive (event_view event.now) history →
         (result ≡ find (λ clause. not (law.other_meets rules.now (event_view event.now) (spoken_view spoken.now).channel history
         (spoken_view spoken.now).meaning clause)) law.clauses) }
 {
@@ -158,7 +159,7 @@ fn answers_live<'a, P: Openings<'a>>(
     event: &Event,
     attach: &Attach,
 ) -> bool
-    ensures { (history : Events) → P.stands_for past.now history →
+    ensures { (history : Events) → P.stands_for past.now history → StandsLive (event_view event.now) history →
         (result ≡ is_some_and (event_view event.now).session (answers_attach rules.now (attach_fields attach.now) history)) }
 {
     match event.session {
@@ -176,7 +177,7 @@ fn broken_by_spoken<'a, P: Questions<'a>>(
     spoken: &Spoken<'a>,
 ) -> Option<Clause>
     requires few { P.is_short past.now }
-    ensures { (history : Events) → P.stands_for past.now history → StandsLive (event_view event.now) history →
+    ensures { (history : Events) → P.stands_for past.now history → StandsLive (event_view event.now) history → NamesLive (event_view event.now) history →
         (result ≡ law.broken_by rules.now (event_view event.now) (frame_view frame.now) history (Some (spoken_view spoken.now))) }
 {
     if !may_be_written(past, event.connection, spoken)
@@ -205,7 +206,7 @@ pub(crate) fn broken_clause<'a, P: Questions<'a>>(
     event: &Event<'a>,
 ) -> Option<Clause>
     requires few { P.is_short past.now }
-    ensures { (history : Events) → P.stands_for past.now history → StandsLive (event_view event.now) history → (result ≡ law.broken_clause rules.now (event_view event.now) history) }
+    ensures { (history : Events) → P.stands_for past.now history → StandsLive (event_view event.now) history → NamesLive (event_view event.now) history → (result ≡ law.broken_clause rules.now (event_view event.now) history) }
 {
     let Moment::Out(frame) = event.moment else {
         return None;

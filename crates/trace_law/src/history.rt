@@ -1,8 +1,9 @@
 //! A record in its place, by those before it.
 
-ghost use Rattle.std.specs.Prelude.{◌≡◌, option_map, length};
+ghost use Rattle.std.specs.Prelude.{IfSome, ◌≡◌, option_map, length};
 ghost use Rattle.trace_events.specs.History.{session_of, named_link, link_of};
-ghost use Rattle.trace_events.specs.Session.{StandsLive};
+ghost use Rattle.trace_events.specs.Session.{IsLiveOn, StandsLive};
+ghost use Rattle.trace_events.specs.Link.{NamesLive};
 ghost use Rattle.trace_law.specs.View.{spoken_view, moment_view, link_view, event_view, incoming_view, outgoing_view, Events};
 ghost use Rattle.amqp_perf.specs.View.{disposition_fields};
 ghost use Rattle.trace_events.specs.History as law;
@@ -56,7 +57,7 @@ fn session_of<'a, P: Inputs<'a>>(past: &P, connection: u32, moment: &Moment) -> 
 
 /// The live link of the handle that a flow, transfer or detach names.
 fn named_link<'a, P: Inputs<'a>>(past: &P, session: Session, spoken: &Spoken) -> Option<Link<'a>>
-    ensures { (history : Events) → P.stands_for past.now history → (option_map link_view result ≡ named_link session (spoken_view spoken.now).meaning history) }
+    ensures { (history : Events) → P.stands_for past.now history → IsLiveOn session history → (option_map link_view result ≡ named_link session (spoken_view spoken.now).meaning history) }
 {
     past.session_link(session, handle_in(&spoken.performative)?)
 }
@@ -66,7 +67,8 @@ fn link_of<'a, P: Inputs<'a>>(
     moment: &Moment,
     session: Option<Session>,
 ) -> Option<Link<'a>>
-    ensures { (history : Events) → P.stands_for past.now history → (option_map link_view result ≡ link_of (moment_view moment.now) history session) }
+    ensures { (history : Events) → P.stands_for past.now history → IfSome session (λ s. IsLiveOn s history) →
+        (option_map link_view result ≡ link_of (moment_view moment.now) history session) }
 {
     named_link(past, session?, &moment.spoken()?)
 }
@@ -79,7 +81,7 @@ fn incoming_part<'a, P: Inputs<'a>>(
     event: &Event<'a>,
     spoken: &Spoken,
 ) -> Option<Incoming<'a>>
-    ensures { (history : Events) → P.stands_for past.now history → (option_map incoming_view result ≡ law.incoming_part (event_view event.now) (spoken_view spoken.now).meaning history) }
+    ensures { (history : Events) → P.stands_for past.now history → NamesLive (event_view event.now) history → (option_map incoming_view result ≡ law.incoming_part (event_view event.now) (spoken_view spoken.now).meaning history) }
 {
     let Performative::Transfer(transfer) = spoken.performative else {
         return None;
@@ -96,7 +98,7 @@ fn incoming_part<'a, P: Inputs<'a>>(
 
 /// The delivery of a transfer that is heard and without fault.
 fn incoming_by<'a, P: Inputs<'a>>(past: &P, event: &Event<'a>) -> Option<Incoming<'a>>
-    ensures { (history : Events) → P.stands_for past.now history → (option_map incoming_view result ≡ law.incoming_by (event_view event.now) (event_view event.now).moment history) }
+    ensures { (history : Events) → P.stands_for past.now history → NamesLive (event_view event.now) history → (option_map incoming_view result ≡ law.incoming_by (event_view event.now) (event_view event.now).moment history) }
 {
     match event.moment {
         Moment::In(frame) if event.is_heard && event.fault.is_none() => {
@@ -112,7 +114,7 @@ fn outgoing_part<'a, P: Carriage<'a>>(
     event: &Event<'a>,
     spoken: &Spoken,
 ) -> Option<Outgoing<'a>>
-    ensures { (history : Events) → P.stands_for past.now history → (option_map outgoing_view result ≡ law.outgoing_part (event_view event.now) (spoken_view spoken.now).meaning history) }
+    ensures { (history : Events) → P.stands_for past.now history → NamesLive (event_view event.now) history → (option_map outgoing_view result ≡ law.outgoing_part (event_view event.now) (spoken_view spoken.now).meaning history) }
 {
     let Performative::Transfer(transfer) = spoken.performative else {
         return None;
@@ -128,7 +130,7 @@ fn outgoing_part<'a, P: Carriage<'a>>(
 }
 
 fn outgoing_by<'a, P: Carriage<'a>>(past: &P, event: &Event<'a>) -> Option<Outgoing<'a>>
-    ensures { (history : Events) → P.stands_for past.now history → (option_map outgoing_view result ≡ law.outgoing_by (event_view event.now) (event_view event.now).moment history) }
+    ensures { (history : Events) → P.stands_for past.now history → NamesLive (event_view event.now) history → (option_map outgoing_view result ≡ law.outgoing_by (event_view event.now) (event_view event.now).moment history) }
 {
     match event.moment {
         Moment::Out(frame) => outgoing_part(past, event, &frame.spoken()?),
@@ -143,7 +145,7 @@ fn told_by_role<'a, P: Outcomes<'a>>(
     session: Session,
     disposition: &Disposition,
 ) -> Option<u64>
-    ensures { (history : Events) → P.stands_for past.now history → (result ≡ law.told_by_role rules.now session (disposition_fields disposition.now).first (disposition_fields disposition.now).role history) }
+    ensures { (history : Events) → P.stands_for past.now history → IsLiveOn session history → (result ≡ law.told_by_role rules.now session (disposition_fields disposition.now).first (disposition_fields disposition.now).role history) }
 {
     match disposition.role {
         Role::Receiver => Some(past.to_tell(rules, session, disposition.first)?.number),
@@ -157,7 +159,7 @@ fn settled_by_role<'a, P: Outcomes<'a>>(
     session: Session,
     disposition: &Disposition,
 ) -> Option<u64>
-    ensures { (history : Events) → P.stands_for past.now history → (result ≡ law.settled_by_role session (disposition_fields disposition.now).first (disposition_fields disposition.now).role history) }
+    ensures { (history : Events) → P.stands_for past.now history → IsLiveOn session history → (result ≡ law.settled_by_role session (disposition_fields disposition.now).first (disposition_fields disposition.now).role history) }
 {
     match disposition.role {
         Role::Sender => Some(past.to_settle(session, disposition.first)?.number),
@@ -166,7 +168,7 @@ fn settled_by_role<'a, P: Outcomes<'a>>(
 }
 
 fn told_by<'a, P: Outcomes<'a>>(past: &P, rules: &[Rule], event: &Event) -> Option<u64>
-    ensures { (history : Events) → P.stands_for past.now history → (result ≡ law.told_by rules.now (event_view event.now) (event_view event.now).moment history) }
+    ensures { (history : Events) → P.stands_for past.now history → StandsLive (event_view event.now) history → (result ≡ law.told_by rules.now (event_view event.now) (event_view event.now).moment history) }
 {
     match event.out_spoken()?.performative {
         Performative::Disposition(disposition) => told_by_role(
@@ -180,7 +182,7 @@ fn told_by<'a, P: Outcomes<'a>>(past: &P, rules: &[Rule], event: &Event) -> Opti
 }
 
 fn settled_by<'a, P: Outcomes<'a>>(past: &P, event: &Event) -> Option<u64>
-    ensures { (history : Events) → P.stands_for past.now history → (result ≡ law.settled_by (event_view event.now) (event_view event.now).moment history) }
+    ensures { (history : Events) → P.stands_for past.now history → StandsLive (event_view event.now) history → (result ≡ law.settled_by (event_view event.now) (event_view event.now).moment history) }
 {
     match event.out_spoken()?.performative {
         Performative::Disposition(disposition) => settled_by_role(
@@ -253,7 +255,7 @@ fn opened_session<'a, P: Openings<'a>>(past: &P, event: &Event) -> Option<Sessio
 
 /// The link that an Out attach with source and target opens on a live session.
 fn opened_link<'a, P: Openings<'a>>(past: &P, event: &Event<'a>) -> Option<Link<'a>>
-    ensures { (history : Events) → P.stands_for past.now history → (option_map link_view result ≡ law.opened_link (event_view event.now) history) }
+    ensures { (history : Events) → P.stands_for past.now history → StandsLive (event_view event.now) history → (option_map link_view result ≡ law.opened_link (event_view event.now) history) }
 {
     let attach = event.out_attach()?;
     let session = event.session?;
@@ -304,7 +306,7 @@ fn with_heard<'a, P: Inputs<'a>>(past: &P, event: Event<'a>) -> Event<'a>
 }
 
 fn fault_by<'a, P: Inputs<'a>>(past: &P, rules: &[Rule], event: &Event) -> Option<Fault>
-    ensures { (history : Events) → P.stands_for past.now history → StandsLive (event_view event.now) history → (result ≡ law.fault_by rules.now (event_view event.now) (event_view event.now).moment history) }
+    ensures { (history : Events) → P.stands_for past.now history → StandsLive (event_view event.now) history → NamesLive (event_view event.now) history → (result ≡ law.fault_by rules.now (event_view event.now) (event_view event.now).moment history) }
 {
     match event.moment {
         Moment::In(frame) if event.is_heard => body_fault(past, rules, event, &frame.body),
@@ -313,7 +315,7 @@ fn fault_by<'a, P: Inputs<'a>>(past: &P, rules: &[Rule], event: &Event) -> Optio
 }
 
 fn faulted<'a, P: Inputs<'a>>(past: &P, rules: &[Rule], event: Event<'a>) -> Event<'a>
-    ensures { (history : Events) → P.stands_for past.now history → StandsLive (event_view event.entry) history → (event_view result ≡ law.faulted rules.now history (event_view event.entry)) }
+    ensures { (history : Events) → P.stands_for past.now history → StandsLive (event_view event.entry) history → NamesLive (event_view event.entry) history → (event_view result ≡ law.faulted rules.now history (event_view event.entry)) }
 {
     let fault = fault_by(past, rules, &event);
     Event { fault, ..event }
@@ -324,7 +326,7 @@ fn delivered<'a, P: Inputs<'a> + Outcomes<'a> + Carriage<'a>>(
     rules: &[Rule],
     event: Event<'a>,
 ) -> Event<'a>
-    ensures { (history : Events) → P.stands_for past.now history → (event_view result ≡ law.delivered rules.now history (event_view event.entry)) }
+    ensures { (history : Events) → P.stands_for past.now history → StandsLive (event_view event.entry) history → NamesLive (event_view event.entry) history → (event_view result ≡ law.delivered rules.now history (event_view event.entry)) }
 {
     Event {
         incoming: incoming_by(past, &event),
@@ -337,7 +339,7 @@ fn delivered<'a, P: Inputs<'a> + Outcomes<'a> + Carriage<'a>>(
 
 /// An Out begin stands on its own session, and an Out attach names its own link; any other event stays as it was.
 fn opened<'a, P: Openings<'a>>(past: &P, event: Event<'a>) -> Event<'a>
-    ensures { (history : Events) → P.stands_for past.now history → (event_view result ≡ law.opened history (event_view event.entry)) }
+    ensures { (history : Events) → P.stands_for past.now history → StandsLive (event_view event.entry) history → (event_view result ≡ law.opened history (event_view event.entry)) }
 {
     let session = match opened_session(past, &event) {
         Some(own) => Some(own),

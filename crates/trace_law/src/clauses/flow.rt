@@ -2,6 +2,7 @@
 
 ghost use Rattle.std.specs.Prelude.{◌≡◌};
 ghost use Rattle.trace_events.specs.Session.{IsLiveOn, StandsLive};
+ghost use Rattle.trace_events.specs.Link.{IsLiveLink, NamesLive};
 ghost use Rattle.trace_law.specs.View.{event_view, link_view, Events};
 ghost use Rattle.trace_clauses.specs.FlowClause as law;
 
@@ -27,7 +28,7 @@ fn has_session_numbers<P: Counts>(past: &P, flow: &Flow, session: Session) -> bo
 /// someone may take its deliveries.
 fn may_be_topped_up<'a, P: Inputs<'a> + Counts>(past: &P, rules: &[Rule], link: &Link) -> bool
     requires few { P.is_short past.now }
-    ensures { (history : Events) → P.stands_for past.now history → (result ≡ law.may_be_topped_up rules.now history (link_view link.now)) }
+    ensures { (history : Events) → P.stands_for past.now history → IsLiveLink (link_view link.now) history → (result ≡ law.may_be_topped_up rules.now history (link_view link.now)) }
 {
     let given = u64::from(past.given_credit(link));
     given.saturating_add(past.undecided_count(rules, link)) <= u64::from(LOW_MARK)
@@ -37,7 +38,7 @@ fn may_be_topped_up<'a, P: Inputs<'a> + Counts>(past: &P, rules: &[Rule], link: 
 /// The credit that fills a producer's link up.
 fn full_credit<P: Counts>(past: &P, rules: &[Rule], link: &Link) -> u32
     requires few { P.is_short past.now }
-    ensures { (history : Events) → P.stands_for past.now history → (result ≡ law.full_credit rules.now history (link_view link.now)) }
+    ensures { (history : Events) → P.stands_for past.now history → IsLiveLink (link_view link.now) history → (result ≡ law.full_credit rules.now history (link_view link.now)) }
 {
     match u32::try_from(past.undecided_count(rules, link)) {
         Ok(undecided) => CAPACITY.saturating_sub(undecided),
@@ -53,7 +54,7 @@ fn has_producer_numbers<'a, P: Inputs<'a> + Counts>(
     link: &Link,
 ) -> bool
     requires few { P.is_short past.now }
-    ensures { (history : Events) → P.stands_for past.now history →
+    ensures { (history : Events) → P.stands_for past.now history → IsLiveLink (link_view link.now) history →
         (result ≡ law.has_producer_numbers rules.now flow.now history (link_view link.now)) }
 {
     !flow.drains()
@@ -66,7 +67,7 @@ fn has_producer_numbers<'a, P: Inputs<'a> + Counts>(
 /// Nothing waits for a consumer's link: no delivery at its address, and no copy that is due to it.
 fn nothing_waits<P: Counts>(past: &P, rules: &[Rule], link: &Link) -> bool
     requires few { P.is_short past.now }
-    ensures { (history : Events) → P.stands_for past.now history → (result ≡ law.nothing_waits rules.now history (link_view link.now)) }
+    ensures { (history : Events) → P.stands_for past.now history → IsLiveLink (link_view link.now) history → (result ≡ law.nothing_waits rules.now history (link_view link.now)) }
 {
     !past.has_waiting(rules, link.address) && !past.has_unsent(rules, link)
 }
@@ -74,14 +75,14 @@ fn nothing_waits<P: Counts>(past: &P, rules: &[Rule], link: &Link) -> bool
 /// The credit of a consumer's link may be used up: nothing waits, and the client asks for it.
 fn may_be_drained<P: Counts>(past: &P, rules: &[Rule], link: &Link) -> bool
     requires few { P.is_short past.now }
-    ensures { (history : Events) → P.stands_for past.now history → (result ≡ law.may_be_drained rules.now history (link_view link.now)) }
+    ensures { (history : Events) → P.stands_for past.now history → IsLiveLink (link_view link.now) history → (result ≡ law.may_be_drained rules.now history (link_view link.now)) }
 {
     past.is_draining(link) && past.link_credit(link) > 0 && nothing_waits(past, rules, link)
 }
 
 /// The delivery-count to which the credit left would take it.
 fn drained_count<P: Counts>(past: &P, link: &Link) -> u32
-    ensures { (history : Events) → P.stands_for past.now history → (result ≡ law.drained_count history (link_view link.now)) }
+    ensures { (history : Events) → P.stands_for past.now history → IsLiveLink (link_view link.now) history → (result ≡ law.drained_count history (link_view link.now)) }
 {
     past.delivery_count(link)
         .wrapping_add(past.link_credit(link))
@@ -90,7 +91,7 @@ fn drained_count<P: Counts>(past: &P, link: &Link) -> u32
 /// The flow says that all credit is used up.
 pub(crate) fn is_drain_answer<P: Counts>(past: &P, rules: &[Rule], flow: &Flow, link: &Link) -> bool
     requires few { P.is_short past.now }
-    ensures { (history : Events) → P.stands_for past.now history →
+    ensures { (history : Events) → P.stands_for past.now history → IsLiveLink (link_view link.now) history →
         (result ≡ law.is_drain_answer rules.now flow.now history (link_view link.now)) }
 {
     flow.link_credit == Some(0)
@@ -101,7 +102,7 @@ pub(crate) fn is_drain_answer<P: Counts>(past: &P, rules: &[Rule], flow: &Flow, 
 /// The flow has the numbers of a consumer's link, or says that all its credit is used up.
 fn has_consumer_numbers<P: Counts>(past: &P, rules: &[Rule], flow: &Flow, link: &Link) -> bool
     requires few { P.is_short past.now }
-    ensures { (history : Events) → P.stands_for past.now history →
+    ensures { (history : Events) → P.stands_for past.now history → IsLiveLink (link_view link.now) history →
         (result ≡ law.has_consumer_numbers rules.now flow.now history (link_view link.now)) }
 {
     flow.drains() == past.is_draining(link)
@@ -118,7 +119,7 @@ fn has_link_numbers<'a, P: Inputs<'a> + Counts>(
     link: &Link,
 ) -> bool
     requires few { P.is_short past.now }
-    ensures { (history : Events) → P.stands_for past.now history →
+    ensures { (history : Events) → P.stands_for past.now history → IsLiveLink (link_view link.now) history →
         (result ≡ law.has_link_numbers rules.now flow.now history (link_view link.now)) }
 {
     if link.is_consumer() {
@@ -137,7 +138,7 @@ pub(crate) fn tells_counts<'a, P: Inputs<'a> + Counts>(
     flow: &Flow,
 ) -> bool
     requires few { P.is_short past.now }
-    ensures { (history : Events) → P.stands_for past.now history → StandsLive (event_view event.now) history →
+    ensures { (history : Events) → P.stands_for past.now history → StandsLive (event_view event.now) history → NamesLive (event_view event.now) history →
         (result ≡ law.tells_counts rules.now (event_view event.now) flow.now history) }
 {
     let Some(session) = event.session else {

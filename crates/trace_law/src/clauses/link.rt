@@ -2,6 +2,7 @@
 
 ghost use Rattle.std.specs.Prelude.{◌≡◌, decimal, codes, ◌++◌, bytes_eq};
 ghost use Rattle.amqp_perf.specs.View.{attach_fields, detach_fields};
+ghost use Rattle.trace_events.specs.Session.{IsLiveOn, StandsLive};
 ghost use Rattle.trace_law.specs.View.{event_view, Events};
 ghost use Rattle.trace_clauses.specs.LinkClause as law;
 
@@ -154,7 +155,7 @@ pub(crate) fn answers_attach<'a, P: Openings<'a>>(
     ours: &Attach,
     session: Session,
 ) -> bool
-    ensures { (history : Events) → P.stands_for past.now history →
+    ensures { (history : Events) → P.stands_for past.now history → IsLiveOn session history →
         (result ≡ law.answers_attach rules.now (attach_fields ours.now) history session) }
 {
     let Some(asking) = past.unanswered_attach(session, ours.handle) else {
@@ -168,7 +169,7 @@ pub(crate) fn answers_attach<'a, P: Openings<'a>>(
 
 /// L13: the link lives, or the client's detach of it, or a refused attach, is to be answered.
 pub(crate) fn may_detach<'a, P: Openings<'a>>(past: &P, event: &Event, detach: &Detach) -> bool
-    ensures { (history : Events) → P.stands_for past.now history →
+    ensures { (history : Events) → P.stands_for past.now history → StandsLive (event_view event.now) history →
         (result ≡ law.may_detach (event_view event.now) (detach_fields detach.now) history) }
 {
     match event.session {

@@ -3,6 +3,7 @@
 ghost use Rattle.std.specs.Prelude.{◌≡◌, ◌&&◌, ◌||◌};
 ghost use Rattle.amqp_perf.specs.View.{transfer_fields};
 ghost use Rattle.trace_events.specs.Session.{StandsLive};
+ghost use Rattle.trace_events.specs.Link.{IsLiveLink};
 ghost use Rattle.trace_law.specs.View.{event_view, incoming_view, link_view, outgoing_view, Events};
 ghost use Rattle.trace_clauses.specs.TransferClause as law;
 ghost use Rattle.trace_events.specs.Words.{is_some_and};
@@ -76,7 +77,7 @@ pub(crate) fn may_be_sent<P: Counts>(past: &P, event: &Event, fields: &Transfer)
 
 /// L5: a delivery that begins has credit (part 2, section 2.6.7) and the next delivery-id.
 pub(crate) fn may_begin<P: Counts>(past: &P, link: &Link, fields: &Transfer) -> bool
-    ensures { (history : Events) → P.stands_for past.now history →
+    ensures { (history : Events) → P.stands_for past.now history → IsLiveLink (link_view link.now) history →
         (result ≡ law.may_begin (link_view link.now) (transfer_fields fields.now) history) }
 {
     fields.delivery_id.is_some()
@@ -108,7 +109,7 @@ fn is_first_to<'a, P: Carriage<'a>>(
     delivery: &Incoming,
 ) -> bool
     requires few { P.is_short past.now }
-    ensures { (history : Events) → P.stands_for past.now history →
+    ensures { (history : Events) → P.stands_for past.now history → IsLiveLink (link_view link.now) history →
         (result ≡ law.is_first_to rules.now (link_view link.now) history (incoming_view delivery.now)) }
 {
     if is_of_multicast(rules, delivery) {
@@ -119,7 +120,7 @@ fn is_first_to<'a, P: Carriage<'a>>(
 }
 
 fn is_in_order<'a, P: Carriage<'a>>(past: &P, link: &Link, delivery: &Incoming) -> bool
-    ensures { (history : Events) → P.stands_for past.now history →
+    ensures { (history : Events) → P.stands_for past.now history → IsLiveLink (link_view link.now) history →
         (result ≡ law.is_in_order (link_view link.now) history (incoming_view delivery.now)) }
 {
     match past.carried_before(link) {
@@ -137,7 +138,7 @@ pub(crate) fn may_go_to<'a, P: Carriage<'a>>(
     delivery: &Incoming,
 ) -> bool
     requires few { P.is_short past.now }
-    ensures { (history : Events) → P.stands_for past.now history →
+    ensures { (history : Events) → P.stands_for past.now history → IsLiveLink (link_view link.now) history →
         (result ≡ (law.is_first_to rules.now (link_view link.now) history (incoming_view delivery.now) && law.is_in_order (link_view link.now) history (incoming_view delivery.now))) }
 {
     is_first_to(past, rules, link, delivery) && is_in_order(past, link, delivery)

@@ -8,6 +8,7 @@ ghost use Rattle.amqp_perf.specs.Meaning.{flag};
 ghost use Rattle.amqp_perf.specs.NestedViews.{address_view, terminus_view, target_view};
 ghost use Rattle.amqp_perf.specs.View.{open_fields, attach_fields, transfer_fields, view};
 ghost use Rattle.trace_events.specs.Session.{IsLiveOn, StandsLive};
+ghost use Rattle.trace_events.specs.Link.{IsLiveLink, NamesLive};
 ghost use Rattle.trace_law.specs.View.{event_view, incoming_view, link_view, spoken_view, body_view, Events};
 ghost use Rattle.trace_events.specs.Incoming.{in_progress};
 ghost use Rattle.trace_events.specs.Fault as law;
@@ -170,7 +171,7 @@ fn first_part_fault<'a, P: Inputs<'a>>(
     link: &Link,
     fields: &Transfer,
 ) -> Option<Fault>
-    ensures { (history : Events) → P.stands_for past.now history →
+    ensures { (history : Events) → P.stands_for past.now history → IsLiveLink (link_view link.now) history →
         (result ≡ law.first_part_fault rules.now (link_view link.now) (transfer_fields fields.now) history) }
 {
     let Some(id) = fields.delivery_id else {
@@ -193,7 +194,7 @@ fn part_fault<'a, P: Inputs<'a>>(
     fields: &Transfer,
     octets: &[u8],
 ) -> Option<Fault>
-    ensures { (history : Events) → P.stands_for past.now history →
+    ensures { (history : Events) → P.stands_for past.now history → IsLiveLink (link_view link.now) history →
         (result ≡ law.part_fault rules.now (link_view link.now) (transfer_fields fields.now) octets.now history
         (in_progress (link_view link.now) history)) }
 {
@@ -216,7 +217,7 @@ fn link_transfer_fault<'a, P: Inputs<'a>>(
     fields: &Transfer,
     octets: &[u8],
 ) -> Option<Fault>
-    ensures { (history : Events) → P.stands_for past.now history →
+    ensures { (history : Events) → P.stands_for past.now history → IsLiveLink (link_view link.now) history →
         (result ≡ law.link_transfer_fault rules.now (link_view link.now) (transfer_fields fields.now) octets.now history) }
 {
     if link.is_consumer() {
@@ -241,7 +242,7 @@ fn transfer_fault<'a, P: Inputs<'a>>(
     fields: &Transfer,
     octets: &[u8],
 ) -> Option<Fault>
-    ensures { (history : Events) → P.stands_for past.now history → IsLiveOn session history →
+    ensures { (history : Events) → P.stands_for past.now history → IsLiveOn session history → NamesLive (event_view event.now) history →
         (result ≡ law.transfer_fault rules.now session (event_view event.now) (transfer_fields fields.now) octets.now history) }
 {
     if past.given_window(session) == 0 {
@@ -261,7 +262,7 @@ fn session_fault<'a, P: Inputs<'a>>(
     event: &Event,
     spoken: &Spoken,
 ) -> Option<Fault>
-    ensures { (history : Events) → P.stands_for past.now history → IsLiveOn session history →
+    ensures { (history : Events) → P.stands_for past.now history → IsLiveOn session history → NamesLive (event_view event.now) history →
         (result ≡ law.session_fault rules.now session (event_view event.now) (spoken_view spoken.now) (view spoken.now.performative) history) }
 {
     match &spoken.performative {
@@ -287,7 +288,7 @@ fn channel_fault<'a, P: Inputs<'a>>(
     event: &Event,
     spoken: &Spoken,
 ) -> Option<Fault>
-    ensures { (history : Events) → P.stands_for past.now history → StandsLive (event_view event.now) history →
+    ensures { (history : Events) → P.stands_for past.now history → StandsLive (event_view event.now) history → NamesLive (event_view event.now) history →
         (result ≡ law.channel_fault rules.now (event_view event.now) (spoken_view spoken.now) (view spoken.now.performative) history) }
 {
     match (&spoken.performative, event.session) {
@@ -304,7 +305,7 @@ fn opened_fault<'a, P: Inputs<'a>>(
     event: &Event,
     spoken: &Spoken,
 ) -> Option<Fault>
-    ensures { (history : Events) → P.stands_for past.now history → StandsLive (event_view event.now) history →
+    ensures { (history : Events) → P.stands_for past.now history → StandsLive (event_view event.now) history → NamesLive (event_view event.now) history →
         (result ≡ law.opened_fault rules.now (event_view event.now) (spoken_view spoken.now) history) }
 {
     if !past.has_in_open(event.connection) {
@@ -322,7 +323,7 @@ fn spoken_fault<'a, P: Inputs<'a>>(
     event: &Event,
     spoken: &Spoken,
 ) -> Option<Fault>
-    ensures { (history : Events) → P.stands_for past.now history → StandsLive (event_view event.now) history →
+    ensures { (history : Events) → P.stands_for past.now history → StandsLive (event_view event.now) history → NamesLive (event_view event.now) history →
         (result ≡ law.spoken_fault rules.now (event_view event.now) (spoken_view spoken.now) (view spoken.now.performative) history) }
 {
     match &spoken.performative {
@@ -342,7 +343,7 @@ pub(crate) fn body_fault<'a, P: Inputs<'a>>(
     event: &Event,
     body: &Body,
 ) -> Option<Fault>
-    ensures { (history : Events) → P.stands_for past.now history → StandsLive (event_view event.now) history →
+    ensures { (history : Events) → P.stands_for past.now history → StandsLive (event_view event.now) history → NamesLive (event_view event.now) history →
         (result ≡ law.body_fault rules.now (event_view event.now) (body_view body.now) history) }
 {
     match body {

@@ -12,11 +12,12 @@ pub(crate) trait Carriage<'a>: History {
     ghost use Rattle.trace_events.specs.Incoming as received;
     ghost use Rattle.trace_events.specs.Outgoing as sent;
     ghost use Rattle.trace_clauses.specs.TransferClause as transfers;
+    ghost use Rattle.trace_events.specs.Link.{IsLiveLink};
     ghost use Rattle.trace_law.specs.View.{Events, incoming_view, link_view, outgoing_view};
 
     /// The delivery of a consumer's link whose last part isn't written yet.
     fn outgoing_in_progress(&self, link: &Link) -> Option<Outgoing<'a>>
-        ensures { (history : Events) → Self.stands_for self.now history →
+        ensures { (history : Events) → Self.stands_for self.now history → IsLiveLink (link_view link.now) history →
             (option_map outgoing_view result ≡ sent.in_progress (link_view link.now) history) };
 
     /// The incoming delivery that a note names, where it may go to consumers: it is complete, and not gone.
@@ -26,7 +27,7 @@ pub(crate) trait Carriage<'a>: History {
 
     /// The incoming delivery that the last one begun on the link carries.
     fn carried_before(&self, link: &Link) -> Option<Incoming<'a>>
-        ensures { (history : Events) → Self.stands_for self.now history →
+        ensures { (history : Events) → Self.stands_for self.now history → IsLiveLink (link_view link.now) history →
             (option_map incoming_view result ≡ transfers.carried_before (link_view link.now) history) };
 
     /// The one was completed before the other.
@@ -54,12 +55,12 @@ pub(crate) trait Carriage<'a>: History {
 
     /// A transfer on the link names it.
     fn is_named_on(&self, delivery: &Incoming, link: &Link) -> bool
-        ensures { (history : Events) → Self.stands_for self.now history →
+        ensures { (history : Events) → Self.stands_for self.now history → IsLiveLink (link_view link.now) history →
             (result ≡ sent.is_named_on (incoming_view delivery.now) (link_view link.now) history) };
 
     /// A copy of it is due to the link.
     fn is_due(&self, rules: &[Rule], delivery: &Incoming, link: &Link) -> bool
         requires few { Self.is_short self.now }
-        ensures { (history : Events) → Self.stands_for self.now history →
+        ensures { (history : Events) → Self.stands_for self.now history → IsLiveLink (link_view link.now) history →
             (result ≡ due.is_due rules.now (incoming_view delivery.now) (link_view link.now) history) };
 }

@@ -13,8 +13,9 @@ pub(crate) trait Counts: History {
     ghost use Rattle.trace_events.specs.Due as due;
     ghost use Rattle.trace_events.specs.Outgoing as sent;
     ghost use Rattle.trace_events.specs.Waiting as waiting;
-    ghost use Rattle.trace_events.specs.Session.{IsLiveOn};
     ghost use Rattle.trace_events.specs.Window as windows;
+    ghost use Rattle.trace_events.specs.Session.{IsLiveOn};
+    ghost use Rattle.trace_events.specs.Link.{IsLiveLink};
     ghost use Rattle.trace_law.specs.View.{Events, link_view};
 
     /// How many transfers may still be sent on the session.
@@ -31,28 +32,28 @@ pub(crate) trait Counts: History {
 
     /// The id of the session's next delivery to the client.
     fn next_delivery_id(&self, session: Session) -> u32
-        ensures { (history : Events) → Self.stands_for self.now history → (result ≡ sent.next_delivery_id session history) };
+        ensures { (history : Events) → Self.stands_for self.now history → IsLiveOn session history → (result ≡ sent.next_delivery_id session history) };
 
     /// How many deliveries may still begin on a consumer's link.
     fn link_credit(&self, link: &Link) -> u32
-        ensures { (history : Events) → Self.stands_for self.now history → (result ≡ credits.link_credit (link_view link.now) history) };
+        ensures { (history : Events) → Self.stands_for self.now history → IsLiveLink (link_view link.now) history → (result ≡ credits.link_credit (link_view link.now) history) };
 
     /// A consumer's link's delivery-count.
     fn delivery_count(&self, link: &Link) -> u32
-        ensures { (history : Events) → Self.stands_for self.now history → (result ≡ credits.delivery_count (link_view link.now) history) };
+        ensures { (history : Events) → Self.stands_for self.now history → IsLiveLink (link_view link.now) history → (result ≡ credits.delivery_count (link_view link.now) history) };
 
     /// The client's last flow with a link-credit asks to drain.
     fn is_draining(&self, link: &Link) -> bool
-        ensures { (history : Events) → Self.stands_for self.now history → (result ≡ credits.is_draining (link_view link.now) history) };
+        ensures { (history : Events) → Self.stands_for self.now history → IsLiveLink (link_view link.now) history → (result ≡ credits.is_draining (link_view link.now) history) };
 
     /// A producer's link's delivery-count.
     fn received_count(&self, link: &Link) -> u32
-        ensures { (history : Events) → Self.stands_for self.now history → (result ≡ credits.received_count (link_view link.now) history) };
+        ensures { (history : Events) → Self.stands_for self.now history → IsLiveLink (link_view link.now) history → (result ≡ credits.received_count (link_view link.now) history) };
 
     /// How many deliveries of a producer's link are not decided.
     fn undecided_count(&self, rules: &[Rule], link: &Link) -> u64
         requires few { Self.is_short self.now }
-        ensures { (history : Events) → Self.stands_for self.now history →
+        ensures { (history : Events) → Self.stands_for self.now history → IsLiveLink (link_view link.now) history →
             (result ≡ waiting.undecided_count rules.now (link_view link.now) history) };
 
     /// A link of a consumer of the address lives.
@@ -66,6 +67,6 @@ pub(crate) trait Counts: History {
     /// A copy of a multicast delivery is due to the link, and not sent.
     fn has_unsent(&self, rules: &[Rule], link: &Link) -> bool
         requires few { Self.is_short self.now }
-        ensures { (history : Events) → Self.stands_for self.now history →
+        ensures { (history : Events) → Self.stands_for self.now history → IsLiveLink (link_view link.now) history →
             (result ≡ due.has_unsent rules.now (link_view link.now) history) };
 }

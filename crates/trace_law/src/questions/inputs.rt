@@ -16,8 +16,9 @@ pub(crate) trait Inputs<'a>: History {
     ghost use Rattle.trace_events.specs.Incoming as received;
     ghost use Rattle.trace_events.specs.Link as links;
     ghost use Rattle.trace_events.specs.Session as sessions;
-    ghost use Rattle.trace_events.specs.Session.{IsLiveOn};
     ghost use Rattle.trace_events.specs.Window as windows;
+    ghost use Rattle.trace_events.specs.Session.{IsLiveOn};
+    ghost use Rattle.trace_events.specs.Link.{IsLiveLink};
     ghost use Rattle.trace_law.specs.View.{Events, incoming_view, link_view};
 
     /// The connection is lost or broken, or a close was written or heard on it.
@@ -38,7 +39,7 @@ pub(crate) trait Inputs<'a>: History {
 
     /// The link that lives on the handle.
     fn session_link(&self, session: Session, handle: u32) -> Option<Link<'a>>
-        ensures { (history : Events) → Self.stands_for self.now history →
+        ensures { (history : Events) → Self.stands_for self.now history → IsLiveOn session history →
             (option_map link_view result ≡ links.session_link session handle history) };
 
     /// The router has detached a link of the handle, or refused it, and the client's detach isn't heard yet.
@@ -51,11 +52,11 @@ pub(crate) trait Inputs<'a>: History {
 
     /// How many deliveries may still begin on a producer's link.
     fn given_credit(&self, link: &Link) -> u32
-        ensures { (history : Events) → Self.stands_for self.now history → (result ≡ credits.given_credit (link_view link.now) history) };
+        ensures { (history : Events) → Self.stands_for self.now history → IsLiveLink (link_view link.now) history → (result ≡ credits.given_credit (link_view link.now) history) };
 
     /// The delivery of a producer's link whose last part hasn't come yet.
     fn incoming_in_progress(&self, link: &Link) -> Option<Incoming<'a>>
-        ensures { (history : Events) → Self.stands_for self.now history →
+        ensures { (history : Events) → Self.stands_for self.now history → IsLiveLink (link_view link.now) history →
             (option_map incoming_view result ≡ received.in_progress (link_view link.now) history) };
 
     /// The delivery's payload with these octets behind it is longer than the limit.
@@ -65,5 +66,5 @@ pub(crate) trait Inputs<'a>: History {
 
     /// A delivery of this id on the session is not decided yet.
     fn is_id_in_use(&self, rules: &[Rule], session: Session, id: u32) -> bool
-        ensures { (history : Events) → Self.stands_for self.now history → (result ≡ faults.is_id_in_use rules.now session id history) };
+        ensures { (history : Events) → Self.stands_for self.now history → IsLiveOn session history → (result ≡ faults.is_id_in_use rules.now session id history) };
 }

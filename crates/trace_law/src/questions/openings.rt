@@ -11,6 +11,7 @@ pub(crate) trait Openings<'a>: History {
     ghost use Rattle.trace_events.specs.Connection as connections;
     ghost use Rattle.trace_events.specs.Link as links;
     ghost use Rattle.trace_events.specs.Session as sessions;
+    ghost use Rattle.trace_events.specs.Session.{IsLiveOn};
     ghost use Rattle.trace_law.specs.View.{Events, event_view};
 
     /// The connection was opened.
@@ -44,15 +45,15 @@ pub(crate) trait Openings<'a>: History {
 
     /// The event of the client's last attach of the handle.
     fn last_in_attach(&self, session: Session, handle: u32) -> Option<Event<'a>>
-        ensures { (history : Events) → Self.stands_for self.now history →
+        ensures { (history : Events) → Self.stands_for self.now history → IsLiveOn session history →
             (option_map event_view result ≡ links.last_in_attach session handle history) };
 
     /// The event of an attach of the client's that is still to be answered.
     fn unanswered_attach(&self, session: Session, handle: u32) -> Option<Event<'a>>
-        ensures { (history : Events) → Self.stands_for self.now history →
+        ensures { (history : Events) → Self.stands_for self.now history → IsLiveOn session history →
             (option_map event_view result ≡ links.unanswered_attach session handle history) };
 
     /// A detach of the client's, or an attach of its that was refused, is still to be answered.
     fn owes_detach(&self, session: Session, handle: u32) -> bool
-        ensures { (history : Events) → Self.stands_for self.now history → (result ≡ links.owes_detach session handle history) };
+        ensures { (history : Events) → Self.stands_for self.now history → IsLiveOn session history → (result ≡ links.owes_detach session handle history) };
 }

@@ -16,16 +16,17 @@ pub(crate) trait Outcomes<'a>: History {
     ghost use Rattle.trace_events.specs.Outgoing as sent;
     ghost use Rattle.trace_events.specs.Settling as settling;
     ghost use Rattle.trace_events.specs.Waiting as waiting;
+    ghost use Rattle.trace_events.specs.Session.{IsLiveOn};
     ghost use Rattle.trace_law.specs.View.{Events, incoming_view, link_view, outgoing_view};
 
     /// The undecided delivery of the id on the session, whose outcome may be told.
     fn to_tell(&self, rules: &[Rule], session: Session, id: u32) -> Option<Incoming<'a>>
-        ensures { (history : Events) → Self.stands_for self.now history →
+        ensures { (history : Events) → Self.stands_for self.now history → IsLiveOn session history →
             (option_map incoming_view result ≡ settling.to_tell rules.now session id history) };
 
     /// The earliest delivery of the id on the session that the router is to settle.
     fn to_settle(&self, session: Session, id: u32) -> Option<Outgoing<'a>>
-        ensures { (history : Events) → Self.stands_for self.now history →
+        ensures { (history : Events) → Self.stands_for self.now history → IsLiveOn session history →
             (option_map outgoing_view result ≡ settling.to_settle session id history) };
 
     /// The delivery of a client that begins in the record of this number.

@@ -3,7 +3,9 @@ use Rattle.trace_events.specs.Event.{Event}
 use Rattle.trace_events.specs.Session.{StandsLive}
 use Rattle.trace_events.specs.History.{moment_of}
 use Rattle.trace_events.proofs.Standing.{placed-stands}
+use Rattle.trace_events.specs.Link.{NamesLive}
 use Rattle.trace_clauses.specs.Clauses.{broken_clause}
+use Rattle.trace_clauses.proofs.LiveLinks.{placed-names}
 use Rattle.trace_clauses.proofs.Unopened.{broken-unopened}
 use Rattle.trace_law.specs.View.{events}
 use Rattle.trace_law.proofs.history.event.Past.broken_by.Goals as goal
@@ -16,6 +18,7 @@ returns c =
     let entry = c.args.entry.now in
     let judged = c.judge_unopened-event.ensures past refl c.requires.numbered in
     let live = subst (λ (e : Event). StandsLive e past) (sym judged) (placed-stands past entry.connection (moment_of entry.what) entry.note) in
-    c.broken_clause.ensures past refl live
+    let names = subst (λ (e : Event). NamesLive e past) (sym judged) (placed-names past entry.connection (moment_of entry.what) entry.note) in
+    c.broken_clause.ensures past refl live names
     ∙ (ap (λ (e : Event). broken_clause rules e past) judged
     ∙ sym (broken-unopened rules past entry))
