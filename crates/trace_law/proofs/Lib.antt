@@ -4,5 +4,5 @@ pub mod Broken
 pub mod Earliest
 pub mod Payloads
 pub mod OutcomeSizes
-mod Counts
+mod Counted
 mod Copies

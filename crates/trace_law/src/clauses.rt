@@ -200,7 +200,7 @@ fn broken_by_spoken<'a, P: Questions<'a>>(
 }
 
 /// The first clause that an event breaks. A frame that is no performative breaks L1.
-pub(crate) fn broken_clause<'a, P: Questions<'a>>(
+pub fn broken_clause<'a, P: Questions<'a>>(
     past: &P,
     rules: &[Rule],
     event: &Event<'a>,

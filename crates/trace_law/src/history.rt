@@ -338,7 +338,7 @@ fn delivered<'a, P: Inputs<'a> + Outcomes<'a> + Carriage<'a>>(
 }
 
 /// An Out begin stands on its own session, and an Out attach names its own link; any other event stays as it was.
-fn opened<'a, P: Openings<'a>>(past: &P, event: Event<'a>) -> Event<'a>
+pub fn opened<'a, P: Openings<'a>>(past: &P, event: Event<'a>) -> Event<'a>
     ensures { (history : Events) → P.stands_for past.now history → StandsLive (event_view event.entry) history → (event_view result ≡ law.opened history (event_view event.entry)) }
 {
     let session = match opened_session(past, &event) {
@@ -357,7 +357,7 @@ fn opened<'a, P: Openings<'a>>(past: &P, event: Event<'a>) -> Event<'a>
 }
 
 /// What happened, with its note, as the event of this number, but for what it opens: the law can be asked here.
-pub(crate) fn judge_unopened<'a, P: Inputs<'a> + Outcomes<'a> + Carriage<'a>>(
+pub fn judge_unopened<'a, P: Inputs<'a> + Outcomes<'a> + Carriage<'a>>(
     past: &P,
     rules: &[Rule],
     number: u64,
@@ -378,7 +378,7 @@ pub(crate) fn judge_unopened<'a, P: Inputs<'a> + Outcomes<'a> + Carriage<'a>>(
 }
 
 /// The record of this number in its place.
-pub(crate) fn judge<'a, P: Inputs<'a> + Outcomes<'a> + Openings<'a> + Carriage<'a>>(
+pub fn judge<'a, P: Inputs<'a> + Outcomes<'a> + Openings<'a> + Carriage<'a>>(
     past: &P,
     rules: &[Rule],
     number: u64,

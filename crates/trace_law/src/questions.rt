@@ -8,21 +8,21 @@
 //! - `Counts`: windows, credits, and what waits;
 //! - `Carriage`: which incoming delivery a transfer carries.
 
-pub(crate) mod carriage;
-pub(crate) mod counts;
-pub(crate) mod inputs;
-pub(crate) mod openings;
-pub(crate) mod outcomes;
+mod carriage;
+mod counts;
+mod inputs;
+mod openings;
+mod outcomes;
 
-pub(crate) use self::carriage::Carriage;
-pub(crate) use self::counts::Counts;
-pub(crate) use self::inputs::Inputs;
-pub(crate) use self::openings::Openings;
-pub(crate) use self::outcomes::Outcomes;
+pub use self::carriage::Carriage;
+pub use self::counts::Counts;
+pub use self::inputs::Inputs;
+pub use self::openings::Openings;
+pub use self::outcomes::Outcomes;
 
 /// What stands for the events before a record. Several histories may stand behind the same value, which then answers the
 /// same of each.
-pub(crate) trait History {
+pub trait History {
     ghost use Rattle.trace_law.specs.View.{Events};
 
     ghost stands_for: { Self → Events → Type 0 };
@@ -32,4 +32,4 @@ pub(crate) trait History {
 }
 
 /// All questions.
-pub(crate) trait Questions<'a>: Inputs<'a> + Outcomes<'a> + Openings<'a> + Counts + Carriage<'a> {}
+pub trait Questions<'a>: Inputs<'a> + Outcomes<'a> + Openings<'a> + Counts + Carriage<'a> {}

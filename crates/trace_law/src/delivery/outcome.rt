@@ -21,7 +21,7 @@ use pairing_cert::Why;
 
 /// The state that is told of a delivery.
 #[derive(Clone, Copy)]
-pub(crate) enum Told<'a> {
+pub enum Told<'a> {
     /// None.
     Nothing,
     /// An outcome without fields.
@@ -98,7 +98,7 @@ impl<'a> Told<'a> {
     ghost use Rattle.trace_events.specs.Words.{are_same_octets};
 
     /// The state has these octets, or there is none.
-    pub(crate) fn has_octets(&self, state: Option<&[u8]>) -> bool
+    pub fn has_octets(&self, state: Option<&[u8]>) -> bool
         ensures { result ≡ are_same_octets (option_copied state.entry) (told_view self.now) }
     {
         let Some(octets) = state else {
@@ -179,7 +179,7 @@ fn anycast_row<'a, P: Outcomes<'a>>(past: &P, delivery: &Incoming, why: Why) -> 
 }
 
 /// What row `why` tells of a delivery, where it applies.
-pub(crate) fn row<'a, P: Outcomes<'a>>(
+pub fn row<'a, P: Outcomes<'a>>(
     past: &P,
     rules: &[Rule],
     delivery: &Incoming,
@@ -199,7 +199,7 @@ pub(crate) fn row<'a, P: Outcomes<'a>>(
 }
 
 /// It may be told: complete, of a live link, neither settled nor told.
-pub(crate) fn may_be_told<'a, P: Outcomes<'a>>(past: &P, delivery: &Incoming) -> bool
+pub fn may_be_told<'a, P: Outcomes<'a>>(past: &P, delivery: &Incoming) -> bool
     ensures { (history : Events) → P.stands_for past.now history → (result ≡ rows.may_be_told (incoming_view delivery.now) history) }
 {
     past.is_complete(delivery)

@@ -8,7 +8,7 @@ use trace_events::{Fault, Session};
 /// A link, named by the record of its Out attach, whose role it has: a receiver's is a producer's link, a sender's a
 /// consumer's (part 2, section 2.6).
 #[derive(Clone, Copy)]
-pub(crate) struct Link<'a> {
+pub struct Link<'a> {
     pub number: u64,
     pub session: Session,
     pub handle: u32,
@@ -23,7 +23,7 @@ pub(crate) struct Link<'a> {
 /// A delivery from a client, named by the record of its first transfer, whose id and message-format it has (part 2,
 /// section 2.6.12).
 #[derive(Clone, Copy)]
-pub(crate) struct Incoming<'a> {
+pub struct Incoming<'a> {
     pub number: u64,
     pub link: Link<'a>,
     pub id: Option<u32>,
@@ -32,7 +32,7 @@ pub(crate) struct Incoming<'a> {
 
 /// A delivery to a client, named by the record of its first transfer, whose id, settled flag and note it has.
 #[derive(Clone, Copy)]
-pub(crate) struct Outgoing<'a> {
+pub struct Outgoing<'a> {
     pub number: u64,
     pub link: Link<'a>,
     pub id: Option<u32>,
@@ -42,7 +42,7 @@ pub(crate) struct Outgoing<'a> {
 
 /// What happened.
 #[derive(Clone, Copy)]
-pub(crate) enum Moment<'a> {
+pub enum Moment<'a> {
     Opened,
     In(Frame<'a>),
     Out(Frame<'a>),
@@ -52,7 +52,7 @@ pub(crate) enum Moment<'a> {
 
 /// A record in its place.
 #[derive(Clone, Copy)]
-pub(crate) struct Event<'a> {
+pub struct Event<'a> {
     pub number: u64,
     pub connection: u32,
     pub moment: Moment<'a>,

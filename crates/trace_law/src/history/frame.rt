@@ -6,7 +6,7 @@ use flow_counts::MAX_FRAME_SIZE;
 
 /// A performative on a channel, and what stands behind it: a transfer's payload.
 #[derive(Clone, Copy)]
-pub(crate) struct Spoken<'a> {
+pub struct Spoken<'a> {
     pub channel: u16,
     pub performative: Performative<'a>,
     pub payload: &'a [u8],
@@ -14,7 +14,7 @@ pub(crate) struct Spoken<'a> {
 
 /// What octets are.
 #[derive(Clone, Copy)]
-pub(crate) enum Body<'a> {
+pub enum Body<'a> {
     /// Not one whole frame of type AMQP.
     NoFrame,
     /// A frame on this channel, with an empty body.
@@ -26,7 +26,7 @@ pub(crate) enum Body<'a> {
 
 /// Octets, and what they are.
 #[derive(Clone, Copy)]
-pub(crate) struct Frame<'a> {
+pub struct Frame<'a> {
     pub octets: &'a [u8],
     pub body: Body<'a>,
 }

@@ -93,7 +93,7 @@ impl<'p, 'a> Past<'p, 'a> {
 
     /// How many deliveries to the client have begun, as a serial number: the count that it was last told, and those
     /// that began since.
-    #[tactic(auto, using(crate::proofs::Counts::serial_step))]
+    #[tactic(auto, using(crate::proofs::Counted::serial_step))]
     pub(crate) fn delivery_count(&self, link: &Link) -> u32
         ensures { result ≡ law.delivery_count (link_view link.now) (events self.now) }
     {
@@ -206,7 +206,7 @@ impl<'p, 'a> Past<'p, 'a> {
     }
 
     /// How many deliveries from the client have begun, as a serial number behind that of its attach.
-    #[tactic(auto, using(crate::proofs::Counts::serial_step))]
+    #[tactic(auto, using(crate::proofs::Counted::serial_step))]
     pub(crate) fn received_count(&self, link: &Link) -> u32
         ensures { result ≡ law.received_count (link_view link.now) (events self.now) }
     {

@@ -6,7 +6,9 @@ use capture_form::Rule;
 use pairing_cert::Note;
 
 /// What is asked of the past when a transfer carries an incoming delivery to a consumer.
-pub(crate) trait Carriage<'a>: History {
+///
+/// What takes a link is asked of a live one alone.
+pub trait Carriage<'a>: History {
     ghost use Rattle.std.specs.Prelude.{◌≡◌, ◌++◌, option_map};
     ghost use Rattle.trace_events.specs.Due as due;
     ghost use Rattle.trace_events.specs.Incoming as received;

@@ -6,7 +6,9 @@ use capture_form::Rule;
 use trace_events::Session;
 
 /// What is asked of the past when a transfer begins or a flow is written: windows, credits, and what waits.
-pub(crate) trait Counts: History {
+///
+/// What takes a session or a link is asked of a live one alone.
+pub trait Counts: History {
     ghost use Rattle.std.specs.Prelude.{◌≡◌};
     ghost use Rattle.trace_events.specs.Address as addresses;
     ghost use Rattle.trace_events.specs.Credit as credits;

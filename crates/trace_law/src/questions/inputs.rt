@@ -8,7 +8,9 @@ use trace_events::Session;
 
 /// What is asked of the past when a client's frame is judged: whether it is heard, which fault it has, and the delivery that
 /// it begins or goes on with.
-pub(crate) trait Inputs<'a>: History {
+///
+/// What takes a session or a link is asked of a live one alone.
+pub trait Inputs<'a>: History {
     ghost use Rattle.std.specs.Prelude.{◌≡◌, ◌+◌, length, nat_lt, option_map};
     ghost use Rattle.trace_events.specs.Connection as connections;
     ghost use Rattle.trace_events.specs.Credit as credits;

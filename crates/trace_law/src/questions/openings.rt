@@ -6,7 +6,9 @@ use amqp_perf::Begin;
 use trace_events::Session;
 
 /// What is asked of the past when the router opens a connection, a session or a link, or ends one.
-pub(crate) trait Openings<'a>: History {
+///
+/// What takes a session is asked of a live one alone.
+pub trait Openings<'a>: History {
     ghost use Rattle.std.specs.Prelude.{◌≡◌, option_map};
     ghost use Rattle.trace_events.specs.Connection as connections;
     ghost use Rattle.trace_events.specs.Link as links;

@@ -7,7 +7,9 @@ use capture_form::Rule;
 use trace_events::Session;
 
 /// What is asked of the past when an outcome is told or a delivery is settled.
-pub(crate) trait Outcomes<'a>: History {
+///
+/// What takes a session is asked of a live one alone.
+pub trait Outcomes<'a>: History {
     ghost use Rattle.std.specs.Prelude.{◌≡◌, option_map};
     ghost use Rattle.amqp_perf.specs.View.{disposition_fields};
     ghost use Rattle.trace_events.specs.Connection as connections;

@@ -59,7 +59,7 @@ impl<'p, 'a> Past<'p, 'a> {
     ghost use Rattle.trace_law.specs.View.{events};
 
     /// The id of the next transfer to the client.
-    #[tactic(auto, using(crate::proofs::Counts::serial_step))]
+    #[tactic(auto, using(crate::proofs::Counted::serial_step))]
     pub(crate) fn next_outgoing_id(&self, session: Session) -> u32
         ensures { result ≡ law.next_outgoing_id session (events self.now) }
     {
@@ -75,7 +75,7 @@ impl<'p, 'a> Past<'p, 'a> {
     }
 
     /// The id of the next transfer from the client.
-    #[tactic(auto, using(crate::proofs::Counts::serial_step))]
+    #[tactic(auto, using(crate::proofs::Counted::serial_step))]
     pub(crate) fn next_incoming_id(&self, session: Session) -> u32
         ensures { result ≡ law.next_incoming_id session (events self.now) }
     {
