@@ -38,7 +38,7 @@ impl<'a> Frame<'a> {
 
     /// The octets, read.
     #[tactic(auto, unfolding(trace_events::specs::Frame::frame_read))]
-    pub(crate) fn read(octets: &'a [u8]) -> Frame<'a>
+    pub fn read(octets: &'a [u8]) -> Frame<'a>
         ensures { frame_view result ≡ frame_read octets.now }
     {
         let body = match FrameView::whole(octets, MAX_FRAME_SIZE) {

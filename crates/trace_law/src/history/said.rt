@@ -29,25 +29,25 @@ impl<'a> Moment<'a> {
         }
     }
 
-    pub(crate) fn is_opened(&self) -> bool
+    pub fn is_opened(&self) -> bool
         ensures { result ≡ is_opened (moment_view self.now) }
     {
         matches!(self, Moment::Opened)
     }
 
-    pub(crate) fn is_lost(&self) -> bool
+    pub fn is_lost(&self) -> bool
         ensures { result ≡ is_lost (moment_view self.now) }
     {
         matches!(self, Moment::Lost)
     }
 
-    pub(crate) fn is_broken(&self) -> bool
+    pub fn is_broken(&self) -> bool
         ensures { result ≡ is_broken (moment_view self.now) }
     {
         matches!(self, Moment::Broken)
     }
 
-    pub(crate) fn is_out(&self) -> bool
+    pub fn is_out(&self) -> bool
         ensures { result ≡ is_out (moment_view self.now) }
     {
         matches!(self, Moment::Out(_))
@@ -119,7 +119,7 @@ impl<'a> Event<'a> {
         self.moment.out_frame()?.spoken()
     }
 
-    pub(crate) fn in_open(&self) -> Option<Open<'a>>
+    pub fn in_open(&self) -> Option<Open<'a>>
         ensures { option_map open_fields result ≡ said.in_open (event_view self.now) }
     {
         match self.in_spoken()?.performative {
@@ -185,7 +185,7 @@ impl<'a> Event<'a> {
         )
     }
 
-    pub(crate) fn is_in_close(&self) -> bool
+    pub fn is_in_close(&self) -> bool
         ensures { result ≡ said.is_in_close (event_view self.now) }
     {
         matches!(
@@ -254,7 +254,7 @@ impl<'a> Event<'a> {
         )
     }
 
-    pub(crate) fn is_out_close(&self) -> bool
+    pub fn is_out_close(&self) -> bool
         ensures { result ≡ said.is_out_close (event_view self.now) }
     {
         matches!(

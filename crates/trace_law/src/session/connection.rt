@@ -29,7 +29,7 @@ impl<'a> Moment<'a> {
     ghost use Rattle.trace_law.specs.View.{moment_view};
 
     /// A close in either direction, the end of the device, or octets that stopped being frames.
-    fn is_final(&self) -> bool
+    pub fn is_final(&self) -> bool
         ensures { result ≡ is_final (moment_view self.now) }
     {
         match self {

@@ -1,0 +1,11 @@
+//! Tables of what the records of a capture have come to, moved forward by one event after the other, so that none has to be
+//! kept. Each look-up gives what `trace_events` says of all the events so far.
+//!
+//! - `connections`: what each connection has come to.
+#![tactic(auto)]
+
+mod connections;
+#[cfg(test)]
+mod tests;
+
+pub use connections::{Connections, Seen};
