@@ -1,5 +1,5 @@
 -- L3 and L13: attaches and detaches that the router writes.
-use Rattle.std.specs.Prelude.{ℕ, Bool, true, false, ◌&&◌, ◌||◌, List, ◌++◌, Option, Some, None, is_some, is_none, bytes_eq, codes, decimal, if◌then◌else◌}
+use Rattle.std.specs.Prelude.{ℕ, Bool, true, false, ◌&&◌, ◌||◌, List, ◌++◌, Option, Some, None, is_some, is_none, option_and_then, option_map, bytes_eq, codes, decimal, if◌then◌else◌}
 use Rattle.amqp_perf.specs.declared.attach.Role.{Role}
 use Rattle.amqp_perf.specs.declared.attach.Role.TheVariants.{Sender, Receiver}
 use Rattle.amqp_perf.specs.declared.attach.SenderSettleMode.{SenderSettleMode}
@@ -52,37 +52,58 @@ abbrev pub sending_mode : List RuleText → List ℕ → SenderSettleMode → Se
 sending_mode rules address asked = if has_multicast rules address then Settled else asked
 
 -- the settle modes of the answer: to a producer its own and first, to a consumer the sending mode and its own
-abbrev pub answering_sender_mode : List RuleText → List ℕ → AttachFields → Role → SenderSettleMode
-answering_sender_mode rules address theirs Sender = sender_mode theirs
-answering_sender_mode rules address theirs Receiver = sending_mode rules address (sender_mode theirs)
+abbrev pub answering_sender_mode : List RuleText → List ℕ → SenderSettleMode → Role → SenderSettleMode
+answering_sender_mode rules address asked Sender = asked
+answering_sender_mode rules address asked Receiver = sending_mode rules address asked
 
-abbrev pub answering_receiver_mode : AttachFields → Role → ReceiverSettleMode
-answering_receiver_mode theirs Sender = First
-answering_receiver_mode theirs Receiver = receiver_mode theirs
+abbrev pub answering_receiver_mode : ReceiverSettleMode → Role → ReceiverSettleMode
+answering_receiver_mode asked Sender = First
+answering_receiver_mode asked Receiver = asked
 
-abbrev pub accepts : List RuleText → List ℕ → AttachFields → AttachFields → Bool
-accepts rules address theirs ours =
-    opens_link ours && bytes_eq (address_at ours.role ours) address
-    && is_same_sender_mode (sender_mode ours) (answering_sender_mode rules address theirs theirs.role)
-    && is_same_receiver_mode (receiver_mode ours) (answering_receiver_mode theirs theirs.role)
+-- what an attach of the client asks for: the client's role on a link of this name, settle modes and address; or its fault
+pub record Asking : Type 0 where
+  pub name : List ℕ
+  pub role : Role
+  pub sender_mode : SenderSettleMode
+  pub receiver_mode : ReceiverSettleMode
+  pub address : List ℕ
+  pub fault : Option Fault
+
+abbrev pub asked_by : Event → AttachFields → Asking
+asked_by e fields = record {
+  name = fields.name;
+  role = fields.role;
+  sender_mode = sender_mode fields;
+  receiver_mode = receiver_mode fields;
+  address = asked_address e.number fields;
+  fault = e.fault;
+}
+
+-- what the client's attach of the handle that is still to be answered asks for
+abbrev pub asking : Session → ℕ → List Event → Option Asking
+asking s handle past = option_and_then (λ e. option_map (asked_by e) (in_attach e)) (unanswered_attach s handle past)
+
+abbrev pub accepts : List RuleText → Asking → AttachFields → Bool
+accepts rules asked ours =
+    opens_link ours && bytes_eq (address_at ours.role ours) asked.address
+    && is_same_sender_mode (sender_mode ours) (answering_sender_mode rules asked.address asked.sender_mode asked.role)
+    && is_same_receiver_mode (receiver_mode ours) (answering_receiver_mode asked.receiver_mode asked.role)
 
 -- by the fault of the client's attach
-abbrev pub accepts_or_refuses : List RuleText → ℕ → Option Fault → AttachFields → AttachFields → Bool
-accepts_or_refuses rules number None theirs ours = accepts rules (asked_address number theirs) theirs ours
-accepts_or_refuses rules number (Some (Refuse condition)) theirs ours = is_none ours.source && is_none ours.target
-accepts_or_refuses rules number (Some (Close condition)) theirs ours = false
-accepts_or_refuses rules number (Some (End condition)) theirs ours = false
-accepts_or_refuses rules number (Some (Detach condition)) theirs ours = false
+abbrev pub accepts_or_refuses : List RuleText → Asking → AttachFields → Option Fault → Bool
+accepts_or_refuses rules asked ours None = accepts rules asked ours
+accepts_or_refuses rules asked ours (Some (Refuse condition)) = is_none ours.source && is_none ours.target
+accepts_or_refuses rules asked ours (Some (Close condition)) = false
+accepts_or_refuses rules asked ours (Some (End condition)) = false
+accepts_or_refuses rules asked ours (Some (Detach condition)) = false
 
-abbrev pub answers_one : List RuleText → Event → AttachFields → AttachFields → Bool
-answers_one rules asking theirs ours =
-    bytes_eq ours.name theirs.name && is_same_role ours.role (opposite theirs.role)
-    && accepts_or_refuses rules asking.number asking.fault theirs ours
+abbrev pub answers_one : List RuleText → AttachFields → Asking → Bool
+answers_one rules ours asked =
+    bytes_eq ours.name asked.name && is_same_role ours.role (opposite asked.role)
+    && accepts_or_refuses rules asked ours asked.fault
 
 abbrev pub answers_attach : List RuleText → AttachFields → List Event → Session → Bool
-answers_attach rules ours past s =
-    is_some_and (unanswered_attach s ours.handle past) (λ asking.
-    is_some_and (in_attach asking) (λ theirs. answers_one rules asking theirs ours))
+answers_attach rules ours past s = is_some_and (asking s ours.handle past) (answers_one rules ours)
 
 abbrev pub may_detach : Event → DetachFields → List Event → Bool
 may_detach e fields past = is_some e.link || is_some_and e.session (λ s. owes_detach s fields.handle past)

@@ -5,7 +5,7 @@ use Rattle.amqp_perf.specs.declared.attach.Role.TheVariants.{Sender, Receiver}
 use Rattle.amqp_perf.specs.declared.condition.ErrorCondition.{ErrorCondition}
 use Rattle.amqp_perf.specs.declared.condition.ErrorCondition.TheVariants.{FramingError}
 use Rattle.amqp_perf.specs.declared.flow.Flow.{Flow}
-use Rattle.amqp_perf.specs.Meaning.{Meaning, AnOpen, ABegin, AnAttach, AFlow, ATransfer, ADisposition, ADetach, AnEnd, AClose, AttachFields, flag}
+use Rattle.amqp_perf.specs.Meaning.{Meaning, AnOpen, ABegin, AnAttach, AFlow, ATransfer, ADisposition, ADetach, AnEnd, AClose, AttachFields, flag, sender_mode}
 use Rattle.amqp_perf.specs.Router.{attach_to_producer, attach_to_consumer, attach_refused}
 use Rattle.capture_form.specs.Rules.{RuleText}
 use Rattle.trace_events.specs.declared.fault.Fault.{Fault}
@@ -33,7 +33,7 @@ abbrev pub attach_answer : List RuleText → ℕ → AttachFields → Role → A
 attach_answer rules number theirs Sender = attach_to_producer theirs (asked_address number theirs)
 attach_answer rules number theirs Receiver =
     let address = asked_address number theirs in
-    attach_to_consumer theirs address (has_dynamic_source theirs) (answering_sender_mode rules address theirs Receiver)
+    attach_to_consumer theirs address (has_dynamic_source theirs) (answering_sender_mode rules address (sender_mode theirs) Receiver)
 
 -- the numbers of a live link
 abbrev pub link_flow : Link → List Event → Spoken

@@ -1,5 +1,5 @@
 -- What the code's events stand for.
-use Rattle.std.specs.Prelude.{List, [], ◌∷◌, option_map}
+use Rattle.std.specs.Prelude.{ℕ, List, [], ◌∷◌, ◌++◌, option_map, codes, decimal}
 use Rattle.amqp_perf.specs.View as performatives
 use Rattle.trace_law.specs.declared.history.frame.Frame.{Frame}
 use Rattle.trace_law.specs.declared.history.frame.Spoken.{Spoken}
@@ -13,6 +13,10 @@ use Rattle.trace_law.specs.declared.history.event.Moment.TheVariants as moments
 use Rattle.trace_law.specs.declared.history.event.Event.{Event}
 use Rattle.trace_law.specs.declared.history.event.Past.{Past}
 use Rattle.trace_law.specs.declared.history.event.Past.TheVariants.{Start, After'}
+use Rattle.trace_law.specs.declared.clauses.link.AskedAddress.{AskedAddress}
+use Rattle.trace_law.specs.declared.clauses.link.AskedAddress.TheVariants as addresses
+use Rattle.trace_law.specs.declared.clauses.link.Asking.{Asking}
+use Rattle.trace_clauses.specs.LinkClause as clauses
 use Rattle.trace_events.specs.Frame as frames
 use Rattle.trace_events.specs.Event as law
 
@@ -71,6 +75,20 @@ event_view e = record {
   settled = e.settled;
   is_heard = e.is_heard;
   fault = e.fault;
+}
+
+abbrev pub address_view : AskedAddress → List ℕ
+address_view (addresses.Given octets) = octets.now
+address_view (addresses.Made number) = codes "dyn/" ++ decimal number
+
+abbrev pub asking_view : Asking → clauses.Asking
+asking_view asked = record {
+  name = asked.name.now;
+  role = asked.role;
+  sender_mode = asked.sender_mode;
+  receiver_mode = asked.receiver_mode;
+  address = address_view asked.address;
+  fault = asked.fault;
 }
 
 -- those before a record, the newest first

@@ -22,7 +22,7 @@ use crate::questions::{Carriage, Counts, Inputs, Openings, Outcomes, Questions};
 mod connection;
 mod disposition;
 mod flow;
-mod link;
+pub(crate) mod link;
 mod session;
 mod transfer;
 

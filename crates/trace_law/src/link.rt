@@ -8,6 +8,7 @@ ghost use Rattle.trace_events.specs.Link.{opens_link, address_text, source_addre
 pub(crate) mod address;
 pub(crate) mod credit;
 
+use crate::clauses::link::Asking;
 use crate::history::event::{Event, Link, Past};
 use amqp_perf::{Address, Attach, Role, SenderSettleMode, Target, Terminus};
 use trace_events::Session;
@@ -166,8 +167,9 @@ impl<'a> Event<'a> {
 impl<'p, 'a> Past<'p, 'a> {
     ghost use Rattle.std.specs.Prelude.{◌≡◌, option_map};
     ghost use Rattle.trace_events.specs.Link as law;
+    ghost use Rattle.trace_clauses.specs.LinkClause.{asking};
     ghost use Rattle.trace_events.specs.Link.{unanswered_attach, owes_detach};
-    ghost use Rattle.trace_law.specs.View.{link_view, event_view, events};
+    ghost use Rattle.trace_law.specs.View.{asking_view, link_view, event_view, events};
 
     /// The client's last attach of the handle on the session that was heard.
     pub(crate) fn last_in_attach(&self, session: Session, handle: u32) -> Option<Event<'a>>
@@ -272,6 +274,14 @@ impl<'p, 'a> Past<'p, 'a> {
             rest = *earlier;
         }
         None
+    }
+
+    /// What an attach of the client's asks for that is still to be answered.
+    pub(crate) fn asking(&self, session: Session, handle: u32) -> Option<Asking<'a>>
+        ensures { option_map asking_view result ≡ asking session handle (events self.now) }
+    {
+        let event = self.unanswered_attach(session, handle)?;
+        Some(Asking::of(&event, &event.in_attach()?))
     }
 
     /// Since the last Out detach of the handle the client has detached a link that was live, or an attach was refused.

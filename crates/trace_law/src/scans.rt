@@ -1,6 +1,7 @@
 //! The answers of the plain checker: each by a scan of the events on the stack.
 
 use crate::clauses::broken_clause;
+use crate::clauses::link::Asking;
 use crate::history::event::{Event, Incoming, Link, Outgoing, Past};
 use crate::history::{judge, judge_unopened};
 use crate::questions::{Carriage, Counts, History, Inputs, Openings, Outcomes, Questions};
@@ -150,8 +151,8 @@ impl<'p, 'a> Openings<'a> for Past<'p, 'a> {
         self.last_in_attach(session, handle)
     }
 
-    fn unanswered_attach(&self, session: Session, handle: u32) -> Option<Event<'a>> {
-        self.unanswered_attach(session, handle)
+    fn asking(&self, session: Session, handle: u32) -> Option<Asking<'a>> {
+        self.asking(session, handle)
     }
 
     fn owes_detach(&self, session: Session, handle: u32) -> bool {

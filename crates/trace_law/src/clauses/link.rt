@@ -82,70 +82,125 @@ fn is_dynamic_address(address: &[u8], number: u64) -> bool
     }
 }
 
-/// The address is the one that the client's attach, in this record, asks for: a made up one for a dynamic source, else
-/// its target's or its source's.
-fn is_asked_address(address: &[u8], number: u64, theirs: &Attach) -> bool
-    ensures { result ≡ bytes_eq address.now (law.asked_address number (attach_fields theirs.now)) }
-{
-    if has_dynamic_source(theirs) {
-        is_dynamic_address(address, number)
-    } else {
-        address == address_at(opposite(theirs.role), theirs)
+/// The address for which a client's attach asks.
+#[derive(Clone, Copy)]
+pub enum AskedAddress<'a> {
+    Given(&'a [u8]),
+    /// One that is made up, for the attach in this record.
+    Made(u64),
+}
+
+/// What a client's attach asks for: the client's role on a link of this name, settle modes and address; or its fault.
+#[derive(Clone, Copy)]
+pub struct Asking<'a> {
+    pub name: &'a str,
+    pub role: Role,
+    pub sender_mode: SenderSettleMode,
+    pub receiver_mode: ReceiverSettleMode,
+    pub address: AskedAddress<'a>,
+    pub fault: Option<Fault>,
+}
+
+impl<'a> AskedAddress<'a> {
+    ghost use Rattle.std.specs.Prelude.{◌≡◌, bytes_eq};
+    ghost use Rattle.amqp_perf.specs.View.{attach_fields};
+    ghost use Rattle.trace_clauses.specs.LinkClause.{asked_address};
+    ghost use Rattle.trace_law.specs.View.{address_view};
+
+    /// That of the attach in this record: a made up one for a dynamic source, else its target's or its source's.
+    fn of(number: u64, theirs: &Attach<'a>) -> AskedAddress<'a>
+        ensures { address_view result ≡ asked_address number (attach_fields theirs.now) }
+    {
+        if has_dynamic_source(theirs) {
+            AskedAddress::Made(number)
+        } else {
+            AskedAddress::Given(address_at(opposite(theirs.role), theirs))
+        }
+    }
+
+    /// The address is this one.
+    fn is(&self, address: &[u8]) -> bool
+        ensures { result ≡ bytes_eq address.now (address_view self.now) }
+    {
+        match *self {
+            AskedAddress::Given(asked) => address == asked,
+            AskedAddress::Made(number) => is_dynamic_address(address, number),
+        }
     }
 }
 
-/// How the router's sender or receiver settles: to a producer as it says; to a consumer as it asks, and settled where
-/// the address is multicast.
-fn answering_sender_mode(rules: &[Rule], address: &[u8], theirs: &Attach) -> SenderSettleMode
-    ensures { result ≡ law.answering_sender_mode rules.now address.now (attach_fields theirs.now) (attach_fields theirs.now).role }
-{
-    match theirs.role {
-        Role::Receiver if has_multicast(rules, address) => SenderSettleMode::Settled,
-        _ => theirs.sender_mode(),
+impl<'a> Asking<'a> {
+    ghost use Rattle.std.specs.Prelude.{◌≡◌};
+    ghost use Rattle.amqp_perf.specs.View.{attach_fields};
+    ghost use Rattle.trace_clauses.specs.LinkClause as law;
+    ghost use Rattle.trace_law.specs.View.{asking_view, event_view};
+
+    /// What the attach of this event asks for.
+    pub(crate) fn of(event: &Event, theirs: &Attach<'a>) -> Asking<'a>
+        ensures { asking_view result ≡ law.asked_by (event_view event.now) (attach_fields theirs.now) }
+    {
+        Asking {
+            name: theirs.name,
+            role: theirs.role,
+            sender_mode: theirs.sender_mode(),
+            receiver_mode: theirs.receiver_mode(),
+            address: AskedAddress::of(event.number, theirs),
+            fault: event.fault,
+        }
     }
-}
 
-fn answering_receiver_mode(theirs: &Attach) -> ReceiverSettleMode
-    ensures { result ≡ law.answering_receiver_mode (attach_fields theirs.now) (attach_fields theirs.now).role }
-{
-    match theirs.role {
-        Role::Sender => ReceiverSettleMode::First,
-        Role::Receiver => theirs.receiver_mode(),
+    /// How the router's sender settles: to a producer as it says; to a consumer as it asks, and settled where the address,
+    /// which is this one, is multicast.
+    fn answering_sender_mode(&self, rules: &[Rule], address: &[u8]) -> SenderSettleMode
+        ensures { result ≡ law.answering_sender_mode rules.now address.now self.now.sender_mode self.now.role }
+    {
+        match self.role {
+            Role::Receiver if has_multicast(rules, address) => SenderSettleMode::Settled,
+            _ => self.sender_mode,
+        }
     }
-}
 
-/// The answer opens the link that the client's attach, in this record, asks for.
-fn accepts(rules: &[Rule], number: u64, theirs: &Attach, ours: &Attach) -> bool
-    ensures { result ≡ law.accepts rules.now (law.asked_address number (attach_fields theirs.now)) (attach_fields theirs.now) (attach_fields ours.now) }
-{
-    let address = address_at(ours.role, ours);
-    opens_link(ours)
-        && is_asked_address(address, number, theirs)
-        && is_same_sender_mode(
-            ours.sender_mode(),
-            answering_sender_mode(rules, address, theirs),
-        )
-        && is_same_receiver_mode(ours.receiver_mode(), answering_receiver_mode(theirs))
-}
-
-/// By the fault of the client's attach.
-fn accepts_or_refuses(rules: &[Rule], asking: &Event, theirs: &Attach, ours: &Attach) -> bool
-    ensures { let e = event_view asking.now in
-        result ≡ law.accepts_or_refuses rules.now e.number e.fault (attach_fields theirs.now) (attach_fields ours.now) }
-{
-    match asking.fault {
-        None => accepts(rules, asking.number, theirs, ours),
-        Some(Fault::Refuse(_)) => ours.source.is_none() && ours.target.is_none(),
-        Some(_) => false,
+    fn answering_receiver_mode(&self) -> ReceiverSettleMode
+        ensures { result ≡ law.answering_receiver_mode self.now.receiver_mode self.now.role }
+    {
+        match self.role {
+            Role::Sender => ReceiverSettleMode::First,
+            Role::Receiver => self.receiver_mode,
+        }
     }
-}
 
-fn answers_one(rules: &[Rule], asking: &Event, theirs: &Attach, ours: &Attach) -> bool
-    ensures { result ≡ law.answers_one rules.now (event_view asking.now) (attach_fields theirs.now) (attach_fields ours.now) }
-{
-    ours.name == theirs.name
-        && is_same_role(ours.role, opposite(theirs.role))
-        && accepts_or_refuses(rules, asking, theirs, ours)
+    /// The answer opens the link that is asked for.
+    fn is_accepted(&self, rules: &[Rule], ours: &Attach) -> bool
+        ensures { result ≡ law.accepts rules.now (asking_view self.now) (attach_fields ours.now) }
+    {
+        let address = address_at(ours.role, ours);
+        opens_link(ours)
+            && self.address.is(address)
+            && is_same_sender_mode(
+                ours.sender_mode(),
+                self.answering_sender_mode(rules, address),
+            )
+            && is_same_receiver_mode(ours.receiver_mode(), self.answering_receiver_mode())
+    }
+
+    /// By the fault of the client's attach.
+    fn is_accepted_or_refused(&self, rules: &[Rule], ours: &Attach) -> bool
+        ensures { result ≡ law.accepts_or_refuses rules.now (asking_view self.now) (attach_fields ours.now) self.now.fault }
+    {
+        match self.fault {
+            None => self.is_accepted(rules, ours),
+            Some(Fault::Refuse(_)) => ours.source.is_none() && ours.target.is_none(),
+            Some(_) => false,
+        }
+    }
+
+    fn is_answered(&self, rules: &[Rule], ours: &Attach) -> bool
+        ensures { result ≡ law.answers_one rules.now (attach_fields ours.now) (asking_view self.now) }
+    {
+        ours.name == self.name
+            && is_same_role(ours.role, opposite(self.role))
+            && self.is_accepted_or_refused(rules, ours)
+    }
 }
 
 /// L3: it answers the client's last attach of the handle.
@@ -158,11 +213,8 @@ pub(crate) fn answers_attach<'a, P: Openings<'a>>(
     ensures { (history : Events) → P.stands_for past.now history → IsLiveOn session history →
         (result ≡ law.answers_attach rules.now (attach_fields ours.now) history session) }
 {
-    let Some(asking) = past.unanswered_attach(session, ours.handle) else {
-        return false;
-    };
-    match asking.in_attach() {
-        Some(theirs) => answers_one(rules, &asking, &theirs, ours),
+    match past.asking(session, ours.handle) {
+        Some(asked) => asked.is_answered(rules, ours),
         None => false,
     }
 }

@@ -1,5 +1,6 @@
 //! What is asked of the past when the router opens a connection, a session or a link, or ends one.
 
+use crate::clauses::link::Asking;
 use crate::history::event::Event;
 use crate::questions::History;
 use amqp_perf::Begin;
@@ -10,11 +11,12 @@ use trace_events::Session;
 /// What takes a session is asked of a live one alone.
 pub trait Openings<'a>: History {
     ghost use Rattle.std.specs.Prelude.{◌≡◌, option_map};
+    ghost use Rattle.trace_clauses.specs.LinkClause as attaches;
     ghost use Rattle.trace_events.specs.Connection as connections;
     ghost use Rattle.trace_events.specs.Link as links;
     ghost use Rattle.trace_events.specs.Session as sessions;
     ghost use Rattle.trace_events.specs.Session.{IsLiveOn};
-    ghost use Rattle.trace_law.specs.View.{Events, event_view};
+    ghost use Rattle.trace_law.specs.View.{Events, asking_view, event_view};
 
     /// The connection was opened.
     fn was_opened(&self, connection: u32) -> bool
@@ -50,10 +52,10 @@ pub trait Openings<'a>: History {
         ensures { (history : Events) → Self.stands_for self.now history → IsLiveOn session history →
             (option_map event_view result ≡ links.last_in_attach session handle history) };
 
-    /// The event of an attach of the client's that is still to be answered.
-    fn unanswered_attach(&self, session: Session, handle: u32) -> Option<Event<'a>>
+    /// What an attach of the client's asks for that is still to be answered.
+    fn asking(&self, session: Session, handle: u32) -> Option<Asking<'a>>
         ensures { (history : Events) → Self.stands_for self.now history → IsLiveOn session history →
-            (option_map event_view result ≡ links.unanswered_attach session handle history) };
+            (option_map asking_view result ≡ attaches.asking session handle history) };
 
     /// A detach of the client's, or an attach of its that was refused, is still to be answered.
     fn owes_detach(&self, session: Session, handle: u32) -> bool
