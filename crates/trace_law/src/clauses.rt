@@ -11,14 +11,6 @@ ghost use Rattle.trace_clauses.specs.declared.clause.Clause.TheVariants as claus
 ghost use Rattle.trace_clauses.specs.Clauses as law;
 ghost use Rattle.trace_clauses.specs.TransferClause as transfers;
 
-use crate::clauses::connection::{fits_limit, may_be_written};
-use crate::clauses::disposition::is_outcome;
-use crate::clauses::flow::tells_counts;
-use crate::clauses::link::{answers_attach, may_detach};
-use crate::clauses::session::{answers_begin, may_end};
-use crate::clauses::transfer::{carries, is_alike, may_be_sent, may_begin, may_go_to};
-use crate::questions::{Carriage, Counts, Inputs, Openings, Outcomes, Questions};
-
 mod connection;
 mod disposition;
 mod flow;
@@ -26,10 +18,15 @@ pub(crate) mod link;
 mod session;
 mod transfer;
 
-use self::disposition::settles_one;
-use self::transfer::goes_on_with;
+use self::connection::{fits_limit, may_be_written};
+use self::disposition::{is_outcome, settles_one};
+use self::flow::tells_counts;
+use self::link::{answers_attach, may_detach};
+use self::session::{answers_begin, may_end};
+use self::transfer::{carries, goes_on_with, is_alike, may_be_sent, may_begin, may_go_to};
 use crate::history::event::{Event, Moment};
 use crate::history::frame::{Frame, Spoken};
+use crate::questions::{Carriage, Counts, Inputs, Openings, Outcomes, Questions};
 use amqp_perf::{Attach, Disposition, Performative, Role, Transfer};
 use capture_form::Rule;
 use pairing_cert::Note;
@@ -206,7 +203,8 @@ pub fn broken_clause<'a, P: Questions<'a>>(
     event: &Event<'a>,
 ) -> Option<Clause>
     requires few { P.is_short past.now }
-    ensures { (history : Events) → P.stands_for past.now history → StandsLive (event_view event.now) history → NamesLive (event_view event.now) history → (result ≡ law.broken_clause rules.now (event_view event.now) history) }
+    ensures { (history : Events) → P.stands_for past.now history → StandsLive (event_view event.now) history → NamesLive (event_view event.now) history →
+        (result ≡ law.broken_clause rules.now (event_view event.now) history) }
 {
     let Moment::Out(frame) = event.moment else {
         return None;

@@ -8,10 +8,6 @@ ghost use Rattle.trace_law.specs.View.{spoken_view, moment_view, link_view, even
 ghost use Rattle.amqp_perf.specs.View.{disposition_fields};
 ghost use Rattle.trace_events.specs.History as law;
 
-use crate::history::fault::body_fault;
-use crate::history::heard::is_heard_body;
-use crate::questions::{Carriage, Inputs, Openings, Outcomes};
-
 pub(crate) mod event;
 pub(crate) mod fault;
 pub(crate) mod frame;
@@ -19,9 +15,12 @@ pub(crate) mod heard;
 pub(crate) mod said;
 
 use crate::history::event::{Event, Incoming, Link, Moment, Outgoing};
+use crate::history::fault::body_fault;
 use crate::history::frame::{Frame, Spoken};
+use crate::history::heard::is_heard_body;
 use crate::history::said::handle_in;
 use crate::link::opens_link;
+use crate::questions::{Carriage, Inputs, Openings, Outcomes};
 use amqp_perf::{Disposition, Performative, Role, Transfer};
 use capture_form::{Record, Rule, What};
 use pairing_cert::Note;
@@ -57,7 +56,8 @@ fn session_of<'a, P: Inputs<'a>>(past: &P, connection: u32, moment: &Moment) -> 
 
 /// The live link of the handle that a flow, transfer or detach names.
 fn named_link<'a, P: Inputs<'a>>(past: &P, session: Session, spoken: &Spoken) -> Option<Link<'a>>
-    ensures { (history : Events) → P.stands_for past.now history → IsLiveOn session history → (option_map link_view result ≡ named_link session (spoken_view spoken.now).meaning history) }
+    ensures { (history : Events) → P.stands_for past.now history → IsLiveOn session history →
+        (option_map link_view result ≡ named_link session (spoken_view spoken.now).meaning history) }
 {
     past.session_link(session, handle_in(&spoken.performative)?)
 }
@@ -81,7 +81,8 @@ fn incoming_part<'a, P: Inputs<'a>>(
     event: &Event<'a>,
     spoken: &Spoken,
 ) -> Option<Incoming<'a>>
-    ensures { (history : Events) → P.stands_for past.now history → NamesLive (event_view event.now) history → (option_map incoming_view result ≡ law.incoming_part (event_view event.now) (spoken_view spoken.now).meaning history) }
+    ensures { (history : Events) → P.stands_for past.now history → NamesLive (event_view event.now) history →
+        (option_map incoming_view result ≡ law.incoming_part (event_view event.now) (spoken_view spoken.now).meaning history) }
 {
     let Performative::Transfer(transfer) = spoken.performative else {
         return None;
@@ -98,7 +99,8 @@ fn incoming_part<'a, P: Inputs<'a>>(
 
 /// The delivery of a transfer that is heard and without fault.
 fn incoming_by<'a, P: Inputs<'a>>(past: &P, event: &Event<'a>) -> Option<Incoming<'a>>
-    ensures { (history : Events) → P.stands_for past.now history → NamesLive (event_view event.now) history → (option_map incoming_view result ≡ law.incoming_by (event_view event.now) (event_view event.now).moment history) }
+    ensures { (history : Events) → P.stands_for past.now history → NamesLive (event_view event.now) history →
+        (option_map incoming_view result ≡ law.incoming_by (event_view event.now) (event_view event.now).moment history) }
 {
     match event.moment {
         Moment::In(frame) if event.is_heard && event.fault.is_none() => {
@@ -114,7 +116,8 @@ fn outgoing_part<'a, P: Carriage<'a>>(
     event: &Event<'a>,
     spoken: &Spoken,
 ) -> Option<Outgoing<'a>>
-    ensures { (history : Events) → P.stands_for past.now history → NamesLive (event_view event.now) history → (option_map outgoing_view result ≡ law.outgoing_part (event_view event.now) (spoken_view spoken.now).meaning history) }
+    ensures { (history : Events) → P.stands_for past.now history → NamesLive (event_view event.now) history →
+        (option_map outgoing_view result ≡ law.outgoing_part (event_view event.now) (spoken_view spoken.now).meaning history) }
 {
     let Performative::Transfer(transfer) = spoken.performative else {
         return None;
@@ -130,7 +133,8 @@ fn outgoing_part<'a, P: Carriage<'a>>(
 }
 
 fn outgoing_by<'a, P: Carriage<'a>>(past: &P, event: &Event<'a>) -> Option<Outgoing<'a>>
-    ensures { (history : Events) → P.stands_for past.now history → NamesLive (event_view event.now) history → (option_map outgoing_view result ≡ law.outgoing_by (event_view event.now) (event_view event.now).moment history) }
+    ensures { (history : Events) → P.stands_for past.now history → NamesLive (event_view event.now) history →
+        (option_map outgoing_view result ≡ law.outgoing_by (event_view event.now) (event_view event.now).moment history) }
 {
     match event.moment {
         Moment::Out(frame) => outgoing_part(past, event, &frame.spoken()?),
@@ -145,7 +149,8 @@ fn told_by_role<'a, P: Outcomes<'a>>(
     session: Session,
     disposition: &Disposition,
 ) -> Option<u64>
-    ensures { (history : Events) → P.stands_for past.now history → IsLiveOn session history → (result ≡ law.told_by_role rules.now session (disposition_fields disposition.now).first (disposition_fields disposition.now).role history) }
+    ensures { (history : Events) → P.stands_for past.now history → IsLiveOn session history →
+        (result ≡ law.told_by_role rules.now session (disposition_fields disposition.now).first (disposition_fields disposition.now).role history) }
 {
     match disposition.role {
         Role::Receiver => Some(past.to_tell(rules, session, disposition.first)?.number),
@@ -159,7 +164,8 @@ fn settled_by_role<'a, P: Outcomes<'a>>(
     session: Session,
     disposition: &Disposition,
 ) -> Option<u64>
-    ensures { (history : Events) → P.stands_for past.now history → IsLiveOn session history → (result ≡ law.settled_by_role session (disposition_fields disposition.now).first (disposition_fields disposition.now).role history) }
+    ensures { (history : Events) → P.stands_for past.now history → IsLiveOn session history →
+        (result ≡ law.settled_by_role session (disposition_fields disposition.now).first (disposition_fields disposition.now).role history) }
 {
     match disposition.role {
         Role::Sender => Some(past.to_settle(session, disposition.first)?.number),
@@ -168,7 +174,8 @@ fn settled_by_role<'a, P: Outcomes<'a>>(
 }
 
 fn told_by<'a, P: Outcomes<'a>>(past: &P, rules: &[Rule], event: &Event) -> Option<u64>
-    ensures { (history : Events) → P.stands_for past.now history → StandsLive (event_view event.now) history → (result ≡ law.told_by rules.now (event_view event.now) (event_view event.now).moment history) }
+    ensures { (history : Events) → P.stands_for past.now history → StandsLive (event_view event.now) history →
+        (result ≡ law.told_by rules.now (event_view event.now) (event_view event.now).moment history) }
 {
     match event.out_spoken()?.performative {
         Performative::Disposition(disposition) => told_by_role(
@@ -182,7 +189,8 @@ fn told_by<'a, P: Outcomes<'a>>(past: &P, rules: &[Rule], event: &Event) -> Opti
 }
 
 fn settled_by<'a, P: Outcomes<'a>>(past: &P, event: &Event) -> Option<u64>
-    ensures { (history : Events) → P.stands_for past.now history → StandsLive (event_view event.now) history → (result ≡ law.settled_by (event_view event.now) (event_view event.now).moment history) }
+    ensures { (history : Events) → P.stands_for past.now history → StandsLive (event_view event.now) history →
+        (result ≡ law.settled_by (event_view event.now) (event_view event.now).moment history) }
 {
     match event.out_spoken()?.performative {
         Performative::Disposition(disposition) => settled_by_role(
@@ -255,7 +263,8 @@ fn opened_session<'a, P: Openings<'a>>(past: &P, event: &Event) -> Option<Sessio
 
 /// The link that an Out attach with source and target opens on a live session.
 fn opened_link<'a, P: Openings<'a>>(past: &P, event: &Event<'a>) -> Option<Link<'a>>
-    ensures { (history : Events) → P.stands_for past.now history → StandsLive (event_view event.now) history → (option_map link_view result ≡ law.opened_link (event_view event.now) history) }
+    ensures { (history : Events) → P.stands_for past.now history → StandsLive (event_view event.now) history →
+        (option_map link_view result ≡ law.opened_link (event_view event.now) history) }
 {
     let attach = event.out_attach()?;
     let session = event.session?;
@@ -267,7 +276,7 @@ fn opened_link<'a, P: Openings<'a>>(past: &P, event: &Event<'a>) -> Option<Link<
 }
 
 // In five steps: where the record stands, whether it is heard, its fault, the deliveries that it is of, and what it
-/// opens.
+// opens.
 
 fn placed<'a, P: Inputs<'a>>(
     past: &P,
@@ -276,7 +285,8 @@ fn placed<'a, P: Inputs<'a>>(
     moment: Moment<'a>,
     note: Note,
 ) -> Event<'a>
-    ensures { (history : Events) → P.stands_for past.now history → number ≡ length history → (event_view result ≡ law.placed history connection (moment_view moment.entry) note) }
+    ensures { (history : Events) → P.stands_for past.now history → number ≡ length history →
+        (event_view result ≡ law.placed history connection (moment_view moment.entry) note) }
 {
     let session = session_of(past, connection, &moment);
     Event {
@@ -296,7 +306,8 @@ fn placed<'a, P: Inputs<'a>>(
 }
 
 fn with_heard<'a, P: Inputs<'a>>(past: &P, event: Event<'a>) -> Event<'a>
-    ensures { (history : Events) → P.stands_for past.now history → StandsLive (event_view event.entry) history → (event_view result ≡ law.heard history (event_view event.entry)) }
+    ensures { (history : Events) → P.stands_for past.now history → StandsLive (event_view event.entry) history →
+        (event_view result ≡ law.heard history (event_view event.entry)) }
 {
     let is_heard = match event.moment {
         Moment::In(frame) => is_heard_body(past, &event, &frame.body),
@@ -306,7 +317,8 @@ fn with_heard<'a, P: Inputs<'a>>(past: &P, event: Event<'a>) -> Event<'a>
 }
 
 fn fault_by<'a, P: Inputs<'a>>(past: &P, rules: &[Rule], event: &Event) -> Option<Fault>
-    ensures { (history : Events) → P.stands_for past.now history → StandsLive (event_view event.now) history → NamesLive (event_view event.now) history → (result ≡ law.fault_by rules.now (event_view event.now) (event_view event.now).moment history) }
+    ensures { (history : Events) → P.stands_for past.now history → StandsLive (event_view event.now) history → NamesLive (event_view event.now) history →
+        (result ≡ law.fault_by rules.now (event_view event.now) (event_view event.now).moment history) }
 {
     match event.moment {
         Moment::In(frame) if event.is_heard => body_fault(past, rules, event, &frame.body),
@@ -315,7 +327,8 @@ fn fault_by<'a, P: Inputs<'a>>(past: &P, rules: &[Rule], event: &Event) -> Optio
 }
 
 fn faulted<'a, P: Inputs<'a>>(past: &P, rules: &[Rule], event: Event<'a>) -> Event<'a>
-    ensures { (history : Events) → P.stands_for past.now history → StandsLive (event_view event.entry) history → NamesLive (event_view event.entry) history → (event_view result ≡ law.faulted rules.now history (event_view event.entry)) }
+    ensures { (history : Events) → P.stands_for past.now history → StandsLive (event_view event.entry) history → NamesLive (event_view event.entry) history →
+        (event_view result ≡ law.faulted rules.now history (event_view event.entry)) }
 {
     let fault = fault_by(past, rules, &event);
     Event { fault, ..event }
@@ -326,7 +339,8 @@ fn delivered<'a, P: Inputs<'a> + Outcomes<'a> + Carriage<'a>>(
     rules: &[Rule],
     event: Event<'a>,
 ) -> Event<'a>
-    ensures { (history : Events) → P.stands_for past.now history → StandsLive (event_view event.entry) history → NamesLive (event_view event.entry) history → (event_view result ≡ law.delivered rules.now history (event_view event.entry)) }
+    ensures { (history : Events) → P.stands_for past.now history → StandsLive (event_view event.entry) history → NamesLive (event_view event.entry) history →
+        (event_view result ≡ law.delivered rules.now history (event_view event.entry)) }
 {
     Event {
         incoming: incoming_by(past, &event),
@@ -339,7 +353,8 @@ fn delivered<'a, P: Inputs<'a> + Outcomes<'a> + Carriage<'a>>(
 
 /// An Out begin stands on its own session, and an Out attach names its own link; any other event stays as it was.
 pub fn opened<'a, P: Openings<'a>>(past: &P, event: Event<'a>) -> Event<'a>
-    ensures { (history : Events) → P.stands_for past.now history → StandsLive (event_view event.entry) history → (event_view result ≡ law.opened history (event_view event.entry)) }
+    ensures { (history : Events) → P.stands_for past.now history → StandsLive (event_view event.entry) history →
+        (event_view result ≡ law.opened history (event_view event.entry)) }
 {
     let session = match opened_session(past, &event) {
         Some(own) => Some(own),

@@ -16,7 +16,8 @@ use trace_events::Session;
 
 /// The flow has the session's ids and windows.
 fn has_session_numbers<P: Counts>(past: &P, flow: &Flow, session: Session) -> bool
-    ensures { (history : Events) → P.stands_for past.now history → IsLiveOn session history → (result ≡ law.has_session_numbers flow.now history session) }
+    ensures { (history : Events) → P.stands_for past.now history → IsLiveOn session history →
+        (result ≡ law.has_session_numbers flow.now history session) }
 {
     flow.incoming_window == INCOMING_WINDOW
         && flow.outgoing_window == OUTGOING_WINDOW
@@ -28,7 +29,8 @@ fn has_session_numbers<P: Counts>(past: &P, flow: &Flow, session: Session) -> bo
 /// someone may take its deliveries.
 fn may_be_topped_up<'a, P: Inputs<'a> + Counts>(past: &P, rules: &[Rule], link: &Link) -> bool
     requires few { P.is_short past.now }
-    ensures { (history : Events) → P.stands_for past.now history → IsLiveLink (link_view link.now) history → (result ≡ law.may_be_topped_up rules.now history (link_view link.now)) }
+    ensures { (history : Events) → P.stands_for past.now history → IsLiveLink (link_view link.now) history →
+        (result ≡ law.may_be_topped_up rules.now history (link_view link.now)) }
 {
     let given = u64::from(past.given_credit(link));
     given.saturating_add(past.undecided_count(rules, link)) <= u64::from(LOW_MARK)
@@ -38,7 +40,8 @@ fn may_be_topped_up<'a, P: Inputs<'a> + Counts>(past: &P, rules: &[Rule], link: 
 /// The credit that fills a producer's link up.
 fn full_credit<P: Counts>(past: &P, rules: &[Rule], link: &Link) -> u32
     requires few { P.is_short past.now }
-    ensures { (history : Events) → P.stands_for past.now history → IsLiveLink (link_view link.now) history → (result ≡ law.full_credit rules.now history (link_view link.now)) }
+    ensures { (history : Events) → P.stands_for past.now history → IsLiveLink (link_view link.now) history →
+        (result ≡ law.full_credit rules.now history (link_view link.now)) }
 {
     match u32::try_from(past.undecided_count(rules, link)) {
         Ok(undecided) => CAPACITY.saturating_sub(undecided),
@@ -67,7 +70,8 @@ fn has_producer_numbers<'a, P: Inputs<'a> + Counts>(
 /// Nothing waits for a consumer's link: no delivery at its address, and no copy that is due to it.
 fn nothing_waits<P: Counts>(past: &P, rules: &[Rule], link: &Link) -> bool
     requires few { P.is_short past.now }
-    ensures { (history : Events) → P.stands_for past.now history → IsLiveLink (link_view link.now) history → (result ≡ law.nothing_waits rules.now history (link_view link.now)) }
+    ensures { (history : Events) → P.stands_for past.now history → IsLiveLink (link_view link.now) history →
+        (result ≡ law.nothing_waits rules.now history (link_view link.now)) }
 {
     !past.has_waiting(rules, link.address) && !past.has_unsent(rules, link)
 }
@@ -75,14 +79,16 @@ fn nothing_waits<P: Counts>(past: &P, rules: &[Rule], link: &Link) -> bool
 /// The credit of a consumer's link may be used up: nothing waits, and the client asks for it.
 fn may_be_drained<P: Counts>(past: &P, rules: &[Rule], link: &Link) -> bool
     requires few { P.is_short past.now }
-    ensures { (history : Events) → P.stands_for past.now history → IsLiveLink (link_view link.now) history → (result ≡ law.may_be_drained rules.now history (link_view link.now)) }
+    ensures { (history : Events) → P.stands_for past.now history → IsLiveLink (link_view link.now) history →
+        (result ≡ law.may_be_drained rules.now history (link_view link.now)) }
 {
     past.is_draining(link) && past.link_credit(link) > 0 && nothing_waits(past, rules, link)
 }
 
 /// The delivery-count to which the credit left would take it.
 fn drained_count<P: Counts>(past: &P, link: &Link) -> u32
-    ensures { (history : Events) → P.stands_for past.now history → IsLiveLink (link_view link.now) history → (result ≡ law.drained_count history (link_view link.now)) }
+    ensures { (history : Events) → P.stands_for past.now history → IsLiveLink (link_view link.now) history →
+        (result ≡ law.drained_count history (link_view link.now)) }
 {
     past.delivery_count(link)
         .wrapping_add(past.link_credit(link))

@@ -144,13 +144,15 @@ fn open_fault(fields: &Open) -> Option<Fault>
 }
 
 fn is_handle_in_use<'a, P: Inputs<'a>>(past: &P, session: Session, handle: u32) -> bool
-    ensures { (history : Events) → P.stands_for past.now history → IsLiveOn session history → (result ≡ law.is_handle_in_use session handle history) }
+    ensures { (history : Events) → P.stands_for past.now history → IsLiveOn session history →
+        (result ≡ law.is_handle_in_use session handle history) }
 {
     past.session_link(session, handle).is_some() || past.awaits_detach(session, handle)
 }
 
 fn attach_fault<'a, P: Inputs<'a>>(past: &P, session: Session, attach: &Attach) -> Option<Fault>
-    ensures { (history : Events) → P.stands_for past.now history → IsLiveOn session history → (result ≡ law.attach_fault session (attach_fields attach.now) history) }
+    ensures { (history : Events) → P.stands_for past.now history → IsLiveOn session history →
+        (result ≡ law.attach_fault session (attach_fields attach.now) history) }
 {
     if attach.handle > HANDLE_MAX {
         return Some(Fault::Close(ErrorCondition::FramingError));

@@ -22,35 +22,43 @@ pub trait Counts: History {
 
     /// How many transfers may still be sent on the session.
     fn session_window(&self, session: Session) -> u32
-        ensures { (history : Events) → Self.stands_for self.now history → IsLiveOn session history → (result ≡ windows.session_window session history) };
+        ensures { (history : Events) → Self.stands_for self.now history → IsLiveOn session history →
+            (result ≡ windows.session_window session history) };
 
     /// The id of the router's next transfer on the session.
     fn next_outgoing_id(&self, session: Session) -> u32
-        ensures { (history : Events) → Self.stands_for self.now history → IsLiveOn session history → (result ≡ windows.next_outgoing_id session history) };
+        ensures { (history : Events) → Self.stands_for self.now history → IsLiveOn session history →
+            (result ≡ windows.next_outgoing_id session history) };
 
     /// The id of the client's next transfer on the session.
     fn next_incoming_id(&self, session: Session) -> u32
-        ensures { (history : Events) → Self.stands_for self.now history → IsLiveOn session history → (result ≡ windows.next_incoming_id session history) };
+        ensures { (history : Events) → Self.stands_for self.now history → IsLiveOn session history →
+            (result ≡ windows.next_incoming_id session history) };
 
     /// The id of the session's next delivery to the client.
     fn next_delivery_id(&self, session: Session) -> u32
-        ensures { (history : Events) → Self.stands_for self.now history → IsLiveOn session history → (result ≡ sent.next_delivery_id session history) };
+        ensures { (history : Events) → Self.stands_for self.now history → IsLiveOn session history →
+            (result ≡ sent.next_delivery_id session history) };
 
     /// How many deliveries may still begin on a consumer's link.
     fn link_credit(&self, link: &Link) -> u32
-        ensures { (history : Events) → Self.stands_for self.now history → IsLiveLink (link_view link.now) history → (result ≡ credits.link_credit (link_view link.now) history) };
+        ensures { (history : Events) → Self.stands_for self.now history → IsLiveLink (link_view link.now) history →
+            (result ≡ credits.link_credit (link_view link.now) history) };
 
     /// A consumer's link's delivery-count.
     fn delivery_count(&self, link: &Link) -> u32
-        ensures { (history : Events) → Self.stands_for self.now history → IsLiveLink (link_view link.now) history → (result ≡ credits.delivery_count (link_view link.now) history) };
+        ensures { (history : Events) → Self.stands_for self.now history → IsLiveLink (link_view link.now) history →
+            (result ≡ credits.delivery_count (link_view link.now) history) };
 
     /// The client's last flow with a link-credit asks to drain.
     fn is_draining(&self, link: &Link) -> bool
-        ensures { (history : Events) → Self.stands_for self.now history → IsLiveLink (link_view link.now) history → (result ≡ credits.is_draining (link_view link.now) history) };
+        ensures { (history : Events) → Self.stands_for self.now history → IsLiveLink (link_view link.now) history →
+            (result ≡ credits.is_draining (link_view link.now) history) };
 
     /// A producer's link's delivery-count.
     fn received_count(&self, link: &Link) -> u32
-        ensures { (history : Events) → Self.stands_for self.now history → IsLiveLink (link_view link.now) history → (result ≡ credits.received_count (link_view link.now) history) };
+        ensures { (history : Events) → Self.stands_for self.now history → IsLiveLink (link_view link.now) history →
+            (result ≡ credits.received_count (link_view link.now) history) };
 
     /// How many deliveries of a producer's link are not decided.
     fn undecided_count(&self, rules: &[Rule], link: &Link) -> u64

@@ -46,15 +46,18 @@ pub trait Inputs<'a>: History {
 
     /// The router has detached a link of the handle, or refused it, and the client's detach isn't heard yet.
     fn awaits_detach(&self, session: Session, handle: u32) -> bool
-        ensures { (history : Events) → Self.stands_for self.now history → IsLiveOn session history → (result ≡ links.awaits_detach session handle history) };
+        ensures { (history : Events) → Self.stands_for self.now history → IsLiveOn session history →
+            (result ≡ links.awaits_detach session handle history) };
 
     /// How many transfers the client may still send on the session.
     fn given_window(&self, session: Session) -> u32
-        ensures { (history : Events) → Self.stands_for self.now history → IsLiveOn session history → (result ≡ windows.given_window session history) };
+        ensures { (history : Events) → Self.stands_for self.now history → IsLiveOn session history →
+            (result ≡ windows.given_window session history) };
 
     /// How many deliveries may still begin on a producer's link.
     fn given_credit(&self, link: &Link) -> u32
-        ensures { (history : Events) → Self.stands_for self.now history → IsLiveLink (link_view link.now) history → (result ≡ credits.given_credit (link_view link.now) history) };
+        ensures { (history : Events) → Self.stands_for self.now history → IsLiveLink (link_view link.now) history →
+            (result ≡ credits.given_credit (link_view link.now) history) };
 
     /// The delivery of a producer's link whose last part hasn't come yet.
     fn incoming_in_progress(&self, link: &Link) -> Option<Incoming<'a>>
@@ -68,5 +71,6 @@ pub trait Inputs<'a>: History {
 
     /// A delivery of this id on the session is not decided yet.
     fn is_id_in_use(&self, rules: &[Rule], session: Session, id: u32) -> bool
-        ensures { (history : Events) → Self.stands_for self.now history → IsLiveOn session history → (result ≡ faults.is_id_in_use rules.now session id history) };
+        ensures { (history : Events) → Self.stands_for self.now history → IsLiveOn session history →
+            (result ≡ faults.is_id_in_use rules.now session id history) };
 }

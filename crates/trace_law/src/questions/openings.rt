@@ -59,5 +59,6 @@ pub trait Openings<'a>: History {
 
     /// A detach of the client's, or an attach of its that was refused, is still to be answered.
     fn owes_detach(&self, session: Session, handle: u32) -> bool
-        ensures { (history : Events) → Self.stands_for self.now history → IsLiveOn session history → (result ≡ links.owes_detach session handle history) };
+        ensures { (history : Events) → Self.stands_for self.now history → IsLiveOn session history →
+            (result ≡ links.owes_detach session handle history) };
 }
