@@ -1,1 +1,2 @@
 mod ConnectionSteps
+mod SessionSteps

@@ -11,7 +11,7 @@ impl<'a> Moment<'a> {
     ghost use Rattle.trace_law.specs.View.{moment_view};
 
     /// How it moves the windows of the session on which it stands.
-    fn window_event(&self) -> Option<WindowEvent>
+    pub fn window_event(&self) -> Option<WindowEvent>
         ensures { result ≡ window_event (moment_view self.now) }
     {
         match self {

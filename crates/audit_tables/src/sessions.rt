@@ -1,0 +1,84 @@
+//! A live session, and what its windows have come to (part 2 of the standard, section 2.5.6).
+
+ghost use Rattle.std.specs.Prelude.{◌≡◌, [], ◌∷◌, true};
+ghost use Rattle.flow_counts.specs.Window.{lag};
+ghost use Rattle.audit_tables.specs.Sessions.{begun, counted, moved};
+ghost use Rattle.trace_events.specs.Event.{is_on_session};
+ghost use Rattle.trace_events.specs.Window.{window_event, window_events};
+ghost use Rattle.trace_law.specs.View.{Events, event_view};
+
+use flow_counts::{INCOMING_WINDOW, WindowEvent};
+use trace_events::Session;
+use trace_law::Event;
+
+/// A session with its counts.
+#[derive(Clone, Copy, Debug)]
+pub struct Counted {
+    pub session: Session,
+    /// How many transfers may still be sent.
+    pub window: u32,
+    /// How many transfers the client may still send.
+    pub given_window: u32,
+    /// The id of the router's next transfer, and of the client's.
+    pub next_outgoing_id: u32,
+    pub next_incoming_id: u32,
+}
+
+impl Counted {
+    /// A session of which no event stands yet.
+    pub fn new(session: Session) -> Counted
+        ensures begun { result ≡ begun session }
+        ensures known { (history : Events) → window_events session history ≡ [] → result ≡ counted session history }
+    {
+        Counted {
+            session,
+            window: session.their_window,
+            given_window: INCOMING_WINDOW,
+            next_outgoing_id: session.our_first_id,
+            next_incoming_id: session.their_first_id,
+        }
+    }
+
+    /// With one more of its events.
+    #[tactic(auto, using(crate::proofs::SessionSteps::counted_next))]
+    pub fn after(self, event: &Event) -> Counted
+        ensures moved { result ≡ moved self (window_event (event_view event.now).moment) }
+        ensures known { (history : Events) → self ≡ counted self.session history → is_on_session self.session (event_view event.now) ≡ true →
+            result ≡ counted self.session (event_view event.now ∷ history) }
+    {
+        match event.moment.window_event() {
+            None => self,
+            Some(WindowEvent::Sent) => Counted {
+                window: self.window.saturating_sub(1),
+                next_outgoing_id: self.next_outgoing_id.wrapping_add(1),
+                ..self
+            },
+            Some(WindowEvent::Received) => Counted {
+                given_window: self.given_window.saturating_sub(1),
+                next_incoming_id: self.next_incoming_id.wrapping_add(1),
+                ..self
+            },
+            Some(WindowEvent::OurFlow) => Counted {
+                given_window: INCOMING_WINDOW,
+                ..self
+            },
+            Some(
+                WindowEvent::TheirFlow {
+                    next_incoming,
+                    incoming_window,
+                },
+            ) => Counted {
+                window: incoming_window.saturating_sub(self.unseen(next_incoming)),
+                ..self
+            },
+        }
+    }
+
+    /// How many transfers the client had not seen when it expected this id, or none yet.
+    fn unseen(&self, next_incoming: Option<u32>) -> u32
+        ensures { result ≡ lag self.now.session.our_first_id self.now.next_outgoing_id next_incoming }
+    {
+        let expected = next_incoming.unwrap_or(self.session.our_first_id);
+        self.next_outgoing_id.wrapping_sub(expected)
+    }
+}
