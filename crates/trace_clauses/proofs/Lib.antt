@@ -19,6 +19,8 @@ pub mod WithinWindow
 pub mod WithinCredit
 pub mod Captures
 pub mod Made
+pub mod OpenedConnections
+pub mod JudgedHistories
 mod ClauseExamples
 mod FaultExamples
 mod ReadingExamples

@@ -26,3 +26,4 @@ pub mod OverConnections
 pub mod FirstOpens
 pub mod Owed
 pub mod SessionNumbers
+pub mod SessionPlaces
