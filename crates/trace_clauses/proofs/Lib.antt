@@ -21,6 +21,7 @@ pub mod Captures
 pub mod Made
 pub mod OpenedConnections
 pub mod JudgedHistories
+pub mod Pairs
 mod ClauseExamples
 mod FaultExamples
 mod ReadingExamples
