@@ -22,6 +22,7 @@ pub mod Made
 pub mod OpenedConnections
 pub mod JudgedHistories
 pub mod Pairs
+pub mod OutgoingProgress
 mod ClauseExamples
 mod FaultExamples
 mod ReadingExamples
