@@ -23,7 +23,9 @@ pub mod OpenedConnections
 pub mod JudgedHistories
 pub mod Pairs
 pub mod OutgoingProgress
+pub mod LinkEnds
 mod ClauseExamples
 mod FaultExamples
 mod ReadingExamples
 mod PartsExamples
+mod EndExamples

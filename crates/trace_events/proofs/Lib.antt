@@ -27,3 +27,4 @@ pub mod FirstOpens
 pub mod Owed
 pub mod SessionNumbers
 pub mod SessionPlaces
+pub mod Ends

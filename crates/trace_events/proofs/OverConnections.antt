@@ -3,14 +3,14 @@ use Rattle.std.proofs.Common.{◌≡◌, refl, ap, subst, ◌∙◌, ℕ, Bool, 
 use Rattle.amqp_perf.specs.Meaning.{AttachFields}
 use Rattle.capture_form.specs.declared.records.Record.{Record}
 use Rattle.capture_form.specs.Rules.{RuleText}
-use Rattle.trace_events.specs.Words.{is_some_and, or_else}
+use Rattle.trace_events.specs.Words.{is_some_and, or_else, where_passes}
 use Rattle.trace_events.specs.Frame.{Spoken}
 use Rattle.trace_events.specs.Said.{out_begin}
 use Rattle.trace_events.specs.Event.{Event, Link, Moment, spoken_of}
 use Rattle.trace_events.specs.declared.session.Session.{Session}
 use Rattle.trace_events.specs.Connection.{has_event, is_over}
 use Rattle.trace_events.specs.Session.{live_session, is_live_session}
-use Rattle.trace_events.specs.Link.{live_link, is_live}
+use Rattle.trace_events.specs.Link.{live_link, is_live, own_link}
 use Rattle.trace_events.specs.History.{judge, judge_unopened, continued, moment_of, session_of, link_of, named_link}
 use Rattle.trace_events.proofs.StepWords.{and-false, or-true}
 use Rattle.trace_events.proofs.Judged.{AreJudged}
@@ -100,3 +100,7 @@ pub over-no_session_here : (rules : List RuleText) (e : Event) (past : List Even
 over-no_session_here rules e past ((r, same), are) over none =
     let here : is_over r.connection past ≡ true = subst (λ (x : Event). is_over x.connection past ≡ true) same over in
     ap (λ (x : Event). x.session) same ∙ over-stands_nowhere rules past r here (subst (λ (x : Event). out_begin x ≡ None) same none)
+
+-- so none opens
+pub over-opens_none : (rules : List RuleText) (e : Event) (past : List Event) → AreJudged rules (e ∷ past) → is_over e.connection past ≡ true → own_link e ≡ None
+over-opens_none rules e past are over = ap (where_passes (λ (l : Link). l.number == e.number)) (over-no_link_here rules e past are over)
