@@ -19,6 +19,10 @@ judged-history rules (e ∷ past) ((r, is), are) =
     let h = judged-history rules past are in
     (h.0 ++ r ∷ [], ap (λ (x : Event). x ∷ past) is ∙ (ap (λ (xs : List Event). judge rules xs r ∷ xs) h.1 ∙ sym (history-push rules h.0 r)))
 
+-- what holds of each capture holds of judged events
+pub of_histories : (rules : List RuleText) (P : List Event → Type 0) → ((rs : List Record) → P (history rules rs)) → (past : List Event) → AreJudged rules past → P past
+of_histories rules P each past are = let h = judged-history rules past are in subst P (sym h.1) (each h.0)
+
 -- what holds of each lawful capture holds of judged events that are lawful
 pub of_captures : (rules : List RuleText) (P : List Event → Type 0) → ((rs : List Record) → first_broken rules (history rules rs) ≡ None → P (history rules rs))
     → (past : List Event) → AreJudged rules past → first_broken rules past ≡ None → P past

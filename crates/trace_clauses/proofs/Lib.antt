@@ -24,6 +24,7 @@ pub mod JudgedHistories
 pub mod Pairs
 pub mod OutgoingProgress
 pub mod LinkEnds
+pub mod IncomingProgress
 mod ClauseExamples
 mod FaultExamples
 mod ReadingExamples
