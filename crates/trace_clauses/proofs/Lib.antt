@@ -19,7 +19,14 @@ pub mod WithinWindow
 pub mod WithinCredit
 pub mod Captures
 pub mod Made
+pub mod OpenedConnections
+pub mod JudgedHistories
+pub mod Pairs
+pub mod OutgoingProgress
+pub mod LinkEnds
+pub mod IncomingProgress
 mod ClauseExamples
 mod FaultExamples
 mod ReadingExamples
 mod PartsExamples
+mod EndExamples

@@ -22,3 +22,9 @@ pub mod Fates
 pub mod LinkLives
 pub mod LinkNumbers
 pub mod OutgoingLinks
+pub mod OverConnections
+pub mod FirstOpens
+pub mod Owed
+pub mod SessionNumbers
+pub mod SessionPlaces
+pub mod Ends

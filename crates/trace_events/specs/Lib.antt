@@ -5,6 +5,7 @@ pub mod Said
 pub mod Connection
 pub mod Session
 pub mod Link
+pub mod Ends
 pub mod Window
 pub mod Credit
 pub mod Address

@@ -2,7 +2,7 @@
 //! in `specs/`, over a history of events, the newest first; what one more event does to each of them, as lemmas over
 //! plain variables, in `proofs/`. Whatever judges records stands on them: clauses, duties, plain scans, tables.
 //!
-//! Reading order in `specs/`: `Frame`, `Event`, `Said`; `Connection`, `Session`, `Link`, `Window`, `Credit`,
+//! Reading order in `specs/`: `Frame`, `Event`, `Said`; `Connection`, `Session`, `Link`, `Ends`, `Window`, `Credit`,
 //! `Address`; `Disposition`, `Incoming`, `Outgoing`, `Waiting`, `Parts`, `Due`, `Settling`; `Heard`, `Fault`,
 //! `History`.
 //!
