@@ -12,6 +12,7 @@ pub mod Disposition
 pub mod Incoming
 pub mod Outgoing
 pub mod Waiting
+pub mod Queue
 pub mod Parts
 pub mod Due
 pub mod Settling
