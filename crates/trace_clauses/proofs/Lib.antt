@@ -15,6 +15,7 @@ pub mod Decided
 pub mod Undecided
 pub mod IdsApart
 pub mod IdsInUse
+pub mod WaitingQueue
 pub mod WithinWindow
 pub mod WithinCredit
 pub mod Captures

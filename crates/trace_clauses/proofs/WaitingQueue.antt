@@ -1,0 +1,172 @@
+-- The queue of an address in a judged history: how it moves with each event, and which deliveries stand in it.
+use Rattle.std.proofs.Common.{◌≡◌, refl, sym, ap, ◌∙◌, subst, ℕ, ◌<◌, ◌⊎◌, inl, inr, List, [], ◌∷◌, ◌++◌, Bool, true, false, not, ◌&&◌, ◌||◌, ◌==◌, Option, Some, None, filter, find, reverse, arith, eqb-true}
+use Rattle.std.specs.Prelude.{if◌then◌else◌, Contains}
+use Rattle.std.specs.Str.{bytes_eq}
+use Rattle.std.specs.List.{cons_option, list_any}
+use Rattle.std.proofs.lemmas.List.{reverse-append}
+use Rattle.std.proofs.lemmas.List.Elements.{Contains-append_left, Contains-append_right, Contains-push, Contains-push_cases, Contains-append_cases}
+use Rattle.capture_form.specs.declared.records.Record.{Record}
+use Rattle.capture_form.specs.Rules.{RuleText}
+use Rattle.trace_events.specs.Words.{is_some_and}
+use Rattle.trace_events.specs.Event.{Event, Incoming}
+use Rattle.trace_events.specs.Said.{in_transfer}
+use Rattle.trace_events.specs.Incoming.{address_of, is_last_part, completed_by, completes, is_complete, incoming_deliveries, incoming_at}
+use Rattle.trace_events.specs.Outgoing.{is_paired}
+use Rattle.trace_events.specs.Waiting.{is_of_multicast, is_waiting, always_had_consumer}
+use Rattle.trace_events.specs.Queue.{stays, completed_deliveries, waits_at, waiting_queue}
+use Rattle.trace_events.specs.History.{history}
+use Rattle.trace_events.proofs.Judged.{AreJudged, judged-number}
+use Rattle.trace_events.proofs.QueueSteps.{waiting_queue-step}
+use Rattle.trace_clauses.proofs.Incomings.{judged-part, judged-sound, not-again}
+use Rattle.trace_clauses.proofs.Parts.{EachPart, IsKept, AreKept, history_kept, AllOf, each_delivery, holds_some, delivery_kept}
+
+-- ---- how it moves
+
+-- no delivery is completed twice
+pub completed_once : (rules : List RuleText) (e : Event) (past : List Event) → AreJudged rules (e ∷ past) → (d : Incoming) → is_complete d past ≡ true → completes d e ≡ false
+completed_once rules e past are d done = not-again e past (judged-number rules e past are) (judged-part rules e past are) (judged-sound rules past are.1) d done
+
+-- those that stay, and behind them the one that the event completes, if it waits there
+pub waiting_queue_moves : (rules : List RuleText) (address : List ℕ) (e : Event) (past : List Event) → AreJudged rules (e ∷ past)
+    → waiting_queue rules address (e ∷ past) ≡ filter (stays e past) (waiting_queue rules address past) ++ filter (waits_at rules address (e ∷ past)) (cons_option (completed_by e) [])
+waiting_queue_moves rules address e past are = waiting_queue-step rules address e past (completed_once rules e past are)
+
+-- ---- elements of lists
+
+contains_first : {A : Type 0} (x : A) (xs : List A) → Contains (x ∷ xs) x
+contains_first x xs = Contains-append_left (x ∷ []) xs x (Contains-push [] x)
+
+contains_later : {A : Type 0} (y : A) (xs : List A) (x : A) → Contains xs x → Contains (y ∷ xs) x
+contains_later y xs x h = Contains-append_right (y ∷ []) xs x h
+
+contains_none : {A B : Type 0} (x : A) → Contains [] x → B
+contains_none x h = let lt = h.1 in absurd (omega (arith, lt))
+
+contains_cases : {A : Type 0} (y : A) (xs : List A) (x : A) → Contains (y ∷ xs) x → (y ≡ x) ⊎ Contains xs x
+contains_cases y xs x h = elim (Contains-append_cases (y ∷ []) xs x h) [
+  | inl one ↦ elim (Contains-push_cases [] y x one) [
+    | inl none ↦ contains_none x none
+    | inr same ↦ inl same
+  ]
+  | inr later ↦ inr later
+]
+
+all_contained : {A : Type 0} (P : A → Type 0) (xs : List A) (x : A) → AllOf P xs → Contains xs x → P x
+all_contained P [] x all h = contains_none x h
+all_contained P (y ∷ ys) x all h = elim (contains_cases y ys x h) [
+  | inl same ↦ subst P same all.0
+  | inr later ↦ all_contained P ys x all.1 later
+]
+
+in_reverse : {A : Type 0} (xs : List A) (x : A) → Contains (reverse xs) x → Contains xs x
+in_reverse [] x h = h
+in_reverse (y ∷ ys) x h = elim (Contains-push_cases (reverse ys) y x (subst (λ zs. Contains zs x) (reverse-append (y ∷ []) ys) h)) [
+  | inl earlier ↦ contains_later y ys x (in_reverse ys x earlier)
+  | inr same ↦ subst (λ z. Contains (y ∷ ys) z) same (contains_first y ys)
+]
+
+reverse_has : {A : Type 0} (xs : List A) (x : A) → Contains xs x → Contains (reverse xs) x
+reverse_has [] x h = h
+reverse_has (y ∷ ys) x h = subst (λ zs. Contains zs x) (sym (reverse-append (y ∷ []) ys)) (elim (contains_cases y ys x h) [
+  | inl same ↦ subst (λ z. Contains (reverse ys ++ y ∷ []) z) same (Contains-push (reverse ys) y)
+  | inr later ↦ Contains-append_left (reverse ys) (y ∷ []) x (reverse_has ys x later)
+])
+
+in_filter : {A : Type 0} (p : A → Bool) (xs : List A) (x : A) → Contains (filter p xs) x → Contains xs x × (p x ≡ true)
+in_filter p [] x h = contains_none x h
+in_filter p (y ∷ ys) x h = by (p y) refl (in_filter p ys x) h
+  where
+    by : (b : Bool) → p y ≡ b → (Contains (filter p ys) x → Contains ys x × (p x ≡ true)) → Contains (if b then y ∷ filter p ys else filter p ys) x → Contains (y ∷ ys) x × (p x ≡ true)
+    by true is rest h = elim (contains_cases y (filter p ys) x h) [
+      | inl same ↦ (subst (λ z. Contains (y ∷ ys) z) same (contains_first y ys), subst (λ z. p z ≡ true) same is)
+      | inr later ↦ (contains_later y ys x (rest later).0, (rest later).1)
+    ]
+    by false is rest h = (contains_later y ys x (rest h).0, (rest h).1)
+
+filter_has : {A : Type 0} (p : A → Bool) (xs : List A) (x : A) → p x ≡ true → Contains xs x → Contains (filter p xs) x
+filter_has p [] x passes h = h
+filter_has p (y ∷ ys) x passes h = elim (contains_cases y ys x h) [
+  | inl same ↦ here (p y) (ap p same ∙ passes) same
+  | inr later ↦ rest (p y) (filter_has p ys x passes later)
+]
+  where
+    here : (b : Bool) → b ≡ true → y ≡ x → Contains (if b then y ∷ filter p ys else filter p ys) x
+    here true holds same = subst (λ z. Contains (y ∷ filter p ys) z) same (contains_first y (filter p ys))
+    here false holds same = absurd cc
+    rest : (b : Bool) → Contains (filter p ys) x → Contains (if b then y ∷ filter p ys else filter p ys) x
+    rest true h = contains_later y (filter p ys) x h
+    rest false h = h
+
+find_has : {A : Type 0} (test : A → Bool) (xs : List A) (x : A) → find test xs ≡ Some x → Contains xs x
+find_has test [] x found = absurd cc
+find_has test (y ∷ ys) x found = by (test y) (find_has test ys x) found
+  where
+    by : (b : Bool) → (find test ys ≡ Some x → Contains ys x) → (if b then Some y else find test ys) ≡ Some x → Contains (y ∷ ys) x
+    by true later found = let same : y ≡ x = cc in subst (λ z. Contains (y ∷ ys) z) same (contains_first y ys)
+    by false later found = contains_later y ys x (later found)
+
+-- ---- what events complete
+
+completed_part : (b : Bool) (o : Option Incoming) (d : Incoming) → (if b then o else None) ≡ Some d → o ≡ Some d
+completed_part true o d is = is
+completed_part false o d is = absurd cc
+
+each_completed : (P : Incoming → Type 0) (past : List Event) → EachPart P past → AllOf P (completed_deliveries past)
+each_completed P [] each = tt
+each_completed P (e ∷ past) each = by (completed_by e) refl (each_completed P past each.1)
+  where
+    by : (o : Option Incoming) → completed_by e ≡ o → AllOf P (completed_deliveries past) → AllOf P (cons_option o (completed_deliveries past))
+    by None is earlier = earlier
+    by (Some d) is earlier = (holds_some P e.incoming d (completed_part (is_some_and (in_transfer e) is_last_part) e.incoming d is) each.0, earlier)
+
+abbrev IsNumbered : ℕ → List Incoming → Type 0
+IsNumbered n ds = (x : Incoming) × Contains ds x × (x.number ≡ n)
+
+completed_numbered : (n : ℕ) (past : List Event) → list_any (λ e. is_some_and (completed_by e) (λ x. x.number == n)) past ≡ true → IsNumbered n (completed_deliveries past)
+completed_numbered n [] done = absurd cc
+completed_numbered n (e ∷ past) done = by (completed_by e) (completed_numbered n past) done
+  where
+    test : (x : Incoming) (b : Bool) → (x.number == n) ≡ b → (list_any (λ e. is_some_and (completed_by e) (λ x. x.number == n)) past ≡ true → IsNumbered n (completed_deliveries past))
+        → b || list_any (λ e. is_some_and (completed_by e) (λ x. x.number == n)) past ≡ true → IsNumbered n (x ∷ completed_deliveries past)
+    test x true is earlier done = (x, contains_first x (completed_deliveries past), eqb-true x.number n is)
+    test x false is earlier done = let one = earlier done in (one.0, contains_later x (completed_deliveries past) one.0 one.1, one.2)
+    by : (o : Option Incoming) → (list_any (λ e. is_some_and (completed_by e) (λ x. x.number == n)) past ≡ true → IsNumbered n (completed_deliveries past))
+        → is_some_and o (λ x. x.number == n) || list_any (λ e. is_some_and (completed_by e) (λ x. x.number == n)) past ≡ true → IsNumbered n (cons_option o (completed_deliveries past))
+    by None earlier done = earlier done
+    by (Some x) earlier done = test x (x.number == n) refl earlier done
+
+-- ---- which deliveries stand in the queue
+
+waits_complete : (address many complete paired always : Bool) → address && (not many && complete && not paired && always) ≡ true → complete ≡ true
+waits_complete true false true paired always e = refl
+waits_complete true false false paired always e = absurd cc
+waits_complete true true complete paired always e = absurd cc
+waits_complete false many complete paired always e = absurd cc
+
+module _ (rules : List RuleText) (address : List ℕ) (past : List Event) (all : AreKept rules past) (d : Incoming) where
+  -- one that stands there is a delivery of the history that waits at the address
+  pub queued_waits : Contains (waiting_queue rules address past) d → Contains (incoming_deliveries past) d × (waits_at rules address past d ≡ true)
+  queued_waits queued =
+      let step = in_filter (waits_at rules address past) (completed_deliveries past) d (in_reverse (filter (waits_at rules address past) (completed_deliveries past)) d queued) in
+      let kept = all_contained (IsKept past) (completed_deliveries past) d (each_completed (IsKept past) past all.each) step.0 in
+      (find_has (λ (x : Incoming). x.number == d.number) (incoming_deliveries past) d kept.at, step.1)
+
+  -- and each such delivery stands there
+  pub waits_queued : Contains (incoming_deliveries past) d → waits_at rules address past d ≡ true → Contains (waiting_queue rules address past) d
+  waits_queued known waits =
+      let kept = all_contained (IsKept past) (incoming_deliveries past) d (each_delivery (IsKept past) past all.each) known in
+      let done : is_complete d past ≡ true = waits_complete (bytes_eq (address_of d) address) (is_of_multicast rules d) (is_complete d past) (is_paired d past) (always_had_consumer d past) waits in
+      let one = completed_numbered d.number past done in
+      let other = all_contained (IsKept past) (completed_deliveries past) one.0 (each_completed (IsKept past) past all.each) one.1 in
+      let both : ◌≡◌ {A = Option Incoming} (Some one.0) (Some d) = sym other.at ∙ (ap (λ n. incoming_at n past) one.2 ∙ kept.at) in
+      let same : one.0 ≡ d = cc in
+      reverse_has (filter (waits_at rules address past) (completed_deliveries past)) d
+      (filter_has (waits_at rules address past) (completed_deliveries past) d waits (subst (Contains (completed_deliveries past)) same one.1))
+
+-- of a capture: the queue has exactly the deliveries that wait at the address
+pub waiting_queue_has : (rules : List RuleText) (rs : List Record) (address : List ℕ) (d : Incoming) → let past = history rules rs in
+    (Contains (waiting_queue rules address past) d → Contains (incoming_deliveries past) d × (waits_at rules address past d ≡ true))
+    × (Contains (incoming_deliveries past) d → waits_at rules address past d ≡ true → Contains (waiting_queue rules address past) d)
+waiting_queue_has rules rs address d =
+    let past = history rules rs in
+    (queued_waits rules address past (history_kept rules rs) d, waits_queued rules address past (history_kept rules rs) d)
