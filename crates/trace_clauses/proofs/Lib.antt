@@ -16,6 +16,7 @@ pub mod Undecided
 pub mod IdsApart
 pub mod IdsInUse
 pub mod WaitingQueue
+pub mod UndecidedCount
 pub mod WithinWindow
 pub mod WithinCredit
 pub mod Captures

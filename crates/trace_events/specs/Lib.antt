@@ -13,6 +13,7 @@ pub mod Incoming
 pub mod Outgoing
 pub mod Waiting
 pub mod Queue
+pub mod Decided
 pub mod Parts
 pub mod Due
 pub mod Settling
