@@ -25,3 +25,4 @@ mod ClauseExamples
 mod FaultExamples
 mod ReadingExamples
 mod PartsExamples
+mod QueueExamples
