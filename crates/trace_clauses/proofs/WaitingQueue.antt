@@ -1,22 +1,26 @@
 -- The queue of an address in a judged history: how it moves with each event, and which deliveries stand in it.
-use Rattle.std.proofs.Common.{◌≡◌, refl, sym, ap, ◌∙◌, subst, ℕ, ◌<◌, ◌⊎◌, inl, inr, List, [], ◌∷◌, ◌++◌, Bool, true, false, not, ◌&&◌, ◌||◌, ◌==◌, Option, Some, None, filter, find, reverse, arith, eqb-true}
-use Rattle.std.specs.Prelude.{if◌then◌else◌, Contains}
+use Rattle.std.proofs.Common.{◌≡◌, refl, sym, ap, ◌∙◌, subst, ℕ, ◌<◌, ◌⊎◌, inl, inr, List, [], ◌∷◌, ◌++◌, Bool, true, false, not, ◌&&◌, ◌||◌, ◌==◌, Option, Some, None, filter, find, reverse, length, get_or, arith, eqb-true, eq-eqb, lt-ltb}
+use Rattle.std.specs.Prelude.{if◌then◌else◌, nat_lt, option_map, Contains, AllPairs}
 use Rattle.std.specs.Str.{bytes_eq}
 use Rattle.std.specs.List.{cons_option, list_any}
 use Rattle.std.proofs.lemmas.List.{reverse-append}
-use Rattle.std.proofs.lemmas.List.Elements.{Contains-append_left, Contains-append_right, Contains-push, Contains-push_cases, Contains-append_cases}
+use Rattle.std.proofs.lemmas.List.Elements.{Contains-append_left, Contains-append_right, Contains-push, Contains-push_cases, Contains-append_cases, Contains-get_or}
+use Rattle.std.proofs.lemmas.List.Kept.{AllPairs-filter}
+use Rattle.std.proofs.lemmas.List.Quantifiers.{all_pairs_push}
 use Rattle.capture_form.specs.declared.records.Record.{Record}
 use Rattle.capture_form.specs.Rules.{RuleText}
 use Rattle.trace_events.specs.Words.{is_some_and}
 use Rattle.trace_events.specs.Event.{Event, Incoming}
 use Rattle.trace_events.specs.Said.{in_transfer}
-use Rattle.trace_events.specs.Incoming.{address_of, is_last_part, completed_by, completes, is_complete, incoming_deliveries, incoming_at}
+use Rattle.trace_events.specs.Incoming.{address_of, is_last_part, completed_by, completes, is_complete, completion, completed_before, incoming_deliveries, incoming_at}
 use Rattle.trace_events.specs.Outgoing.{is_paired}
 use Rattle.trace_events.specs.Waiting.{is_of_multicast, is_waiting, always_had_consumer}
 use Rattle.trace_events.specs.Queue.{stays, completed_deliveries, waits_at, waiting_queue}
 use Rattle.trace_events.specs.History.{history}
-use Rattle.trace_events.proofs.Judged.{AreJudged, judged-number}
-use Rattle.trace_events.proofs.QueueSteps.{waiting_queue-step}
+use Rattle.trace_events.proofs.Judged.{AreJudged, judged-number, history-judged}
+use Rattle.trace_events.proofs.QueueSteps.{Each, completed-complete, filter-reverse, waiting_queue-step}
+use Rattle.trace_events.proofs.IncomingSteps.{completion-same, completion-here}
+use Rattle.trace_clauses.proofs.OneConsumer.{some-and}
 use Rattle.trace_clauses.proofs.Incomings.{judged-part, judged-sound, not-again}
 use Rattle.trace_clauses.proofs.Parts.{EachPart, IsKept, AreKept, history_kept, AllOf, each_delivery, holds_some, delivery_kept}
 
@@ -170,3 +174,91 @@ pub waiting_queue_has : (rules : List RuleText) (rs : List Record) (address : Li
 waiting_queue_has rules rs address d =
     let past = history rules rs in
     (queued_waits rules address past (history_kept rules rs) d, waits_queued rules address past (history_kept rules rs) d)
+
+-- ---- in which order they stand
+
+each_all : {A : Type 0} (P : A → Type 0) (xs : List A) → Each P xs → AllOf P xs
+each_all P [] each = tt
+each_all P (x ∷ xs) each = (each.0, each_all P xs each.1)
+
+abbrev IsCompletedBelow : List Event → Incoming → Type 0
+IsCompletedBelow past d = (m : ℕ) × (completion d past ≡ Some m) × (m < length past)
+
+completed_below : (rules : List RuleText) (past : List Event) → AreJudged rules past → (d : Incoming) → is_complete d past ≡ true → IsCompletedBelow past d
+completed_below rules [] are d done = absurd cc
+completed_below rules (e ∷ past) are d done = by (completes d e) refl (completed_below rules past are.1 d) done
+  where
+    by : (b : Bool) → completes d e ≡ b → (is_complete d past ≡ true → IsCompletedBelow past d) → b || is_complete d past ≡ true → IsCompletedBelow (e ∷ past) d
+    by true here earlier done = let number = judged-number rules e past are in (e.number, completion-here e past d here, omega (arith, number))
+    by false none earlier done = let before = earlier done in let lt = before.2 in (before.0, completion-same e past d none ∙ before.1, omega (arith, lt))
+
+find_any : {A : Type 0} (p : A → Bool) (xs : List A) (x : A) → find p xs ≡ Some x → list_any p xs ≡ true
+find_any p [] x found = absurd cc
+find_any p (y ∷ ys) x found = by (p y) (find_any p ys x) found
+  where
+    by : (b : Bool) → (find p ys ≡ Some x → list_any p ys ≡ true) → (if b then Some y else find p ys) ≡ Some x → b || list_any p ys ≡ true
+    by true later found = refl
+    by false later found = later found
+
+some_found : {A B : Type 0} (f : A → B) (o : Option A) (y : B) → option_map f o ≡ Some y → (x : A) × (o ≡ Some x)
+some_found f None y e = absurd cc
+some_found f (Some x) y e = (x, refl)
+
+completion_complete : (past : List Event) (d : Incoming) (m : ℕ) → completion d past ≡ Some m → is_complete d past ≡ true
+completion_complete past d m is = let one = some_found (λ (e : Event). e.number) (find (completes d) past) m is in find_any (completes d) past one.0 one.1
+
+lower : (a b : Incoming) (past : List Event) (m n : ℕ) → completion a past ≡ Some m → completion b past ≡ Some n → nat_lt m n ≡ true → completed_before a b past ≡ true
+lower a b past m n first second below =
+    ap (λ (o : Option ℕ). is_some_and o (λ m. is_some_and (completion b past) (λ n. nat_lt m n))) first
+    ∙ (ap (λ (o : Option ℕ). is_some_and o (λ n. nat_lt m n)) second ∙ below)
+
+-- an order of completion stays
+before_stays : (rules : List RuleText) (e : Event) (past : List Event) → AreJudged rules (e ∷ past) → (a b : Incoming) → completed_before a b past ≡ true → completed_before a b (e ∷ past) ≡ true
+before_stays rules e past are a b before =
+    let first = some-and (completion a past) (λ m. is_some_and (completion b past) (λ n. nat_lt m n)) before in
+    let second = some-and (completion b past) (λ n. nat_lt first.0 n) first.2 in
+    lower a b (e ∷ past) first.0 second.0
+    (completion-same e past a (completed_once rules e past are a (completion_complete past a first.0 first.1)) ∙ first.1)
+    (completion-same e past b (completed_once rules e past are b (completion_complete past b second.0 second.1)) ∙ second.1)
+    second.2
+
+-- one that the event completes is behind each that was complete
+before_new : (rules : List RuleText) (e : Event) (past : List Event) → AreJudged rules (e ∷ past) → (a d : Incoming) → is_complete a past ≡ true → completed_by e ≡ Some d → completed_before a d (e ∷ past) ≡ true
+before_new rules e past are a d done is =
+    let below = completed_below rules past are.1 a done in
+    let number = judged-number rules e past are in
+    let lt = below.2 in
+    lower a d (e ∷ past) below.0 e.number
+    (completion-same e past a (completed_once rules e past are a done) ∙ below.1)
+    (completion-here e past d (ap (λ (o : Option Incoming). is_some_and o (λ x. x.number == d.number)) is ∙ eq-eqb d.number d.number refl))
+    (lt-ltb below.0 e.number (omega (arith, number, lt)))
+
+abbrev AreInOrder : List Event → List Incoming → Type 0
+AreInOrder past ds = AllPairs (λ a b. completed_before a b past ≡ true) ds
+
+order_step : (rules : List RuleText) (e : Event) (past : List Event) → AreJudged rules (e ∷ past) → AreInOrder (e ∷ past) (reverse (completed_deliveries past)) → (o : Option Incoming) → completed_by e ≡ o
+    → AreInOrder (e ∷ past) (reverse (cons_option o (completed_deliveries past)))
+order_step rules e past are older None is = older
+order_step rules e past are older (Some d) is =
+    subst (AreInOrder (e ∷ past)) (sym (reverse-append (d ∷ []) (completed_deliveries past)))
+    (all_pairs_push (λ a b. completed_before a b (e ∷ past) ≡ true) (reverse (completed_deliveries past)) d older
+    (λ k x within. let a = get_or (reverse (completed_deliveries past)) k x in
+    before_new rules e past are a d
+    (all_contained (λ a. is_complete a past ≡ true) (completed_deliveries past) a (each_all (λ a. is_complete a past ≡ true) (completed_deliveries past) (completed-complete past))
+    (in_reverse (completed_deliveries past) a (Contains-get_or (reverse (completed_deliveries past)) k x within))) is))
+
+completed_in_order : (rules : List RuleText) (past : List Event) → AreJudged rules past → AreInOrder past (reverse (completed_deliveries past))
+completed_in_order rules [] are = λ i j d lt within. absurd (omega (arith, within))
+completed_in_order rules (e ∷ past) are =
+    order_step rules e past are (λ i j d lt within. let ds = reverse (completed_deliveries past) in before_stays rules e past are (get_or ds i d) (get_or ds j d) (completed_in_order rules past are.1 i j d lt within))
+    (completed_by e) refl
+
+-- each stands before those that were completed later
+pub queued_in_order : (rules : List RuleText) (address : List ℕ) (past : List Event) → AreJudged rules past → AllPairs (λ a b. completed_before a b past ≡ true) (waiting_queue rules address past)
+queued_in_order rules address past are =
+    subst (AllPairs (λ a b. completed_before a b past ≡ true)) (sym (filter-reverse (waits_at rules address past) (completed_deliveries past)))
+    (AllPairs-filter (λ a b. completed_before a b past ≡ true) (waits_at rules address past) (reverse (completed_deliveries past)) (completed_in_order rules past are))
+
+-- of a capture
+pub waiting_queue_in_order : (rules : List RuleText) (rs : List Record) (address : List ℕ) → AllPairs (λ a b. completed_before a b (history rules rs) ≡ true) (waiting_queue rules address (history rules rs))
+waiting_queue_in_order rules rs address = queued_in_order rules address (history rules rs) (history-judged rules rs)

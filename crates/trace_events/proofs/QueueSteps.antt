@@ -90,7 +90,7 @@ filter-each p q r (x ∷ xs) each =
     by true = refl
     by false = refl
 
-filter-reverse : {A : Type 0} (p : A → Bool) (xs : List A) → reverse (filter p xs) ≡ filter p (reverse xs)
+pub filter-reverse : {A : Type 0} (p : A → Bool) (xs : List A) → reverse (filter p xs) ≡ filter p (reverse xs)
 filter-reverse p [] = refl
 filter-reverse p (x ∷ xs) =
     by (p x) refl
