@@ -6,7 +6,7 @@ use Rattle.pairing_cert.specs.declared.note.Why.TheVariants.{C}
 use Rattle.capture_form.specs.declared.records.Record.{Record}
 use Rattle.capture_form.specs.declared.rules.Distribution.TheVariants.{Multicast}
 use Rattle.trace_clauses.proofs.Captures.{rule, queue_in, completed_in, is_paired_by, stays_behind, is_decided_by, decided_by, begins_by}
-use Rattle.trace_clauses.proofs.Made.{from, from_with, carry, tell, gives, first, next, with_more, as_settled, disposes, accepted, detach_of, q, hi, pair, sent}
+use Rattle.trace_clauses.proofs.Made.{from, from_with, carry, tell, gives, first, next, with_more, as_settled, disposes, accepted, detach_of, q, hi, sent}
 
 -- delivery 16 waits at q, and delivery 17 behind it; the producer's link is that of record 6, and the consumer's of record 13
 abbrev two : List Record

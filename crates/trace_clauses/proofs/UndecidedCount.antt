@@ -8,7 +8,7 @@ use Rattle.trace_events.specs.Words.{is_some_and}
 use Rattle.trace_events.specs.Event.{Link, Event, Incoming}
 use Rattle.trace_events.specs.Incoming.{incoming_begun, incoming_deliveries, is_from}
 use Rattle.trace_events.specs.Waiting.{is_undecided, undecided_count}
-use Rattle.trace_events.specs.Decided.{decides, decided_count, begins_undecided}
+use Rattle.trace_events.specs.Decided.{decided_count, begins_undecided}
 use Rattle.trace_events.specs.History.{judge}
 use Rattle.trace_clauses.proofs.Parts.{IsKept, AreKept, AllOf, all_such, each_delivery}
 use Rattle.trace_clauses.proofs.Undecided.{undecided_before}

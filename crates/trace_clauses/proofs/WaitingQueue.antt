@@ -14,7 +14,7 @@ use Rattle.trace_events.specs.Event.{Event, Incoming}
 use Rattle.trace_events.specs.Said.{in_transfer}
 use Rattle.trace_events.specs.Incoming.{address_of, is_last_part, completed_by, completes, is_complete, completion, completed_before, incoming_deliveries, incoming_at}
 use Rattle.trace_events.specs.Outgoing.{is_paired}
-use Rattle.trace_events.specs.Waiting.{is_of_multicast, is_waiting, always_had_consumer}
+use Rattle.trace_events.specs.Waiting.{is_of_multicast, always_had_consumer}
 use Rattle.trace_events.specs.Queue.{stays, completed_deliveries, waits_at, waiting_queue}
 use Rattle.trace_events.specs.History.{history}
 use Rattle.trace_events.proofs.Judged.{AreJudged, judged-number, history-judged}
@@ -22,7 +22,7 @@ use Rattle.trace_events.proofs.QueueSteps.{Each, completed-complete, filter-reve
 use Rattle.trace_events.proofs.IncomingSteps.{completion-same, completion-here}
 use Rattle.trace_clauses.proofs.OneConsumer.{some-and}
 use Rattle.trace_clauses.proofs.Incomings.{judged-part, judged-sound, not-again}
-use Rattle.trace_clauses.proofs.Parts.{EachPart, IsKept, AreKept, history_kept, AllOf, each_delivery, holds_some, delivery_kept}
+use Rattle.trace_clauses.proofs.Parts.{EachPart, IsKept, AreKept, history_kept, AllOf, each_delivery, holds_some}
 
 -- ---- how it moves
 
@@ -97,6 +97,7 @@ filter_has p (y ∷ ys) x passes h = elim (contains_cases y ys x h) [
     here : (b : Bool) → b ≡ true → y ≡ x → Contains (if b then y ∷ filter p ys else filter p ys) x
     here true holds same = subst (λ z. Contains (y ∷ filter p ys) z) same (contains_first y (filter p ys))
     here false holds same = absurd cc
+
     rest : (b : Bool) → Contains (filter p ys) x → Contains (if b then y ∷ filter p ys else filter p ys) x
     rest true h = contains_later y (filter p ys) x h
     rest false h = h
@@ -134,6 +135,7 @@ completed_numbered n (e ∷ past) done = by (completed_by e) (completed_numbered
         → b || list_any (λ e. is_some_and (completed_by e) (λ x. x.number == n)) past ≡ true → IsNumbered n (x ∷ completed_deliveries past)
     test x true is earlier done = (x, contains_first x (completed_deliveries past), eqb-true x.number n is)
     test x false is earlier done = let one = earlier done in (one.0, contains_later x (completed_deliveries past) one.0 one.1, one.2)
+
     by : (o : Option Incoming) → (list_any (λ e. is_some_and (completed_by e) (λ x. x.number == n)) past ≡ true → IsNumbered n (completed_deliveries past))
         → is_some_and o (λ x. x.number == n) || list_any (λ e. is_some_and (completed_by e) (λ x. x.number == n)) past ≡ true → IsNumbered n (cons_option o (completed_deliveries past))
     by None earlier done = earlier done
