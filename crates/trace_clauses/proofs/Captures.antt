@@ -1,5 +1,5 @@
 -- Captures as literals, and what the law computes of them.
-use Rattle.std.specs.Prelude.{ℕ, List, [], ◌∷◌, ◌++◌, replicate, Bool, false, Option, Some, None, Result}
+use Rattle.std.specs.Prelude.{ℕ, List, [], ◌∷◌, ◌++◌, replicate, map, Bool, false, Option, Some, None, option_map, Result}
 use Rattle.std.specs.Fmt.{digits}
 use Rattle.amqp_perf.proofs.Opened.{read, written}
 use Rattle.amqp_frames.specs.Writing.{frame_octets}
@@ -13,7 +13,12 @@ use Rattle.capture_form.specs.Rules.{RuleText}
 use Rattle.trace_clauses.specs.declared.clause.Clause.{Clause}
 use Rattle.trace_events.specs.declared.fault.Fault.{Fault}
 use Rattle.trace_events.specs.Frame.{frame_read}
-use Rattle.trace_events.specs.Event.{Event}
+use Rattle.trace_events.specs.Words.{is_some_and}
+use Rattle.trace_events.specs.Event.{Event, Incoming}
+use Rattle.trace_events.specs.Link.{link_at}
+use Rattle.trace_events.specs.Incoming.{incoming_at}
+use Rattle.trace_events.specs.Queue.{pairs, stays, completed_deliveries, waiting_queue}
+use Rattle.trace_events.specs.Decided.{decides, decided_count, begins_undecided}
 use Rattle.flow_counts.specs.Parts.{PartEvent}
 use Rattle.trace_events.specs.declared.session.Session.{Session}
 use Rattle.trace_events.specs.Session.{session_at}
@@ -95,3 +100,37 @@ parts_of_one rules (Some s) past = part_events rules s past
 unfoldable pub parts_in : List RuleText → List Record → ℕ → List PartEvent
 unfolding frame_read whole_frame frame_at sized_frame headed_frame read digits spoken_octets frame_octets written
 parts_in rules records n = let past = history rules records in parts_of_one rules (session_at n past) past
+
+-- the numbers of deliveries
+abbrev pub numbers : List Incoming → List ℕ
+numbers ds = map (λ d. d.number) ds
+
+-- those that wait at the address, and all that are complete
+unfoldable pub queue_in : List RuleText → List Record → List ℕ → List ℕ
+unfolding frame_read whole_frame frame_at sized_frame headed_frame read digits spoken_octets frame_octets written
+queue_in rules records address = numbers (waiting_queue rules address (history rules records))
+
+unfoldable pub completed_in : List RuleText → List Record → List ℕ
+unfolding frame_read whole_frame frame_at sized_frame headed_frame read digits spoken_octets frame_octets written
+completed_in rules records = numbers (completed_deliveries (history rules records))
+
+-- what one more record does: to the delivery of this number, and to those of the link of this number
+unfoldable pub is_paired_by : List RuleText → List Record → Record → ℕ → Bool
+unfolding frame_read whole_frame frame_at sized_frame headed_frame read digits spoken_octets frame_octets written
+is_paired_by rules records r n = let past = history rules records in is_some_and (incoming_at n past) (λ d. pairs d (judge rules past r))
+
+unfoldable pub stays_behind : List RuleText → List Record → Record → ℕ → Bool
+unfolding frame_read whole_frame frame_at sized_frame headed_frame read digits spoken_octets frame_octets written
+stays_behind rules records r n = let past = history rules records in is_some_and (incoming_at n past) (stays (judge rules past r) past)
+
+unfoldable pub is_decided_by : List RuleText → List Record → Record → ℕ → Bool
+unfolding frame_read whole_frame frame_at sized_frame headed_frame read digits spoken_octets frame_octets written
+is_decided_by rules records r n = let past = history rules records in is_some_and (incoming_at n past) (decides rules (judge rules past r) past)
+
+unfoldable pub decided_by : List RuleText → List Record → Record → ℕ → Option ℕ
+unfolding frame_read whole_frame frame_at sized_frame headed_frame read digits spoken_octets frame_octets written
+decided_by rules records r n = let past = history rules records in option_map (λ l. decided_count rules l (judge rules past r) past) (link_at n past)
+
+unfoldable pub begins_by : List RuleText → List Record → Record → ℕ → Bool
+unfolding frame_read whole_frame frame_at sized_frame headed_frame read digits spoken_octets frame_octets written
+begins_by rules records r n = let past = history rules records in is_some_and (link_at n past) (λ l. begins_undecided rules l (judge rules past r) past)

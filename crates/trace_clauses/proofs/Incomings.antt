@@ -252,7 +252,7 @@ payload-stays rules rs qs d done =
 
 module _ (e : Event) (past : List Event) (number : e.number ≡ length past) (part : IfSome e.incoming (IsPartOf past)) (sound : AreSound past) (d : Incoming)
     (done : is_complete d past ≡ true) where
-  not-again : completes d e ≡ false
+  pub not-again : completes d e ≡ false
   not-again = completes-not e d.number (apart e.incoming (not-part e past number part sound d done e.incoming part))
     where
       apart : (o : Option Incoming) → is_some_and o (λ x. x.number == d.number) ≡ false → IfSome o (λ x. (x.number == d.number) ≡ false)

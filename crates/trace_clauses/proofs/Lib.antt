@@ -15,6 +15,8 @@ pub mod Decided
 pub mod Undecided
 pub mod IdsApart
 pub mod IdsInUse
+pub mod WaitingQueue
+pub mod UndecidedCount
 pub mod WithinWindow
 pub mod WithinCredit
 pub mod Captures
@@ -30,3 +32,4 @@ mod FaultExamples
 mod ReadingExamples
 mod PartsExamples
 mod EndExamples
+mod QueueExamples

@@ -9,6 +9,8 @@ pub mod ListSteps
 pub mod CountSteps
 pub mod IncomingSteps
 pub mod OutgoingSteps
+pub mod EveryStep
+pub mod QueueSteps
 pub mod WaitingSteps
 pub mod IdleSteps
 pub mod HistorySteps

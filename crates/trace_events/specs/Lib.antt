@@ -13,6 +13,8 @@ pub mod Disposition
 pub mod Incoming
 pub mod Outgoing
 pub mod Waiting
+pub mod Queue
+pub mod Decided
 pub mod Parts
 pub mod Due
 pub mod Settling
