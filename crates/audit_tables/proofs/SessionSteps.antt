@@ -4,7 +4,7 @@ use Rattle.flow_counts.specs.declared.events.WindowEvent.{WindowEvent}
 use Rattle.flow_counts.specs.declared.events.WindowEvent.TheVariants.{TheirFlow, Sent, OurFlow, Received}
 use Rattle.trace_events.specs.Event.{Event, is_on_session}
 use Rattle.trace_events.specs.declared.session.Session.{Session}
-use Rattle.trace_events.specs.Window.{window_event, session_window, given_window, next_outgoing_id, next_incoming_id}
+use Rattle.trace_events.specs.Window.{window_event}
 use Rattle.trace_events.proofs.CountSteps.{session_window-same, given_window-same, next_outgoing_id-same, next_incoming_id-same, session_window-sent, given_window-sent, next_outgoing_id-sent, next_incoming_id-sent, session_window-received, given_window-received, next_outgoing_id-received, next_incoming_id-received, session_window-their_flow, given_window-their_flow, next_outgoing_id-their_flow, next_incoming_id-their_flow, session_window-our_flow, given_window-our_flow, next_outgoing_id-our_flow, next_incoming_id-our_flow}
 use Rattle.audit_tables.specs.Sessions.{counted, moved}
 use Rattle.audit_tables.specs.declared.sessions.Counted.{Counted}

@@ -1,5 +1,5 @@
 -- What the table of connections stands for.
-use Rattle.std.specs.Prelude.{◌≡◌, ℕ, Bool, false, ◌||◌, List, is_some, option_map, unwrap_or, nat_eq, if◌then◌else◌}
+use Rattle.std.specs.Prelude.{◌≡◌, ℕ, false, ◌||◌, List, is_some, option_map, unwrap_or, nat_eq, if◌then◌else◌}
 use Rattle.indexmap.specs.IndexMap.{get}
 use Rattle.flow_counts.specs.declared.profile.TheConstants.{MIN_MAX_FRAME_SIZE}
 use Rattle.trace_events.specs.Event.{Event, is_opened, is_lost, is_broken, is_out}

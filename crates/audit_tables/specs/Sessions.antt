@@ -1,5 +1,5 @@
 -- What the entry of a session stands for.
-use Rattle.std.specs.Prelude.{ℕ, ◌-◌, List, Option, Some, None}
+use Rattle.std.specs.Prelude.{◌-◌, List, Option, Some, None}
 use Rattle.flow_counts.specs.declared.events.WindowEvent.{WindowEvent}
 use Rattle.flow_counts.specs.declared.events.WindowEvent.TheVariants.{TheirFlow, Sent, OurFlow, Received}
 use Rattle.flow_counts.specs.declared.profile.TheConstants.{INCOMING_WINDOW}

@@ -1,6 +1,5 @@
 -- In a lawful capture each delivery to a client carries the octets of the delivery that its note names, to a link of
 -- that delivery's address.
-use Rattle.std.specs.Prelude.{bytes_eq}
 use Rattle.std.proofs.Common.{◌≡◌, refl, sym, ap, ◌∙◌, subst, ℕ, List, ◌∷◌, ◌++◌, length, take, cond, Bool, true, false, Option, Some, None, IfSome, IsSomeAnd, option_and_then, eq-eqb, take_all, ◌==◌, le_refl}
 use lib.Pointwise.{bytes_decides}
 use Rattle.amqp_perf.specs.Meaning.{ATransfer, TransferFields, flag}
@@ -22,7 +21,6 @@ use Rattle.trace_clauses.specs.Kept.{HasCarried, WentToAddress, AreFirst, AtEach
 use Rattle.trace_clauses.proofs.ClausesMet.{met}
 use Rattle.trace_clauses.proofs.WrittenFrames.{of_written, where_some, at_each, transfer-is}
 use Rattle.trace_clauses.proofs.OneConsumer.{some-and, and-left, passes-some}
-use Rattle.trace_clauses.proofs.OneOutcome.{and-right}
 use Rattle.trace_clauses.proofs.Within.{some-each}
 
 so-far : (more : Bool) (whole so_far : List ℕ) → is_payload_so_far more whole so_far ≡ true

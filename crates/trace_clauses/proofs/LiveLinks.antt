@@ -1,6 +1,5 @@
 -- The link that an event names lives, before what the event opens is filled in.
 use Rattle.std.proofs.Common.{◌≡◌, refl, sym, ap, subst, ◌∙◌, ℕ, List, Option, Some, None, IfSome, option_and_then}
-use Rattle.amqp_perf.specs.Meaning.{Meaning}
 use Rattle.pairing_cert.specs.declared.note.Note.{Note}
 use Rattle.trace_events.specs.Frame.{Spoken}
 use Rattle.trace_events.specs.Event.{Event, Link, Moment, spoken_of}

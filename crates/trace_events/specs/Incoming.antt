@@ -1,6 +1,6 @@
 -- Deliveries from clients: their parts, and whether their producer has settled them (part 2 of the standard, sections
 -- 2.6.12 and 2.6.14).
-use Rattle.std.specs.Prelude.{ℕ, Bool, ◌&&◌, ◌||◌, not, List, [], ◌∷◌, ◌++◌, Option, Some, None, option_map, filter_map, find, nat_lt, ◌==◌, if◌then◌else◌}
+use Rattle.std.specs.Prelude.{ℕ, Bool, ◌&&◌, ◌||◌, not, List, [], ◌∷◌, Option, Some, None, option_map, filter_map, find, nat_lt, ◌==◌, if◌then◌else◌}
 use Rattle.std.specs.List.{list_any}
 use Rattle.amqp_perf.specs.Meaning.{TransferFields, flag}
 use Rattle.flow_counts.specs.Parts.{joined_payload}

@@ -1,6 +1,6 @@
 -- Deliveries to clients: their parts, the incoming delivery that each carries, and what its consumer decides (part 2 of
 -- the standard, sections 2.6.12 and 2.6.14).
-use Rattle.std.specs.Prelude.{ℕ, ◌%◌, ◌^◌, Bool, false, ◌&&◌, ◌||◌, not, List, [], ◌∷◌, ◌++◌, Option, None, is_some, filter_map, find, count_by, nat_lt, ◌==◌, if◌then◌else◌}
+use Rattle.std.specs.Prelude.{ℕ, ◌%◌, ◌^◌, Bool, false, ◌&&◌, ◌||◌, not, List, [], ◌∷◌, Option, None, is_some, filter_map, find, count_by, nat_lt, ◌==◌, if◌then◌else◌}
 use Rattle.std.specs.List.{list_any}
 use Rattle.amqp_perf.specs.Meaning.{DispositionFields, flag}
 use Rattle.flow_counts.specs.Parts.{joined_payload}
