@@ -21,7 +21,7 @@ use Rattle.trace_events.proofs.StepWords.{filter-both}
 use Rattle.trace_events.proofs.LinkLives.{judged-stands, is_live-after, is_live-new}
 use Rattle.trace_events.proofs.LinkNumbers.{own_link-number, link_at-later, links-found, any-at}
 use Rattle.trace_events.proofs.Judged.{judged-number}
-use Rattle.trace_duties.specs.Consumers.{ends_link, decides, decided_by, begun_on, begun_by, attached_as, address_events}
+use Rattle.trace_duties.specs.Consumers.{detaches_consumer, decides_outgoing, decided_by, begun_on, begun_by, attached_as, address_events}
 use Rattle.trace_duties.proofs.ConsumerCounts.{consumers-all_detached, consumers-all_decided, consumer-all_detached, consumer-all_decided, fewer}
 
 -- ---- lists
@@ -87,7 +87,7 @@ with_begun n e o = if begins_on n e then option_map (begun e.number) o else o
 
 -- how many deliveries on it the event decides
 abbrev pub decided_count : ℕ → Event → List Event → ℕ
-decided_count n e past = count_by (λ j. n == j.link.number) (filter (decides e past) (outgoing_deliveries past))
+decided_count n e past = count_by (λ j. n == j.link.number) (filter (decides_outgoing e past) (outgoing_deliveries past))
 
 consumer-begun_by : (n : ℕ) (e : Event) (past : List AddressEvent) → consumer n (begun_by e ++ past) ≡ with_begun n e (consumer n past)
 consumer-begun_by n e past = by (begins_outgoing e)
@@ -100,13 +100,13 @@ consumer-begun_by n e past = by (begins_outgoing e)
 -- the event as a whole
 module _ (rules : List RuleText) (e : Event) (past : List Event) (are : AreJudged rules past) where
   pub consumer-step : (n : ℕ) → consumer n (address_events (e ∷ past))
-      ≡ (if is_some_and (link_at n past) (ends_link e past) then None else option_map (fewer (decided_count n e past)) (with_begun n e (consumer n (attached_as (own_link e) ++ address_events past))))
+      ≡ (if is_some_and (link_at n past) (detaches_consumer e past) then None else option_map (fewer (decided_count n e past)) (with_begun n e (consumer n (attached_as (own_link e) ++ address_events past))))
   consumer-step n =
       let before = attached_as (own_link e) ++ address_events past in
-      consumer-all_detached (λ (l : Link). l.number) n (filter (ends_link e past) (links past)) (decided_by e past ++ (begun_by e ++ before))
-      ∙ (ap (λ b. if b then None else consumer n (decided_by e past ++ (begun_by e ++ before))) (any-at rules past are (ends_link e past) n)
-      ∙ ap (λ o. if is_some_and (link_at n past) (ends_link e past) then None else o)
-      (consumer-all_decided (λ (j : Outgoing). j.link.number) n (filter (decides e past) (outgoing_deliveries past)) (begun_by e ++ before)
+      consumer-all_detached (λ (l : Link). l.number) n (filter (detaches_consumer e past) (links past)) (decided_by e past ++ (begun_by e ++ before))
+      ∙ (ap (λ b. if b then None else consumer n (decided_by e past ++ (begun_by e ++ before))) (any-at rules past are (detaches_consumer e past) n)
+      ∙ ap (λ o. if is_some_and (link_at n past) (detaches_consumer e past) then None else o)
+      (consumer-all_decided (λ (j : Outgoing). j.link.number) n (filter (decides_outgoing e past) (outgoing_deliveries past)) (begun_by e ++ before)
       ∙ ap (option_map (fewer (decided_count n e past))) (consumer-begun_by n e before)))
 
 -- ---- the consumer of a record that is still to come
@@ -124,14 +124,14 @@ pub consumer-later : (rules : List RuleText) (past : List Event) → AreJudged r
 consumer-later rules [] are n le = refl
 consumer-later rules (e ∷ past) are n le =
     consumer-step rules e past are.1 n
-    ∙ consumer-nothing (is_some_and (link_at n past) (ends_link e past)) (decided_count n e past) n e (consumer n (attached_as (own_link e) ++ address_events past))
+    ∙ consumer-nothing (is_some_and (link_at n past) (detaches_consumer e past)) (decided_count n e past) n e (consumer n (attached_as (own_link e) ++ address_events past))
     (later-attached n e past (address_events past) le (own_link e) (λ l is. own_link-number rules e past l are is) ∙ consumer-later rules past are.1 n (omega (arith, le)))
 
 -- ---- the consumers of an address
 
 -- the number is of no link that the event ends
 abbrev stays : Event → List Event → ℕ → Bool
-stays e past n = not (list_any (λ l. n == l.number) (filter (ends_link e past) (links past)))
+stays e past n = not (list_any (λ l. n == l.number) (filter (detaches_consumer e past) (links past)))
 
 opened-by : (a b live : Bool) (l : Link) (kept : List Link) (numbers : List ℕ) → map (λ l. l.number) (reverse kept) ≡ numbers → live ≡ true
     → map (λ l. l.number) (reverse (if a && b && live then l ∷ kept else kept)) ≡ (if a && b then numbers ++ l.number ∷ [] else numbers)
@@ -169,7 +169,7 @@ module _ (rules : List RuleText) (e : Event) (past : List Event) (are : AreJudge
       → is_consumer_of address (e ∷ past) l ≡ is_consumer_of address past l && stays e past l.number
   consumer_of-step l is =
       regroup (is_consumer l) (bytes_eq l.address address) (is_live past l) (is_live (e ∷ past) l) (live-step l is.1)
-      ∙ ap (λ b. is_consumer_of address past l && not b) (sym (any-at rules past are.1 (ends_link e past) l.number ∙ ap (λ o. is_some_and o (ends_link e past)) is.0))
+      ∙ ap (λ b. is_consumer_of address past l && not b) (sym (any-at rules past are.1 (detaches_consumer e past) l.number ∙ ap (λ o. is_some_and o (detaches_consumer e past)) is.0))
     where
       regroup : (a b c d : Bool) → d ≡ c && d → (a && b && d) ≡ ((a && b && c) && not (a && c && not d))
       regroup true true true true fewer = refl
@@ -190,7 +190,7 @@ module _ (rules : List RuleText) (e : Event) (past : List Event) (are : AreJudge
 
   stays-new : (l : Link) → l.number ≡ length past → stays e past l.number ≡ true
   stays-new l own =
-      ap not (any-at rules past are.1 (ends_link e past) l.number ∙ ap (λ o. is_some_and o (ends_link e past)) (link_at-later rules past are.1 l.number (omega (arith, own))))
+      ap not (any-at rules past are.1 (detaches_consumer e past) l.number ∙ ap (λ o. is_some_and o (detaches_consumer e past)) (link_at-later rules past are.1 l.number (omega (arith, own))))
 
   -- with the one that opens, if it is one of the address
   abbrev with_opened : Option Link → List ℕ → List ℕ
@@ -218,8 +218,8 @@ module _ (rules : List RuleText) (e : Event) (past : List Event) (are : AreJudge
   count-step : picks.consumers address (address_events (e ∷ past)) ≡ with_opened (own_link e) (filter (stays e past) (picks.consumers address (address_events past)))
   count-step =
       let before = attached_as (own_link e) ++ address_events past in
-      consumers-all_detached (λ (l : Link). l.number) address (filter (ends_link e past) (links past)) (decided_by e past ++ (begun_by e ++ before))
-      ∙ (ap (filter (stays e past)) (consumers-all_decided (λ (j : Outgoing). j.link.number) address (filter (decides e past) (outgoing_deliveries past)) (begun_by e ++ before) ∙ consumers-begun address e before)
+      consumers-all_detached (λ (l : Link). l.number) address (filter (detaches_consumer e past) (links past)) (decided_by e past ++ (begun_by e ++ before))
+      ∙ (ap (filter (stays e past)) (consumers-all_decided (λ (j : Outgoing). j.link.number) address (filter (decides_outgoing e past) (outgoing_deliveries past)) (begun_by e ++ before) ∙ consumers-begun address e before)
       ∙ attached-step (own_link e) refl)
 
 -- the consumers that are counted over a capture's events are those of the capture

@@ -16,7 +16,7 @@ use Rattle.trace_events.proofs.Judged.{AreJudged, judged-number}
 use Rattle.trace_events.proofs.LinkLives.{judged-stands, is_live-after, is_live-new}
 use Rattle.trace_events.proofs.LinkNumbers.{same-sym, each-weaker, own_link-number, link_at-later, links-found, judged-found}
 use Rattle.trace_events.proofs.OutgoingLinks.{IsOnEarlier, AreOnEarlier, judged-on_earlier, deliveries-earlier, deliveries-earlier_now, decision-begun, is_decided-stays}
-use Rattle.trace_duties.specs.Consumers.{ends_link, decides, attached_as, address_events}
+use Rattle.trace_duties.specs.Consumers.{detaches_consumer, decides_outgoing, attached_as, address_events}
 use Rattle.trace_duties.proofs.ConsumerCounts.{fewer, none-fewer}
 use Rattle.trace_duties.proofs.ConsumersCounted.{begins_on, with_begun, decided_count, consumer-step, consumer-nothing, consumer-later, consumer-other}
 
@@ -105,9 +105,9 @@ module _ (rules : List RuleText) (e : Event) (past : List Event) (are : AreJudge
 
   decided-none : (n : ℕ) → n ≡ length past → decided_count n e past ≡ 0
   decided-none n own =
-      count-filter (λ j. n == j.link.number) (decides e past) (outgoing_deliveries past)
-      ∙ count-none (IsOnEarlier (length past)) (λ j. decides e past j && (n == j.link.number))
-      (λ j lt. ap (λ b. decides e past j && b) (ap (λ m. m == j.link.number) own ∙ other_link (length past) j lt) ∙ and-false (decides e past j))
+      count-filter (λ j. n == j.link.number) (decides_outgoing e past) (outgoing_deliveries past)
+      ∙ count-none (IsOnEarlier (length past)) (λ j. decides_outgoing e past j && (n == j.link.number))
+      (λ j lt. ap (λ b. decides_outgoing e past j && b) (ap (λ m. m == j.link.number) own ∙ other_link (length past) j lt) ∙ and-false (decides_outgoing e past j))
       (outgoing_deliveries past) (deliveries-earlier past earlier.1)
 
   attached-here : (l : Link) (b : Bool) → consumer l.number (address_events past) ≡ None
@@ -123,7 +123,7 @@ module _ (rules : List RuleText) (e : Event) (past : List Event) (are : AreJudge
       let nothing : consumer l.number (address_events past) ≡ None = consumer-later rules past are.1 l.number (omega (arith, own)) in
       let X = consumer l.number (attached_as (own_link e) ++ address_events past) in
       consumer-step rules e past are.1 l.number
-      ∙ (ap (λ o. if is_some_and o (ends_link e past) then None else option_map (fewer (decided_count l.number e past)) (with_begun l.number e X)) (link_at-later rules past are.1 l.number (omega (arith, own)))
+      ∙ (ap (λ o. if is_some_and o (detaches_consumer e past) then None else option_map (fewer (decided_count l.number e past)) (with_begun l.number e X)) (link_at-later rules past are.1 l.number (omega (arith, own)))
       ∙ (ap (λ n. option_map (fewer n) (with_begun l.number e X)) (decided-none l.number own)
       ∙ (ap (λ b. option_map (fewer 0) (if b then option_map (begun e.number) X else X)) (begins-not l.number (length past) e.number e.outgoing own earlier.0)
       ∙ (none-fewer X
@@ -204,10 +204,10 @@ left-by false true is before now stays = absurd cc
 module _ (rules : List RuleText) (e : Event) (past : List Event) (are : AreJudged rules (e ∷ past)) (l : Link) where
   left : count_by (is_undecided_on l past) (outgoing_deliveries past) ≡ count_by (is_undecided_on l (e ∷ past)) (outgoing_deliveries past) + decided_count l.number e past
   left =
-      count-split (is_undecided_on l past) (is_undecided_on l (e ∷ past)) (λ j. decides e past j && (l.number == j.link.number))
+      count-split (is_undecided_on l past) (is_undecided_on l (e ∷ past)) (λ j. decides_outgoing e past j && (l.number == j.link.number))
       (λ j. left-by (is_on l j) (l.number == j.link.number) (same-sym l.number j.link.number) (decision j past) (decision j (e ∷ past)) (is_decided-stays e past j))
       (outgoing_deliveries past)
-      ∙ ap (λ n. count_by (is_undecided_on l (e ∷ past)) (outgoing_deliveries past) + n) (sym (count-filter (λ j. l.number == j.link.number) (decides e past) (outgoing_deliveries past)))
+      ∙ ap (λ n. count_by (is_undecided_on l (e ∷ past)) (outgoing_deliveries past) + n) (sym (count-filter (λ j. l.number == j.link.number) (decides_outgoing e past) (outgoing_deliveries past)))
 
   begun_undecided : (j : Outgoing) → e.outgoing ≡ Some j → j.number ≡ e.number → is_undecided_on l (e ∷ past) j ≡ (l.number == j.link.number)
   begun_undecided j is same =
@@ -231,8 +231,8 @@ module _ (rules : List RuleText) (e : Event) (past : List Event) (are : AreJudge
       → consumer l.number (address_events (e ∷ past)) ≡ counted_at (e ∷ past) l
   kept-is below at before =
       consumer-step rules e past are.1 l.number
-      ∙ (ap (λ o. if is_some_and o (ends_link e past) then None else option_map (fewer (decided_count l.number e past)) (with_begun l.number e (consumer l.number (attached_as (own_link e) ++ address_events past)))) at
-      ∙ (ap (λ o. if ends_link e past l then None else option_map (fewer (decided_count l.number e past)) (with_begun l.number e o)) before
+      ∙ (ap (λ o. if is_some_and o (detaches_consumer e past) then None else option_map (fewer (decided_count l.number e past)) (with_begun l.number e (consumer l.number (attached_as (own_link e) ++ address_events past)))) at
+      ∙ (ap (λ o. if detaches_consumer e past l then None else option_map (fewer (decided_count l.number e past)) (with_begun l.number e o)) before
       ∙ step-by (is_consumer l) (is_live past l) (is_live (e ∷ past) l) (is_live-after e past (judged-stands rules past are.1).no_link (judged-number rules e past are) l below)
       (begins_on l.number e) e.number (decided_count l.number e past) (counted past l) (counted (e ∷ past) l) kept-counts))
 
@@ -244,7 +244,7 @@ module _ (rules : List RuleText) (e : Event) (past : List Event) (are : AreJudge
       → consumer n (address_events (e ∷ past)) ≡ option_and_then (counted_at (e ∷ past)) o
   number-kept n None at before =
       consumer-step rules e past are.1 n
-      ∙ consumer-nothing (is_some_and (link_at n past) (ends_link e past)) (decided_count n e past) n e (consumer n (attached_as (own_link e) ++ address_events past)) before
+      ∙ consumer-nothing (is_some_and (link_at n past) (detaches_consumer e past)) (decided_count n e past) n e (consumer n (attached_as (own_link e) ++ address_events past)) before
   number-kept n (Some l) at before =
       let found = judged-found rules past are.1 n l at in
       let own : l.number ≡ n = found.0 in

@@ -7,18 +7,18 @@ use Rattle.trace_events.specs.Credit.{begins_outgoing}
 use Rattle.trace_events.specs.Outgoing.{outgoing_deliveries, decision}
 
 -- the links that an event ends, by a detach, an end, a close, or the loss of the connection
-abbrev pub ends_link : Event → List Event → Link → Bool
-ends_link e past l = is_consumer l && is_live past l && not (is_live (e ∷ past) l)
+abbrev pub detaches_consumer : Event → List Event → Link → Bool
+detaches_consumer e past l = is_consumer l && is_live past l && not (is_live (e ∷ past) l)
 
 abbrev pub detached_by : Event → List Event → List AddressEvent
-detached_by e past = map (λ l. Detached l.number) (filter (ends_link e past) (links past))
+detached_by e past = map (λ l. Detached l.number) (filter (detaches_consumer e past) (links past))
 
 -- the deliveries that it decides
-abbrev pub decides : Event → List Event → Outgoing → Bool
-decides e past j = is_none (decision j past) && is_some (decision j (e ∷ past))
+abbrev pub decides_outgoing : Event → List Event → Outgoing → Bool
+decides_outgoing e past j = is_none (decision j past) && is_some (decision j (e ∷ past))
 
 abbrev pub decided_by : Event → List Event → List AddressEvent
-decided_by e past = map (λ j. Decided j.link.number) (filter (decides e past) (outgoing_deliveries past))
+decided_by e past = map (λ j. Decided j.link.number) (filter (decides_outgoing e past) (outgoing_deliveries past))
 
 -- the delivery that it begins
 abbrev pub begun_on : Option Outgoing → ℕ → List AddressEvent
