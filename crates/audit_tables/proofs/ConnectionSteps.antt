@@ -7,6 +7,8 @@ use Rattle.trace_events.specs.Words.{or_else}
 use Rattle.trace_events.specs.Event.{Event, is_opened, is_lost, is_broken, is_out}
 use Rattle.trace_events.specs.Said.{in_open, is_in_close, is_out_close}
 use Rattle.trace_events.specs.Connection.{has_event, is_final, bounded_limit, first_open, frame_limit, has_in_open}
+use Rattle.trace_events.proofs.FirstOpens.{has_in_open-first}
+use Rattle.trace_events.proofs.OverConnections.{has_event-own, has_event-other}
 use Rattle.audit_tables.specs.Connections.{connection_at, seen_next}
 use Rattle.audit_tables.specs.declared.connections.Seen.{Seen}
 
@@ -19,31 +21,12 @@ made-same a a' b b' c c' d d' e e' f f' n n' p q r s t u v = rw (p, q, r, s, t, 
 
 -- ---- an event of the connection
 
-and-own : (test own before : Bool) → own ≡ true → (test && own || before) ≡ (test || before)
-and-own true own before is = ap (λ b. b || before) is
-and-own false own before is = refl
-
 has-own : (test : Event → Bool) (e : Event) (past : List Event) → has_event e.connection test (e ∷ past) ≡ (test e || has_event e.connection test past)
-has-own test e past = and-own (test e) (e.connection == e.connection) (has_event e.connection test past) (eq-eqb e.connection e.connection refl)
+has-own test e past = has_event-own e.connection test e past (eq-eqb e.connection e.connection refl)
 
 or-either : (a b c : Bool) → ((a || b) || c) ≡ (a || b || c)
 or-either true b c = refl
 or-either false b c = refl
-
-open-by : (own : Bool) (new earlier : Option OpenFields) (has : Bool) → has ≡ is_some earlier → (is_some new && own || has) ≡ is_some (or_else earlier (if own then new else None))
-open-by true None None has is = is
-open-by true (Some fields) None has is = refl
-open-by false None None has is = is
-open-by false (Some fields) None has is = is
-open-by true None (Some first) has is = is
-open-by true (Some fields) (Some first) has is = refl
-open-by false None (Some first) has is = is
-open-by false (Some fields) (Some first) has is = is
-
--- an open stands where there is a first one
-has-first : (c : ℕ) (past : List Event) → has_in_open c past ≡ is_some (first_open c past)
-has-first c [] = refl
-has-first c (e ∷ past) = open-by (e.connection == c) (in_open e) (first_open c past) (has_in_open c past) (has-first c past)
 
 limit-by : (own : Bool) (new earlier : Option OpenFields) (has : Bool) → has ≡ is_some earlier → own ≡ true
     → unwrap_or (option_map bounded_limit (or_else earlier (if own then new else None))) MIN_MAX_FRAME_SIZE
@@ -63,16 +46,9 @@ connection-next e past =
     (has-own (λ e. is_lost e.moment || is_out_close e) e past ∙ or-either (is_lost e.moment) (is_out_close e) _)
     (has-own (λ e. is_broken e.moment || is_in_close e) e past ∙ or-either (is_broken e.moment) (is_in_close e) _)
     (has-own (λ e. is_out e.moment) e past) (has-own (λ e. is_some (in_open e)) e past)
-    (limit-by (c == c) (in_open e) (first_open c past) (has_in_open c past) (has-first c past) (eq-eqb c c refl))
+    (limit-by (c == c) (in_open e) (first_open c past) (has_in_open c past) (has_in_open-first c past) (eq-eqb c c refl))
 
 -- ---- one of another connection
-
-and-other : (test own before : Bool) → own ≡ false → (test && own || before) ≡ before
-and-other true own before is = ap (λ b. b || before) is
-and-other false own before is = refl
-
-has-other : (test : Event → Bool) (c : ℕ) (e : Event) (past : List Event) → (e.connection == c) ≡ false → has_event c test (e ∷ past) ≡ has_event c test past
-has-other test c e past other = and-other (test e) (e.connection == c) (has_event c test past) other
 
 or-none : (o : Option OpenFields) → or_else o None ≡ o
 or-none None = refl
@@ -85,9 +61,9 @@ limit-other c e past other =
 
 connection-other : (c : ℕ) (e : Event) (past : List Event) → (e.connection == c) ≡ false → connection_at c (e ∷ past) ≡ connection_at c past
 connection-other c e past other =
-    made-same _ _ _ _ _ _ _ _ _ _ _ _ _ _ (has-other (λ e. is_final e.moment) c e past other) (has-other (λ e. is_opened e.moment) c e past other)
-    (has-other (λ e. is_lost e.moment || is_out_close e) c e past other) (has-other (λ e. is_broken e.moment || is_in_close e) c e past other)
-    (has-other (λ e. is_out e.moment) c e past other) (has-other (λ e. is_some (in_open e)) c e past other) (limit-other c e past other)
+    made-same _ _ _ _ _ _ _ _ _ _ _ _ _ _ (has_event-other c (λ e. is_final e.moment) e past other) (has_event-other c (λ e. is_opened e.moment) e past other)
+    (has_event-other c (λ e. is_lost e.moment || is_out_close e) e past other) (has_event-other c (λ e. is_broken e.moment || is_in_close e) e past other)
+    (has_event-other c (λ e. is_out e.moment) e past other) (has_event-other c (λ e. is_some (in_open e)) e past other) (limit-other c e past other)
 
 -- ---- all of them
 

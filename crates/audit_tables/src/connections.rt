@@ -1,7 +1,8 @@
 //! Connections: whether they are opened, over, closed from either end, and how long a frame may be (part 2 of the
 //! standard, section 2.4).
 
-ghost use Rattle.std.specs.Prelude.{◌≡◌, [], ◌∷◌, OnOk, OnErr, ℕ, ◌==◌, if◌then◌else◌};
+ghost use Rattle.std.specs.Prelude.{◌≡◌, [], ◌∷◌, None, OnOk, OnErr, ℕ, nat_eq, ◌==◌, if◌then◌else◌};
+ghost use Rattle.indexmap.specs.IndexMap.{get, spare};
 ghost use Rattle.audit_tables.specs.Connections.{AreSeen, connection_at, fresh, seen_in, seen_next};
 ghost use Rattle.trace_law.specs.View.{Events, event_view};
 
@@ -105,10 +106,12 @@ impl Connections {
     ///
     /// # Errors
     ///
-    /// Memory was refused for a connection that is new; then nothing has changed.
+    /// Memory was refused, for a connection that is new and a table that is full; then nothing has changed.
     pub fn take(&mut self, event: &Event) -> Result<(), AllocError>
         ensures taken { OnOk result ((history : Events) → AreSeen self.old history → AreSeen self.new (event_view event.now ∷ history)) }
         ensures unchanged { OnErr result ((connection : ℕ) → seen_in self.new connection ≡ seen_in self.old connection) }
+        ensures new { OnErr result (get nat_eq self.old.seen event.now.connection ≡ None) }
+        ensures full { OnErr result (spare self.old.seen ≡ 0) }
     {
         let seen = self.seen(event.connection).after(event);
         self.put(event.connection, seen)?;
@@ -119,6 +122,8 @@ impl Connections {
     fn put(&mut self, connection: u32, seen: Seen) -> Result<(), AllocError>
         ensures put { OnOk result ((c : ℕ) → seen_in self.new c ≡ (if connection == c then seen else seen_in self.old c)) }
         ensures unchanged { OnErr result ((c : ℕ) → seen_in self.new c ≡ seen_in self.old c) }
+        ensures new { OnErr result (get nat_eq self.old.seen connection ≡ None) }
+        ensures full { OnErr result (spare self.old.seen ≡ 0) }
     {
         self.seen.insert(connection, seen)?;
         Ok(())

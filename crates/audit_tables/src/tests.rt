@@ -1,9 +1,11 @@
-//! A connection from its opening to its end, with known answers.
+//! A connection from its opening to its end, and the windows of a session, with known answers.
 
-use crate::{Connections, Seen};
+use crate::{Connections, Counted, Seen};
+use amqp_perf::{Flow, Performative, Transfer};
 use pairing_cert::Note;
 use std::test::Fail;
-use trace_law::{Event, Frame, Moment};
+use trace_events::Session;
+use trace_law::{Body, Event, Frame, Moment, Spoken};
 
 // An open of the container `a` with a max-frame-size of 600, and one with 700.
 const OPEN_600: [u8; 23] = [
@@ -35,6 +37,75 @@ fn event<'a>(number: u64, connection: u32, moment: Moment<'a>) -> Event<'a> {
         is_heard: false,
         fault: None,
     }
+}
+
+fn spoken<'a>(performative: Performative<'a>) -> Frame<'a> {
+    Frame {
+        octets: &[],
+        body: Body::Says(Spoken {
+            channel: 0,
+            performative,
+            payload: &[],
+        }),
+    }
+}
+
+fn flow(next_incoming_id: Option<u32>, incoming_window: u32) -> Performative<'static> {
+    Performative::Flow(Flow {
+        next_incoming_id,
+        incoming_window,
+        next_outgoing_id: 0,
+        outgoing_window: 0,
+        handle: None,
+        delivery_count: None,
+        link_credit: None,
+        drain: None,
+        echo: None,
+    })
+}
+
+const TRANSFER: Performative<'static> = Performative::Transfer(Transfer {
+    handle: 0,
+    delivery_id: None,
+    delivery_tag: None,
+    message_format: None,
+    settled: None,
+    more: None,
+    resume: None,
+    aborted: None,
+});
+
+/// Two transfers fill a window of 2; what is left after flows that lag, that know all, that know none, and one from the
+/// future. The client sends two transfers, and is told.
+#[test]
+fn windows_of_a_session(rt: HostRuntime) {
+    let counted = Counted::new(Session {
+        number: 7,
+        connection: 3,
+        channel: 0,
+        our_first_id: 0,
+        their_first_id: 4294967295,
+        their_window: 2,
+    });
+    let sent = event(8, 3, Moment::Out(spoken(TRANSFER)));
+    let full = counted.after(&sent).after(&sent);
+    assert_eq!(rt; (full.window, full.next_outgoing_id), (0, 2));
+    let flows = [
+        (Some(0), 2, 0),
+        (Some(1), 2, 1),
+        (None, 5, 3),
+        (Some(3), 5, 0),
+    ];
+    for (expected, window, left) in flows {
+        let told = event(9, 3, Moment::In(spoken(flow(expected, window))));
+        assert_eq!(rt; full.after(&told).window, left);
+    }
+
+    let received = event(10, 3, Moment::In(spoken(TRANSFER)));
+    let behind = full.after(&received).after(&received);
+    assert_eq!(rt; (behind.given_window, behind.next_incoming_id), (2046, 1));
+    let told = event(11, 3, Moment::Out(spoken(flow(None, 0))));
+    assert_eq!(rt; behind.after(&told).given_window, 2048);
 }
 
 #[test]

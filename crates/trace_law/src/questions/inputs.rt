@@ -23,11 +23,11 @@ pub trait Inputs<'a>: History {
     ghost use Rattle.trace_events.specs.Link.{IsLiveLink};
     ghost use Rattle.trace_law.specs.View.{Events, incoming_view, link_view};
 
-    /// The connection is lost or broken, or a close was written or heard on it.
+    /// The connection is lost or broken, or a close in either direction stands.
     fn is_over(&self, connection: u32) -> bool
         ensures { (history : Events) → Self.stands_for self.now history → (result ≡ connections.is_over connection history) };
 
-    /// An open of the client's was heard.
+    /// An open of the client's stands, heard or not.
     fn has_in_open(&self, connection: u32) -> bool
         ensures { (history : Events) → Self.stands_for self.now history → (result ≡ connections.has_in_open connection history) };
 
@@ -35,7 +35,7 @@ pub trait Inputs<'a>: History {
     fn live_session(&self, connection: u32, channel: u16) -> Option<Session>
         ensures { (history : Events) → Self.stands_for self.now history → (result ≡ sessions.live_session connection channel history) };
 
-    /// The router has ended a session of the channel, and the client's end isn't heard yet.
+    /// Since its last begin the router has ended the channel's session, and the client hasn't.
     fn awaits_end(&self, connection: u32, channel: u16) -> bool
         ensures { (history : Events) → Self.stands_for self.now history → (result ≡ sessions.awaits_end connection channel history) };
 
@@ -44,7 +44,7 @@ pub trait Inputs<'a>: History {
         ensures { (history : Events) → Self.stands_for self.now history → IsLiveOn session history →
             (option_map link_view result ≡ links.session_link session handle history) };
 
-    /// The router has detached a link of the handle, or refused it, and the client's detach isn't heard yet.
+    /// Since its last attach, a refusal included, the router has detached the handle, and the client hasn't.
     fn awaits_detach(&self, session: Session, handle: u32) -> bool
         ensures { (history : Events) → Self.stands_for self.now history → IsLiveOn session history →
             (result ≡ links.awaits_detach session handle history) };
