@@ -1,5 +1,5 @@
 -- What an event does to what the law says of connections.
-use Rattle.std.proofs.Common.{◌≡◌, refl, sym, ap, ◌∙◌, ℕ, Bool, true, false, ◌&&◌, ◌||◌, List, [], ◌∷◌, Option, Some, None, is_some, option_map, unwrap_or, eqb-true, if◌then◌else◌, ◌==◌}
+use Rattle.std.proofs.Common.{◌≡◌, refl, sym, ap, ◌∙◌, ℕ, Bool, true, false, ◌||◌, List, ◌∷◌, Option, Some, None, is_some, option_map, unwrap_or, eqb-true, if◌then◌else◌, ◌==◌}
 use Rattle.std.proofs.lemmas.Bool.{eq-eqb}
 use Rattle.amqp_perf.specs.Meaning.{OpenFields}
 use Rattle.flow_counts.specs.declared.profile.TheConstants.{MIN_MAX_FRAME_SIZE}
@@ -10,7 +10,7 @@ use Rattle.trace_events.specs.Connection.{has_event, is_final, bounded_limit, fi
 use Rattle.trace_events.proofs.FirstOpens.{has_in_open-first}
 use Rattle.trace_events.proofs.OverConnections.{has_event-own, has_event-other}
 use Rattle.audit_tables.specs.Connections.{connection_at, seen_next}
-use Rattle.audit_tables.specs.declared.connections.Seen.{Seen}
+use Rattle.audit_tables.specs.declared.connection.Seen.{Seen}
 
 abbrev made : Bool → Bool → Bool → Bool → Bool → Bool → ℕ → Seen
 made a b c d e f n = record { is_over = a; was_opened = b; was_finished = c; was_stopped = d; has_out_frame = e; has_in_open = f; frame_limit = n }

@@ -1,2 +1,3 @@
-pub mod Connections
+pub mod Unanswered
 pub mod Sessions
+pub mod Connections

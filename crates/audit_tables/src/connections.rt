@@ -1,93 +1,38 @@
-//! Connections: whether they are opened, over, closed from either end, and how long a frame may be (part 2 of the
-//! standard, section 2.4).
+//! The connections of which a record stands, with their live sessions and what is still to be answered on their channels.
 
-ghost use Rattle.std.specs.Prelude.{◌≡◌, [], ◌∷◌, None, OnOk, OnErr, ℕ, nat_eq, ◌==◌, if◌then◌else◌};
-ghost use Rattle.indexmap.specs.IndexMap.{get, spare};
-ghost use Rattle.audit_tables.specs.Connections.{AreSeen, connection_at, fresh, seen_in, seen_next};
+ghost use Rattle.std.specs.Prelude.{◌≡◌, List, [], ◌∷◌, None, OnOk, OnErr, ℕ, nat_eq};
+ghost use Rattle.indexmap.specs.IndexMap.{get};
+ghost use Rattle.capture_form.specs.Rules.{RuleText};
+ghost use Rattle.capture_form.specs.declared.records.Record.{Record};
+ghost use Rattle.trace_events.specs.History.{history};
+ghost use Rattle.audit_tables.specs.Connections.{AreKept, AreSame, AreSeen, HasNoRoom, IsLawfulNext, TakesOne, connection_at, seen_in, session_in, unanswered_in};
+ghost use Rattle.audit_tables.specs.Sessions.{session_at};
+ghost use Rattle.audit_tables.specs.Unanswered.{unanswered_at};
 ghost use Rattle.trace_law.specs.View.{Events, event_view};
 
-use flow_counts::{MAX_FRAME_SIZE, MIN_MAX_FRAME_SIZE};
+use crate::connection::{Connection, Seen};
+use crate::sessions::Counted;
+use crate::unanswered::Unanswered;
 use indexmap::IndexMap;
 use std::alloc::{AllocError, Global};
 use trace_law::Event;
 
-/// What a connection has come to.
-#[derive(Clone, Copy, Debug, PartialEq, Eq)]
-pub struct Seen {
-    /// A close in either direction, the loss of the connection, or octets that are no frames stand.
-    pub is_over: bool,
-    /// The connection was opened.
-    pub was_opened: bool,
-    /// It is lost, or the router has closed it.
-    pub was_finished: bool,
-    /// The client has closed it, or sent octets that are no frames.
-    pub was_stopped: bool,
-    /// A frame was written.
-    pub has_out_frame: bool,
-    /// An open of the client's stands.
-    pub has_in_open: bool,
-    /// The longest frame that may be written, in octets.
-    pub frame_limit: u32,
-}
-
-impl Seen {
-    /// Before its first record.
-    fn new() -> Seen
-        ensures { result ≡ fresh }
-    {
-        Seen {
-            is_over: false,
-            was_opened: false,
-            was_finished: false,
-            was_stopped: false,
-            has_out_frame: false,
-            has_in_open: false,
-            frame_limit: MIN_MAX_FRAME_SIZE,
-        }
-    }
-
-    /// With one event more of the connection.
-    pub fn after(self, event: &Event) -> Seen
-        ensures { result ≡ seen_next (event_view event.now) self }
-    {
-        Seen {
-            is_over: event.moment.is_final() | self.is_over,
-            was_opened: event.moment.is_opened() | self.was_opened,
-            was_finished: event.moment.is_lost() | event.is_out_close() | self.was_finished,
-            was_stopped: event.moment.is_broken() | event.is_in_close() | self.was_stopped,
-            has_out_frame: event.moment.is_out() | self.has_out_frame,
-            has_in_open: event.in_open().is_some() | self.has_in_open,
-            frame_limit: self.limit_after(event),
-        }
-    }
-
-    /// The longest frame behind the event: the first open counts.
-    fn limit_after(&self, event: &Event) -> u32
-        ensures { result ≡ (seen_next (event_view event.now) self.now).frame_limit }
-    {
-        match event.in_open() {
-            Some(open) if !self.has_in_open => open
-                .frame_limit()
-                .min(MAX_FRAME_SIZE)
-                .max(MIN_MAX_FRAME_SIZE),
-            _ => self.frame_limit,
-        }
-    }
-}
-
 /// The connections of which a record stands.
 #[derive(Drop)]
 pub struct Connections {
-    seen: IndexMap<u32, Seen>,
+    alloc: Global,
+    entries: IndexMap<u32, Connection>,
 }
 
 impl Connections {
     /// No records.
     pub fn new(alloc: Global) -> Connections
-        ensures { AreSeen result [] }
+        ensures seen { AreSeen result [] }
+        ensures kept { AreKept result [] }
     {
         Connections {
-            seen: IndexMap::new(alloc),
+            alloc,
+            entries: IndexMap::new(alloc),
         }
     }
 
@@ -96,9 +41,28 @@ impl Connections {
         ensures stored { result ≡ seen_in self.now connection }
         ensures known { (history : Events) → AreSeen self.now history → result ≡ connection_at connection history }
     {
-        match self.seen.get(&connection) {
-            Some(seen) => *seen,
+        match self.entries.get(&connection) {
+            Some(connection) => connection.seen(),
             None => Seen::new(),
+        }
+    }
+
+    /// The live session of the channel, with its counts.
+    pub fn session(&self, connection: u32, channel: u16) -> Option<Counted>
+        ensures stored { result ≡ session_in self.now connection channel }
+        ensures known { (history : Events) → AreKept self.now history → result ≡ session_at connection channel history }
+    {
+        self.entries.get(&connection)?.session(channel)
+    }
+
+    /// What of the channel is still to be answered.
+    pub fn unanswered(&self, connection: u32, channel: u16) -> Unanswered
+        ensures stored { result ≡ unanswered_in self.now connection channel }
+        ensures known { (history : Events) → AreKept self.now history → result ≡ unanswered_at connection channel history }
+    {
+        match self.entries.get(&connection) {
+            Some(connection) => connection.unanswered(channel),
+            None => Unanswered::nothing(),
         }
     }
 
@@ -106,26 +70,39 @@ impl Connections {
     ///
     /// # Errors
     ///
-    /// Memory was refused, for a connection that is new and a table that is full; then nothing has changed.
+    /// Memory was refused, for a connection that is new or a table of its that is full; then all stays as it was.
     pub fn take(&mut self, event: &Event) -> Result<(), AllocError>
-        ensures taken { OnOk result ((history : Events) → AreSeen self.old history → AreSeen self.new (event_view event.now ∷ history)) }
-        ensures unchanged { OnErr result ((connection : ℕ) → seen_in self.new connection ≡ seen_in self.old connection) }
-        ensures new { OnErr result (get nat_eq self.old.seen event.now.connection ≡ None) }
-        ensures full { OnErr result (spare self.old.seen ≡ 0) }
+        ensures seen { OnOk result ((history : Events) → AreSeen self.old history → AreSeen self.new (event_view event.now ∷ history)) }
+        ensures kept { OnOk result ((rules : List RuleText) (records : List Record) (r : Record) → IsLawfulNext rules records r (event_view event.now) →
+            AreKept self.old (history rules records) → AreKept self.new (event_view event.now ∷ history rules records)) }
+        ensures unchanged { OnErr result (AreSame self.old self.new) }
+        ensures full { OnErr result (HasNoRoom self.old event.now.connection) }
     {
-        let seen = self.seen(event.connection).after(event);
-        self.put(event.connection, seen)?;
+        self.put(event)?;
         Ok(())
     }
 
-    /// The connection has come to this.
-    fn put(&mut self, connection: u32, seen: Seen) -> Result<(), AllocError>
-        ensures put { OnOk result ((c : ℕ) → seen_in self.new c ≡ (if connection == c then seen else seen_in self.old c)) }
-        ensures unchanged { OnErr result ((c : ℕ) → seen_in self.new c ≡ seen_in self.old c) }
-        ensures new { OnErr result (get nat_eq self.old.seen connection ≡ None) }
-        ensures full { OnErr result (spare self.old.seen ≡ 0) }
+    /// The event stands in the entry of its connection.
+    fn put(&mut self, event: &Event) -> Result<(), AllocError>
+        ensures taken { OnOk result (TakesOne (event_view event.now) self.old self.new) }
+        ensures unchanged { OnErr result (AreSame self.old self.new) }
+        ensures full { OnErr result (HasNoRoom self.old event.now.connection) }
     {
-        self.seen.insert(connection, seen)?;
+        match self.entries.get_mut(&event.connection) {
+            Some(connection) => connection.take(event),
+            None => self.put_first(event),
+        }
+    }
+
+    /// The event is the first of its connection.
+    fn put_first(&mut self, event: &Event) -> Result<(), AllocError>
+        requires new { get nat_eq self.old.entries event.now.connection ≡ None }
+        ensures taken { OnOk result (TakesOne (event_view event.now) self.old self.new) }
+        ensures unchanged { OnErr result (AreSame self.old self.new) }
+    {
+        let mut connection = Connection::new(self.alloc);
+        connection.take(event)?;
+        self.entries.insert(event.connection, connection)?;
         Ok(())
     }
 }

@@ -1,8 +1,8 @@
 //! A live session, and what its windows have come to (part 2 of the standard, section 2.5.6).
 
-ghost use Rattle.std.specs.Prelude.{◌≡◌, [], ◌∷◌, true};
+ghost use Rattle.std.specs.Prelude.{◌≡◌, [], ◌∷◌, true, option_map};
 ghost use Rattle.flow_counts.specs.Window.{lag};
-ghost use Rattle.audit_tables.specs.Sessions.{begun, counted, moved};
+ghost use Rattle.audit_tables.specs.Sessions.{begun, counted, moved, opens_or_ends, session_next};
 ghost use Rattle.trace_events.specs.Event.{is_on_session};
 ghost use Rattle.trace_events.specs.Window.{window_event, window_events};
 ghost use Rattle.trace_law.specs.View.{Events, event_view};
@@ -80,5 +80,28 @@ impl Counted {
     {
         let expected = next_incoming.unwrap_or(self.session.our_first_id);
         self.next_outgoing_id.wrapping_sub(expected)
+    }
+}
+
+/// The event is a begin or an end, in either direction.
+pub(crate) fn opens_or_ends(event: &Event) -> bool
+    ensures { result ≡ opens_or_ends (event_view event.now) }
+{
+    event.in_begin().is_some()
+        || event.out_begin().is_some()
+        || event.is_in_end()
+        || event.is_out_end()
+}
+
+/// What an event of the channel makes of its session.
+pub(crate) fn session_after(earlier: Option<Counted>, event: &Event) -> Option<Counted>
+    ensures { result ≡ session_next (event_view event.now) earlier }
+{
+    if event.is_in_end() || event.is_out_end() {
+        None
+    } else if event.out_begin().is_some() {
+        Some(Counted::new(event.session?))
+    } else {
+        Some(earlier?.after(event))
     }
 }

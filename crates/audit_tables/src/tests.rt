@@ -1,7 +1,8 @@
-//! A connection from its opening to its end, and the windows of a session, with known answers.
+//! A connection from its opening to its end, a session from its begin to its end, and the windows of a session, with known
+//! answers.
 
-use crate::{Connections, Counted, Seen};
-use amqp_perf::{Flow, Performative, Transfer};
+use crate::{Connections, Counted, Seen, Unanswered};
+use amqp_perf::{Begin, Flow, Performative, Transfer};
 use pairing_cert::Note;
 use std::test::Fail;
 use trace_events::Session;
@@ -40,10 +41,14 @@ fn event<'a>(number: u64, connection: u32, moment: Moment<'a>) -> Event<'a> {
 }
 
 fn spoken<'a>(performative: Performative<'a>) -> Frame<'a> {
+    on_channel(0, performative)
+}
+
+fn on_channel<'a>(channel: u16, performative: Performative<'a>) -> Frame<'a> {
     Frame {
         octets: &[],
         body: Body::Says(Spoken {
-            channel: 0,
+            channel,
             performative,
             payload: &[],
         }),
@@ -138,5 +143,106 @@ fn a_connection_from_its_opening_to_its_end(rt: HostRuntime) -> Result<(), Fail>
     };
     assert_eq!(rt; connections.seen(3), closed);
     assert!(rt; connections.seen(4).was_finished && !connections.seen(4).was_opened);
+    Ok(())
+}
+
+// A begin of the client with ids from 7 and a window of 2, and the session that an answer to it begins.
+const BEGIN: Begin = Begin {
+    remote_channel: None,
+    next_outgoing_id: 7,
+    incoming_window: 2,
+    outgoing_window: 0,
+    handle_max: None,
+};
+
+const SESSION: Session = Session {
+    number: 11,
+    connection: 3,
+    channel: 0,
+    our_first_id: 0,
+    their_first_id: 7,
+    their_window: 2,
+};
+
+const NOTHING: Unanswered = Unanswered {
+    begin: None,
+    owes_end: false,
+    awaits_end: false,
+};
+
+fn on_session<'a>(number: u64, moment: Moment<'a>) -> Event<'a> {
+    Event {
+        session: Some(SESSION),
+        is_heard: true,
+        ..event(number, 3, moment)
+    }
+}
+
+/// The client asks for a session, and the router begins it; a transfer goes out; the client ends it, and the router answers.
+#[test]
+fn a_session_from_its_begin_to_its_end(rt: HostRuntime) -> Result<(), Fail> {
+    let mut connections = Connections::new(rt.alloc());
+    let asked = Event {
+        is_heard: true,
+        ..event(10, 3, Moment::In(spoken(Performative::Begin(BEGIN))))
+    };
+    connections.take(&asked)?;
+    assert_eq!(rt; connections.unanswered(3, 0).begin, Some(BEGIN));
+    assert!(rt; connections.has_unanswered_begin(3, 0) && connections.live_session(3, 0).is_none());
+
+    let answer = Begin {
+        remote_channel: Some(0),
+        next_outgoing_id: 0,
+        ..BEGIN
+    };
+    connections.take(&on_session(11, Moment::Out(spoken(Performative::Begin(answer)))))?;
+    assert_eq!(rt; connections.unanswered(3, 0), NOTHING);
+    assert_eq!(rt;
+        connections.live_session(3, 0).map(|session| session.number),
+        Some(11)
+    );
+    assert_eq!(rt; connections.session_window(SESSION), 2);
+    assert_eq!(rt; connections.next_incoming_id(SESSION), 7);
+
+    connections.take(&on_session(12, Moment::Out(spoken(TRANSFER))))?;
+    assert_eq!(rt; connections.session_window(SESSION), 1);
+    assert_eq!(rt; connections.next_outgoing_id(SESSION), 1);
+    assert_eq!(rt; connections.given_window(SESSION), 2048);
+
+    connections.take(&on_session(13, Moment::In(spoken(Performative::End(None)))))?;
+    assert!(rt; connections.owes_end(3, 0) && connections.live_session(3, 0).is_none());
+    connections.take(&event(14, 3, Moment::Out(spoken(Performative::End(None)))))?;
+    assert_eq!(rt; connections.unanswered(3, 0), NOTHING);
+    Ok(())
+}
+
+/// The router ends a session, and the client's end is awaited until it comes; a session of another channel lives on, until
+/// the connection is over.
+#[test]
+fn a_session_that_the_router_ends(rt: HostRuntime) -> Result<(), Fail> {
+    let mut connections = Connections::new(rt.alloc());
+    connections.take(&on_session(11, Moment::Out(spoken(Performative::Begin(BEGIN)))))?;
+    let beside = Session {
+        number: 12,
+        channel: 5,
+        ..SESSION
+    };
+    let begun = Event {
+        session: Some(beside),
+        ..event(
+            12,
+            3,
+            Moment::Out(on_channel(5, Performative::Begin(BEGIN))),
+        )
+    };
+    connections.take(&begun)?;
+    connections.take(&on_session(13, Moment::Out(spoken(Performative::End(None)))))?;
+    assert!(rt; connections.awaits_end(3, 0) && connections.live_session(3, 0).is_none());
+    assert_eq!(rt; connections.session_window(beside), 2);
+
+    connections.take(&event(14, 3, Moment::In(spoken(Performative::End(None)))))?;
+    assert_eq!(rt; connections.unanswered(3, 0), NOTHING);
+    connections.take(&event(15, 3, Moment::Lost))?;
+    assert!(rt; connections.is_over(3) && connections.live_session(3, 5).is_none());
     Ok(())
 }

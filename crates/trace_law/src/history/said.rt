@@ -64,7 +64,7 @@ impl<'a> Moment<'a> {
     }
 
     /// The channel of a whole frame, in either direction.
-    pub(crate) fn channel(&self) -> Option<u16>
+    pub fn channel(&self) -> Option<u16>
         ensures { result ≡ channel_of (moment_view self.now) }
     {
         match self {
@@ -128,7 +128,7 @@ impl<'a> Event<'a> {
         }
     }
 
-    pub(crate) fn in_begin(&self) -> Option<Begin>
+    pub fn in_begin(&self) -> Option<Begin>
         ensures { result ≡ said.in_begin (event_view self.now) }
     {
         match self.in_spoken()?.performative {
@@ -173,7 +173,7 @@ impl<'a> Event<'a> {
         }
     }
 
-    pub(crate) fn is_in_end(&self) -> bool
+    pub fn is_in_end(&self) -> bool
         ensures { result ≡ said.is_in_end (event_view self.now) }
     {
         matches!(
@@ -197,7 +197,7 @@ impl<'a> Event<'a> {
         )
     }
 
-    pub(crate) fn out_begin(&self) -> Option<Begin>
+    pub fn out_begin(&self) -> Option<Begin>
         ensures { result ≡ said.out_begin (event_view self.now) }
     {
         match self.out_spoken()?.performative {
@@ -242,7 +242,7 @@ impl<'a> Event<'a> {
         }
     }
 
-    pub(crate) fn is_out_end(&self) -> bool
+    pub fn is_out_end(&self) -> bool
         ensures { result ≡ said.is_out_end (event_view self.now) }
     {
         matches!(

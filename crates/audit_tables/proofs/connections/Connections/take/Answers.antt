@@ -1,15 +1,12 @@
-use Rattle.std.proofs.Common.{ap, ◌∙◌, if◌then◌else◌, ◌==◌}
-use Rattle.audit_tables.specs.Connections.{seen_in, seen_next}
-use Rattle.audit_tables.specs.declared.connections.Seen.{Seen}
-use Rattle.audit_tables.proofs.ConnectionSteps.{next_connection}
+use Rattle.trace_events.specs.History.{history}
+use Rattle.trace_events.proofs.Judged.{history-judged}
 use Rattle.trace_law.specs.View.{event_view}
+use Rattle.audit_tables.proofs.KeptSteps.{taken-seen, taken-kept}
 use Rattle.audit_tables.proofs.connections.Connections.take.Goals as goal
 
-pub returns-clause-taken : goal.returns-clause-taken
-returns-clause-taken c = λ history kept n.
-    let event = event_view c.args.event.now in
-    let before = seen_in c.args.self.now in
-    let after = c.after-seen.ensures ∙ ap (seen_next event) c.seen.ensures.stored in
-    c.in_ok-put.ensures.put n
-    ∙ (ap (λ (seen : Seen). if event.connection == n then seen else before n) after
-    ∙ next_connection event history before kept n)
+pub returns-clause-seen : goal.returns-clause-seen
+returns-clause-seen c = λ past seen. taken-seen (event_view c.args.event.now) past c.args.self.now c.put.new.self c.in_ok-put.ensures.taken seen
+
+pub returns-clause-kept : goal.returns-clause-kept
+returns-clause-kept c = λ rules records r next kept.
+    taken-kept rules (event_view c.args.event.now) (history rules records) ((r, next.0), history-judged rules records) next.1 c.args.self.now c.put.new.self c.in_ok-put.ensures.taken kept
