@@ -6,3 +6,4 @@ pub mod Payloads
 pub mod OutcomeSizes
 mod Counted
 mod Copies
+mod KnownAll

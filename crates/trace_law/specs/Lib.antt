@@ -1,3 +1,4 @@
+pub mod Known
 pub mod OutcomeSize
 pub mod Payloads
 pub mod View

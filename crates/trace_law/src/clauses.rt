@@ -1,10 +1,11 @@
 //! The law: the clauses that each record which the router has written must meet.
 
-ghost use Rattle.std.specs.Prelude.{◌≡◌, Some, None, if◌then◌else◌, find, not};
+ghost use Rattle.std.specs.Prelude.{◌≡◌, IfSome, Some, None, if◌then◌else◌, find, not};
 ghost use Rattle.amqp_perf.specs.View.{disposition_fields, transfer_fields, attach_fields};
 ghost use Rattle.trace_events.specs.Words.{is_some_and};
 ghost use Rattle.trace_events.specs.Session.{StandsLive};
 ghost use Rattle.trace_events.specs.Link.{NamesLive};
+ghost use Rattle.trace_law.specs.Known.{CarriesKnown};
 ghost use Rattle.trace_law.specs.View.{event_view, spoken_view, frame_view, Events};
 ghost use Rattle.trace_clauses.specs.LinkClause.{answers_attach};
 ghost use Rattle.trace_clauses.specs.declared.clause.Clause.TheVariants as clauses;
@@ -68,6 +69,7 @@ fn broken_by_transfer<'a, P: Counts + Carriage<'a>>(
 ) -> Option<Clause>
     requires few { P.is_short past.now }
     ensures { (history : Events) → P.stands_for past.now history → StandsLive (event_view event.now) history → NamesLive (event_view event.now) history →
+        CarriesKnown (λ n. P.knows_number past.now n history) (λ j. P.knows_outgoing past.now j history) (event_view event.now) →
         (result ≡ find (λ clause. not (law.transfer_meets rules.now (event_view event.now) (transfer_fields transfer.now) payload.now history clause)) law.clauses) }
 {
     let begins = event.begins_outgoing();
@@ -103,6 +105,7 @@ fn broken_by_disposition<'a, P: Outcomes<'a>>(
     disposition: &Disposition,
 ) -> Option<Clause>
     ensures { (history : Events) → P.stands_for past.now history →
+        IfSome (event_view event.now).told (λ n. P.knows_number past.now n history) →
         (result ≡ find (λ clause. not (law.disposition_meets rules.now (event_view event.now) (disposition_fields disposition.now) history
         (disposition_fields disposition.now).role clause)) law.clauses) }
 {
@@ -175,6 +178,7 @@ fn broken_by_spoken<'a, P: Questions<'a>>(
 ) -> Option<Clause>
     requires few { P.is_short past.now }
     ensures { (history : Events) → P.stands_for past.now history → StandsLive (event_view event.now) history → NamesLive (event_view event.now) history →
+        CarriesKnown (λ n. P.knows_number past.now n history) (λ j. P.knows_outgoing past.now j history) (event_view event.now) →
         (result ≡ law.broken_by rules.now (event_view event.now) (frame_view frame.now) history (Some (spoken_view spoken.now))) }
 {
     if !may_be_written(past, event.connection, spoken)
@@ -204,6 +208,7 @@ pub fn broken_clause<'a, P: Questions<'a>>(
 ) -> Option<Clause>
     requires few { P.is_short past.now }
     ensures { (history : Events) → P.stands_for past.now history → StandsLive (event_view event.now) history → NamesLive (event_view event.now) history →
+        CarriesKnown (λ n. P.knows_number past.now n history) (λ j. P.knows_outgoing past.now j history) (event_view event.now) →
         (result ≡ law.broken_clause rules.now (event_view event.now) history) }
 {
     let Moment::Out(frame) = event.moment else {

@@ -4,6 +4,7 @@ ghost use Rattle.std.specs.Prelude.{IfSome, ◌≡◌, option_map, length};
 ghost use Rattle.trace_events.specs.History.{session_of, named_link, link_of};
 ghost use Rattle.trace_events.specs.Session.{IsLiveOn, StandsLive};
 ghost use Rattle.trace_events.specs.Link.{NamesLive};
+ghost use Rattle.trace_law.specs.Known.{OpensKnown};
 ghost use Rattle.trace_law.specs.View.{spoken_view, moment_view, link_view, event_view, incoming_view, outgoing_view, Events};
 ghost use Rattle.amqp_perf.specs.View.{disposition_fields};
 ghost use Rattle.trace_events.specs.History as law;
@@ -245,7 +246,8 @@ impl<'a> Outgoing<'a> {
 
 /// The session that an Out begin begins.
 fn opened_session<'a, P: Openings<'a>>(past: &P, event: &Event) -> Option<Session>
-    ensures { (history : Events) → P.stands_for past.now history → (result ≡ law.opened_session (event_view event.now) history) }
+    ensures { (history : Events) → P.stands_for past.now history →
+        OpensKnown (λ c channel. P.knows_begin past.now c channel history) (λ s handle. P.knows_attach past.now s handle history) (event_view event.now) → (result ≡ law.opened_session (event_view event.now) history) }
 {
     let spoken = event.out_spoken()?;
     let Performative::Begin(begin) = spoken.performative else {
@@ -264,6 +266,7 @@ fn opened_session<'a, P: Openings<'a>>(past: &P, event: &Event) -> Option<Sessio
 /// The link that an Out attach with source and target opens on a live session.
 fn opened_link<'a, P: Openings<'a>>(past: &P, event: &Event<'a>) -> Option<Link<'a>>
     ensures { (history : Events) → P.stands_for past.now history → StandsLive (event_view event.now) history →
+        OpensKnown (λ c channel. P.knows_begin past.now c channel history) (λ s handle. P.knows_attach past.now s handle history) (event_view event.now) →
         (option_map link_view result ≡ law.opened_link (event_view event.now) history) }
 {
     let attach = event.out_attach()?;
@@ -354,6 +357,7 @@ fn delivered<'a, P: Inputs<'a> + Outcomes<'a> + Carriage<'a>>(
 /// An Out begin stands on its own session, and an Out attach names its own link; any other event stays as it was.
 pub fn opened<'a, P: Openings<'a>>(past: &P, event: Event<'a>) -> Event<'a>
     ensures { (history : Events) → P.stands_for past.now history → StandsLive (event_view event.entry) history →
+        OpensKnown (λ c channel. P.knows_begin past.now c channel history) (λ s handle. P.knows_attach past.now s handle history) (event_view event.entry) →
         (event_view result ≡ law.opened history (event_view event.entry)) }
 {
     let session = match opened_session(past, &event) {
@@ -400,6 +404,8 @@ pub fn judge<'a, P: Inputs<'a> + Outcomes<'a> + Openings<'a> + Carriage<'a>>(
     entry: &'a Record,
 ) -> Event<'a>
     ensures { (history : Events) → P.stands_for past.now history → number ≡ length history →
+        OpensKnown (λ c channel. P.knows_begin past.now c channel history) (λ s handle. P.knows_attach past.now s handle history)
+        (law.judge_unopened rules.now history entry.now.connection (law.moment_of entry.now.what) entry.now.note) →
         (event_view result ≡ law.judge rules.now history entry.now) }
 {
     opened(past, judge_unopened(past, rules, number, entry))

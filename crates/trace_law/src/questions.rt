@@ -21,11 +21,30 @@ pub use self::openings::Openings;
 pub use self::outcomes::Outcomes;
 
 /// What stands for the events before a record. Several histories may stand behind the same value, which then answers the
-/// same of each.
+/// same of each. It need not know of all that was: what it can tell of deliveries, begins and attaches is its own matter
+/// (`knows_number` and the others), and it is asked of nothing else.
 pub trait History {
+    ghost use Rattle.std.specs.Prelude.{ℕ};
+    ghost use Rattle.trace_events.specs.Event.{Incoming, Outgoing};
+    ghost use Rattle.trace_events.specs.declared.session.Session.{Session};
     ghost use Rattle.trace_law.specs.View.{Events};
 
     ghost stands_for: { Self → Events → Type 0 };
+
+    /// It can tell of the client's delivery that begins in the record of this number.
+    ghost knows_number: { Self → ℕ → Events → Type 0 };
+
+    /// It can tell of this delivery of a client.
+    ghost knows_incoming: { Self → Incoming → Events → Type 0 };
+
+    /// It can tell of this delivery to a client.
+    ghost knows_outgoing: { Self → Outgoing → Events → Type 0 };
+
+    /// It can tell the client's last begin on the channel of a connection.
+    ghost knows_begin: { Self → ℕ → ℕ → Events → Type 0 };
+
+    /// It can tell the client's last attach of the handle on a session.
+    ghost knows_attach: { Self → Session → ℕ → Events → Type 0 };
 
     /// What it stands for is short enough to be counted in 64 bits.
     ghost is_short: { Self → Type 0 };

@@ -17,6 +17,16 @@ impl<'p, 'a> History for Past<'p, 'a> {
 
     ghost stands_for = { λ past history. events past ≡ history };
 
+    ghost knows_number = { λ past number history. Unit {0} };
+
+    ghost knows_incoming = { λ past delivery history. Unit {0} };
+
+    ghost knows_outgoing = { λ past delivery history. Unit {0} };
+
+    ghost knows_begin = { λ past connection channel history. Unit {0} };
+
+    ghost knows_attach = { λ past session handle history. Unit {0} };
+
     ghost is_short = { λ past. length (events past) < 2 ^ 64 };
 }
 
@@ -258,6 +268,7 @@ impl<'p, 'a> Past<'p, 'a> {
     ghost use Rattle.trace_law.specs.View.{events, event_view};
 
     /// The record of this number in its place.
+    #[tactic(auto, using(crate::proofs::KnownAll::opens_all))]
     pub(crate) fn judge(&self, rules: &[Rule], number: u64, entry: &'a Record) -> Event<'a>
         requires numbered { number ≡ length (events self.now) }
         ensures { event_view result ≡ judge rules.now (events self.now) entry.now }

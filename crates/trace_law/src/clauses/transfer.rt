@@ -1,6 +1,6 @@
 //! What each transfer that the router writes keeps to, L4 to L9.
 
-ghost use Rattle.std.specs.Prelude.{◌≡◌, ◌&&◌, ◌||◌};
+ghost use Rattle.std.specs.Prelude.{◌≡◌, ◌&&◌, ◌||◌, IfSome};
 ghost use Rattle.amqp_perf.specs.View.{transfer_fields};
 ghost use Rattle.trace_events.specs.Session.{StandsLive};
 ghost use Rattle.trace_events.specs.Link.{IsLiveLink};
@@ -93,7 +93,8 @@ pub(crate) fn carries<'a, P: Carriage<'a>>(
     octets: &'a [u8],
     delivery: &Incoming,
 ) -> bool
-    ensures { (history : Events) → P.stands_for past.now history →
+    ensures { (history : Events) → P.stands_for past.now history → P.knows_incoming past.now (incoming_view delivery.now) history →
+        IfSome (event_view event.now).outgoing (λ j. P.knows_outgoing past.now j history) →
         (result ≡ is_some_and (event_view event.now).outgoing (λ j. law.carries j (transfer_fields fields.now) octets.now history (incoming_view delivery.now))) }
 {
     match &event.outgoing {
@@ -109,7 +110,7 @@ fn is_first_to<'a, P: Carriage<'a>>(
     delivery: &Incoming,
 ) -> bool
     requires few { P.is_short past.now }
-    ensures { (history : Events) → P.stands_for past.now history → IsLiveLink (link_view link.now) history →
+    ensures { (history : Events) → P.stands_for past.now history → IsLiveLink (link_view link.now) history → P.knows_incoming past.now (incoming_view delivery.now) history →
         (result ≡ law.is_first_to rules.now (link_view link.now) history (incoming_view delivery.now)) }
 {
     if is_of_multicast(rules, delivery) {
@@ -120,7 +121,7 @@ fn is_first_to<'a, P: Carriage<'a>>(
 }
 
 fn is_in_order<'a, P: Carriage<'a>>(past: &P, link: &Link, delivery: &Incoming) -> bool
-    ensures { (history : Events) → P.stands_for past.now history → IsLiveLink (link_view link.now) history →
+    ensures { (history : Events) → P.stands_for past.now history → IsLiveLink (link_view link.now) history → P.knows_incoming past.now (incoming_view delivery.now) history →
         (result ≡ law.is_in_order (link_view link.now) history (incoming_view delivery.now)) }
 {
     match past.carried_before(link) {
@@ -138,7 +139,7 @@ pub(crate) fn may_go_to<'a, P: Carriage<'a>>(
     delivery: &Incoming,
 ) -> bool
     requires few { P.is_short past.now }
-    ensures { (history : Events) → P.stands_for past.now history → IsLiveLink (link_view link.now) history →
+    ensures { (history : Events) → P.stands_for past.now history → IsLiveLink (link_view link.now) history → P.knows_incoming past.now (incoming_view delivery.now) history →
         (result ≡ (law.is_first_to rules.now (link_view link.now) history (incoming_view delivery.now) && law.is_in_order (link_view link.now) history (incoming_view delivery.now))) }
 {
     is_first_to(past, rules, link, delivery) && is_in_order(past, link, delivery)

@@ -140,7 +140,8 @@ fn takes_decided<'a, P: Outcomes<'a>>(past: &P, delivery: &Incoming, fields: &Di
 
 /// The last transfer to a pre-settled link is written.
 fn is_sent_settled<'a, P: Outcomes<'a>>(past: &P, outgoing: &Outgoing) -> bool
-    ensures { (history : Events) → P.stands_for past.now history → (result ≡ rows.is_sent_settled (outgoing_view outgoing.now) history) }
+    ensures { (history : Events) → P.stands_for past.now history → P.knows_outgoing past.now (outgoing_view outgoing.now) history →
+        (result ≡ rows.is_sent_settled (outgoing_view outgoing.now) history) }
 {
     outgoing.link.is_pre_settled && past.is_sent(outgoing)
 }
@@ -153,7 +154,7 @@ fn paired_row<'a, P: Outcomes<'a>>(
     decision: &Option<Disposition<'a>>,
     why: Why,
 ) -> Option<Told<'a>>
-    ensures { (history : Events) → P.stands_for past.now history → (option_map told_view result
+    ensures { (history : Events) → P.stands_for past.now history → P.knows_outgoing past.now (outgoing_view outgoing.now) history → (option_map told_view result
         ≡ rows.paired_row (incoming_view delivery.now) (outgoing_view outgoing.now) history (option_map disposition_fields decision.now) why) }
 {
     match (decision, why) {
@@ -170,7 +171,7 @@ fn paired_row<'a, P: Outcomes<'a>>(
 }
 
 fn anycast_row<'a, P: Outcomes<'a>>(past: &P, delivery: &Incoming, why: Why) -> Option<Told<'a>>
-    ensures { (history : Events) → P.stands_for past.now history → (option_map told_view result
+    ensures { (history : Events) → P.stands_for past.now history → P.knows_incoming past.now (incoming_view delivery.now) history → (option_map told_view result
         ≡ rows.anycast_row (incoming_view delivery.now) history why (pairing (incoming_view delivery.now) history)) }
 {
     let outgoing = past.pairing(delivery)?;
@@ -185,7 +186,7 @@ pub fn row<'a, P: Outcomes<'a>>(
     delivery: &Incoming,
     why: Why,
 ) -> Option<Told<'a>>
-    ensures { (history : Events) → P.stands_for past.now history →
+    ensures { (history : Events) → P.stands_for past.now history → P.knows_incoming past.now (incoming_view delivery.now) history →
         (option_map told_view result ≡ rows.row rules.now (incoming_view delivery.now) history why) }
 {
     match why {
@@ -200,7 +201,8 @@ pub fn row<'a, P: Outcomes<'a>>(
 
 /// It may be told: complete, of a live link, neither settled nor told.
 pub fn may_be_told<'a, P: Outcomes<'a>>(past: &P, delivery: &Incoming) -> bool
-    ensures { (history : Events) → P.stands_for past.now history → (result ≡ rows.may_be_told (incoming_view delivery.now) history) }
+    ensures { (history : Events) → P.stands_for past.now history → P.knows_incoming past.now (incoming_view delivery.now) history →
+        (result ≡ rows.may_be_told (incoming_view delivery.now) history) }
 {
     past.is_complete(delivery)
         && !past.is_settled(delivery)

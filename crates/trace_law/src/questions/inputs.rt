@@ -9,9 +9,9 @@ use trace_events::Session;
 /// What is asked of the past when a client's frame is judged: whether it is heard, which fault it has, and the delivery that
 /// it begins or goes on with.
 ///
-/// What takes a session or a link is asked of a live one alone.
+/// What takes a session or a link is asked of a live one alone, and what takes a delivery of one that is known.
 pub trait Inputs<'a>: History {
-    ghost use Rattle.std.specs.Prelude.{◌≡◌, ◌+◌, length, nat_lt, option_map};
+    ghost use Rattle.std.specs.Prelude.{◌≡◌, ◌+◌, IfSome, length, nat_lt, option_map};
     ghost use Rattle.trace_events.specs.Connection as connections;
     ghost use Rattle.trace_events.specs.Credit as credits;
     ghost use Rattle.trace_events.specs.Fault as faults;
@@ -61,12 +61,14 @@ pub trait Inputs<'a>: History {
 
     /// The delivery of a producer's link whose last part hasn't come yet.
     fn incoming_in_progress(&self, link: &Link) -> Option<Incoming<'a>>
-        ensures { (history : Events) → Self.stands_for self.now history → IsLiveLink (link_view link.now) history →
-            (option_map incoming_view result ≡ received.in_progress (link_view link.now) history) };
+        ensures value { (history : Events) → Self.stands_for self.now history → IsLiveLink (link_view link.now) history →
+            (option_map incoming_view result ≡ received.in_progress (link_view link.now) history) }
+        ensures known { (history : Events) → Self.stands_for self.now history → IsLiveLink (link_view link.now) history →
+            IfSome (option_map incoming_view result) (λ d. Self.knows_incoming self.now d history) };
 
     /// The delivery's payload with these octets behind it is longer than the limit.
     fn is_longer(&self, limit: u64, delivery: &Incoming, octets: &[u8]) -> bool
-        ensures { (history : Events) → Self.stands_for self.now history →
+        ensures { (history : Events) → Self.stands_for self.now history → Self.knows_incoming self.now (incoming_view delivery.now) history →
             (result ≡ nat_lt limit (length (received.payload (incoming_view delivery.now) history) + length octets.now)) };
 
     /// A delivery of this id on the session is not decided yet.

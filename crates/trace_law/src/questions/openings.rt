@@ -39,18 +39,19 @@ pub trait Openings<'a>: History {
         ensures { (history : Events) → Self.stands_for self.now history →
             (result ≡ sessions.has_unanswered_begin connection channel history) };
 
-    /// The client's last begin on the channel.
+    /// The client's last begin on the channel, where it is known.
     fn last_in_begin(&self, connection: u32, channel: u16) -> Option<Begin>
-        ensures { (history : Events) → Self.stands_for self.now history → (result ≡ sessions.last_in_begin connection channel history) };
+        ensures { (history : Events) → Self.stands_for self.now history → Self.knows_begin self.now connection channel history →
+            (result ≡ sessions.last_in_begin connection channel history) };
 
     /// An end of the client's on the channel is still to be answered.
     fn owes_end(&self, connection: u32, channel: u16) -> bool
         ensures { (history : Events) → Self.stands_for self.now history → (result ≡ sessions.owes_end connection channel history) };
 
-    /// The event of the client's last attach of the handle.
+    /// The event of the client's last attach of the handle, where it is known.
     fn last_in_attach(&self, session: Session, handle: u32) -> Option<Event<'a>>
         ensures { (history : Events) → Self.stands_for self.now history → IsLiveOn session history →
-            (option_map event_view result ≡ links.last_in_attach session handle history) };
+            Self.knows_attach self.now session handle history → (option_map event_view result ≡ links.last_in_attach session handle history) };
 
     /// What an attach of the client's asks for that is still to be answered.
     fn asking(&self, session: Session, handle: u32) -> Option<Asking<'a>>

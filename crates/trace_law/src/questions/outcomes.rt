@@ -8,9 +8,9 @@ use trace_events::Session;
 
 /// What is asked of the past when an outcome is told or a delivery is settled.
 ///
-/// What takes a session is asked of a live one alone.
+/// What takes a session is asked of a live one alone, and what takes a delivery of one that is known.
 pub trait Outcomes<'a>: History {
-    ghost use Rattle.std.specs.Prelude.{◌≡◌, option_map};
+    ghost use Rattle.std.specs.Prelude.{◌≡◌, IfSome, option_map};
     ghost use Rattle.amqp_perf.specs.View.{disposition_fields};
     ghost use Rattle.trace_events.specs.Connection as connections;
     ghost use Rattle.trace_events.specs.Incoming as received;
@@ -33,27 +33,29 @@ pub trait Outcomes<'a>: History {
 
     /// The delivery of a client that begins in the record of this number.
     fn incoming_at(&self, number: u64) -> Option<Incoming<'a>>
-        ensures { (history : Events) → Self.stands_for self.now history →
-            (option_map incoming_view result ≡ received.incoming_at number history) };
+        ensures value { (history : Events) → Self.stands_for self.now history → Self.knows_number self.now number history →
+            (option_map incoming_view result ≡ received.incoming_at number history) }
+        ensures known { (history : Events) → Self.stands_for self.now history → Self.knows_number self.now number history →
+            IfSome (option_map incoming_view result) (λ d. Self.knows_incoming self.now d history) };
 
     /// Its last part has come.
     fn is_complete(&self, delivery: &Incoming) -> bool
-        ensures { (history : Events) → Self.stands_for self.now history →
+        ensures { (history : Events) → Self.stands_for self.now history → Self.knows_incoming self.now (incoming_view delivery.now) history →
             (result ≡ received.is_complete (incoming_view delivery.now) history) };
 
     /// A part of it, or a disposition of its producer, says that it is settled.
     fn is_settled(&self, delivery: &Incoming) -> bool
-        ensures { (history : Events) → Self.stands_for self.now history →
+        ensures { (history : Events) → Self.stands_for self.now history → Self.knows_incoming self.now (incoming_view delivery.now) history →
             (result ≡ received.is_settled (incoming_view delivery.now) history) };
 
     /// Its outcome was told.
     fn is_told(&self, delivery: &Incoming) -> bool
-        ensures { (history : Events) → Self.stands_for self.now history →
+        ensures { (history : Events) → Self.stands_for self.now history → Self.knows_incoming self.now (incoming_view delivery.now) history →
             (result ≡ received.is_told (incoming_view delivery.now) history) };
 
     /// It found no consumer, or lost the last one, and goes to none any more.
     fn is_gone(&self, rules: &[Rule], delivery: &Incoming) -> bool
-        ensures { (history : Events) → Self.stands_for self.now history →
+        ensures { (history : Events) → Self.stands_for self.now history → Self.knows_incoming self.now (incoming_view delivery.now) history →
             (result ≡ waiting.is_gone rules.now (incoming_view delivery.now) history) };
 
     /// The link lives.
@@ -62,17 +64,19 @@ pub trait Outcomes<'a>: History {
 
     /// The last outgoing delivery that carries it.
     fn pairing(&self, delivery: &Incoming) -> Option<Outgoing<'a>>
-        ensures { (history : Events) → Self.stands_for self.now history →
-            (option_map outgoing_view result ≡ sent.pairing (incoming_view delivery.now) history) };
+        ensures value { (history : Events) → Self.stands_for self.now history → Self.knows_incoming self.now (incoming_view delivery.now) history →
+            (option_map outgoing_view result ≡ sent.pairing (incoming_view delivery.now) history) }
+        ensures known { (history : Events) → Self.stands_for self.now history → Self.knows_incoming self.now (incoming_view delivery.now) history →
+            IfSome (option_map outgoing_view result) (λ j. Self.knows_outgoing self.now j history) };
 
     /// The consumer's decision; on a pre-settled link there is none.
     fn decision(&self, delivery: &Outgoing) -> Option<Disposition<'a>>
-        ensures { (history : Events) → Self.stands_for self.now history →
+        ensures { (history : Events) → Self.stands_for self.now history → Self.knows_outgoing self.now (outgoing_view delivery.now) history →
             (option_map disposition_fields result ≡ sent.decision (outgoing_view delivery.now) history) };
 
     /// Its last part is written.
     fn is_sent(&self, delivery: &Outgoing) -> bool
-        ensures { (history : Events) → Self.stands_for self.now history →
+        ensures { (history : Events) → Self.stands_for self.now history → Self.knows_outgoing self.now (outgoing_view delivery.now) history →
             (result ≡ sent.is_sent (outgoing_view delivery.now) history) };
 
     /// The longest frame that may be written on the connection, in octets.

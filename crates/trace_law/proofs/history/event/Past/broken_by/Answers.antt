@@ -7,7 +7,8 @@ use Rattle.trace_events.specs.Link.{NamesLive}
 use Rattle.trace_clauses.specs.Clauses.{broken_clause}
 use Rattle.trace_clauses.proofs.LiveLinks.{placed-names}
 use Rattle.trace_clauses.proofs.Unopened.{broken-unopened}
-use Rattle.trace_law.specs.View.{events}
+use Rattle.trace_law.specs.View.{events, event_view}
+use Rattle.trace_law.proofs.KnownAll.{carries_all}
 use Rattle.trace_law.proofs.history.event.Past.broken_by.Goals as goal
 
 -- the law is asked before what the record opens is filled in
@@ -19,6 +20,6 @@ returns c =
     let judged = c.judge_unopened-event.ensures past refl c.requires.numbered in
     let live = subst (λ (e : Event). StandsLive e past) (sym judged) (placed-stands past entry.connection (moment_of entry.what) entry.note) in
     let names = subst (λ (e : Event). NamesLive e past) (sym judged) (placed-names past entry.connection (moment_of entry.what) entry.note) in
-    c.broken_clause.ensures past refl live names
+    c.broken_clause.ensures past refl live names (carries_all (event_view c.judge_unopened-event.result))
     ∙ (ap (λ (e : Event). broken_clause rules e past) judged
     ∙ sym (broken-unopened rules past entry))
