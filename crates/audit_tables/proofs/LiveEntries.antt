@@ -22,3 +22,6 @@ begin_known c channel past = by (has_unanswered_begin c channel past) (asked-som
     by : (b : Bool) → (b ≡ true → is_some (last_in_begin c channel past) ≡ true) → is_some (if b then last_in_begin c channel past else None) ≡ b
     by true has = has refl
     by false has = refl
+
+pub begin_last : (c channel : ℕ) (past : List Event) → has_unanswered_begin c channel past ≡ true → begin_to_answer c channel past ≡ last_in_begin c channel past
+begin_last c channel past is = ap (λ b. if b then last_in_begin c channel past else None) is

@@ -1,7 +1,7 @@
 //! Answers to questions about the past, as far as connections and their sessions go: each as the questions of `trace_law`
 //! ask it.
 
-ghost use Rattle.std.specs.Prelude.{◌≡◌};
+ghost use Rattle.std.specs.Prelude.{◌≡◌, true};
 ghost use Rattle.trace_events.specs.Connection as connections;
 ghost use Rattle.trace_events.specs.Session as sessions;
 ghost use Rattle.trace_events.specs.Session.{IsLiveOn};
@@ -10,6 +10,7 @@ ghost use Rattle.audit_tables.specs.Connections.{AreKept};
 ghost use Rattle.trace_law.specs.View.{Events};
 
 use crate::connections::Connections;
+use amqp_perf::Begin;
 use trace_events::Session;
 
 impl Connections {
@@ -95,6 +96,15 @@ impl Connections {
         ensures { (history : Events) → AreKept self.now history → result ≡ sessions.owes_end connection channel history }
     {
         self.unanswered(connection, channel).owes_end
+    }
+
+    /// The client's last begin on the channel, where one is still to be answered.
+    #[tactic(auto, using(crate::proofs::LiveEntries::begin_last))]
+    pub fn last_in_begin(&self, connection: u32, channel: u16) -> Option<Begin>
+        ensures { (history : Events) → AreKept self.now history → sessions.has_unanswered_begin connection channel history ≡ true →
+            result ≡ sessions.last_in_begin connection channel history }
+    {
+        self.unanswered(connection, channel).begin
     }
 
     /// A begin of the client's on the channel is still to be answered.

@@ -187,7 +187,7 @@ fn a_session_from_its_begin_to_its_end(rt: HostRuntime) -> Result<(), Fail> {
         ..event(10, 3, Moment::In(spoken(Performative::Begin(BEGIN))))
     };
     connections.take(&asked)?;
-    assert_eq!(rt; connections.unanswered(3, 0).begin, Some(BEGIN));
+    assert_eq!(rt; connections.last_in_begin(3, 0), Some(BEGIN));
     assert!(rt; connections.has_unanswered_begin(3, 0) && connections.live_session(3, 0).is_none());
 
     let answer = Begin {
