@@ -25,11 +25,14 @@ pub mod OpenedConnections
 pub mod JudgedHistories
 pub mod Pairs
 pub mod OutgoingProgress
+pub mod BegunDeliveries
 pub mod LinkEnds
 pub mod IncomingProgress
+pub mod SettlingList
 mod ClauseExamples
 mod FaultExamples
 mod ReadingExamples
 mod PartsExamples
 mod EndExamples
 mod QueueExamples
+mod WorkExamples

@@ -134,7 +134,7 @@ or_other true c none is = absurd cc
 or_other false c none is = is
 
 -- what a note names is the delivery of its number
-noted_pair : (rules : List RuleText) (past : List Event) → AreJudged rules past → (note : Note) (d : Incoming) → noted note past ≡ Some d
+pub noted_pair : (rules : List RuleText) (past : List Event) → AreJudged rules past → (note : Note) (d : Incoming) → noted note past ≡ Some d
     → (note ≡ notes.Pair d.number) × (d.number < length past) × (incoming_at d.number past ≡ Some d)
 noted_pair rules past are notes.None d is = absurd cc
 noted_pair rules past are (notes.Told why) d is = absurd cc

@@ -12,6 +12,7 @@ pub mod OutgoingSteps
 pub mod EveryStep
 pub mod QueueSteps
 pub mod WaitingSteps
+pub mod SettlingSteps
 pub mod IdleSteps
 pub mod HistorySteps
 pub mod Steps
