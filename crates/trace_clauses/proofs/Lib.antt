@@ -29,6 +29,7 @@ pub mod BegunDeliveries
 pub mod LinkEnds
 pub mod IncomingProgress
 pub mod SettlingList
+pub mod CompletionOrder
 pub mod UnsentCopies
 mod ClauseExamples
 mod FaultExamples

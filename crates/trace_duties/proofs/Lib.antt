@@ -17,3 +17,6 @@ mod WorkedLinks
 pub mod ConsumerCounts
 pub mod ConsumersCounted
 pub mod LinksCounted
+pub mod LinkOrder
+pub mod PicksInOrder
+pub mod CopyOrder
