@@ -20,3 +20,4 @@ pub mod LinksCounted
 pub mod LinkOrder
 pub mod PicksInOrder
 pub mod CopyOrder
+pub mod QuietLists
