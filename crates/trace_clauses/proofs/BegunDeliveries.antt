@@ -1,5 +1,5 @@
 -- In a lawful capture each delivery to a client, in progress or not, is of a link that was opened before it, and carries a
--- complete delivery of that link's address, which its note names.
+-- complete delivery of that link's address, which its note names, and which is named on the link from then on.
 use Rattle.std.proofs.Common.{◌≡◌, refl, sym, ap, subst, ◌∙◌, ◌<◌, Bool, true, false, List, [], ◌∷◌, length, Option, Some, None, IfSome, IsSomeAnd, find, option_and_then, option_map, is_some, ◌&&◌, ◌==◌, inl, inr, arith, eqb-true, eq-eqb}
 use Rattle.std.specs.List.{cons_option}
 use Rattle.pairing_cert.specs.declared.note.Note.TheVariants as notes
@@ -10,7 +10,7 @@ use Rattle.trace_events.specs.Event.{Event, Link, Incoming, Outgoing, out_frame,
 use Rattle.trace_events.specs.declared.session.Session.{Session}
 use Rattle.trace_events.specs.Said.{as_attach, as_transfer, out_spoken, out_transfer}
 use Rattle.trace_events.specs.Incoming.{address_of, is_complete}
-use Rattle.trace_events.specs.Outgoing.{outgoing_begun, outgoing_deliveries, noted}
+use Rattle.trace_events.specs.Outgoing.{outgoing_begun, outgoing_deliveries, names, noted, is_named_on}
 use Rattle.trace_events.specs.History.{moment_of}
 use Rattle.trace_clauses.specs.Clauses.{first_broken}
 use Rattle.trace_events.proofs.Along.{some_such}
@@ -19,6 +19,7 @@ use Rattle.trace_events.proofs.Judged.{AreJudged, IsTransfer, judged-number, jud
 use Rattle.trace_events.proofs.Links as links
 use Rattle.trace_events.proofs.Links.{attach_in, passing}
 use Rattle.trace_events.proofs.LinkLives.{judged-stands}
+use Rattle.trace_events.proofs.OutgoingSteps.{names_on, is_named_on-here, is_named_on-stays}
 use Rattle.trace_events.proofs.SessionPlaces.{session-connection}
 use Rattle.trace_clauses.proofs.ClausesMet.{lawful-past}
 use Rattle.trace_clauses.proofs.IncomingProgress.{judged-kept}
@@ -35,6 +36,7 @@ pub record IsBegun (past : List Event) (j : Outgoing) : Type 0 where
   pub kept : IsKept past delivery
   pub complete : is_complete delivery past ≡ true
   pub address : j.link.address ≡ address_of delivery
+  pub named_on : is_named_on delivery j.link past ≡ true
 
 -- its note names the delivery that it carries
 pub begun-noted : (past : List Event) (j : Outgoing) (b : IsBegun past j) → noted j.note past ≡ Some b.delivery
@@ -64,6 +66,7 @@ module _ (rules : List RuleText) (e : Event) (past : List Event) (are : AreJudge
         kept = kept-later b.delivery b.kept;
         complete = complete-stays b.delivery e past b.complete;
         address = b.address;
+        named_on = is_named_on-stays e past b.delivery j.link b.named_on;
       }
 
   -- and its note names the same
@@ -154,6 +157,17 @@ module _ (rules : List RuleText) (e : Event) (past : List Event) (are : AreJudge
         let c = begun-carries in
         ap (λ note. noted note (e ∷ past)) (begun-own.0 ∙ c.named) ∙ (kept-later c.delivery c.kept).at
 
+    -- on the link the event names it and no other
+    pub begun-names : (d : Incoming) → names_on d j.link e ≡ (begun-carries.delivery.number == d.number)
+    begun-names d =
+        let n = begun-carries.delivery.number in
+        ap (λ b. b && names d.number e.note && is_on_link j.link e) begun-written
+        ∙ (ap (λ note. names d.number note && is_on_link j.link e) begun-carries.named ∙ (ap (λ b. (n == d.number) && b) begun-on_link ∙ and_true (n == d.number)))
+      where
+        and_true : (b : Bool) → b && true ≡ b
+        and_true true = refl
+        and_true false = refl
+
     pub begun-here : IsBegun (e ∷ past) j
     begun-here =
         let c = begun-carries in
@@ -167,6 +181,7 @@ module _ (rules : List RuleText) (e : Event) (past : List Event) (are : AreJudge
           kept = kept-later c.delivery c.kept;
           complete = complete-stays c.delivery e past c.complete;
           address = c.address;
+          named_on = is_named_on-here e past c.delivery j.link (begun-names c.delivery ∙ eq-eqb c.delivery.number c.delivery.number refl);
         }
 
 -- ---- all of them

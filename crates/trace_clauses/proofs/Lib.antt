@@ -31,6 +31,7 @@ pub mod IncomingProgress
 pub mod SettlingList
 pub mod CompletionOrder
 pub mod UnsentCopies
+pub mod LinkOrder
 mod ClauseExamples
 mod FaultExamples
 mod ReadingExamples

@@ -31,7 +31,7 @@ use Rattle.trace_clauses.proofs.UnsentCopies.{unsent_complete, unsent_listed, un
 use Rattle.trace_clauses.proofs.WaitingQueue.{completed_numbered, each_completed, all_contained, find_has, contains_first, contains_later, contains_cases}
 use Rattle.trace_duties.specs.Quiet.{has_earlier_unsent}
 use Rattle.trace_duties.specs.Order.{CopiesInOrder, is_earliest}
-use Rattle.trace_duties.proofs.LinkOrder.{BeginsWith, begins, begins-on, begins-names, link-cases, new-in_order, in_order-completed, in_order-stays}
+use Rattle.trace_clauses.proofs.LinkOrder.{BeginsWith, begins, begins-on, begins-names, link-cases, new-in_order, in_order-completed, in_order-stays}
 use Rattle.trace_duties.proofs.PicksInOrder.{none-passes}
 
 -- ---- what is known of a copy goes by the number of its delivery

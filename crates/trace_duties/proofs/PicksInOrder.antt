@@ -28,7 +28,7 @@ use Rattle.trace_clauses.proofs.Incomings.{judged-sound}
 use Rattle.trace_clauses.proofs.OneConsumer.{found-at, or-right, not-true}
 use Rattle.trace_clauses.proofs.WaitingQueue.{find_has, contains_none, contains_cases}
 use Rattle.trace_duties.specs.Diligent.{is_picked, is_next_waiting, is_picked_link, is_due_frame, moment_keeps, all_keep}
-use Rattle.trace_duties.proofs.LinkOrder.{BeginsWith, begins-address, begins, link-cases, new-in_order, in_order-completed, in_order-stays}
+use Rattle.trace_clauses.proofs.LinkOrder.{BeginsWith, begins-address, begins, link-cases, new-in_order, in_order-completed, in_order-stays}
 
 -- ---- each pick of a history that kept its duties was kept
 

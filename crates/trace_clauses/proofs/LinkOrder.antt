@@ -1,15 +1,15 @@
 -- The order of completion on a link, in a lawful history: what one more event leaves of it.
-use Rattle.std.proofs.Common.{◌≡◌, refl, sym, ap, subst, ◌∙◌, ◌⊎◌, inl, inr, List, [], ◌∷◌, length, Bool, true, false, ◌&&◌, Option, Some, None, find, option_and_then, if◌then◌else◌, ◌==◌, arith, eqb-true, ne_eqb}
+use Rattle.std.proofs.Common.{◌≡◌, refl, sym, ap, subst, ◌∙◌, ◌⊎◌, inl, inr, List, [], ◌∷◌, length, Bool, true, false, Option, Some, None, find, option_and_then, if◌then◌else◌, ◌==◌, arith, eqb-true, ne_eqb}
 use Rattle.std.specs.List.{AllByRecursion, cons_option}
 use Rattle.pairing_cert.specs.declared.note.Note.TheVariants as notes
 use Rattle.capture_form.specs.Rules.{RuleText}
 use Rattle.trace_events.specs.Words.{is_some_and, is_none_or}
-use Rattle.trace_events.specs.Event.{Event, Link, Incoming, Outgoing, is_on_link}
+use Rattle.trace_events.specs.Event.{Event, Link, Incoming, Outgoing}
 use Rattle.trace_events.specs.Link as all
 use Rattle.trace_events.specs.Link.{own_link, link_at}
 use Rattle.trace_events.specs.Credit.{begins_outgoing}
 use Rattle.trace_events.specs.Incoming.{completes, is_complete, completed_before}
-use Rattle.trace_events.specs.Outgoing.{outgoing_begun, outgoing_deliveries, is_on, names, noted}
+use Rattle.trace_events.specs.Outgoing.{outgoing_begun, outgoing_deliveries, is_on, noted}
 use Rattle.trace_events.proofs.Along.{and_then_some}
 use Rattle.trace_events.proofs.Judged.{AreJudged}
 use Rattle.trace_events.proofs.Links as links
@@ -18,7 +18,7 @@ use Rattle.trace_events.proofs.OutgoingLinks.{IsOnEarlier, judged-on_earlier, de
 use Rattle.trace_events.proofs.OutgoingSteps.{names_on}
 use Rattle.trace_clauses.specs.Clauses.{first_broken}
 use Rattle.trace_clauses.specs.TransferClause.{carried_before, is_in_order}
-use Rattle.trace_clauses.proofs.BegunDeliveries.{begun-noted, begun-noted_later, begun-noted_now, begun-here, begun-own, begun-carries, begun-on_link, begun-written, found-begun}
+use Rattle.trace_clauses.proofs.BegunDeliveries.{begun-noted, begun-noted_later, begun-noted_now, begun-here, begun-own, begun-carries, begun-names, found-begun}
 use Rattle.trace_clauses.proofs.ClausesMet.{lawful-past}
 use Rattle.trace_clauses.proofs.CompletionOrder.{before-completed}
 use Rattle.trace_clauses.proofs.WaitingQueue.{before_stays}
@@ -126,14 +126,9 @@ module _ (rules : List RuleText) (e : Event) (past : List Event) (are : AreJudge
 
   pub begins-names : (d : Incoming) → names_on d l e ≡ (b.number == d.number)
   begins-names d =
-      let on : is_on_link l e ≡ true = subst (λ (m : Link). is_on_link m e ≡ true) begins-link (begun-on_link rules e past are lawful here.delivery here.begun) in
-      ap (λ c. c && names d.number e.note && is_on_link l e) (begun-written rules e past are lawful here.delivery here.begun)
-      ∙ (ap (λ note. names d.number note && is_on_link l e) here.named
-      ∙ (ap (λ c. (b.number == d.number) && c) on ∙ and-true (b.number == d.number)))
-    where
-      and-true : (c : Bool) → c && true ≡ c
-      and-true true = refl
-      and-true false = refl
+      let c = begun-carries rules e past are lawful here.delivery here.begun in
+      let one : c.delivery ≡ b = same_some c.delivery b (sym c.is ∙ here.is) in
+      ap (λ (m : Link). names_on d m e) (sym begins-link) ∙ (begun-names rules e past are lawful here.delivery here.begun d ∙ ap (λ (x : Incoming). x.number == d.number) one)
 
 -- ---- on a link that opens with the event nothing has begun
 
