@@ -32,6 +32,7 @@ pub mod SettlingList
 pub mod CompletionOrder
 pub mod UnsentCopies
 pub mod LinkOrder
+pub mod CopiesCounted
 mod ClauseExamples
 mod FaultExamples
 mod ReadingExamples

@@ -124,7 +124,7 @@ same_some : {A : Type 0} (a b : A) → Some a ≡ Some b → a ≡ b
 same_some a b is = cc
 
 -- the note of a later transfer is that of the first
-same_note : (note : Note) (n : ℕ) → is_same_note note (notes.Pair n) ≡ true → note ≡ notes.Pair n
+pub same_note : (note : Note) (n : ℕ) → is_same_note note (notes.Pair n) ≡ true → note ≡ notes.Pair n
 same_note notes.None n is = absurd cc
 same_note (notes.Pair m) n is = ap notes.Pair (eqb-true m n is)
 same_note (notes.Told why) n is = absurd cc
