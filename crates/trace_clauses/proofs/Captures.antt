@@ -1,5 +1,5 @@
 -- Captures as literals, and what the law computes of them.
-use Rattle.std.specs.Prelude.{ℕ, List, [], ◌∷◌, ◌++◌, replicate, map, Bool, false, Option, Some, None, option_map, Result}
+use Rattle.std.specs.Prelude.{ℕ, List, [], ◌∷◌, ◌++◌, replicate, map, find, Bool, false, Option, Some, None, option_map, unwrap_or, Result, ◌==◌}
 use Rattle.std.specs.Fmt.{digits}
 use Rattle.amqp_perf.proofs.Opened.{read, written}
 use Rattle.amqp_frames.specs.Writing.{frame_octets}
@@ -14,11 +14,13 @@ use Rattle.trace_clauses.specs.declared.clause.Clause.{Clause}
 use Rattle.trace_events.specs.declared.fault.Fault.{Fault}
 use Rattle.trace_events.specs.Frame.{frame_read}
 use Rattle.trace_events.specs.Words.{is_some_and}
-use Rattle.trace_events.specs.Event.{Event, Incoming}
+use Rattle.trace_events.specs.Event.{Event, Incoming, Outgoing}
 use Rattle.trace_events.specs.Link.{link_at}
 use Rattle.trace_events.specs.Incoming.{incoming_at}
+use Rattle.trace_events.specs.Outgoing.{outgoing_deliveries}
 use Rattle.trace_events.specs.Queue.{pairs, stays, completed_deliveries, waiting_queue}
 use Rattle.trace_events.specs.Decided.{decides, decided_count, begins_undecided}
+use Rattle.trace_events.specs.Work.{deliveries_to_settle, stands_unsettled, carries_closed, keeps_unsettled, decides_now, closes_incoming, comes_to_settle, unsent_copies, comes_due}
 use Rattle.flow_counts.specs.Parts.{PartEvent}
 use Rattle.trace_events.specs.declared.session.Session.{Session}
 use Rattle.trace_events.specs.Session.{session_at}
@@ -134,3 +136,45 @@ decided_by rules records r n = let past = history rules records in option_map (�
 unfoldable pub begins_by : List RuleText → List Record → Record → ℕ → Bool
 unfolding frame_read whole_frame frame_at sized_frame headed_frame read digits spoken_octets frame_octets written
 begins_by rules records r n = let past = history rules records in is_some_and (link_at n past) (λ l. begins_undecided rules l (judge rules past r) past)
+
+-- the deliveries to settle by their numbers, and the copies to send on the link of this number by those of their deliveries
+unfoldable pub to_settle_in : List RuleText → List Record → List ℕ
+unfolding frame_read whole_frame frame_at sized_frame headed_frame read digits spoken_octets frame_octets written
+to_settle_in rules records = map (λ j. j.number) (deliveries_to_settle (history rules records))
+
+unfoldable pub unsent_in : List RuleText → List Record → ℕ → List ℕ
+unfolding frame_read whole_frame frame_at sized_frame headed_frame read digits spoken_octets frame_octets written
+unsent_in rules records n = let past = history rules records in unwrap_or (option_map (λ l. numbers (unsent_copies rules l past)) (link_at n past)) []
+
+-- the delivery to a client that begins in this record
+abbrev pub outgoing_of : ℕ → List Event → Option Outgoing
+outgoing_of n past = find (λ j. j.number == n) (outgoing_deliveries past)
+
+unfoldable pub is_unsettled_in : List RuleText → List Record → ℕ → Bool
+unfolding frame_read whole_frame frame_at sized_frame headed_frame read digits spoken_octets frame_octets written
+is_unsettled_in rules records n = let past = history rules records in is_some_and (outgoing_of n past) (stands_unsettled past)
+
+unfoldable pub is_closed_in : List RuleText → List Record → ℕ → Bool
+unfolding frame_read whole_frame frame_at sized_frame headed_frame read digits spoken_octets frame_octets written
+is_closed_in rules records n = let past = history rules records in is_some_and (outgoing_of n past) (carries_closed past)
+
+-- what one more record does to that delivery, or to one of the producer, or to the copies of the link of this number
+unfoldable pub is_kept_by : List RuleText → List Record → Record → ℕ → Bool
+unfolding frame_read whole_frame frame_at sized_frame headed_frame read digits spoken_octets frame_octets written
+is_kept_by rules records r n = let past = history rules records in is_some_and (outgoing_of n past) (keeps_unsettled (judge rules past r))
+
+unfoldable pub is_answered_by : List RuleText → List Record → Record → ℕ → Bool
+unfolding frame_read whole_frame frame_at sized_frame headed_frame read digits spoken_octets frame_octets written
+is_answered_by rules records r n = let past = history rules records in is_some_and (outgoing_of n past) (decides_now (judge rules past r))
+
+unfoldable pub is_closed_by : List RuleText → List Record → Record → ℕ → Bool
+unfolding frame_read whole_frame frame_at sized_frame headed_frame read digits spoken_octets frame_octets written
+is_closed_by rules records r n = let past = history rules records in is_some_and (incoming_at n past) (closes_incoming (judge rules past r))
+
+unfoldable pub comes_by : List RuleText → List Record → Record → ℕ → Bool
+unfolding frame_read whole_frame frame_at sized_frame headed_frame read digits spoken_octets frame_octets written
+comes_by rules records r n = let past = history rules records in is_some_and (outgoing_of n past) (comes_to_settle (judge rules past r) past)
+
+unfoldable pub comes_due_by : List RuleText → List Record → Record → ℕ → Bool
+unfolding frame_read whole_frame frame_at sized_frame headed_frame read digits spoken_octets frame_octets written
+comes_due_by rules records r n = let past = history rules records in is_some_and (link_at n past) (λ l. comes_due rules l (judge rules past r) past)

@@ -25,11 +25,18 @@ pub mod OpenedConnections
 pub mod JudgedHistories
 pub mod Pairs
 pub mod OutgoingProgress
+pub mod BegunDeliveries
 pub mod LinkEnds
 pub mod IncomingProgress
+pub mod SettlingList
+pub mod CompletionOrder
+pub mod UnsentCopies
+pub mod LinkOrder
+pub mod CopiesCounted
 mod ClauseExamples
 mod FaultExamples
 mod ReadingExamples
 mod PartsExamples
 mod EndExamples
 mod QueueExamples
+mod WorkExamples

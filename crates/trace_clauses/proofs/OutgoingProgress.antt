@@ -124,7 +124,7 @@ same_some : {A : Type 0} (a b : A) → Some a ≡ Some b → a ≡ b
 same_some a b is = cc
 
 -- the note of a later transfer is that of the first
-same_note : (note : Note) (n : ℕ) → is_same_note note (notes.Pair n) ≡ true → note ≡ notes.Pair n
+pub same_note : (note : Note) (n : ℕ) → is_same_note note (notes.Pair n) ≡ true → note ≡ notes.Pair n
 same_note notes.None n is = absurd cc
 same_note (notes.Pair m) n is = ap notes.Pair (eqb-true m n is)
 same_note (notes.Told why) n is = absurd cc
@@ -134,7 +134,7 @@ or_other true c none is = absurd cc
 or_other false c none is = is
 
 -- what a note names is the delivery of its number
-noted_pair : (rules : List RuleText) (past : List Event) → AreJudged rules past → (note : Note) (d : Incoming) → noted note past ≡ Some d
+pub noted_pair : (rules : List RuleText) (past : List Event) → AreJudged rules past → (note : Note) (d : Incoming) → noted note past ≡ Some d
     → (note ≡ notes.Pair d.number) × (d.number < length past) × (incoming_at d.number past ≡ Some d)
 noted_pair rules past are notes.None d is = absurd cc
 noted_pair rules past are (notes.Told why) d is = absurd cc

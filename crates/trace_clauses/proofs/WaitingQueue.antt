@@ -37,16 +37,16 @@ waiting_queue_moves rules address e past are = waiting_queue-step rules address 
 
 -- ---- elements of lists
 
-contains_first : {A : Type 0} (x : A) (xs : List A) → Contains (x ∷ xs) x
+pub contains_first : {A : Type 0} (x : A) (xs : List A) → Contains (x ∷ xs) x
 contains_first x xs = Contains-append_left (x ∷ []) xs x (Contains-push [] x)
 
-contains_later : {A : Type 0} (y : A) (xs : List A) (x : A) → Contains xs x → Contains (y ∷ xs) x
+pub contains_later : {A : Type 0} (y : A) (xs : List A) (x : A) → Contains xs x → Contains (y ∷ xs) x
 contains_later y xs x h = Contains-append_right (y ∷ []) xs x h
 
-contains_none : {A B : Type 0} (x : A) → Contains [] x → B
+pub contains_none : {A B : Type 0} (x : A) → Contains [] x → B
 contains_none x h = let lt = h.1 in absurd (omega (arith, lt))
 
-contains_cases : {A : Type 0} (y : A) (xs : List A) (x : A) → Contains (y ∷ xs) x → (y ≡ x) ⊎ Contains xs x
+pub contains_cases : {A : Type 0} (y : A) (xs : List A) (x : A) → Contains (y ∷ xs) x → (y ≡ x) ⊎ Contains xs x
 contains_cases y xs x h = elim (Contains-append_cases (y ∷ []) xs x h) [
   | inl one ↦ elim (Contains-push_cases [] y x one) [
     | inl none ↦ contains_none x none
@@ -55,28 +55,28 @@ contains_cases y xs x h = elim (Contains-append_cases (y ∷ []) xs x h) [
   | inr later ↦ inr later
 ]
 
-all_contained : {A : Type 0} (P : A → Type 0) (xs : List A) (x : A) → AllOf P xs → Contains xs x → P x
+pub all_contained : {A : Type 0} (P : A → Type 0) (xs : List A) (x : A) → AllOf P xs → Contains xs x → P x
 all_contained P [] x all h = contains_none x h
 all_contained P (y ∷ ys) x all h = elim (contains_cases y ys x h) [
   | inl same ↦ subst P same all.0
   | inr later ↦ all_contained P ys x all.1 later
 ]
 
-in_reverse : {A : Type 0} (xs : List A) (x : A) → Contains (reverse xs) x → Contains xs x
+pub in_reverse : {A : Type 0} (xs : List A) (x : A) → Contains (reverse xs) x → Contains xs x
 in_reverse [] x h = h
 in_reverse (y ∷ ys) x h = elim (Contains-push_cases (reverse ys) y x (subst (λ zs. Contains zs x) (reverse-append (y ∷ []) ys) h)) [
   | inl earlier ↦ contains_later y ys x (in_reverse ys x earlier)
   | inr same ↦ subst (λ z. Contains (y ∷ ys) z) same (contains_first y ys)
 ]
 
-reverse_has : {A : Type 0} (xs : List A) (x : A) → Contains xs x → Contains (reverse xs) x
+pub reverse_has : {A : Type 0} (xs : List A) (x : A) → Contains xs x → Contains (reverse xs) x
 reverse_has [] x h = h
 reverse_has (y ∷ ys) x h = subst (λ zs. Contains zs x) (sym (reverse-append (y ∷ []) ys)) (elim (contains_cases y ys x h) [
   | inl same ↦ subst (λ z. Contains (reverse ys ++ y ∷ []) z) same (Contains-push (reverse ys) y)
   | inr later ↦ Contains-append_left (reverse ys) (y ∷ []) x (reverse_has ys x later)
 ])
 
-in_filter : {A : Type 0} (p : A → Bool) (xs : List A) (x : A) → Contains (filter p xs) x → Contains xs x × (p x ≡ true)
+pub in_filter : {A : Type 0} (p : A → Bool) (xs : List A) (x : A) → Contains (filter p xs) x → Contains xs x × (p x ≡ true)
 in_filter p [] x h = contains_none x h
 in_filter p (y ∷ ys) x h = by (p y) refl (in_filter p ys x) h
   where
@@ -87,7 +87,7 @@ in_filter p (y ∷ ys) x h = by (p y) refl (in_filter p ys x) h
     ]
     by false is rest h = (contains_later y ys x (rest h).0, (rest h).1)
 
-filter_has : {A : Type 0} (p : A → Bool) (xs : List A) (x : A) → p x ≡ true → Contains xs x → Contains (filter p xs) x
+pub filter_has : {A : Type 0} (p : A → Bool) (xs : List A) (x : A) → p x ≡ true → Contains xs x → Contains (filter p xs) x
 filter_has p [] x passes h = h
 filter_has p (y ∷ ys) x passes h = elim (contains_cases y ys x h) [
   | inl same ↦ here (p y) (ap p same ∙ passes) same
@@ -102,7 +102,7 @@ filter_has p (y ∷ ys) x passes h = elim (contains_cases y ys x h) [
     rest true h = contains_later y (filter p ys) x h
     rest false h = h
 
-find_has : {A : Type 0} (test : A → Bool) (xs : List A) (x : A) → find test xs ≡ Some x → Contains xs x
+pub find_has : {A : Type 0} (test : A → Bool) (xs : List A) (x : A) → find test xs ≡ Some x → Contains xs x
 find_has test [] x found = absurd cc
 find_has test (y ∷ ys) x found = by (test y) (find_has test ys x) found
   where
@@ -116,7 +116,7 @@ completed_part : (b : Bool) (o : Option Incoming) (d : Incoming) → (if b then 
 completed_part true o d is = is
 completed_part false o d is = absurd cc
 
-each_completed : (P : Incoming → Type 0) (past : List Event) → EachPart P past → AllOf P (completed_deliveries past)
+pub each_completed : (P : Incoming → Type 0) (past : List Event) → EachPart P past → AllOf P (completed_deliveries past)
 each_completed P [] each = tt
 each_completed P (e ∷ past) each = by (completed_by e) refl (each_completed P past each.1)
   where
@@ -124,10 +124,10 @@ each_completed P (e ∷ past) each = by (completed_by e) refl (each_completed P 
     by None is earlier = earlier
     by (Some d) is earlier = (holds_some P e.incoming d (completed_part (is_some_and (in_transfer e) is_last_part) e.incoming d is) each.0, earlier)
 
-abbrev IsNumbered : ℕ → List Incoming → Type 0
+abbrev pub IsNumbered : ℕ → List Incoming → Type 0
 IsNumbered n ds = (x : Incoming) × Contains ds x × (x.number ≡ n)
 
-completed_numbered : (n : ℕ) (past : List Event) → list_any (λ e. is_some_and (completed_by e) (λ x. x.number == n)) past ≡ true → IsNumbered n (completed_deliveries past)
+pub completed_numbered : (n : ℕ) (past : List Event) → list_any (λ e. is_some_and (completed_by e) (λ x. x.number == n)) past ≡ true → IsNumbered n (completed_deliveries past)
 completed_numbered n [] done = absurd cc
 completed_numbered n (e ∷ past) done = by (completed_by e) (completed_numbered n past) done
   where
@@ -183,10 +183,10 @@ each_all : {A : Type 0} (P : A → Type 0) (xs : List A) → Each P xs → AllOf
 each_all P [] each = tt
 each_all P (x ∷ xs) each = (each.0, each_all P xs each.1)
 
-abbrev IsCompletedBelow : List Event → Incoming → Type 0
+abbrev pub IsCompletedBelow : List Event → Incoming → Type 0
 IsCompletedBelow past d = (m : ℕ) × (completion d past ≡ Some m) × (m < length past)
 
-completed_below : (rules : List RuleText) (past : List Event) → AreJudged rules past → (d : Incoming) → is_complete d past ≡ true → IsCompletedBelow past d
+pub completed_below : (rules : List RuleText) (past : List Event) → AreJudged rules past → (d : Incoming) → is_complete d past ≡ true → IsCompletedBelow past d
 completed_below rules [] are d done = absurd cc
 completed_below rules (e ∷ past) are d done = by (completes d e) refl (completed_below rules past are.1 d) done
   where
@@ -206,20 +206,20 @@ some_found : {A B : Type 0} (f : A → B) (o : Option A) (y : B) → option_map 
 some_found f None y e = absurd cc
 some_found f (Some x) y e = (x, refl)
 
-completion_complete : (past : List Event) (d : Incoming) (m : ℕ) → completion d past ≡ Some m → is_complete d past ≡ true
+pub completion_complete : (past : List Event) (d : Incoming) (m : ℕ) → completion d past ≡ Some m → is_complete d past ≡ true
 completion_complete past d m is = let one = some_found (λ (e : Event). e.number) (find (completes d) past) m is in find_any (completes d) past one.0 one.1
 
-lower : (a b : Incoming) (past : List Event) (m n : ℕ) → completion a past ≡ Some m → completion b past ≡ Some n → nat_lt m n ≡ true → completed_before a b past ≡ true
-lower a b past m n first second below =
+pub completion_lower : (a b : Incoming) (past : List Event) (m n : ℕ) → completion a past ≡ Some m → completion b past ≡ Some n → nat_lt m n ≡ true → completed_before a b past ≡ true
+completion_lower a b past m n first second below =
     ap (λ (o : Option ℕ). is_some_and o (λ m. is_some_and (completion b past) (λ n. nat_lt m n))) first
     ∙ (ap (λ (o : Option ℕ). is_some_and o (λ n. nat_lt m n)) second ∙ below)
 
 -- an order of completion stays
-before_stays : (rules : List RuleText) (e : Event) (past : List Event) → AreJudged rules (e ∷ past) → (a b : Incoming) → completed_before a b past ≡ true → completed_before a b (e ∷ past) ≡ true
+pub before_stays : (rules : List RuleText) (e : Event) (past : List Event) → AreJudged rules (e ∷ past) → (a b : Incoming) → completed_before a b past ≡ true → completed_before a b (e ∷ past) ≡ true
 before_stays rules e past are a b before =
     let first = some-and (completion a past) (λ m. is_some_and (completion b past) (λ n. nat_lt m n)) before in
     let second = some-and (completion b past) (λ n. nat_lt first.0 n) first.2 in
-    lower a b (e ∷ past) first.0 second.0
+    completion_lower a b (e ∷ past) first.0 second.0
     (completion-same e past a (completed_once rules e past are a (completion_complete past a first.0 first.1)) ∙ first.1)
     (completion-same e past b (completed_once rules e past are b (completion_complete past b second.0 second.1)) ∙ second.1)
     second.2
@@ -230,12 +230,12 @@ before_new rules e past are a d done is =
     let below = completed_below rules past are.1 a done in
     let number = judged-number rules e past are in
     let lt = below.2 in
-    lower a d (e ∷ past) below.0 e.number
+    completion_lower a d (e ∷ past) below.0 e.number
     (completion-same e past a (completed_once rules e past are a done) ∙ below.1)
     (completion-here e past d (ap (λ (o : Option Incoming). is_some_and o (λ x. x.number == d.number)) is ∙ eq-eqb d.number d.number refl))
     (lt-ltb below.0 e.number (omega (arith, number, lt)))
 
-abbrev AreInOrder : List Event → List Incoming → Type 0
+abbrev pub AreInOrder : List Event → List Incoming → Type 0
 AreInOrder past ds = AllPairs (λ a b. completed_before a b past ≡ true) ds
 
 order_step : (rules : List RuleText) (e : Event) (past : List Event) → AreJudged rules (e ∷ past) → AreInOrder (e ∷ past) (reverse (completed_deliveries past)) → (o : Option Incoming) → completed_by e ≡ o
@@ -249,7 +249,7 @@ order_step rules e past are older (Some d) is =
     (all_contained (λ a. is_complete a past ≡ true) (completed_deliveries past) a (each_all (λ a. is_complete a past ≡ true) (completed_deliveries past) (completed-complete past))
     (in_reverse (completed_deliveries past) a (Contains-get_or (reverse (completed_deliveries past)) k x within))) is))
 
-completed_in_order : (rules : List RuleText) (past : List Event) → AreJudged rules past → AreInOrder past (reverse (completed_deliveries past))
+pub completed_in_order : (rules : List RuleText) (past : List Event) → AreJudged rules past → AreInOrder past (reverse (completed_deliveries past))
 completed_in_order rules [] are = λ i j d lt within. absurd (omega (arith, within))
 completed_in_order rules (e ∷ past) are =
     order_step rules e past are (λ i j d lt within. let ds = reverse (completed_deliveries past) in before_stays rules e past are (get_or ds i d) (get_or ds j d) (completed_in_order rules past are.1 i j d lt within))

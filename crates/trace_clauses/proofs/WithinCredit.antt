@@ -37,7 +37,7 @@ on_none l (Some m) below = by (m.number == l.number) refl
     by true same = absurd (omega (arith, eqb-true m.number l.number same, below m refl))
     by false other = refl
 
-unused_step : (rules : List RuleText) (past : List Event) (r : Record) → Stands past → AreUnused past → AreUnused (judge rules past r ∷ past)
+pub unused_step : (rules : List RuleText) (past : List Event) (r : Record) → Stands past → AreUnused past → AreUnused (judge rules past r ∷ past)
 unused_step rules past r known unused l after =
     let e = judge rules past r in
     let off : is_on_link l e ≡ false =
@@ -69,17 +69,17 @@ out_begun e (AnEnd x) is = absurd cc
 out_begun e (AClose x) is = absurd cc
 
 -- a transfer that begins a delivery to a client
-record Begins (e : Event) : Type 0 where
-  frame : Frame
-  spoken : Spoken
-  fields : TransferFields
-  moment_is : e.moment ≡ Out frame
-  says : spoken_in frame.body ≡ Some spoken
-  transfer : spoken.meaning ≡ ATransfer fields
-  begins : begins_outgoing e ≡ true
+pub record Begins (e : Event) : Type 0 where
+  pub frame : Frame
+  pub spoken : Spoken
+  pub fields : TransferFields
+  pub moment_is : e.moment ≡ Out frame
+  pub says : spoken_in frame.body ≡ Some spoken
+  pub transfer : spoken.meaning ≡ ATransfer fields
+  pub begins : begins_outgoing e ≡ true
 
 -- it begins from the client or to it
-begun_by : (e : Event) (m : Moment) → e.moment ≡ m → link_event e m ≡ Some Begun → (begins_incoming e ≡ true) ⊎ Begins e
+pub begun_by : (e : Event) (m : Moment) → e.moment ≡ m → link_event e m ≡ Some Begun → (begins_incoming e ≡ true) ⊎ Begins e
 begun_by e (Out frame) same is =
     let step = and_then_some (λ (spoken : Spoken). out_link_event e spoken.meaning) (spoken_in frame.body) Begun is in
     let out = out_begun e step.0.meaning step.2 in
@@ -106,7 +106,7 @@ part_from e (ADetach f) past d is = absurd cc
 part_from e (AnEnd x) past d is = absurd cc
 part_from e (AClose x) past d is = absurd cc
 
-comes_from : (e : Event) (m : Moment) (past : List Event) (d : Incoming) → incoming_by e m past ≡ Some d → (l : Link) × (e.link ≡ Some l) × (is_producer l ≡ true)
+pub comes_from : (e : Event) (m : Moment) (past : List Event) (d : Incoming) → incoming_by e m past ≡ Some d → (l : Link) × (e.link ≡ Some l) × (is_producer l ≡ true)
 comes_from e (In frame) past d is =
     let heard = if_some (e.is_heard && is_none e.fault) (option_and_then (λ (spoken : Spoken). incoming_part e spoken.meaning past) (spoken_in frame.body)) d is in
     let step = and_then_some (λ (spoken : Spoken). incoming_part e spoken.meaning past) (spoken_in frame.body) d heard.1 in
@@ -117,14 +117,14 @@ comes_from e Lost past d is = absurd cc
 comes_from e Broken past d is = absurd cc
 
 -- and is no attach that the router writes
-comes_in : (e : Event) (m : Moment) (past : List Event) (d : Incoming) → incoming_by e m past ≡ Some d → attach_in m ≡ None
+pub comes_in : (e : Event) (m : Moment) (past : List Event) (d : Incoming) → incoming_by e m past ≡ Some d → attach_in m ≡ None
 comes_in e (In frame) past d is = refl
 comes_in e (Out frame) past d is = absurd cc
 comes_in e Opened past d is = absurd cc
 comes_in e Lost past d is = absurd cc
 comes_in e Broken past d is = absurd cc
 
-not_both : (l : Link) → is_producer l ≡ true → is_consumer l ≡ true → ⊥
+pub not_both : (l : Link) → is_producer l ≡ true → is_consumer l ≡ true → ⊥
 not_both l p c = by l.role p c
   where
     by : (role : Role) → is_receiver role ≡ true → is_sender role ≡ true → ⊥
@@ -154,7 +154,7 @@ moves first own (Some Begun) room h = omega (arith, room refl)
 
 -- ---- one more record
 
-same_link : (rules : List RuleText) (past : List Event) (r : Record) (l m : Link) → Stands past → IsKnown past l → (judge rules past r).link ≡ Some m → is_on_link l (judge rules past r) ≡ true → m ≡ l
+pub same_link : (rules : List RuleText) (past : List Event) (r : Record) (l m : Link) → Stands past → IsKnown past l → (judge rules past r).link ≡ Some m → is_on_link l (judge rules past r) ≡ true → m ≡ l
 same_link rules past r l m known is there on =
     let e = judge rules past r in
     let same_number : (m.number == l.number) ≡ true = ap (λ (o : Option Link). is_some_and o (λ (m : Link). m.number == l.number)) (sym there) ∙ and_first (is_some_and e.link (λ (m : Link). m.number == l.number)) (e.connection == l.session.connection) on in
@@ -203,7 +203,7 @@ attach_moves_none : (e : Event) (o : Option Spoken) → is_some (option_and_then
 attach_moves_none e None is = absurd cc
 attach_moves_none e (Some spoken) is = attach_moves e spoken.meaning is
 
-opens_still : (e : Event) (m : Moment) → is_some (attach_in m) ≡ true → link_event e m ≡ None
+pub opens_still : (e : Event) (m : Moment) → is_some (attach_in m) ≡ true → link_event e m ≡ None
 opens_still e (Out frame) is = attach_moves_none e (spoken_in frame.body) is
 opens_still e (In frame) is = absurd cc
 opens_still e Opened is = absurd cc

@@ -1,6 +1,7 @@
 mod Duties
 mod Captures
 mod DutyExamples
+mod OrderExamples
 mod FirstNeglected
 mod SharedFrames
 mod DutiesNeglected
@@ -17,3 +18,6 @@ mod WorkedLinks
 pub mod ConsumerCounts
 pub mod ConsumersCounted
 pub mod LinksCounted
+pub mod PicksInOrder
+pub mod CopyOrder
+pub mod QuietLists

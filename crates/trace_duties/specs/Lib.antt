@@ -3,3 +3,4 @@ pub mod Pick
 pub mod Answer
 pub mod Quiet
 pub mod Diligent
+pub mod Order

@@ -2,7 +2,9 @@
 //! written. Definitions that compute, in `specs/`, over the events of `trace_events` and the frames and rows of
 //! `trace_clauses`. No code follows them yet.
 //!
-//! Reading order in `specs/`: `Consumers`, `Pick`, `Answer`, `Quiet`, `Diligent`.
+//! Reading order in `specs/`: `Consumers`, `Pick`, `Answer`, `Quiet`, `Diligent`, `Order`.
 //!
-//! `proofs/` has captures on which they are computed: `Worked*` octet by octet, `DutyExamples` one for each duty.
+//! `proofs/` has captures on which they are computed: `Worked*` octet by octet, `DutyExamples` one for each duty,
+//! `OrderExamples` copies in order and swapped; and lemmas for whoever follows them: `PicksInOrder` and `CopyOrder` on
+//! the order of what is sent, `QuietLists` on when nothing is left.
 #![tactic(auto)]

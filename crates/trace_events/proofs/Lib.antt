@@ -12,6 +12,8 @@ pub mod OutgoingSteps
 pub mod EveryStep
 pub mod QueueSteps
 pub mod WaitingSteps
+pub mod SettlingSteps
+pub mod DueSteps
 pub mod IdleSteps
 pub mod HistorySteps
 pub mod Steps

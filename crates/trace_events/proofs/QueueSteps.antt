@@ -81,7 +81,7 @@ each-cons : {A : Type 0} (P : A → Type 0) (o : Option A) (xs : List A) → ((x
 each-cons P None xs here each = each
 each-cons P (Some x) xs here each = (here x refl, each)
 
-filter-each : {A : Type 0} (p q r : A → Bool) (xs : List A) → Each (λ x. p x ≡ q x && r x) xs → filter p xs ≡ filter r (filter q xs)
+pub filter-each : {A : Type 0} (p q r : A → Bool) (xs : List A) → Each (λ x. p x ≡ q x && r x) xs → filter p xs ≡ filter r (filter q xs)
 filter-each p q r [] each = refl
 filter-each p q r (x ∷ xs) each =
     ap (λ b. if b then x ∷ filter p xs else filter p xs) each.0 ∙ (ap (λ rest. if q x && r x then x ∷ rest else rest) (filter-each p q r xs each.1) ∙ by (q x))
@@ -100,11 +100,11 @@ filter-reverse p (x ∷ xs) =
     by true is = reverse-append (x ∷ []) (filter p xs)
     by false is = sym (append-nil (reverse (filter p xs)))
 
-filter-cons : {A : Type 0} (p : A → Bool) (o : Option A) (xs : List A) → filter p (cons_option o xs) ≡ filter p (cons_option o []) ++ filter p xs
+pub filter-cons : {A : Type 0} (p : A → Bool) (o : Option A) (xs : List A) → filter p (cons_option o xs) ≡ filter p (cons_option o []) ++ filter p xs
 filter-cons p None xs = refl
 filter-cons p (Some x) xs = filter-append p (x ∷ []) xs
 
-one-alone : {A : Type 0} (p : A → Bool) (o : Option A) → reverse (filter p (cons_option o [])) ≡ filter p (cons_option o [])
+pub one-alone : {A : Type 0} (p : A → Bool) (o : Option A) → reverse (filter p (cons_option o [])) ≡ filter p (cons_option o [])
 one-alone p None = refl
 one-alone p (Some x) = by (p x)
   where

@@ -18,6 +18,7 @@ pub mod Decided
 pub mod Parts
 pub mod Due
 pub mod Settling
+pub mod Work
 pub mod Heard
 pub mod Fault
 pub mod History

@@ -1,0 +1,190 @@
+-- What captures say of the deliveries to settle and of the copies to send, and of what one more record does to them.
+use Rattle.std.specs.Prelude.{◌≡◌, List, true, false, [], ◌∷◌, ◌++◌, None, refl}
+use Rattle.amqp_perf.specs.declared.attach.Role.TheVariants.{Sender, Receiver}
+use Rattle.amqp_perf.specs.declared.attach.SenderSettleMode.TheVariants.{Settled}
+use Rattle.amqp_perf.specs.Meaning.{AFlow, ATransfer, ADisposition}
+use Rattle.pairing_cert.specs.declared.note.Why.TheVariants.{C}
+use Rattle.capture_form.specs.declared.records.Record.{Record}
+use Rattle.capture_form.specs.declared.rules.Distribution.TheVariants.{Multicast}
+use Rattle.trace_clauses.proofs.Captures.{rule, to_settle_in, unsent_in, is_unsettled_in, is_closed_in, is_kept_by, is_answered_by, is_closed_by, comes_by, comes_due_by}
+use Rattle.trace_clauses.proofs.Made.{from, from_with, to, carry, tell, gives, first, next, with_more, as_settled, disposes, accepted, detach_of, q, hi, pair_by, sent, sent_by}
+
+-- the consumer is sent delivery 16, by delivery 17, whose id is 0; its link is that of record 13
+abbrev carried : List Record
+carried = sent ++ (carry 1 16 (first 0) hi ∷ [])
+
+-- what the consumer and the producer may say of it
+abbrev accepts : Record
+accepts = from 1 (ADisposition (disposes Receiver 0 false accepted))
+
+abbrev settles : Record
+settles = from 1 (ADisposition (disposes Receiver 0 true accepted))
+
+abbrev producer_settles : Record
+producer_settles = from 0 (ADisposition (disposes Sender 0 true None))
+
+abbrev tells : Record
+tells = tell 0 C (disposes Receiver 0 true accepted)
+
+-- what the router may
+abbrev router_settles : Record
+router_settles = to 1 (ADisposition (disposes Sender 0 true None))
+
+-- ---- deliveries to settle
+
+is_owed : to_settle_in [] (carried ++ (accepts ∷ tells ∷ [])) ≡ 17 ∷ []
+unfolding to_settle_in
+is_owed = refl
+
+-- the first begun first
+two_owed : to_settle_in [] (carried ++ (from_with 0 (ATransfer (first 1)) hi ∷ carry 1 18 (first 1) hi ∷ from 1 (ADisposition (disposes Receiver 1 false accepted)) ∷ tell 0 C (disposes Receiver 1 true accepted)
+    ∷ accepts ∷ tells ∷ [])) ≡ 17 ∷ 19 ∷ []
+unfolding to_settle_in
+two_owed = refl
+
+undecided : to_settle_in [] (carried ++ (producer_settles ∷ [])) ≡ []
+unfolding to_settle_in
+undecided = refl
+
+still_to_tell : to_settle_in [] (carried ++ (accepts ∷ [])) ≡ []
+unfolding to_settle_in
+still_to_tell = refl
+
+-- ---- a delivery that stands unsettled
+
+stands : is_unsettled_in [] (carried ++ (accepts ∷ tells ∷ [])) 17 ≡ true
+unfolding is_unsettled_in
+stands = refl
+
+settled_by_consumer : is_unsettled_in [] (carried ++ (settles ∷ [])) 17 ≡ false
+unfolding is_unsettled_in
+settled_by_consumer = refl
+
+settled_by_router : is_unsettled_in [] (carried ++ (accepts ∷ tells ∷ router_settles ∷ [])) 17 ≡ false
+unfolding is_unsettled_in
+settled_by_router = refl
+
+link_over : is_unsettled_in [] (carried ++ (from 1 (detach_of true) ∷ [])) 17 ≡ false
+unfolding is_unsettled_in
+link_over = refl
+
+-- nothing more is to be told of what it carries
+all_told : is_closed_in [] (carried ++ (accepts ∷ tells ∷ [])) 17 ≡ true
+unfolding is_closed_in
+all_told = refl
+
+not_told : is_closed_in [] (carried ++ (accepts ∷ [])) 17 ≡ false
+unfolding is_closed_in
+not_told = refl
+
+-- ---- what one more record leaves, decides or closes
+
+leaves : is_kept_by [] (carried ++ (accepts ∷ tells ∷ [])) (from 1 (AFlow (gives 1 1 10))) 17 ≡ true
+unfolding is_kept_by
+leaves = refl
+
+consumer_settles : is_kept_by [] (carried ++ (accepts ∷ tells ∷ [])) settles 17 ≡ false
+unfolding is_kept_by
+consumer_settles = refl
+
+is_settled : is_kept_by [] (carried ++ (accepts ∷ tells ∷ [])) router_settles 17 ≡ false
+unfolding is_kept_by
+is_settled = refl
+
+ends_link : is_kept_by [] (carried ++ (accepts ∷ tells ∷ [])) (from 1 (detach_of true)) 17 ≡ false
+unfolding is_kept_by
+ends_link = refl
+
+decides : is_answered_by [] carried accepts 17 ≡ true
+unfolding is_answered_by
+decides = refl
+
+-- without settling or a terminal state
+decides_nothing : is_answered_by [] carried (from 1 (ADisposition (disposes Receiver 0 false None))) 17 ≡ false
+unfolding is_answered_by
+decides_nothing = refl
+
+-- on a link that is settled beforehand
+pre_settled : is_answered_by [] (sent_by Settled ++ (carry 1 16 (as_settled (first 0)) hi ∷ [])) accepts 17 ≡ false
+unfolding is_answered_by
+pre_settled = refl
+
+is_told : is_closed_by [] (carried ++ (accepts ∷ [])) tells 16 ≡ true
+unfolding is_closed_by
+is_told = refl
+
+settled_by_producer : is_closed_by [] carried producer_settles 16 ≡ true
+unfolding is_closed_by
+settled_by_producer = refl
+
+-- by its last part
+settled_part : is_closed_by [] (pair_by Settled ++ (from_with 0 (ATransfer (with_more (first 0))) hi ∷ [])) (from_with 0 (ATransfer (as_settled (next false))) hi) 15 ≡ true
+unfolding is_closed_by
+settled_part = refl
+
+producer_left : is_closed_by [] carried (from 0 (detach_of true)) 16 ≡ true
+unfolding is_closed_by
+producer_left = refl
+
+closes_nothing : is_closed_by [] carried accepts 16 ≡ false
+unfolding is_closed_by
+closes_nothing = refl
+
+-- ---- what comes to be settled
+
+-- told, of a delivery that was decided
+comes_told : comes_by [] (carried ++ (accepts ∷ [])) tells 17 ≡ true
+unfolding comes_by
+comes_told = refl
+
+-- decided, where nothing more is to be told
+comes_decided : comes_by [] (carried ++ (producer_settles ∷ [])) accepts 17 ≡ true
+unfolding comes_by
+comes_decided = refl
+
+-- decided, where the outcome is still to be told
+not_closed : comes_by [] carried accepts 17 ≡ false
+unfolding comes_by
+not_closed = refl
+
+-- closed, where the consumer hasn't decided
+not_decided : comes_by [] carried producer_settles 17 ≡ false
+unfolding comes_by
+not_decided = refl
+
+-- told, where the consumer settled it itself
+not_unsettled : comes_by [] (carried ++ (settles ∷ [])) tells 17 ≡ false
+unfolding comes_by
+not_unsettled = refl
+
+-- ---- copies to send
+
+abbrev news : List Record
+news = pair_by Settled ++ (from 1 (AFlow (gives 0 0 1)) ∷ [])
+
+copy_is_due : comes_due_by (rule Multicast q ∷ []) news (from_with 0 (ATransfer (first 0)) hi) 13 ≡ true
+unfolding comes_due_by
+copy_is_due = refl
+
+-- no more than the credit allows
+no_credit_left : comes_due_by (rule Multicast q ∷ []) (news ++ (from_with 0 (ATransfer (first 0)) hi ∷ [])) (from_with 0 (ATransfer (first 1)) hi) 13 ≡ false
+unfolding comes_due_by
+no_credit_left = refl
+
+is_unsent : unsent_in (rule Multicast q ∷ []) (news ++ (from_with 0 (ATransfer (first 0)) hi ∷ [])) 13 ≡ 16 ∷ []
+unfolding unsent_in
+is_unsent = refl
+
+is_sent : unsent_in (rule Multicast q ∷ []) (news ++ (from_with 0 (ATransfer (first 0)) hi ∷ carry 1 16 (as_settled (first 0)) hi ∷ [])) 13 ≡ []
+unfolding unsent_in
+is_sent = refl
+
+-- the first completed first
+two_unsent : unsent_in (rule Multicast q ∷ []) (sent_by Settled ++ (from_with 0 (ATransfer (first 1)) hi ∷ [])) 13 ≡ 16 ∷ 17 ∷ []
+unfolding unsent_in
+two_unsent = refl
+
+-- of anycast there are none
+no_copies : unsent_in [] (sent_by Settled) 13 ≡ []
+unfolding unsent_in
+no_copies = refl
