@@ -8,7 +8,8 @@
 //! `proofs/` has captures on which the definitions are computed: `ClauseExamples`, `FaultExamples` one for each clause
 //! and fault, `ReadingExamples` for what tells one reading of a rule from another. What tables need of the events of
 //! lawful captures stands there too: `LinkEnds`, `WaitingQueue`, `UndecidedCount`, `Pairs`, `OutgoingProgress`,
-//! `BegunDeliveries`, `OutcomesToTell`, `SettlingList`, `UnsentCopies`, `CopiesCounted`, `LinkOrder`.
+//! `BegunDeliveries`, `OutcomesToTell`, `SettlingList`, `UnsentCopies`, `CopiesCounted`, `FirstSent`,
+//! `LinkOrder`.
 //!
 //! - `clause`: the clauses by name;
 //! - `tally`: what a capture holds;
