@@ -5,20 +5,20 @@ use Rattle.std.specs.Prelude.{nat_lt, ◌-◌}
 use Rattle.std.specs.Str.{bytes_eq}
 use Rattle.std.proofs.lemmas.Slice.Eq.{bytes_eq-Decides}
 use Rattle.capture_form.specs.Rules.{RuleText}
-use Rattle.trace_events.specs.Words.{is_some_and}
+use Rattle.trace_events.specs.Words.{is_some_and, where_passes}
 use Rattle.trace_events.specs.Event.{Event, Link, Incoming}
 use Rattle.trace_events.specs.Said.{in_transfer}
 use Rattle.trace_events.specs.Link.{is_consumer, is_live}
 use Rattle.trace_events.specs.Address.{is_consumer_of}
 use Rattle.trace_events.specs.Credit.{link_credit, begun_count}
 use Rattle.trace_events.specs.Incoming.{address_of, is_last_part, completed_by, completes, is_complete, incoming_begun, incoming_at}
-use Rattle.trace_events.specs.Outgoing.{is_named_on, is_paired}
+use Rattle.trace_events.specs.Outgoing.{noted, is_named_on, is_paired}
 use Rattle.trace_events.specs.Waiting.{is_of_multicast, is_waiting, is_gone, always_had_consumer}
 use Rattle.trace_events.specs.Due.{is_copied_to, due_count, is_due, is_unsent}
 use Rattle.trace_events.specs.Work.{comes_due}
 use Rattle.trace_events.proofs.Along.{and_first, and_last}
 use Rattle.trace_events.proofs.Judged.{AreJudged}
-use Rattle.trace_clauses.specs.TransferClause.{is_first_to}
+use Rattle.trace_clauses.specs.TransferClause.{is_first_to, is_in_order, may_go_to}
 use Rattle.trace_clauses.proofs.IncomingProgress.{judged-kept}
 use Rattle.trace_clauses.proofs.Incomings.{judged-sound}
 use Rattle.trace_clauses.proofs.OneConsumer.{some-and, found-at}
@@ -122,3 +122,15 @@ waiting_goes_first rules past l d waits = record {
   whole = waits-whole (is_of_multicast rules d) (is_complete d past) (is_paired d past) (always_had_consumer d past) waits;
   first = waits-first (is_of_multicast rules d) (is_complete d past) (is_paired d past) (always_had_consumer d past) (not (is_named_on d l past) && is_due rules d l past) waits;
 }
+
+-- ---- so it may go, where it is in order
+
+passes-so : (b : Bool) (d : Incoming) (test : Incoming → Bool) → b ≡ true → test d ≡ true → is_some_and (if b then Some d else None) test ≡ true
+passes-so true d test is passes = passes
+passes-so false d test is passes = absurd cc
+
+pub may_go : (rules : List RuleText) (e : Event) (past : List Event) (l : Link) (d : Incoming) → noted e.note past ≡ Some d → GoesFirst rules l past d → is_in_order l past d ≡ true → may_go_to rules e past l ≡ true
+may_go rules e past l d named goes order =
+    ap (λ o. is_some_and (where_passes (λ x. is_complete x past && not (is_gone rules x past)) o) (λ x. is_first_to rules l past x && is_in_order l past x)) named
+    ∙ passes-so (is_complete d past && not (is_gone rules d past)) d (λ x. is_first_to rules l past x && is_in_order l past x)
+    (ap (λ b. b && not (is_gone rules d past)) goes.complete ∙ ap not goes.whole) (ap (λ b. b && is_in_order l past d) goes.first ∙ order)
