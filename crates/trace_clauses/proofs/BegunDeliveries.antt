@@ -1,6 +1,6 @@
 -- In a lawful capture each delivery to a client, in progress or not, is of a link that was opened before it, and carries a
 -- complete delivery of that link's address, which its note names, and which is named on the link from then on.
-use Rattle.std.proofs.Common.{◌≡◌, refl, sym, ap, subst, ◌∙◌, ◌<◌, Bool, true, false, List, [], ◌∷◌, length, Option, Some, None, IfSome, IsSomeAnd, find, option_and_then, option_map, is_some, ◌&&◌, ◌==◌, inl, inr, arith, eqb-true, eq-eqb}
+use Rattle.std.proofs.Common.{◌≡◌, refl, sym, ap, subst, ◌∙◌, ◌<◌, Bool, true, false, List, [], ◌∷◌, length, Option, Some, None, IfSome, IsSomeAnd, find, option_and_then, option_map, is_some, if◌then◌else◌, ◌&&◌, ◌==◌, inl, inr, arith, eqb-true, eq-eqb}
 use Rattle.std.specs.List.{cons_option}
 use Rattle.pairing_cert.specs.declared.note.Note.TheVariants as notes
 use Rattle.capture_form.specs.Rules.{RuleText}
@@ -9,21 +9,27 @@ use Rattle.trace_events.specs.Frame.{Frame, Spoken, spoken_in}
 use Rattle.trace_events.specs.Event.{Event, Link, Incoming, Outgoing, out_frame, is_on_link}
 use Rattle.trace_events.specs.declared.session.Session.{Session}
 use Rattle.trace_events.specs.Said.{as_attach, as_transfer, out_spoken, out_transfer}
+use Rattle.trace_events.specs.Link as all
+use Rattle.trace_events.specs.Link.{own_link, link_at, session_link, is_live, IsLiveLink}
 use Rattle.trace_events.specs.Incoming.{address_of, is_complete}
 use Rattle.trace_events.specs.Outgoing.{outgoing_begun, outgoing_deliveries, names, noted, is_named_on}
-use Rattle.trace_events.specs.History.{moment_of}
+use Rattle.trace_events.specs.History.{judge, judge_unopened, moment_of}
 use Rattle.trace_clauses.specs.Clauses.{first_broken}
-use Rattle.trace_events.proofs.Along.{some_such}
+use Rattle.trace_events.proofs.Along.{standing, some_such}
 use Rattle.trace_events.proofs.Fates.{complete-stays}
 use Rattle.trace_events.proofs.Judged.{AreJudged, IsTransfer, judged-number, judged-transfer}
 use Rattle.trace_events.proofs.Links as links
 use Rattle.trace_events.proofs.Links.{attach_in, passing}
 use Rattle.trace_events.proofs.LinkLives.{judged-stands}
+use Rattle.trace_events.proofs.LinkNumbers.{own_link-number}
+use Rattle.trace_events.proofs.Opens.{opened-link}
+use Rattle.trace_events.proofs.OutgoingLinks.{IsOnEarlier, judged-on_earlier}
 use Rattle.trace_events.proofs.OutgoingSteps.{names_on, is_named_on-here, is_named_on-stays}
 use Rattle.trace_events.proofs.SessionPlaces.{session-connection}
 use Rattle.trace_clauses.proofs.ClausesMet.{lawful-past}
 use Rattle.trace_clauses.proofs.IncomingProgress.{judged-kept}
 use Rattle.trace_clauses.proofs.JudgedHistories.{judged-keeps}
+use Rattle.trace_clauses.proofs.LiveLinks.{placed-names}
 use Rattle.trace_clauses.proofs.OutgoingProgress.{IsPartOf, judged-outgoing_part, judged-carrying, noted_pair}
 use Rattle.trace_clauses.proofs.Parts.{IsKept, AllOf, all_such, found_holds, kept_still, delivery_kept}
 use Rattle.trace_clauses.proofs.Undecided.{link_of_session}
@@ -125,6 +131,38 @@ module _ (rules : List RuleText) (e : Event) (past : List Event) (are : AreJudge
         ap (λ o. is_some_and o (λ (m : Link). m.number == j.link.number) && (e.connection == j.link.session.connection)) begun-own.1
         ∙ (ap (λ b. b && (e.connection == j.link.session.connection)) (eq-eqb j.link.number j.link.number refl)
         ∙ eq-eqb e.connection j.link.session.connection (sym on_connection))
+
+    -- which was opened before, and lives
+    pub begun-linked : links.IsKnown past j.link
+    begun-linked =
+        let now = subst (λ (x : Event). links.IsKnown (x ∷ past) j.link) (sym are.0.1)
+        (links.event_known rules past are.0.0 j.link (judged-stands rules past are.1) (subst (λ (x : Event). x.link ≡ Some j.link) are.0.1 begun-own.1)) in
+        let lt = known (IsOnEarlier (length past)) e.outgoing j own.0 (judged-on_earlier rules (e ∷ past) are).0 in
+        record { at = older now.at lt; before = lt }
+      where
+        by : (m : Link) → own_link e ≡ Some m → (b : Bool) → (m.number == j.link.number) ≡ b → j.link.number < length past → (if b then Some m else link_at j.link.number past) ≡ Some j.link → link_at j.link.number past ≡ Some j.link
+        by m opened true same lt at =
+            let number = own_link-number rules e past m are opened in
+            absurd (omega (arith, eqb-true m.number j.link.number same, number, lt))
+        by m opened false same lt at = at
+
+        among : (o : Option Link) → own_link e ≡ o → j.link.number < length past → find (λ (m : Link). m.number == j.link.number) (cons_option o (all.links past)) ≡ Some j.link → link_at j.link.number past ≡ Some j.link
+        among None none lt at = at
+        among (Some m) opened lt at = by m opened (m.number == j.link.number) refl lt at
+
+        older : link_at j.link.number (e ∷ past) ≡ Some j.link → j.link.number < length past → link_at j.link.number past ≡ Some j.link
+        older at lt = among (own_link e) refl lt at
+
+    pub begun-live : is_live past j.link ≡ true
+    begun-live =
+        let r = are.0.0 in
+        let unopened : (judge rules past r).link ≡ (standing rules past r).link =
+        opened-link (judge_unopened rules past r.connection (moment_of r.what) r.note) past (said_no_attach transfer) in
+        let here : (judge rules past r).link ≡ Some j.link = subst (λ (x : Event). x.link ≡ Some j.link) are.0.1 begun-own.1 in
+        let live : IsLiveLink j.link past =
+        known (λ (l : Link). IsLiveLink l past) (standing rules past r).link j.link (sym unopened ∙ here) (placed-names past r.connection (moment_of r.what) r.note) in
+        ap (λ o. is_some_and (option_and_then (λ (s : Session). session_link s j.link.handle past) o) (λ (m : Link). m.number == j.link.number)) live.0
+        ∙ (ap (λ o. is_some_and o (λ (m : Link). m.number == j.link.number)) live.1 ∙ eq-eqb j.link.number j.link.number refl)
 
     -- the delivery that it carries
     pub record Carries : Type 0 where

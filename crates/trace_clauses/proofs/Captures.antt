@@ -27,6 +27,7 @@ use Rattle.trace_events.specs.Session.{session_at}
 use Rattle.trace_events.specs.Parts.{part_events}
 use Rattle.trace_events.specs.History.{history, judge}
 use Rattle.trace_clauses.specs.Clauses.{first_broken}
+use Rattle.trace_clauses.specs.Telling.{outcomes_to_tell, is_answered, has_outcome, answers_now, gets_outcome}
 use Rattle.trace_clauses.specs.Written.{spoken_octets}
 use Rattle.trace_clauses.specs.declared.tally.Tally.{Tally}
 use Rattle.trace_clauses.specs.Verdict.{verdict}
@@ -178,3 +179,25 @@ comes_by rules records r n = let past = history rules records in is_some_and (ou
 unfoldable pub comes_due_by : List RuleText → List Record → Record → ℕ → Bool
 unfolding frame_read whole_frame frame_at sized_frame headed_frame read digits spoken_octets frame_octets written
 comes_due_by rules records r n = let past = history rules records in is_some_and (link_at n past) (λ l. comes_due rules l (judge rules past r) past)
+
+-- the outcomes to tell by the numbers of their deliveries, and whether that delivery has one, or one to a client is answered
+unfoldable pub to_tell_in : List RuleText → List Record → List ℕ
+unfolding frame_read whole_frame frame_at sized_frame headed_frame read digits spoken_octets frame_octets written
+to_tell_in rules records = numbers (outcomes_to_tell rules (history rules records))
+
+unfoldable pub has_outcome_in : List RuleText → List Record → ℕ → Bool
+unfolding frame_read whole_frame frame_at sized_frame headed_frame read digits spoken_octets frame_octets written
+has_outcome_in rules records n = let past = history rules records in is_some_and (incoming_at n past) (has_outcome rules past)
+
+unfoldable pub is_answered_in : List RuleText → List Record → ℕ → Bool
+unfolding frame_read whole_frame frame_at sized_frame headed_frame read digits spoken_octets frame_octets written
+is_answered_in rules records n = let past = history rules records in is_some_and (outgoing_of n past) (is_answered past)
+
+-- what one more record answers, or gives an outcome
+unfoldable pub answers_by : List RuleText → List Record → Record → ℕ → Bool
+unfolding frame_read whole_frame frame_at sized_frame headed_frame read digits spoken_octets frame_octets written
+answers_by rules records r n = let past = history rules records in is_some_and (outgoing_of n past) (answers_now (judge rules past r) past)
+
+unfoldable pub gets_by : List RuleText → List Record → Record → ℕ → Bool
+unfolding frame_read whole_frame frame_at sized_frame headed_frame read digits spoken_octets frame_octets written
+gets_by rules records r n = let past = history rules records in is_some_and (incoming_at n past) (gets_outcome rules (judge rules past r) past)

@@ -33,6 +33,8 @@ pub mod CompletionOrder
 pub mod UnsentCopies
 pub mod LinkOrder
 pub mod CopiesCounted
+pub mod FirstSent
+pub mod OutcomesToTell
 mod ClauseExamples
 mod FaultExamples
 mod ReadingExamples

@@ -1,4 +1,5 @@
--- What captures say of the deliveries to settle and of the copies to send, and of what one more record does to them.
+-- What captures say of the deliveries to settle, the copies to send and the outcomes to tell, and of what one more record
+-- does to them.
 use Rattle.std.specs.Prelude.{◌≡◌, List, true, false, [], ◌∷◌, ◌++◌, None, refl}
 use Rattle.amqp_perf.specs.declared.attach.Role.TheVariants.{Sender, Receiver}
 use Rattle.amqp_perf.specs.declared.attach.SenderSettleMode.TheVariants.{Settled}
@@ -6,7 +7,7 @@ use Rattle.amqp_perf.specs.Meaning.{AFlow, ATransfer, ADisposition}
 use Rattle.pairing_cert.specs.declared.note.Why.TheVariants.{C}
 use Rattle.capture_form.specs.declared.records.Record.{Record}
 use Rattle.capture_form.specs.declared.rules.Distribution.TheVariants.{Multicast}
-use Rattle.trace_clauses.proofs.Captures.{rule, to_settle_in, unsent_in, is_unsettled_in, is_closed_in, is_kept_by, is_answered_by, is_closed_by, comes_by, comes_due_by}
+use Rattle.trace_clauses.proofs.Captures.{rule, to_settle_in, unsent_in, is_unsettled_in, is_closed_in, is_kept_by, is_answered_by, is_closed_by, comes_by, comes_due_by, to_tell_in, has_outcome_in, is_answered_in, answers_by, gets_by}
 use Rattle.trace_clauses.proofs.Made.{from, from_with, to, carry, tell, gives, first, next, with_more, as_settled, disposes, accepted, detach_of, q, hi, pair_by, sent, sent_by}
 
 -- the consumer is sent delivery 16, by delivery 17, whose id is 0; its link is that of record 13
@@ -188,3 +189,104 @@ two_unsent = refl
 no_copies : unsent_in [] (sent_by Settled) 13 ≡ []
 unfolding unsent_in
 no_copies = refl
+
+-- ---- outcomes to tell
+
+is_untold : to_tell_in [] (carried ++ (accepts ∷ [])) ≡ 16 ∷ []
+unfolding to_tell_in
+is_untold = refl
+
+told_already : to_tell_in [] (carried ++ (accepts ∷ tells ∷ [])) ≡ []
+unfolding to_tell_in
+told_already = refl
+
+-- the first begun first
+two_untold : to_tell_in [] (sent ++ (from_with 0 (ATransfer (first 1)) hi ∷ from 1 (detach_of true) ∷ [])) ≡ 16 ∷ 17 ∷ []
+unfolding to_tell_in
+two_untold = refl
+
+-- by the consumer's decision, by the last part on a link that is settled beforehand, or by the end of the link
+answered_by_consumer : is_answered_in [] (carried ++ (accepts ∷ [])) 17 ≡ true
+unfolding is_answered_in
+answered_by_consumer = refl
+
+answered_by_sending : is_answered_in [] (sent_by Settled ++ (carry 1 16 (as_settled (first 0)) hi ∷ [])) 17 ≡ true
+unfolding is_answered_in
+answered_by_sending = refl
+
+answered_by_end : is_answered_in [] (carried ++ (from 1 (detach_of true) ∷ [])) 17 ≡ true
+unfolding is_answered_in
+answered_by_end = refl
+
+not_answered : is_answered_in [] carried 17 ≡ false
+unfolding is_answered_in
+not_answered = refl
+
+-- complete, and of multicast, gone or answered
+outcome_of_copies : has_outcome_in (rule Multicast q ∷ []) sent 16 ≡ true
+unfolding has_outcome_in
+outcome_of_copies = refl
+
+outcome_of_gone : has_outcome_in [] (sent ++ (from 1 (detach_of true) ∷ [])) 16 ≡ true
+unfolding has_outcome_in
+outcome_of_gone = refl
+
+outcome_of_answered : has_outcome_in [] (carried ++ (accepts ∷ [])) 16 ≡ true
+unfolding has_outcome_in
+outcome_of_answered = refl
+
+none_while_it_waits : has_outcome_in [] sent 16 ≡ false
+unfolding has_outcome_in
+none_while_it_waits = refl
+
+none_before_completion : has_outcome_in (rule Multicast q ∷ []) (pair_by Settled ++ (from_with 0 (ATransfer (with_more (first 0))) hi ∷ [])) 15 ≡ false
+unfolding has_outcome_in
+none_before_completion = refl
+
+-- what one more record answers
+answers_deciding : answers_by [] carried accepts 17 ≡ true
+unfolding answers_by
+answers_deciding = refl
+
+answers_ending : answers_by [] carried (from 1 (detach_of true)) 17 ≡ true
+unfolding answers_by
+answers_ending = refl
+
+answers_last : answers_by [] (sent_by Settled ++ (carry 1 16 (with_more (as_settled (first 0))) (0x68 ∷ []) ∷ [])) (carry 1 16 (next false) (0x69 ∷ [])) 17 ≡ true
+unfolding answers_by
+answers_last = refl
+
+-- with more to come, or on a link that is not settled beforehand
+answers_not_yet : answers_by [] (sent_by Settled ++ (carry 1 16 (with_more (as_settled (first 0))) (0x68 ∷ []) ∷ [])) (carry 1 16 (next true) []) 17 ≡ false
+unfolding answers_by
+answers_not_yet = refl
+
+answers_unsettled_no : answers_by [] (sent ++ (carry 1 16 (with_more (first 0)) (0x68 ∷ []) ∷ [])) (carry 1 16 (next false) (0x69 ∷ [])) 17 ≡ false
+unfolding answers_by
+answers_unsettled_no = refl
+
+-- and gives an outcome
+gets_complete : gets_by (rule Multicast q ∷ []) (pair_by Settled ++ (from_with 0 (ATransfer (with_more (first 0))) hi ∷ [])) (from_with 0 (ATransfer (next false)) hi) 15 ≡ true
+unfolding gets_by
+gets_complete = refl
+
+-- completed where its address has a consumer, it waits; where there is none it is gone at once
+gets_waiting : gets_by [] (pair_by Settled ++ (from_with 0 (ATransfer (with_more (first 0))) hi ∷ [])) (from_with 0 (ATransfer (next false)) hi) 15 ≡ false
+unfolding gets_by
+gets_waiting = refl
+
+gets_gone : gets_by [] (pair_by Settled ++ (from_with 0 (ATransfer (with_more (first 0))) hi ∷ from 1 (detach_of true) ∷ [])) (from_with 0 (ATransfer (next false)) hi) 15 ≡ true
+unfolding gets_by
+gets_gone = refl
+
+gets_left : gets_by [] sent (from 1 (detach_of true)) 16 ≡ true
+unfolding gets_by
+gets_left = refl
+
+gets_answered : gets_by [] carried accepts 16 ≡ true
+unfolding gets_by
+gets_answered = refl
+
+gets_none : gets_by [] sent (carry 1 16 (first 0) hi) 16 ≡ false
+unfolding gets_by
+gets_none = refl

@@ -1,5 +1,6 @@
 pub mod Written
 pub mod Outcome
+pub mod Telling
 pub mod ConnectionClause
 pub mod SessionClause
 pub mod LinkClause

@@ -1,8 +1,7 @@
 -- Copies stay in order: an event that sends none keeps them so, and so does one that sends the earliest unsent copy of its
 -- link.
-use Rattle.std.proofs.Common.{◌≡◌, refl, sym, ap, subst, ◌∙◌, ℕ, suc, inl, inr, List, [], ◌∷◌, Bool, true, false, not, ◌&&◌, ◌||◌, Some, None, is_some, ◌==◌, arith, if◌then◌else◌}
+use Rattle.std.proofs.Common.{◌≡◌, refl, sym, ap, subst, ◌∙◌, ℕ, inl, inr, List, [], ◌∷◌, Bool, true, false, not, ◌&&◌, ◌||◌, Some, None, is_some, ◌==◌, if◌then◌else◌}
 use Rattle.std.specs.Prelude.{Contains, AllPairs}
-use Rattle.std.specs.List.{list_any}
 use Rattle.capture_form.specs.Rules.{RuleText}
 use Rattle.trace_events.specs.Words.{is_some_and, is_none_or}
 use Rattle.trace_events.specs.Event.{Event, Link, Incoming, is_on_link}
@@ -28,11 +27,11 @@ use Rattle.trace_clauses.proofs.LinkEnds.{is_live-next}
 use Rattle.trace_clauses.proofs.OneConsumer.{or-right, not-true}
 use Rattle.trace_clauses.proofs.Parts.{IsKept}
 use Rattle.trace_clauses.proofs.UnsentCopies.{unsent_complete, unsent_listed, unsent_in_order}
-use Rattle.trace_clauses.proofs.WaitingQueue.{completed_numbered, each_completed, all_contained, find_has, contains_first, contains_later, contains_cases}
+use Rattle.trace_clauses.proofs.WaitingQueue.{completed_numbered, each_completed, all_contained, find_has, contains_cases}
 use Rattle.trace_duties.specs.Quiet.{has_earlier_unsent}
 use Rattle.trace_duties.specs.Order.{CopiesInOrder, is_earliest}
 use Rattle.trace_clauses.proofs.LinkOrder.{BeginsWith, begins, begins-on, begins-names, link-cases, new-in_order, in_order-completed, in_order-stays}
-use Rattle.trace_duties.proofs.PicksInOrder.{none-passes}
+use Rattle.trace_duties.proofs.PicksInOrder.{none-passes, none-before, first-pair}
 
 -- ---- what is known of a copy goes by the number of its delivery
 
@@ -129,13 +128,6 @@ pub copies_in_order-none : (rules : List RuleText) → CopiesInOrder rules []
 copies_in_order-none rules l d at lives unsent = refl
 
 -- ---- the first of a link's unsent copies is the earliest
-
-first-pair : (R : Incoming → Incoming → Type 0) (x : Incoming) (xs : List Incoming) (y : Incoming) → AllPairs R (x ∷ xs) → Contains xs y → R x y
-first-pair R x xs y pairs there = let lt = there.1 in subst (R x) there.2 (pairs 0 (suc there.0) y (omega (arith, lt)) (omega (arith, lt)))
-
-none-before : (test : Incoming → Bool) (xs : List Incoming) → ((x : Incoming) → Contains xs x → test x ≡ false) → list_any test xs ≡ false
-none-before test [] none = refl
-none-before test (x ∷ xs) none = ap (λ b. b || list_any test xs) (none x (contains_first x xs)) ∙ none-before test xs (λ y there. none y (contains_later x xs y there))
 
 pub first_unsent-earliest : (rules : List RuleText) (past : List Event) → AreJudged rules past → (l : Link) (d : Incoming) (ds : List Incoming) → unsent_copies rules l past ≡ d ∷ ds → has_earlier_unsent rules past l d ≡ false
 first_unsent-earliest rules past are l d ds is =

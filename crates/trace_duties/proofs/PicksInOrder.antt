@@ -1,7 +1,7 @@
 -- Where every delivery that began went to the link that was picked, an anycast delivery that waits may go to any link of its
 -- address by the order of completion.
-use Rattle.std.proofs.Common.{◌≡◌, refl, sym, ap, ◌∙◌, inl, inr, List, [], ◌∷◌, Bool, true, false, not, ◌&&◌, ◌||◌, Option, Some, None, IfSome, ◌==◌, arith}
-use Rattle.std.specs.Prelude.{Contains}
+use Rattle.std.proofs.Common.{◌≡◌, refl, sym, ap, subst, ◌∙◌, ℕ, suc, inl, inr, List, [], ◌∷◌, Bool, true, false, not, ◌&&◌, ◌||◌, Option, Some, None, IfSome, ◌==◌, arith}
+use Rattle.std.specs.Prelude.{Contains, AllPairs}
 use Rattle.std.specs.Str.{bytes_eq}
 use Rattle.std.specs.List.{list_any}
 use Rattle.std.proofs.lemmas.Slice.Eq.{bytes_eq-Decides}
@@ -13,7 +13,7 @@ use Rattle.trace_events.specs.Address.{has_multicast, has_consumer}
 use Rattle.trace_events.specs.Credit.{begins_outgoing}
 use Rattle.trace_events.specs.Incoming.{address_of, completes, is_complete, completed_before, incoming_begun, incoming_deliveries, incoming_at}
 use Rattle.trace_events.specs.Outgoing.{names, noted, is_paired}
-use Rattle.trace_events.specs.Queue.{pairs, stays}
+use Rattle.trace_events.specs.Queue.{pairs, stays, waits_at, waiting_queue}
 use Rattle.trace_events.specs.Waiting.{is_of_multicast, is_waiting, always_had_consumer}
 use Rattle.trace_events.proofs.Along.{and_first, and_last}
 use Rattle.trace_events.proofs.Judged.{AreJudged, IsTransfer, judged-transfer}
@@ -23,10 +23,11 @@ use Rattle.trace_clauses.specs.Kept.{AtEach}
 use Rattle.trace_clauses.specs.TransferClause.{is_in_order}
 use Rattle.trace_clauses.proofs.BegunDeliveries.{begun-own}
 use Rattle.trace_clauses.proofs.ClausesMet.{lawful-past}
-use Rattle.trace_clauses.proofs.CompletionOrder.{one-before}
+use Rattle.trace_clauses.proofs.CompletionOrder.{before-one_way, before-not_itself, one-before}
+use Rattle.trace_clauses.proofs.IncomingProgress.{judged-kept}
 use Rattle.trace_clauses.proofs.Incomings.{judged-sound}
 use Rattle.trace_clauses.proofs.OneConsumer.{found-at, or-right, not-true}
-use Rattle.trace_clauses.proofs.WaitingQueue.{find_has, contains_none, contains_cases}
+use Rattle.trace_clauses.proofs.WaitingQueue.{queued_waits, waits_queued, queued_in_order, find_has, contains_none, contains_first, contains_later, contains_cases}
 use Rattle.trace_duties.specs.Diligent.{is_picked, is_next_waiting, is_picked_link, is_due_frame, moment_keeps, all_keep}
 use Rattle.trace_clauses.proofs.LinkOrder.{BeginsWith, begins-address, begins, link-cases, new-in_order, in_order-completed, in_order-stays}
 
@@ -167,3 +168,49 @@ waiting_in_order rules (e ∷ past) are lawful picked l d =
 pub kept_in_order : (rules : List RuleText) (past : List Event) → AreJudged rules past → first_broken rules past ≡ None → all_keep rules past ≡ true
     → (l : Link) (d : Incoming) → link_at l.number past ≡ Some l → incoming_at d.number past ≡ Some d → address_of d ≡ l.address → is_waiting rules d past ≡ true → is_in_order l past d ≡ true
 kept_in_order rules past are lawful keeps = waiting_in_order rules past are lawful (all_picked rules past are keeps)
+
+-- ---- the first of an address's queue is the next of those that wait there
+
+pub first-pair : (R : Incoming → Incoming → Type 0) (x : Incoming) (xs : List Incoming) (y : Incoming) → AllPairs R (x ∷ xs) → Contains xs y → R x y
+first-pair R x xs y pairs there = let lt = there.1 in subst (R x) there.2 (pairs 0 (suc there.0) y (omega (arith, lt)) (omega (arith, lt)))
+
+pub none-before : (test : Incoming → Bool) (xs : List Incoming) → ((x : Incoming) → Contains xs x → test x ≡ false) → list_any test xs ≡ false
+none-before test [] none = refl
+none-before test (x ∷ xs) none = ap (λ b. b || list_any test xs) (none x (contains_first x xs)) ∙ none-before test xs (λ y there. none y (contains_later x xs y there))
+
+pub first_waiting-next : (rules : List RuleText) (past : List Event) → AreJudged rules past → (address : List ℕ) (d : Incoming) (ds : List Incoming) → waiting_queue rules address past ≡ d ∷ ds → is_next_waiting rules past d ≡ true
+first_waiting-next rules past are address d ds is =
+    ap (λ b. b && not (list_any earlier (incoming_deliveries past))) waits
+    ∙ ap not (none-before earlier (incoming_deliveries past) (λ x there. by x there (bytes_eq (address_of x) (address_of d)) refl (is_waiting rules x past) refl))
+  where
+    earlier : Incoming → Bool
+    earlier x = bytes_eq (address_of x) (address_of d) && is_waiting rules x past && completed_before x d past
+
+    here : waits_at rules address past d ≡ true
+    here = (queued_waits rules address past (judged-kept rules past are) d (subst (λ xs. Contains xs d) (sym is) (contains_first d ds))).1
+
+    waits : is_waiting rules d past ≡ true
+    waits = and_last (bytes_eq (address_of d) address) (is_waiting rules d past) here
+
+    same : address_of d ≡ address
+    same = (bytes_eq-Decides (address_of d) address).0 (and_first (bytes_eq (address_of d) address) (is_waiting rules d past) here)
+
+    order : AllPairs (λ a b. completed_before a b past ≡ true) (d ∷ ds)
+    order = subst (AllPairs (λ a b. completed_before a b past ≡ true)) is (queued_in_order rules address past are)
+
+    not_before : (x : Incoming) → Contains (d ∷ ds) x → completed_before x d past ≡ false
+    not_before x listed = elim (contains_cases d ds x listed) [
+      | inl one ↦ subst (λ (y : Incoming). completed_before y d past ≡ false) one (before-not_itself past d)
+      | inr later ↦ before-one_way past d x (first-pair (λ a b. completed_before a b past ≡ true) d ds x order later)
+    ]
+
+    queued : (x : Incoming) → Contains (incoming_deliveries past) x → bytes_eq (address_of x) (address_of d) ≡ true → is_waiting rules x past ≡ true → Contains (d ∷ ds) x
+    queued x there at waits_too =
+        let of : address_of x ≡ address = (bytes_eq-Decides (address_of x) (address_of d)).0 at ∙ same in
+        let both : waits_at rules address past x ≡ true = ap (λ b. b && is_waiting rules x past) ((bytes_eq-Decides (address_of x) address).1 of) ∙ waits_too in
+        subst (λ xs. Contains xs x) is (waits_queued rules address past (judged-kept rules past are) x there both)
+
+    by : (x : Incoming) → Contains (incoming_deliveries past) x → (a : Bool) → bytes_eq (address_of x) (address_of d) ≡ a → (b : Bool) → is_waiting rules x past ≡ b → a && b && completed_before x d past ≡ false
+    by x there false at b waits_too = refl
+    by x there true at false waits_too = refl
+    by x there true at true waits_too = not_before x (queued x there at waits_too)

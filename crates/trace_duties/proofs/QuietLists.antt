@@ -22,8 +22,10 @@ use Rattle.trace_events.specs.Settling.{is_to_settle}
 use Rattle.trace_events.specs.Work.{deliveries_to_settle, unsent_copies}
 use Rattle.trace_events.proofs.Judged.{AreJudged}
 use Rattle.trace_clauses.specs.Outcome.{is_to_tell}
+use Rattle.trace_clauses.specs.Telling.{outcomes_to_tell}
 use Rattle.trace_clauses.specs.FlowClause.{may_be_topped_up, may_be_drained}
 use Rattle.trace_clauses.proofs.IncomingProgress.{judged-kept}
+use Rattle.trace_clauses.proofs.OutcomesToTell.{to_tell_listed}
 use Rattle.trace_clauses.proofs.SettlingList.{to_settle_listed}
 use Rattle.trace_clauses.proofs.UnsentCopies.{unsent_listed}
 use Rattle.trace_clauses.proofs.WaitingQueue.{waits_queued, contains_first, contains_later, contains_none, contains_cases}
@@ -79,6 +81,9 @@ module _ (rules : List RuleText) (past : List Event) where
   pub quiet-untold : (work : List Incoming) → ((d : Incoming) → Contains (incoming_deliveries past) d → is_to_tell rules past d ≡ true → Contains work d) → work ≡ []
       → none_is_untold rules past ≡ true
   quiet-untold work listed empty = none-listed (is_to_tell rules past) (incoming_deliveries past) work listed empty
+
+  pub quiet-none_to_tell : outcomes_to_tell rules past ≡ [] → none_is_untold rules past ≡ true
+  quiet-none_to_tell empty = quiet-untold (outcomes_to_tell rules past) (λ d there is. to_tell_listed rules past d there is) empty
 
   -- no delivery is to be settled
   pub quiet-unsettled : (work : List Outgoing) → ((j : Outgoing) → Contains (outgoing_deliveries past) j → is_to_settle past j ≡ true → Contains work j) → work ≡ []

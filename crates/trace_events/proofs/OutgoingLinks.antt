@@ -125,7 +125,7 @@ deliveries-earlier_now e past are = begun_earlier (length past) e.number e.outgo
 
 -- ---- nothing decides a delivery before it began
 
-answering-before : (j : Outgoing) (e : Event) → e.number ≤ j.number → answering j e ≡ None
+pub answering-before : (j : Outgoing) (e : Event) → e.number ≤ j.number → answering j e ≡ None
 answering-before j e le =
     let none : nat_lt j.number e.number ≡ false = le-ltb j.number e.number le in
     rw none (simp and-false)
