@@ -8,8 +8,7 @@ ghost use Rattle.std.specs.Prelude.{◌≡◌, ◌+◌, ◌-◌, ◌<◌, ◌≤
 ghost use Rattle.amqp_types.specs.Part as parts;
 ghost use Rattle.flow_counts.specs.Words.{Gives};
 ghost use Rattle.amqp_types.specs.Reading.{items_at, nested_at, described_at, tagged_at, array_at, elements_at, constructor_at, element_at, item_at, data_at, seen_at};
-ghost use Rattle.amqp_types.specs.Items.{are_items, items_in, is_value, is_element, element_of, seen_of};
-ghost use Rattle.amqp_types.specs.Grammar.{IsValue, IsConstructor, IsElement};
+ghost use Rattle.amqp_types.specs.Items.{behind};
 ghost use Rattle.amqp_types.specs.Form.{constructor_of, form};
 ghost use Rattle.amqp_types.specs.View.{view, part_of, array_part};
 
@@ -17,28 +16,69 @@ use crate::code::{Code, Kind, SizeWidth};
 use crate::constructor::{Constructor, Tag};
 use crate::described::{Described, Tagged};
 use crate::fault::{ValueFault, ValueFaultKind};
+use crate::plain::{behind_data, behind_value};
 use crate::primitive::{Read, read_counted, read_fixed, read_text};
 use crate::sequence::{Array, Sequence};
 use crate::value::{Content, Value};
 use flow_counts::MAX_DEPTH;
 
-/// A value, or an element where there is a constructor.
+/// The octets behind a value, which is passed over.
+#[cycle(reader)]
+fn pass_value(levels: usize, at: usize, bytes: &[u8]) -> Result<&[u8], ValueFault>
+    requires levels { levels ≤ MAX_DEPTH }
+    requires room { at + length bytes.now < 2 ^ 64 }
+    ensures { Gives (λ x. x.now) result (behind (seen_at levels at bytes.now)) }
+{
+    if levels > 0 {
+        if let Some(rest) = behind_value(bytes) {
+            return Ok(rest);
+        }
+    }
+    match read_value(levels, at, bytes) {
+        Ok((_, rest)) => Ok(rest),
+        Err(fault) => Err(fault),
+    }
+}
+
+/// The octets behind an element, which is passed over.
+#[cycle(reader)]
+fn pass_element<'a>(
+    levels: usize,
+    constructor: Constructor<'a>,
+    at: usize,
+    bytes: &'a [u8],
+) -> Result<&'a [u8], ValueFault>
+    requires tags { constructor.tags < levels }
+    requires levels { levels ≤ MAX_DEPTH }
+    requires room { at + 1 + length bytes.now < 2 ^ 64 }
+    ensures { Gives (λ x. x.now) result (behind (element_at levels (constructor_of constructor.entry) at bytes.now)) }
+{
+    if let Some(rest) = behind_data(constructor.code, bytes) {
+        return Ok(rest);
+    }
+    match read_element(levels, constructor, at, bytes) {
+        Ok((_, rest)) => Ok(rest),
+        Err(fault) => Err(fault),
+    }
+}
+
+/// The octets behind a value, or behind an element where there is a constructor.
 #[cycle(reader)]
 #[tactic(auto, unfolding(crate::specs::Reading::item_at))]
-fn read_item<'a>(
+fn pass_item<'a>(
     levels: usize,
     constructor: Option<Constructor<'a>>,
     at: usize,
     bytes: &'a [u8],
-) -> Read<'a, Value<'a>>
+) -> Result<&'a [u8], ValueFault>
     requires levels { levels ≤ MAX_DEPTH }
     requires room { at + length bytes.now < 2 ^ 64 }
     requires fits { IfSome constructor (λ c. (c.tags < levels) × (at + 1 + length bytes.now < 2 ^ 64)) }
-    ensures { Gives (λ x. (view x.0, x.1.now)) result (item_at levels (form constructor.entry) at bytes.now) }
+    ensures { Gives (λ x. x.now) result (behind (item_at levels (form constructor.entry) at bytes.now)) }
 {
     match constructor {
-        None => read_value(levels, at, bytes),
-        Some(constructor) => read_element(levels, constructor, at, bytes),
+        None => pass_value(levels, at, bytes),
+        Some(constructor) => pass_element(levels, constructor, at, bytes),
     }
 }
 
@@ -59,8 +99,8 @@ fn read_items<'a>(
     let mut place = at;
     let mut rest = bytes;
     for _ in 0..count {
-        let (item, after) = read_item(levels, constructor, place, rest)?;
-        place += item.raw.len();
+        let after = pass_item(levels, constructor, place, rest)?;
+        place += rest.len() - after.len();
         rest = after;
     }
     Ok(rest)
@@ -95,7 +135,7 @@ fn read_nested(
 /// The constructor of elements, which stands in front of their data.
 #[cycle(reader)]
 #[tactic(auto, unfolding(crate::specs::Reading::constructor_at, crate::specs::Reading::constructor_by))]
-fn read_constructor(levels: usize, at: usize, bytes: &[u8]) -> Read<'_, Constructor<'_>>
+pub(crate) fn read_constructor(levels: usize, at: usize, bytes: &[u8]) -> Read<'_, Constructor<'_>>
     requires levels { levels ≤ MAX_DEPTH }
     requires room { at + length bytes.now < 2 ^ 64 }
     ensures { Gives (λ x. (constructor_of x.0, x.1.now)) result (constructor_at levels at bytes.now) }
@@ -148,7 +188,7 @@ fn read_tagged(levels: usize, at: usize, bytes: &[u8]) -> Read<'_, Constructor<'
 /// An element of an array, whose constructor was read before.
 #[cycle(reader)]
 #[tactic(auto, unfolding(crate::specs::Reading::element_at, crate::specs::Reading::element_by))]
-fn read_element<'a>(
+pub(crate) fn read_element<'a>(
     levels: usize,
     constructor: Constructor<'a>,
     at: usize,
@@ -236,7 +276,7 @@ fn read_described(levels: usize, at: usize, bytes: &[u8]) -> Read<'_, Content<'_
 /// What is behind a code.
 #[cycle(reader)]
 #[tactic(auto, unfolding(crate::specs::Reading::data_at, crate::specs::Reading::data_by))]
-fn read_data(levels: usize, code: Code, at: usize, bytes: &[u8]) -> Read<'_, Content<'_>>
+pub(crate) fn read_data(levels: usize, code: Code, at: usize, bytes: &[u8]) -> Read<'_, Content<'_>>
     requires some { 0 < levels }
     requires levels { levels ≤ MAX_DEPTH }
     requires room { at + 1 + length bytes.now < 2 ^ 64 }
@@ -272,50 +312,4 @@ pub(crate) fn read_value(levels: usize, at: usize, bytes: &[u8]) -> Read<'_, Val
     let (content, rest) = read_data(levels, code, at, behind)?;
     let raw = &bytes[..bytes.len() - rest.len()];
     Ok((Value { raw, content }, rest))
-}
-
-/// The value that octets are which were read as one before.
-pub(crate) fn whole(octets: &[u8]) -> Value<'_>
-    requires { IsTrue (is_value octets.now) }
-    ensures same { view result ≡ seen_of octets.now }
-    ensures whole { (view result).octets ≡ octets.now }
-    ensures value { IsValue MAX_DEPTH octets.now (view result).part }
-{
-    match read_value(MAX_DEPTH, 0, octets) {
-        Ok((value, _)) => value,
-        Err(_) => unreachable!(),
-    }
-}
-
-/// The element that octets are, with its constructor, both of which were read before.
-pub(crate) fn whole_element<'a>(constructor: &'a [u8], octets: &'a [u8]) -> Value<'a>
-    requires { IsTrue (is_element constructor.now octets.now) }
-    ensures same { view result ≡ element_of constructor.now octets.now }
-    ensures whole { (view result).octets ≡ octets.now }
-    ensures element { (c : parts.Constructor) × IsConstructor MAX_DEPTH constructor.now c × IsElement MAX_DEPTH c octets.now (view result).part }
-{
-    let Ok((constructor, _)) = read_constructor(MAX_DEPTH, 0, constructor) else {
-        unreachable!()
-    };
-    match read_element(MAX_DEPTH, constructor, 0, octets) {
-        Ok((value, _)) => value,
-        Err(_) => unreachable!(),
-    }
-}
-
-/// The first of some items, which were read before, and the octets of the others.
-pub(crate) fn first_of<'a>(
-    constructor: Option<Constructor<'a>>,
-    count: u32,
-    octets: &'a [u8],
-) -> (Value<'a>, &'a [u8])
-    requires some { 0 < count }
-    requires filled { IsTrue (are_items (form constructor) count octets.now) }
-    ensures first { items_in (form constructor.entry) count octets.now ≡ view result.0 ∷ items_in (form constructor.entry) (count - 1) result.1.now }
-    ensures others { IsTrue (are_items (form constructor.entry) (count - 1) result.1.now) }
-{
-    match read_item(MAX_DEPTH, constructor, 0, octets) {
-        Ok(read) => read,
-        Err(_) => unreachable!(),
-    }
 }

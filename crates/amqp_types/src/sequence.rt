@@ -5,7 +5,7 @@ ghost use Rattle.amqp_types.specs.Items.{are_items};
 ghost use Rattle.amqp_types.specs.Form.{form};
 
 use crate::constructor::Constructor;
-use crate::reading::first_of;
+use crate::known::first_of;
 use crate::value::Value;
 
 /// Values that lie one after the other.

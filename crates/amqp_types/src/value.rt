@@ -3,7 +3,8 @@
 use crate::code::{Kind, Opaque};
 use crate::described::{Described, Tagged};
 use crate::fault::ValueFault;
-use crate::reading::{read_value, whole, whole_element};
+use crate::known::{whole, whole_element};
+use crate::reading::read_value;
 use crate::sequence::{Array, Items, Sequence};
 use flow_counts::MAX_DEPTH;
 

@@ -14,7 +14,8 @@ use Rattle.amqp_types.proofs.Values.{data_shorter}
 use Rattle.amqp_types.proofs.Levels.{data_nested, data_array, data_described, described_is, constructor_tagged, element_fault, element_is}
 use Rattle.amqp_types.proofs.Held.{held_value, held_items, element_held}
 use Rattle.amqp_types.proofs.Constructors.{constructor_lengths, constructor_tags, constructor_form, tagged_is}
-use Rattle.amqp_types.proofs.Loop.{seen_lengths, item_lengths, goes_on, ends, is_done}
+use Rattle.amqp_types.proofs.PassedOver.{passes_value, passes_element}
+use Rattle.amqp_types.proofs.Loop.{seen_lengths, behind_shorter, goes_past, stops, is_done}
 use Rattle.amqp_types.proofs.reading.+reader.Goals as goal
 use Rattle.amqp_types.proofs.reading.+reader.Goals.{read_element-in-None, read_element-in-Some}
 
@@ -50,18 +51,26 @@ read_described-invariant_of-pair t c =
       value_read = held_value c.args.levels _ descriptor.behind.now (view value.value, value.rest.now) c.requires.levels value.ensures;
     }
 
-pub read_items-returns-in_err-item : goal.read_items-returns-in_err-item
-read_items-returns-in_err-item t c =
+pub pass_value-returns-in-Some : goal.pass_value-returns-in-Some
+pass_value-returns-in-Some t c = passes_value c.args.levels c.args.at c.args.bytes.now c.in-Some.rest.now (omega (arith, c.if-levels-gt0.true)) c.in-Some.ensures
+
+pub pass_element-returns-in-Some : goal.pass_element-returns-in-Some
+pass_element-returns-in-Some t c = passes_element c.args.levels (constructor_of c.args.constructor) c.args.at c.args.bytes.now c.in-Some.rest.now c.requires.tags c.in-Some.ensures
+
+pub read_items-returns-in_err-after : goal.read_items-returns-in_err-after
+read_items-returns-in_err-after t c =
     let p = err_from_is_err_and c.from_residual.result c.from_residual.ensures.1 in
-    rw (p.1, p.2) (ends c.args.levels (form c.args.constructor) c.args.count c.args.at c.args.bytes.now c.loop.counter c.loop.place c.loop.rest.now c.in_err-item.field-0.0 c.loop-test.true c.in_err-item.ensures c.loop.invariant)
+    rw (p.1, p.2) (stops c.args.levels (form c.args.constructor) c.args.count c.args.at c.args.bytes.now c.loop.counter c.loop.place c.loop.rest.now c.in_err-after.field-0.0 c.loop-test.true c.in_err-after.ensures c.loop.invariant)
+
+pub read_items-overflow_sub-place : goal.read_items-overflow_sub-place
+read_items-overflow_sub-place t c = behind_shorter c.args.levels (form c.args.constructor) c.loop.place c.loop.rest.now c.in_ok-after.after.now c.in_ok-after.ensures
 
 pub read_items-overflow_add-place : goal.read_items-overflow_add-place
-read_items-overflow_add-place t c =
-    omega (arith, c.requires.room, c.loop.invariant.room, item_lengths c.args.levels (form c.args.constructor) c.loop.place c.loop.rest.now (view c.in_ok-item.item, c.in_ok-item.after.now) c.in_ok-item.ensures)
+read_items-overflow_add-place t c = omega (arith, c.requires.room, c.loop.invariant.room)
 
 pub read_items-loop-preserved : goal.read_items-loop-preserved
 read_items-loop-preserved t c =
-    goes_on c.args.levels (form c.args.constructor) c.args.count c.args.at c.args.bytes.now c.loop.counter c.loop.place c.loop.rest.now (view c.in_ok-item.item, c.in_ok-item.after.now) c.loop-test.true c.in_ok-item.ensures c.loop.invariant
+    goes_past c.args.levels (form c.args.constructor) c.args.count c.args.at c.args.bytes.now c.loop.counter c.loop.place c.loop.rest.now c.in_ok-after.after.now c.loop-test.true c.in_ok-after.ensures c.loop.invariant
 
 pub read_items-returns : goal.read_items-returns
 read_items-returns t c = is_done c.args.levels (form c.args.constructor) c.args.count c.args.at c.args.bytes.now c.loop.counter c.loop.place c.loop.rest.now c.loop-test.false c.loop.invariant
