@@ -48,7 +48,7 @@ impl<'a> CheckedFields<'a> {
     }
 
     /// The next field's value; none where it is missing.
-    #[inline]
+    #[inline(always)]
     fn take(&mut self, field: Field) -> Option<Value<'a>>
         ensures value { seen_or_missing result ≡ first (fields_left self.old.items) }
         ensures left { fields_left self.new.items ≡ others (fields_left self.old.items) }

@@ -157,7 +157,7 @@ impl Field {
     ghost use Rattle.amqp_perf.specs.View.{seen_or_missing, fault_in};
 
     /// Whether a value may stand in the field.
-    #[inline]
+    #[inline(always)]
     pub(crate) fn fits(self, value: Option<Value>) -> bool
         ensures { result ≡ fits_field self (seen_or_missing value.entry) }
     {
@@ -193,7 +193,7 @@ impl FieldType {
     ghost use Rattle.amqp_perf.specs.Tables.{accepts};
 
     /// Whether a value that is not null has this type.
-    #[inline]
+    #[inline(always)]
     fn accepts(self, value: Value) -> bool
         ensures { result ≡ accepts self (view value.entry) }
     {

@@ -19,7 +19,7 @@ use crate::value::{Content, Value};
 use flow_counts::MAX_DEPTH;
 
 /// What a reading gave that does not fail.
-#[inline]
+#[inline(always)]
 fn known<'a>(read: Read<'a, Content<'a>>) -> (Content<'a>, &'a [u8])
     requires { IsTrue (is_ok read) }
     ensures { read.entry ≡ Ok result }
@@ -31,7 +31,7 @@ fn known<'a>(read: Read<'a, Content<'a>>) -> (Content<'a>, &'a [u8])
 }
 
 /// The data of a list or a map.
-#[inline]
+#[inline(always)]
 fn known_nested(kind: Kind, width: SizeWidth, bytes: &[u8]) -> (Content<'_>, &[u8])
     requires { IsTrue (is_read (nested_at (item_at (MAX_DEPTH - 1) None) kind width 0 bytes.now)) }
     ensures { nested_at (item_at (MAX_DEPTH - 1) None) kind width 0 bytes.now ≡ Ok (part_of result.0, result.1.now) }
@@ -43,8 +43,8 @@ fn known_nested(kind: Kind, width: SizeWidth, bytes: &[u8]) -> (Content<'_>, &[u
 }
 
 /// What is behind a code.
-#[inline]
 #[tactic(auto, unfolding(crate::specs::Reading::data_at, crate::specs::Reading::data_by), using(crate::proofs::ReadBefore::is_known))]
+#[inline(always)]
 fn known_data(code: Code, bytes: &[u8]) -> (Content<'_>, &[u8])
     requires { IsTrue (is_read (data_at MAX_DEPTH 0 code 0 bytes.now)) }
     ensures { data_at MAX_DEPTH 0 code 0 bytes.now ≡ Ok (part_of result.0, result.1.now) }
@@ -59,8 +59,8 @@ fn known_data(code: Code, bytes: &[u8]) -> (Content<'_>, &[u8])
 }
 
 /// The value at the front of the octets, and the octets behind it.
-#[inline]
 #[tactic(auto, unfolding(crate::specs::Reading::seen_at, crate::specs::Reading::value_at, crate::specs::Reading::value_by, crate::specs::Reading::coded_at))]
+#[inline(always)]
 fn known_value(bytes: &[u8]) -> (Value<'_>, &[u8])
     requires { IsTrue (is_read (seen_at MAX_DEPTH 0 bytes.now)) }
     ensures { seen_at MAX_DEPTH 0 bytes.now ≡ Ok (view result.0, result.1.now) }
@@ -77,8 +77,8 @@ fn known_value(bytes: &[u8]) -> (Value<'_>, &[u8])
 }
 
 /// The item at the front of the octets, an element where there is a constructor, and the octets behind it.
-#[inline]
 #[tactic(auto, unfolding(crate::specs::Reading::item_at))]
+#[inline(always)]
 fn known_item<'a>(constructor: Option<Constructor<'a>>, bytes: &'a [u8]) -> (Value<'a>, &'a [u8])
     requires { IsTrue (is_read (item_at MAX_DEPTH (form constructor) 0 bytes.now)) }
     ensures { item_at MAX_DEPTH (form constructor.entry) 0 bytes.now ≡ Ok (view result.0, result.1.now) }
@@ -120,6 +120,7 @@ pub(crate) fn whole_element<'a>(constructor: &'a [u8], octets: &'a [u8]) -> Valu
 }
 
 /// The first of some items, which were read before, and the octets of the others.
+#[inline(always)]
 pub(crate) fn first_of<'a>(
     constructor: Option<Constructor<'a>>,
     count: u32,

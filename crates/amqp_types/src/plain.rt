@@ -9,8 +9,8 @@ use crate::primitive::{read_fixed, read_text};
 
 /// The octets behind the data of a code, where this data holds no values and has no fault. Of other data it
 /// tells nothing.
-#[inline]
 #[tactic(auto, unfolding(crate::specs::Reading::data_at, crate::specs::Reading::data_by))]
+#[inline(always)]
 pub(crate) fn behind_data(code: Code, bytes: &[u8]) -> Option<&[u8]>
     ensures { IfSome result (λ rest. behind (data_at 1 0 code 0 bytes.now) ≡ Ok rest.now) }
 {
@@ -30,8 +30,8 @@ pub(crate) fn behind_data(code: Code, bytes: &[u8]) -> Option<&[u8]>
 
 /// The octets behind the value at the front, where it holds no others and has no fault. Of another value it
 /// tells nothing.
-#[inline]
 #[tactic(auto, using(crate::proofs::PassedOver::behind_coded))]
+#[inline(always)]
 pub(crate) fn behind_value(bytes: &[u8]) -> Option<&[u8]>
     ensures { IfSome result (λ rest. behind (seen_at 1 0 bytes.now) ≡ Ok rest.now) }
 {

@@ -24,6 +24,7 @@ use flow_counts::MAX_DEPTH;
 
 /// The octets behind a value, which is passed over.
 #[cycle(reader)]
+#[inline(always)]
 fn pass_value(levels: usize, at: usize, bytes: &[u8]) -> Result<&[u8], ValueFault>
     requires levels { levels ≤ MAX_DEPTH }
     requires room { at + length bytes.now < 2 ^ 64 }
@@ -42,6 +43,7 @@ fn pass_value(levels: usize, at: usize, bytes: &[u8]) -> Result<&[u8], ValueFaul
 
 /// The octets behind an element, which is passed over.
 #[cycle(reader)]
+#[inline(always)]
 fn pass_element<'a>(
     levels: usize,
     constructor: Constructor<'a>,
@@ -65,6 +67,7 @@ fn pass_element<'a>(
 /// The octets behind a value, or behind an element where there is a constructor.
 #[cycle(reader)]
 #[tactic(auto, unfolding(crate::specs::Reading::item_at))]
+#[inline(always)]
 fn pass_item<'a>(
     levels: usize,
     constructor: Option<Constructor<'a>>,

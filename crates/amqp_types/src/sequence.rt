@@ -132,6 +132,7 @@ impl<'a> Iterator for Items<'a> {
     ghost remaining = { item_count items_left };
 
     #[tactic(auto, unfolding(crate::specs::Items::items_in))]
+    #[inline(always)]
     fn next(&mut self) -> Option<Value<'a>> {
         if self.left == 0 {
             return None;
