@@ -79,7 +79,7 @@ coded_deeper Is Also more (b ∷ octets) part is = (is.0, is.1, more is.0 octets
 mutual
   unfolding IsData IsConstructor
 
-  pub data_deeper : (few many : ℕ) → few ≤ many → (tags : ℕ) (code : Code) → Follows (IsData few tags code) (IsData many tags code)
+  data_deeper : (few many : ℕ) → few ≤ many → (tags : ℕ) (code : Code) → Follows (IsData few tags code) (IsData many tags code)
   data_deeper zero many le tags code octets part is = absurd is
   data_deeper (suc few) zero le tags code octets part is = absurd (omega arith)
   data_deeper (suc few) (suc many) le zero (codes.Fixed scalar) octets part is = is

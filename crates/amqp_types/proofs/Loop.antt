@@ -3,10 +3,10 @@ use Rattle.std.proofs.Common.{◌≡◌, ℕ, suc, ◌+◌, ◌-◌, ◌≤◌, 
 use Rattle.std.proofs.lemmas.List.{length-append}
 use Rattle.amqp_types.specs.declared.fault.ValueFault.{ValueFault}
 use Rattle.amqp_types.specs.Part.{Seen, Constructor}
-use Rattle.amqp_types.specs.Reading.{Read, seen_at, item_at, items_at}
+use Rattle.amqp_types.specs.Reading.{seen_at, item_at, items_at}
 use Rattle.amqp_types.specs.Items.{behind}
 use Rattle.amqp_types.proofs.Values.{item_found, seen_found}
-use Rattle.amqp_types.proofs.PassedOver.{behind_found}
+use Rattle.amqp_types.proofs.PassedOver.{behind_found, behind_fault}
 
 -- the items that are left are read as the last of all
 pub record GoesOver (levels : ℕ) (form : Option Constructor) (count at : ℕ) (bytes : List ℕ) (i place : ℕ) (rest : List ℕ) : Type 0 where
@@ -68,10 +68,6 @@ pub behind_shorter : (levels : ℕ) (form : Option Constructor) (at : ℕ) (byte
 behind_shorter levels form at bytes rest e =
     let x = behind_found (item_at levels form at bytes) rest e in
     omega (arith, item_lengths levels form at bytes (x.0, rest) x.1)
-
-behind_fault : (r : Read Seen) (d : ValueFault) → behind r ≡ Err d → r ≡ Err d
-behind_fault (Ok x) d e = absurd cc
-behind_fault (Err c) d e = cc
 
 -- going over an item that is at fault
 pub stops : (levels : ℕ) (form : Option Constructor) (count at : ℕ) (bytes : List ℕ) (i place : ℕ) (rest : List ℕ) (d : ValueFault) → i < count → behind (item_at levels form place rest) ≡ Err d

@@ -93,6 +93,7 @@ fn known_item<'a>(constructor: Option<Constructor<'a>>, bytes: &'a [u8]) -> (Val
 }
 
 /// The value that octets are which were read as one before.
+#[inline(always)]
 pub(crate) fn whole(octets: &[u8]) -> Value<'_>
     requires { IsTrue (is_value octets.now) }
     ensures same { view result ≡ seen_of octets.now }

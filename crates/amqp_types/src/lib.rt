@@ -9,7 +9,7 @@
 //! were read with the value that holds them: to take them out cannot fail.
 //!
 //! Reading order: `fault`, `code`, `value`, `sequence`, `constructor`, `described`, `primitive`,
-//! `plain`, `reading`, `known`, `writing`.
+//! `reading`, `known`, `writing`.
 #![tactic(auto)]
 
 mod code;
@@ -17,7 +17,6 @@ mod constructor;
 mod described;
 mod fault;
 mod known;
-mod plain;
 mod primitive;
 mod reading;
 mod sequence;

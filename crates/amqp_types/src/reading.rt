@@ -16,7 +16,6 @@ use crate::code::{Code, Kind, SizeWidth};
 use crate::constructor::{Constructor, Tag};
 use crate::described::{Described, Tagged};
 use crate::fault::{ValueFault, ValueFaultKind};
-use crate::plain::{behind_data, behind_value};
 use crate::primitive::{Read, read_counted, read_fixed, read_text};
 use crate::sequence::{Array, Sequence};
 use crate::value::{Content, Value};
@@ -24,26 +23,26 @@ use flow_counts::MAX_DEPTH;
 
 /// The octets behind a value, which is passed over.
 #[cycle(reader)]
-#[inline(always)]
+#[tactic(auto, unfolding(crate::specs::Reading::seen_at, crate::specs::Reading::value_at, crate::specs::Reading::value_by, crate::specs::Reading::coded_at))]
 fn pass_value(levels: usize, at: usize, bytes: &[u8]) -> Result<&[u8], ValueFault>
     requires levels { levels ≤ MAX_DEPTH }
     requires room { at + length bytes.now < 2 ^ 64 }
     ensures { Gives (λ x. x.now) result (behind (seen_at levels at bytes.now)) }
 {
-    if levels > 0 {
-        if let Some(rest) = behind_value(bytes) {
-            return Ok(rest);
-        }
+    let Some((first, data)) = bytes.split_first() else {
+        return Err(ValueFaultKind::Short.of(at));
+    };
+    if levels == 0 {
+        return Err(ValueFaultKind::TooDeep.of(at));
     }
-    match read_value(levels, at, bytes) {
-        Ok((_, rest)) => Ok(rest),
-        Err(fault) => Err(fault),
-    }
+    let Some(code) = Code::of(*first) else {
+        return Err(ValueFaultKind::UnknownCode.of(at));
+    };
+    pass_data(levels, code, at, data)
 }
 
 /// The octets behind an element, which is passed over.
 #[cycle(reader)]
-#[inline(always)]
 fn pass_element<'a>(
     levels: usize,
     constructor: Constructor<'a>,
@@ -55,13 +54,7 @@ fn pass_element<'a>(
     requires room { at + 1 + length bytes.now < 2 ^ 64 }
     ensures { Gives (λ x. x.now) result (behind (element_at levels (constructor_of constructor.entry) at bytes.now)) }
 {
-    if let Some(rest) = behind_data(constructor.code, bytes) {
-        return Ok(rest);
-    }
-    match read_element(levels, constructor, at, bytes) {
-        Ok((_, rest)) => Ok(rest),
-        Err(fault) => Err(fault),
-    }
+    pass_data(levels - constructor.tags, constructor.code, at, bytes)
 }
 
 /// The octets behind a value, or behind an element where there is a constructor.
@@ -118,10 +111,10 @@ fn read_nested(
     width: SizeWidth,
     at: usize,
     bytes: &[u8],
-) -> Read<'_, Content<'_>>
+) -> Read<'_, Sequence<'_>>
     requires levels { levels ≤ MAX_DEPTH }
     requires room { at + 1 + length bytes.now < 2 ^ 64 }
-    ensures { Gives (λ x. (part_of x.0, x.1.now)) result (nested_at (item_at levels None) kind width at bytes.now) }
+    ensures { Gives (λ x. (parts.Nested kind x.0.count x.0.body.now, x.1.now)) result (nested_at (item_at levels None) kind width at bytes.now) }
 {
     let ((count, body), rest) = read_counted(width, at, bytes)?;
     if kind.is_odd(count) {
@@ -129,7 +122,7 @@ fn read_nested(
     }
     let first = at + 1 + width.octets() + width.octets();
     match read_items(levels, None, count, first, body) {
-        Ok([]) => Ok((Content::Nested(kind, Sequence { count, body }), rest)),
+        Ok([]) => Ok((Sequence { count, body }, rest)),
         Ok(_) => Err(ValueFaultKind::BadSize.of(at)),
         Err(fault) => Err(fault.within(at)),
     }
@@ -189,7 +182,6 @@ fn read_tagged(levels: usize, at: usize, bytes: &[u8]) -> Read<'_, Constructor<'
 }
 
 /// An element of an array, whose constructor was read before.
-#[cycle(reader)]
 #[tactic(auto, unfolding(crate::specs::Reading::element_at, crate::specs::Reading::element_by))]
 pub(crate) fn read_element<'a>(
     levels: usize,
@@ -247,33 +239,64 @@ fn read_elements(
 /// The data of an array.
 #[cycle(reader)]
 #[tactic(auto, unfolding(crate::specs::Reading::array_at))]
-fn read_array(levels: usize, width: SizeWidth, at: usize, bytes: &[u8]) -> Read<'_, Content<'_>>
+fn read_array(levels: usize, width: SizeWidth, at: usize, bytes: &[u8]) -> Read<'_, Array<'_>>
     requires levels { levels ≤ MAX_DEPTH }
     requires room { at + 1 + length bytes.now < 2 ^ 64 }
-    ensures { Gives (λ x. (part_of x.0, x.1.now)) result (array_at (constructor_at levels) (λ c. item_at levels (Some c)) width at bytes.now) }
+    ensures { Gives (λ x. (array_part x.0, x.1.now)) result (array_at (constructor_at levels) (λ c. item_at levels (Some c)) width at bytes.now) }
 {
     let ((count, body), rest) = read_counted(width, at, bytes)?;
     match read_elements(levels, count, at, body) {
-        Ok(array) => Ok((Content::Array(array), rest)),
+        Ok(array) => Ok((array, rest)),
         Err(fault) => Err(fault.in_array(at)),
     }
 }
 
 /// A descriptor, and the value that it describes.
 #[cycle(reader)]
-#[tactic(auto, unfolding(crate::specs::Reading::described_at))]
-fn read_described(levels: usize, at: usize, bytes: &[u8]) -> Read<'_, Content<'_>>
+fn read_described(levels: usize, at: usize, bytes: &[u8]) -> Read<'_, Described<'_>>
     requires levels { levels ≤ MAX_DEPTH }
     requires room { at + 1 + length bytes.now < 2 ^ 64 }
-    ensures { Gives (λ x. (part_of x.0, x.1.now)) result (described_at (seen_at levels) at bytes.now) }
+    ensures { Gives (λ x. (parts.Described x.0.descriptor.now x.0.value.now, x.1.now)) result (described_at (seen_at levels) at bytes.now) }
 {
-    let (descriptor, behind) = read_value(levels, at + 1, bytes)?;
-    let (value, rest) = read_value(levels, at + 1 + descriptor.raw.len(), behind)?;
-    let pair = Described {
-        descriptor: descriptor.raw,
-        value: value.raw,
-    };
-    Ok((Content::Described(pair), rest))
+    let described = pass_value(levels, at + 1, bytes)?;
+    let descriptor = &bytes[..bytes.len() - described.len()];
+    let rest = pass_value(levels, at + 1 + descriptor.len(), described)?;
+    let value = &described[..described.len() - rest.len()];
+    Ok((Described { descriptor, value }, rest))
+}
+
+/// The octets behind the data of a code, which is passed over.
+#[cycle(reader)]
+#[tactic(auto, unfolding(crate::specs::Reading::data_at, crate::specs::Reading::data_by))]
+fn pass_data(levels: usize, code: Code, at: usize, bytes: &[u8]) -> Result<&[u8], ValueFault>
+    requires some { 0 < levels }
+    requires levels { levels ≤ MAX_DEPTH }
+    requires room { at + 1 + length bytes.now < 2 ^ 64 }
+    ensures { Gives (λ x. x.now) result (behind (data_at levels 0 code at bytes.now)) }
+{
+    match code {
+        Code::Fixed(scalar) => match read_fixed(scalar, at, bytes) {
+            Ok((_, rest)) => Ok(rest),
+            Err(fault) => Err(fault),
+        },
+        Code::Sized(text, width) => match read_text(text, width, at, bytes) {
+            Ok((_, rest)) => Ok(rest),
+            Err(fault) => Err(fault),
+        },
+        Code::EmptyList => Ok(bytes),
+        Code::Nested(kind, width) => match read_nested(levels - 1, kind, width, at, bytes) {
+            Ok((_, rest)) => Ok(rest),
+            Err(fault) => Err(fault),
+        },
+        Code::Array(width) => match read_array(levels - 1, width, at, bytes) {
+            Ok((_, rest)) => Ok(rest),
+            Err(fault) => Err(fault),
+        },
+        Code::Described => match read_described(levels - 1, at, bytes) {
+            Ok((_, rest)) => Ok(rest),
+            Err(fault) => Err(fault),
+        },
+    }
 }
 
 /// What is behind a code.
@@ -289,9 +312,18 @@ pub(crate) fn read_data(levels: usize, code: Code, at: usize, bytes: &[u8]) -> R
         Code::Fixed(scalar) => read_fixed(scalar, at, bytes),
         Code::Sized(text, width) => read_text(text, width, at, bytes),
         Code::EmptyList => Ok((Content::Nested(Kind::List, Sequence::empty()), bytes)),
-        Code::Nested(kind, width) => read_nested(levels - 1, kind, width, at, bytes),
-        Code::Array(width) => read_array(levels - 1, width, at, bytes),
-        Code::Described => read_described(levels - 1, at, bytes),
+        Code::Nested(kind, width) => match read_nested(levels - 1, kind, width, at, bytes) {
+            Ok((sequence, rest)) => Ok((Content::Nested(kind, sequence), rest)),
+            Err(fault) => Err(fault),
+        },
+        Code::Array(width) => match read_array(levels - 1, width, at, bytes) {
+            Ok((array, rest)) => Ok((Content::Array(array), rest)),
+            Err(fault) => Err(fault),
+        },
+        Code::Described => match read_described(levels - 1, at, bytes) {
+            Ok((pair, rest)) => Ok((Content::Described(pair), rest)),
+            Err(fault) => Err(fault),
+        },
     }
 }
 
