@@ -21,6 +21,25 @@ use crate::sequence::{Array, Sequence};
 use crate::value::{Content, Value};
 use flow_counts::MAX_DEPTH;
 
+/// The octets behind the data of a code, which is passed over: at once where it holds no values.
+#[cycle(reader)]
+#[tactic(auto, unfolding(crate::specs::Reading::data_at, crate::specs::Reading::data_by))]
+#[inline(always)]
+fn pass_coded(levels: usize, code: Code, at: usize, bytes: &[u8]) -> Result<&[u8], ValueFault>
+    requires some { 0 < levels }
+    requires levels { levels ≤ MAX_DEPTH }
+    requires room { at + 1 + length bytes.now < 2 ^ 64 }
+    ensures { Gives (λ x. x.now) result (behind (data_at levels 0 code at bytes.now)) }
+{
+    match code {
+        Code::Fixed(scalar) => match read_fixed(scalar, at, bytes) {
+            Ok((_, rest)) => Ok(rest),
+            Err(fault) => Err(fault),
+        },
+        _ => pass_data(levels, code, at, bytes),
+    }
+}
+
 /// The octets behind a value, which is passed over.
 #[cycle(reader)]
 #[tactic(auto, unfolding(crate::specs::Reading::seen_at, crate::specs::Reading::value_at, crate::specs::Reading::value_by, crate::specs::Reading::coded_at))]
@@ -38,7 +57,7 @@ fn pass_value(levels: usize, at: usize, bytes: &[u8]) -> Result<&[u8], ValueFaul
     let Some(code) = Code::of(*first) else {
         return Err(ValueFaultKind::UnknownCode.of(at));
     };
-    pass_data(levels, code, at, data)
+    pass_coded(levels, code, at, data)
 }
 
 /// The octets behind an element, which is passed over.
@@ -54,7 +73,7 @@ fn pass_element<'a>(
     requires room { at + 1 + length bytes.now < 2 ^ 64 }
     ensures { Gives (λ x. x.now) result (behind (element_at levels (constructor_of constructor.entry) at bytes.now)) }
 {
-    pass_data(levels - constructor.tags, constructor.code, at, bytes)
+    pass_coded(levels - constructor.tags, constructor.code, at, bytes)
 }
 
 /// The octets behind a value, or behind an element where there is a constructor.

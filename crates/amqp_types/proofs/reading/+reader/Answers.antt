@@ -119,7 +119,7 @@ read_described-returns t c =
 
 pub pass_element-returns : goal.pass_element-returns
 pass_element-returns t c =
-    subst (Gives (λ (x : Bor (List ℕ)). x.now) c.pass_data.result) (sym (passes_element c.args.levels (constructor_of c.args.constructor) c.args.at c.args.bytes.now c.requires.tags)) c.pass_data.ensures
+    subst (Gives (λ (x : Bor (List ℕ)). x.now) c.pass_coded.result) (sym (passes_element c.args.levels (constructor_of c.args.constructor) c.args.at c.args.bytes.now c.requires.tags)) c.pass_coded.ensures
 
 pub read_items-returns-in_err-after : goal.read_items-returns-in_err-after
 read_items-returns-in_err-after t c =
