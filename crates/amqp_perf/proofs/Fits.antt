@@ -1,5 +1,5 @@
 -- Fields fit their table exactly where there are not too many and none is at fault.
-use Rattle.std.proofs.Common.{◌≡◌, refl, ℕ, ◌+◌, ◌≤◌, Bool, true, false, List, [], ◌∷◌, length, Option, Some, None, inl, inr, arith}
+use Rattle.std.proofs.Common.{◌≡◌, refl, sym, ◌∙◌, ℕ, ◌+◌, ◌≤◌, Bool, true, false, not, ◌&&◌, cond, List, [], ◌∷◌, length, Option, Some, None, inl, inr, arith}
 use Rattle.std.specs.Option.{option_or}
 use Rattle.amqp_types.specs.Part.{Seen}
 use Rattle.amqp_types.specs.Typed.{says_null}
@@ -7,8 +7,8 @@ use Rattle.amqp_perf.specs.declared.fault.PerfFault.{PerfFault}
 use Rattle.amqp_perf.specs.declared.fault.PerfFault.TheVariants.{MissingField, WrongType}
 use Rattle.amqp_perf.specs.declared.table.Field.{Field}
 use Rattle.amqp_perf.specs.Tables.{accepts}
-use Rattle.amqp_perf.specs.FieldPlaces.{missing}
-use Rattle.amqp_perf.specs.Fields.{field_fault, first_fault}
+use Rattle.amqp_perf.specs.FieldPlaces.{missing, first, others}
+use Rattle.amqp_perf.specs.Fields.{field_fault, fits_field, all_fit, first_fault}
 use Rattle.amqp_perf.specs.Grammar.{IsField, AreFields}
 
 field_by : (n : ℕ) (f : Field) (p : Seen) (null mandatory ok : Bool) → says_null p.part ≡ null → f.is_mandatory ≡ mandatory → accepts f.field_type p ≡ ok
@@ -56,3 +56,26 @@ not_too_many [] [] h = omega arith
 not_too_many [] (p ∷ ps) h = absurd h
 not_too_many (f ∷ fs) [] h = omega arith
 not_too_many (f ∷ fs) (p ∷ ps) h = omega (arith, not_too_many fs ps h.1)
+
+fitting_by : (n : ℕ) (f : Field) (p : Seen) (null mandatory ok : Bool) → says_null p.part ≡ null → f.is_mandatory ≡ mandatory → accepts f.field_type p ≡ ok
+    → cond null (not mandatory) ok ≡ true → field_fault n f p ≡ None
+fitting_by n f p true true ok is must fits e = absurd cc
+fitting_by n f p true false ok is must fits e = rw (is, must) refl
+fitting_by n f p false mandatory true is must fits e = rw (is, fits) refl
+fitting_by n f p false mandatory false is must fits e = absurd cc
+
+both_true : (a b : Bool) → (a && b) ≡ true → (a ≡ true) × (b ≡ true)
+both_true true b e = (refl, e)
+both_true false b e = absurd cc
+
+fit_from : (n : ℕ) (so_far : Bool) (fs : List Field) (ps : List Seen) → all_fit so_far fs ps ≡ true → (so_far ≡ true) × (first_fault n fs ps ≡ None)
+unfolding all_fit first_fault
+fit_from n so_far [] ps e = (e, refl)
+fit_from n so_far (f ∷ fs) ps e =
+    let rest = fit_from (n + 1) (so_far && fits_field f (first ps)) fs (others ps) e in
+    let here = both_true so_far (fits_field f (first ps)) rest.0 in
+    (here.0, rw (fitting_by n f (first ps) (says_null (first ps).part) f.is_mandatory (accepts f.field_type (first ps)) refl refl refl here.1, rest.1) refl)
+
+-- values that fit all their fields have no fault
+pub none_at_fault : (fs : List Field) (ps : List Seen) (fit : Bool) → fit ≡ all_fit true fs ps → fit ≡ true → first_fault 1 fs ps ≡ None
+none_at_fault fs ps fit is e = (fit_from 1 true fs ps (sym is ∙ e)).1

@@ -1,5 +1,5 @@
 -- The fields of a performative as the items of its list, with the first fault.
-use Rattle.std.specs.Prelude.{ℕ, ◌+◌, List, [], ◌∷◌, length, Option, Some, None, nat_lt, if◌then◌else◌}
+use Rattle.std.specs.Prelude.{ℕ, ◌+◌, Bool, not, ◌&&◌, List, [], ◌∷◌, length, Option, Some, None, nat_lt, if◌then◌else◌}
 use Rattle.std.specs.Option.{option_or}
 use Rattle.amqp_types.specs.Part.{Seen}
 use Rattle.amqp_types.specs.Typed.{says_null}
@@ -14,6 +14,15 @@ abbrev pub field_fault : ℕ → Field → Seen → Option PerfFault
 field_fault n field value =
     if says_null value.part then (if field.is_mandatory then Some (MissingField n) else None)
     else (if accepts field.field_type value then None else Some (WrongType n))
+
+-- whether a value may stand in a field: null where it is optional, else a value of its type
+abbrev pub fits_field : Field → Seen → Bool
+fits_field field value = if says_null value.part then not field.is_mandatory else accepts field.field_type value
+
+-- whether those before, and all these values, fit the fields of a table in order
+unfoldable pub all_fit : Bool → List Field → List Seen → Bool
+all_fit so_far [] ps = so_far
+all_fit so_far (f ∷ fs) ps = all_fit (so_far && fits_field f (first ps)) fs (others ps)
 
 -- the fault of the lowest field at fault, counted from n
 unfoldable pub first_fault : ℕ → List Field → List Seen → Option PerfFault

@@ -1,6 +1,6 @@
 //! What an attach says: the sender's end of a link (part 2, section 2.7.3).
 
-use crate::fields::Fields;
+use crate::checked::CheckedFields;
 use crate::terminus::{Target, Terminus};
 
 /// Which end of a link speaks: part 2, section 2.8.1.
@@ -97,10 +97,16 @@ impl<'a> Attach<'a> {
     ghost use Rattle.std.specs.Prelude.{◌≡◌};
     ghost use Rattle.amqp_perf.specs.Meaning.{attach_of, sender_mode, receiver_mode};
     ghost use Rattle.amqp_perf.specs.View.{attach_fields};
+    ghost use Rattle.amqp_perf.specs.Fields.{all_fit};
+    ghost use Rattle.amqp_perf.specs.FieldsLeft.{fields_left};
+    ghost use Rattle.amqp_perf.specs.Tables.{table_of};
+    ghost use Rattle.amqp_perf.specs.declared.descriptor.PerformativeKind.TheVariants as PerformativeKind;
 
-    /// From fields that fit the table of an attach.
-    pub(crate) fn of_fields(mut fields: Fields<'a>) -> Attach<'a>
-        ensures { attach_fields result ≡ attach_of fields.entry }
+    /// From the fields of an attach, as far as they fit its table.
+    #[tactic(auto, unfolding(crate::specs::Fields::all_fit))]
+    pub(crate) fn of_fields(fields: &mut CheckedFields<'a>) -> Attach<'a>
+        ensures says { attach_fields result ≡ attach_of (fields_left fields.old.items) }
+        ensures fit { fields.new.fit ≡ all_fit fields.old.fit (table_of PerformativeKind.Attach) (fields_left fields.old.items) }
     {
         let name = fields.mandatory_text();
         let handle = fields.number();
@@ -112,7 +118,10 @@ impl<'a> Attach<'a> {
         fields.pass_over();
         fields.pass_over();
         let initial_delivery_count = fields.uint();
-        let max_message_size = fields.ulong();
+        let max_message_size = fields.any_ulong();
+        fields.pass_over();
+        fields.pass_over();
+        fields.pass_over();
         Attach {
             name,
             handle,

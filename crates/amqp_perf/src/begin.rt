@@ -2,8 +2,12 @@
 
 ghost use Rattle.std.specs.Prelude.{◌≡◌};
 ghost use Rattle.amqp_perf.specs.Meaning.{begin_of};
+ghost use Rattle.amqp_perf.specs.Fields.{all_fit};
+ghost use Rattle.amqp_perf.specs.FieldsLeft.{fields_left};
+ghost use Rattle.amqp_perf.specs.Tables.{table_of};
+ghost use Rattle.amqp_perf.specs.declared.descriptor.PerformativeKind.TheVariants as PerformativeKind;
 
-use crate::fields::Fields;
+use crate::checked::CheckedFields;
 
 /// The first performative of a session.
 #[derive(Clone, Copy, Debug, PartialEq, Eq)]
@@ -21,16 +25,26 @@ pub struct Begin {
 }
 
 impl Begin {
-    /// From fields that fit the table of a begin.
-    pub(crate) fn of_fields(mut fields: Fields) -> Begin
-        ensures { result ≡ begin_of fields.entry }
+    /// From the fields of a begin, as far as they fit its table.
+    #[tactic(auto, unfolding(crate::specs::Fields::all_fit))]
+    pub(crate) fn of_fields(fields: &mut CheckedFields) -> Begin
+        ensures says { result ≡ begin_of (fields_left fields.old.items) }
+        ensures fit { fields.new.fit ≡ all_fit fields.old.fit (table_of PerformativeKind.Begin) (fields_left fields.old.items) }
     {
+        let remote_channel = fields.ushort();
+        let next_outgoing_id = fields.number();
+        let incoming_window = fields.number();
+        let outgoing_window = fields.number();
+        let handle_max = fields.any_uint();
+        fields.pass_over();
+        fields.pass_over();
+        fields.pass_over();
         Begin {
-            remote_channel: fields.ushort(),
-            next_outgoing_id: fields.number(),
-            incoming_window: fields.number(),
-            outgoing_window: fields.number(),
-            handle_max: fields.uint(),
+            remote_channel,
+            next_outgoing_id,
+            incoming_window,
+            outgoing_window,
+            handle_max,
         }
     }
 }

@@ -1,7 +1,7 @@
 //! What a disposition says of some deliveries (part 2, section 2.7.6).
 
 use crate::attach::Role;
-use crate::fields::Fields;
+use crate::checked::CheckedFields;
 use crate::state::State;
 
 /// A range of deliveries, and what became of them.
@@ -23,16 +23,23 @@ impl<'a> Disposition<'a> {
     ghost use Rattle.std.specs.Prelude.{◌≡◌};
     ghost use Rattle.amqp_perf.specs.Meaning.{disposition_of, flag, last_id};
     ghost use Rattle.amqp_perf.specs.View.{disposition_fields};
+    ghost use Rattle.amqp_perf.specs.Fields.{all_fit};
+    ghost use Rattle.amqp_perf.specs.FieldsLeft.{fields_left};
+    ghost use Rattle.amqp_perf.specs.Tables.{table_of};
+    ghost use Rattle.amqp_perf.specs.declared.descriptor.PerformativeKind.TheVariants as PerformativeKind;
 
-    /// From fields that fit the table of a disposition.
-    pub(crate) fn of_fields(mut fields: Fields<'a>) -> Disposition<'a>
-        ensures { disposition_fields result ≡ disposition_of fields.entry }
+    /// From the fields of a disposition, as far as they fit its table.
+    #[tactic(auto, unfolding(crate::specs::Fields::all_fit))]
+    pub(crate) fn of_fields(fields: &mut CheckedFields<'a>) -> Disposition<'a>
+        ensures says { disposition_fields result ≡ disposition_of (fields_left fields.old.items) }
+        ensures fit { fields.new.fit ≡ all_fit fields.old.fit (table_of PerformativeKind.Disposition) (fields_left fields.old.items) }
     {
         let role = fields.role();
         let first = fields.number();
         let last = fields.uint();
         let settled = fields.boolean();
         let state = fields.state();
+        fields.pass_over();
         Disposition {
             role,
             first,

@@ -1,7 +1,6 @@
 //! The items of a list as fields: checked against a table, and taken one after the other.
 
-use crate::attach::{ReceiverSettleMode, Role, SenderSettleMode};
-use crate::descriptor::{Descriptor, described_list};
+use crate::attach::{ReceiverSettleMode, SenderSettleMode};
 use crate::fault::PerfFault;
 use crate::state::State;
 use crate::table::{Field, FieldType};
@@ -26,14 +25,12 @@ impl<'a> Model for Fields<'a> {
 }
 
 impl<'a> Fields<'a> {
-    ghost use Rattle.std.specs.Prelude.{◌≡◌, [], false, unwrap_or, option_map, Some, None, ◌||◌, is_some, if◌then◌else◌};
+    ghost use Rattle.std.specs.Prelude.{◌≡◌, option_map, Some, None, ◌||◌, is_some, if◌then◌else◌};
     ghost use Rattle.std.specs.Option.{option_copied};
-    ghost use Rattle.amqp_types.specs.Typed.{says_null, boolean_in, ubyte_in, ushort_in, uint_in, ulong_in, binary_in, str_in, symbol_in, array_in};
+    ghost use Rattle.amqp_types.specs.Typed.{says_null, boolean_in, ubyte_in, binary_in, str_in, symbol_in, array_in};
     ghost use Rattle.amqp_perf.specs.FieldPlaces.{first, others};
     ghost use Rattle.amqp_perf.specs.FieldsLeft.{fields_left};
     ghost use Rattle.amqp_perf.specs.Fields.{first_fault};
-    ghost use Rattle.amqp_perf.specs.Nested.{role_of, sender_mode_in, receiver_mode_in, state_in, source_in, target_in, condition_in};
-    ghost use Rattle.amqp_perf.specs.NestedViews.{state_view, terminus_view, target_view};
     ghost use Rattle.amqp_perf.specs.View.{seen_or_missing, fault_in};
 
     /// The items of a list as its fields.
@@ -58,13 +55,6 @@ impl<'a> Fields<'a> {
         let _ = self.next();
     }
 
-    pub(crate) fn boolean(&mut self) -> Option<bool>
-        ensures value { result ≡ boolean_in (first self.old).part }
-        ensures left { self.new ≡ others self.old }
-    {
-        self.next()?.as_bool()
-    }
-
     /// A boolean that may be absent; none where the field is of another type.
     pub(crate) fn checked_boolean(&mut self) -> Option<Option<bool>>
         ensures value { result ≡ (if says_null (first self.old).part || is_some (boolean_in (first self.old).part)
@@ -85,41 +75,12 @@ impl<'a> Fields<'a> {
         self.next()?.as_ubyte()
     }
 
-    pub(crate) fn ushort(&mut self) -> Option<u16>
-        ensures value { result ≡ ushort_in (first self.old).part }
-        ensures left { self.new ≡ others self.old }
-    {
-        self.next()?.as_ushort()
-    }
-
-    pub(crate) fn uint(&mut self) -> Option<u32>
-        ensures value { result ≡ uint_in (first self.old).part }
-        ensures left { self.new ≡ others self.old }
-    {
-        self.next()?.as_uint()
-    }
-
-    pub(crate) fn ulong(&mut self) -> Option<u64>
-        ensures value { result ≡ ulong_in (first self.old).part }
-        ensures left { self.new ≡ others self.old }
-    {
-        self.next()?.as_ulong()
-    }
-
     /// The next field, if it is a binary.
     pub fn binary(&mut self) -> Option<&'a [u8]>
         ensures value { option_copied result ≡ binary_in (first self.old).part }
         ensures left { self.new ≡ others self.old }
     {
         self.next()?.as_binary()
-    }
-
-    /// A mandatory uint, which a check has found.
-    pub(crate) fn number(&mut self) -> u32
-        ensures value { result ≡ unwrap_or (uint_in (first self.old).part) 0 }
-        ensures left { self.new ≡ others self.old }
-    {
-        self.uint().unwrap_or(0)
     }
 
     /// The next field, if it is a string.
@@ -144,68 +105,6 @@ impl<'a> Fields<'a> {
         ensures left { self.new ≡ others self.old }
     {
         self.next()?.as_array()
-    }
-
-    /// A mandatory text, which a check has found.
-    pub(crate) fn mandatory_text(&mut self) -> &'a str
-        ensures value { result.now ≡ unwrap_or (str_in (first self.old).part) [] }
-        ensures left { self.new ≡ others self.old }
-    {
-        self.text().unwrap_or("")
-    }
-
-    /// A mandatory role, which a check has found.
-    pub(crate) fn role(&mut self) -> Role
-        ensures value { result ≡ role_of (unwrap_or (boolean_in (first self.old).part) false) }
-        ensures left { self.new ≡ others self.old }
-    {
-        Role::of(self.boolean().unwrap_or(false))
-    }
-
-    pub(crate) fn sender_mode(&mut self) -> Option<SenderSettleMode>
-        ensures value { result ≡ sender_mode_in (first self.old).part }
-        ensures left { self.new ≡ others self.old }
-    {
-        SenderSettleMode::of(self.next()?.as_ubyte()?)
-    }
-
-    pub(crate) fn receiver_mode(&mut self) -> Option<ReceiverSettleMode>
-        ensures value { result ≡ receiver_mode_in (first self.old).part }
-        ensures left { self.new ≡ others self.old }
-    {
-        ReceiverSettleMode::of(self.next()?.as_ubyte()?)
-    }
-
-    pub(crate) fn state(&mut self) -> Option<State<'a>>
-        ensures value { option_map state_view result ≡ state_in (first self.old) }
-        ensures left { self.new ≡ others self.old }
-    {
-        State::of_value(self.next()?)
-    }
-
-    pub(crate) fn source(&mut self) -> Option<Terminus<'a>>
-        ensures value { option_map terminus_view result ≡ source_in (first self.old) }
-        ensures left { self.new ≡ others self.old }
-    {
-        Terminus::source(self.next()?)
-    }
-
-    pub(crate) fn target(&mut self) -> Option<Target<'a>>
-        ensures value { option_map target_view result ≡ target_in (first self.old) }
-        ensures left { self.new ≡ others self.old }
-    {
-        Target::of_value(self.next()?)
-    }
-
-    /// The condition of an error, where the field is one.
-    pub(crate) fn condition(&mut self) -> Option<&'a str>
-        ensures value { option_copied result ≡ condition_in (first self.old) }
-        ensures left { self.new ≡ others self.old }
-    {
-        match described_list(self.next()?) {
-            Some((Descriptor::Error, items)) => Fields::new(items).next()?.as_symbol(),
-            _ => None,
-        }
     }
 
     /// The fault of the lowest field that does not fit its place in the table.
@@ -254,8 +153,19 @@ fn are_symbols(items: Items<'_>) -> bool
 
 impl Field {
     ghost use Rattle.std.specs.Prelude.{◌≡◌};
-    ghost use Rattle.amqp_perf.specs.Fields.{field_fault};
+    ghost use Rattle.amqp_perf.specs.Fields.{field_fault, fits_field};
     ghost use Rattle.amqp_perf.specs.View.{seen_or_missing, fault_in};
+
+    /// Whether a value may stand in the field.
+    #[inline(always)]
+    pub(crate) fn fits(self, value: Option<Value>) -> bool
+        ensures { result ≡ fits_field self (seen_or_missing value.entry) }
+    {
+        match value {
+            Some(value) if !value.is_null() => self.field_type.accepts(value),
+            _ => !self.is_mandatory,
+        }
+    }
 
     /// Whether a value may stand in the field, the n-th of its performative.
     fn check(&self, n: usize, value: Option<Value>) -> Result<(), PerfFault>
@@ -283,6 +193,7 @@ impl FieldType {
     ghost use Rattle.amqp_perf.specs.Tables.{accepts};
 
     /// Whether a value that is not null has this type.
+    #[inline(always)]
     fn accepts(self, value: Value) -> bool
         ensures { result ≡ accepts self (view value.entry) }
     {

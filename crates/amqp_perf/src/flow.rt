@@ -1,7 +1,7 @@
 //! What a flow says: the sender's ids and windows for its session, and for one link its credit (part 2, section
 //! 2.7.4).
 
-use crate::fields::Fields;
+use crate::checked::CheckedFields;
 
 /// The numbers of a session, and of one of its links.
 #[derive(Clone, Copy, Debug, PartialEq, Eq)]
@@ -29,10 +29,16 @@ pub struct Flow {
 impl Flow {
     ghost use Rattle.std.specs.Prelude.{◌≡◌};
     ghost use Rattle.amqp_perf.specs.Meaning.{flow_of, flag};
+    ghost use Rattle.amqp_perf.specs.Fields.{all_fit};
+    ghost use Rattle.amqp_perf.specs.FieldsLeft.{fields_left};
+    ghost use Rattle.amqp_perf.specs.Tables.{table_of};
+    ghost use Rattle.amqp_perf.specs.declared.descriptor.PerformativeKind.TheVariants as PerformativeKind;
 
-    /// From fields that fit the table of a flow.
-    pub(crate) fn of_fields(mut fields: Fields) -> Flow
-        ensures { result ≡ flow_of fields.entry }
+    /// From the fields of a flow, as far as they fit its table.
+    #[tactic(auto, unfolding(crate::specs::Fields::all_fit))]
+    pub(crate) fn of_fields(fields: &mut CheckedFields) -> Flow
+        ensures says { result ≡ flow_of (fields_left fields.old.items) }
+        ensures fit { fields.new.fit ≡ all_fit fields.old.fit (table_of PerformativeKind.Flow) (fields_left fields.old.items) }
     {
         let next_incoming_id = fields.uint();
         let incoming_window = fields.number();
@@ -44,6 +50,7 @@ impl Flow {
         fields.pass_over();
         let drain = fields.boolean();
         let echo = fields.boolean();
+        fields.pass_over();
         Flow {
             next_incoming_id,
             incoming_window,

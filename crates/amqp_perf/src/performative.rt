@@ -2,6 +2,7 @@
 
 use crate::attach::Attach;
 use crate::begin::Begin;
+use crate::checked::CheckedFields;
 use crate::descriptor::{Descriptor, PerformativeKind, described_list};
 use crate::detach::Detach;
 use crate::disposition::Disposition;
@@ -39,6 +40,9 @@ impl<'a> Performative<'a> {
     ghost use Rattle.amqp_perf.specs.Grammar.{IsFront};
     ghost use Rattle.amqp_perf.specs.Writing.{IfThere, IsWritableState};
     ghost use Rattle.amqp_perf.specs.View.{view};
+    ghost use Rattle.amqp_perf.specs.Fields.{all_fit};
+    ghost use Rattle.amqp_perf.specs.FieldsLeft.{fields_left};
+    ghost use Rattle.amqp_perf.specs.Tables.{table_of};
 
     /// The performative at the front of these octets, and the octets behind it: of a transfer its payload.
     ///
@@ -70,6 +74,7 @@ impl<'a> Performative<'a> {
     }
 
     /// What a value says as a performative.
+    #[tactic(auto, using(crate::proofs::Fits::none_at_fault))]
     fn of_value(value: Value<'a>) -> Result<Performative<'a>, PerfFault>
         ensures { Gives view result (said (values.view value.entry).part) }
     {
@@ -80,13 +85,20 @@ impl<'a> Performative<'a> {
         if items.len() > table.len() {
             return Err(PerfFault::TooManyFields);
         }
+        let mut fields = CheckedFields::new(items);
+        let performative = Performative::of_fields(kind, &mut fields);
+        if fields.fit() {
+            return Ok(performative);
+        }
         Fields::new(items).check(table)?;
-        Ok(Performative::of_fields(kind, Fields::new(items)))
+        Ok(performative)
     }
 
-    /// From fields that fit the table of this kind.
-    fn of_fields(kind: PerformativeKind, mut fields: Fields<'a>) -> Performative<'a>
-        ensures { view result ≡ meaning_of kind fields.entry }
+    /// From the fields of a performative of this kind, as far as they fit its table.
+    #[tactic(auto, unfolding(crate::specs::Fields::all_fit))]
+    fn of_fields(kind: PerformativeKind, fields: &mut CheckedFields<'a>) -> Performative<'a>
+        ensures says { view result ≡ meaning_of kind (fields_left fields.old.items) }
+        ensures fit { fields.new.fit ≡ all_fit fields.old.fit (table_of kind) (fields_left fields.old.items) }
     {
         match kind {
             PerformativeKind::Open => Performative::Open(Open::of_fields(fields)),

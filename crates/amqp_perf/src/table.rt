@@ -37,67 +37,67 @@ pub struct Field {
     pub field_type: FieldType,
 }
 
-const ANY: Field = Field {
+pub(crate) const ANY: Field = Field {
     is_mandatory: false,
     field_type: FieldType::Any,
 };
 
-const BOOLEAN: Field = Field {
+pub(crate) const BOOLEAN: Field = Field {
     is_mandatory: false,
     field_type: FieldType::Boolean,
 };
 
-const USHORT: Field = Field {
+pub(crate) const USHORT: Field = Field {
     is_mandatory: false,
     field_type: FieldType::Ushort,
 };
 
-const UINT: Field = Field {
+pub(crate) const UINT: Field = Field {
     is_mandatory: false,
     field_type: FieldType::Uint,
 };
 
-const BINARY: Field = Field {
+pub(crate) const BINARY: Field = Field {
     is_mandatory: false,
     field_type: FieldType::Binary,
 };
 
-const SENDER_MODE: Field = Field {
+pub(crate) const SENDER_MODE: Field = Field {
     is_mandatory: false,
     field_type: FieldType::SenderMode,
 };
 
-const RECEIVER_MODE: Field = Field {
+pub(crate) const RECEIVER_MODE: Field = Field {
     is_mandatory: false,
     field_type: FieldType::ReceiverMode,
 };
 
-const STATE: Field = Field {
+pub(crate) const STATE: Field = Field {
     is_mandatory: false,
     field_type: FieldType::State,
 };
 
-const SOURCE: Field = Field {
+pub(crate) const SOURCE: Field = Field {
     is_mandatory: false,
     field_type: FieldType::Source,
 };
 
-const TARGET: Field = Field {
+pub(crate) const TARGET: Field = Field {
     is_mandatory: false,
     field_type: FieldType::Target,
 };
 
-const MANDATORY_BOOLEAN: Field = Field {
+pub(crate) const MANDATORY_BOOLEAN: Field = Field {
     is_mandatory: true,
     field_type: FieldType::Boolean,
 };
 
-const MANDATORY_UINT: Field = Field {
+pub(crate) const MANDATORY_UINT: Field = Field {
     is_mandatory: true,
     field_type: FieldType::Uint,
 };
 
-const MANDATORY_STR: Field = Field {
+pub(crate) const MANDATORY_STR: Field = Field {
     is_mandatory: true,
     field_type: FieldType::Str,
 };

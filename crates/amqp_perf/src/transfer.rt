@@ -1,6 +1,6 @@
 //! What a transfer says of the part of a delivery that stands behind it (part 2, section 2.7.5).
 
-use crate::fields::Fields;
+use crate::checked::CheckedFields;
 
 /// A part of a delivery.
 #[derive(Clone, Copy, Debug, PartialEq, Eq)]
@@ -27,10 +27,16 @@ impl<'a> Transfer<'a> {
     ghost use Rattle.std.specs.Prelude.{◌≡◌};
     ghost use Rattle.amqp_perf.specs.Meaning.{transfer_of, flag};
     ghost use Rattle.amqp_perf.specs.View.{transfer_fields};
+    ghost use Rattle.amqp_perf.specs.Fields.{all_fit};
+    ghost use Rattle.amqp_perf.specs.FieldsLeft.{fields_left};
+    ghost use Rattle.amqp_perf.specs.Tables.{table_of};
+    ghost use Rattle.amqp_perf.specs.declared.descriptor.PerformativeKind.TheVariants as PerformativeKind;
 
-    /// From fields that fit the table of a transfer.
-    pub(crate) fn of_fields(mut fields: Fields<'a>) -> Transfer<'a>
-        ensures { transfer_fields result ≡ transfer_of fields.entry }
+    /// From the fields of a transfer, as far as they fit its table.
+    #[tactic(auto, unfolding(crate::specs::Fields::all_fit))]
+    pub(crate) fn of_fields(fields: &mut CheckedFields<'a>) -> Transfer<'a>
+        ensures says { transfer_fields result ≡ transfer_of (fields_left fields.old.items) }
+        ensures fit { fields.new.fit ≡ all_fit fields.old.fit (table_of PerformativeKind.Transfer) (fields_left fields.old.items) }
     {
         let handle = fields.number();
         let delivery_id = fields.uint();
@@ -42,6 +48,7 @@ impl<'a> Transfer<'a> {
         fields.pass_over();
         let resume = fields.boolean();
         let aborted = fields.boolean();
+        fields.pass_over();
         Transfer {
             handle,
             delivery_id,

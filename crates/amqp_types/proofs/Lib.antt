@@ -10,6 +10,8 @@ pub mod Held
 pub mod Constructors
 pub mod Loop
 pub mod Levels
+pub mod PassedOver
+pub mod ReadBefore
 pub mod Front
 pub mod Nested
 pub mod Shortest

@@ -1,10 +1,12 @@
 -- Going over items one after the other, as a loop does.
-use Rattle.std.proofs.Common.{◌≡◌, ℕ, suc, ◌+◌, ◌-◌, ◌≤◌, ◌<◌, List, length, Option, Ok, Err, refl, sym, ap, ◌∙◌, arith}
+use Rattle.std.proofs.Common.{◌≡◌, ℕ, suc, ◌+◌, ◌-◌, ◌≤◌, ◌<◌, List, length, Option, Ok, Err, refl, sym, ap, subst, ◌∙◌, arith}
 use Rattle.std.proofs.lemmas.List.{length-append}
 use Rattle.amqp_types.specs.declared.fault.ValueFault.{ValueFault}
 use Rattle.amqp_types.specs.Part.{Seen, Constructor}
 use Rattle.amqp_types.specs.Reading.{seen_at, item_at, items_at}
+use Rattle.amqp_types.specs.Items.{behind}
 use Rattle.amqp_types.proofs.Values.{item_found, seen_found}
+use Rattle.amqp_types.proofs.PassedOver.{behind_found, behind_fault}
 
 -- the items that are left are read as the last of all
 pub record GoesOver (levels : ℕ) (form : Option Constructor) (count at : ℕ) (bytes : List ℕ) (i place : ℕ) (rest : List ℕ) : Type 0 where
@@ -51,3 +53,23 @@ is_done levels form count at bytes i place rest le over =
     let none : count - i ≡ 0 = omega arith in
     let step : items_at (item_at levels form) (count - i) place rest ≡ Ok rest = rw none refl in
     sym over.same ∙ step
+
+-- going over one item more, of which the octets behind it are known
+pub goes_past : (levels : ℕ) (form : Option Constructor) (count at : ℕ) (bytes : List ℕ) (i place : ℕ) (rest after : List ℕ) → i < count → behind (item_at levels form place rest) ≡ Ok after
+    → GoesOver levels form count at bytes i place rest → GoesOver levels form count at bytes (i + 1) (place + (length rest - length after)) after
+goes_past levels form count at bytes i place rest after lt e over =
+    let x = behind_found (item_at levels form place rest) after e in
+    let lengths = item_lengths levels form place rest (x.0, after) x.1 in
+    let step : place + length x.0.octets ≡ place + (length rest - length after) = omega (arith, lengths) in
+    subst (λ (p : ℕ). GoesOver levels form count at bytes (i + 1) p after) step (goes_on levels form count at bytes i place rest (x.0, after) lt x.1 over)
+
+-- what is behind an item is no longer than what was there
+pub behind_shorter : (levels : ℕ) (form : Option Constructor) (at : ℕ) (bytes rest : List ℕ) → behind (item_at levels form at bytes) ≡ Ok rest → length rest ≤ length bytes
+behind_shorter levels form at bytes rest e =
+    let x = behind_found (item_at levels form at bytes) rest e in
+    omega (arith, item_lengths levels form at bytes (x.0, rest) x.1)
+
+-- going over an item that is at fault
+pub stops : (levels : ℕ) (form : Option Constructor) (count at : ℕ) (bytes : List ℕ) (i place : ℕ) (rest : List ℕ) (d : ValueFault) → i < count → behind (item_at levels form place rest) ≡ Err d
+    → GoesOver levels form count at bytes i place rest → items_at (item_at levels form) count at bytes ≡ Err d
+stops levels form count at bytes i place rest d lt e over = ends levels form count at bytes i place rest d lt (behind_fault (item_at levels form place rest) d e) over

@@ -1,11 +1,21 @@
 -- The values that are nested in a value that was read.
-use Rattle.std.specs.Prelude.{ℕ, zero, suc, Bool, false, List, [], ◌∷◌, length, Option, Some, None, Result, Ok, Err, ◌==◌}
+use Rattle.std.specs.Prelude.{ℕ, zero, suc, Bool, true, false, List, [], ◌∷◌, length, Option, Some, None, Result, Ok, Err, ◌==◌}
 use Rattle.amqp_types.specs.declared.code.Code.{Code}
 use Rattle.amqp_types.specs.declared.fault.ValueFault.{ValueFault}
 use Rattle.amqp_types.specs.declared.fault.ValueFaultKind.TheVariants.{BadSize}
 use Rattle.amqp_types.specs.Part.{Part, Null, Nested, Array, Described, Tagged, Seen, Constructor}
 use Rattle.amqp_types.specs.Reading.{Read, fault, seen_at, element_at, item_at, items_at, constructor_at}
 use Rattle.flow_counts.specs.declared.profile.TheConstants.{MAX_DEPTH}
+
+-- the octets behind what was read
+abbrev pub behind : {A : Type 0} → Read A → Result (List ℕ) ValueFault
+behind (Ok x) = Ok x.1
+behind (Err e) = Err e
+
+-- whether something was read
+abbrev pub is_read : {A : Type 0} → Read A → Bool
+is_read (Ok x) = true
+is_read (Err e) = false
 
 -- the value that was read, and those that others gives of the rest
 abbrev pub seen_then : Read Seen → (List ℕ → List Seen) → List Seen

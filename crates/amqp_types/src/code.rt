@@ -84,6 +84,7 @@ pub(crate) enum Code {
 impl Code {
     /// The code of an octet, if it is one.
     #[tactic(auto, unfolding(crate::specs::Codes::code_of))]
+    #[inline(always)]
     pub(crate) fn of(octet: u8) -> Option<Code>
         ensures { result ≡ code_of octet }
     {
@@ -117,6 +118,7 @@ impl Code {
 
 impl Opaque {
     /// How many octets of data the type has.
+    #[inline(always)]
     pub(crate) fn width(self) -> usize
         ensures { result ≡ opaque_width self }
     {
@@ -143,6 +145,7 @@ impl Kind {
 impl Scalar {
     /// The type of fixed width that an octet is the code of, if it is one.
     #[tactic(auto, unfolding(crate::specs::Codes::scalar_of_code))]
+    #[inline(always)]
     fn of(octet: u8) -> Option<Scalar>
         ensures { result ≡ scalar_of_code octet }
     {
@@ -179,6 +182,7 @@ impl Scalar {
     }
 
     /// How many octets of data the type has.
+    #[inline(always)]
     pub(crate) fn width(self) -> usize
         ensures { result ≡ width_of self }
     {

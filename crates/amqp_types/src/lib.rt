@@ -9,13 +9,14 @@
 //! were read with the value that holds them: to take them out cannot fail.
 //!
 //! Reading order: `fault`, `code`, `value`, `sequence`, `constructor`, `described`, `primitive`,
-//! `reading`, `writing`.
+//! `reading`, `known`, `writing`.
 #![tactic(auto)]
 
 mod code;
 mod constructor;
 mod described;
 mod fault;
+mod known;
 mod primitive;
 mod reading;
 mod sequence;

@@ -21,6 +21,7 @@ pub(crate) type Read<'a, T> = Result<(T, &'a [u8]), ValueFault>;
 
 /// The next octets, so many of them.
 #[tactic(auto, unfolding(crate::specs::Reading::octets_at))]
+#[inline(always)]
 fn read_octets(count: usize, at: usize, bytes: &[u8]) -> Read<'_, &[u8]>
     ensures { Gives (λ x. (x.0.now, x.1.now)) result (octets_at count at bytes.now) }
 {
@@ -31,6 +32,7 @@ fn read_octets(count: usize, at: usize, bytes: &[u8]) -> Read<'_, &[u8]>
 }
 
 /// The number in a size or a count.
+#[inline(always)]
 fn size_in(width: SizeWidth, octets: &[u8]) -> u32
     requires { size_len width ≤ length octets.now }
     ensures { result ≡ big_number (size_len width) octets.now }
@@ -43,6 +45,7 @@ fn size_in(width: SizeWidth, octets: &[u8]) -> u32
 
 /// A size, and then that many octets.
 #[tactic(auto, unfolding(crate::specs::Reading::sized_at))]
+#[inline(always)]
 fn read_sized(width: SizeWidth, at: usize, bytes: &[u8]) -> Read<'_, &[u8]>
     ensures { Gives (λ x. (x.0.now, x.1.now)) result (sized_at width at bytes.now) }
 {
@@ -52,6 +55,7 @@ fn read_sized(width: SizeWidth, at: usize, bytes: &[u8]) -> Read<'_, &[u8]>
 
 /// What the data of a type of fixed width says.
 #[tactic(auto, unfolding(crate::specs::Reading::scalar_of))]
+#[inline(always)]
 fn scalar_in(scalar: Scalar, octets: &[u8]) -> Result<Content<'_>, ValueFaultKind>
     requires { length octets.now ≡ width_of scalar }
     ensures { Says result (scalar_of scalar octets.now) }
@@ -86,6 +90,7 @@ fn scalar_in(scalar: Scalar, octets: &[u8]) -> Result<Content<'_>, ValueFaultKin
 
 /// The data of a type of fixed width.
 #[tactic(auto, unfolding(crate::specs::Reading::fixed_at))]
+#[inline(always)]
 pub(crate) fn read_fixed(scalar: Scalar, at: usize, bytes: &[u8]) -> Read<'_, Content<'_>>
     ensures { Gives (λ x. (part_of x.0, x.1.now)) result (fixed_at scalar at bytes.now) }
 {
@@ -98,6 +103,7 @@ pub(crate) fn read_fixed(scalar: Scalar, at: usize, bytes: &[u8]) -> Read<'_, Co
 
 /// The octets as a binary, a string or a symbol, if they may stand in one.
 #[tactic(auto, unfolding(crate::specs::Reading::is_text))]
+#[inline(always)]
 fn text_in(text: Text, octets: &[u8]) -> Option<Content<'_>>
     ensures { IsTextOf result text octets.now }
 {
@@ -117,6 +123,7 @@ fn text_in(text: Text, octets: &[u8]) -> Option<Content<'_>>
 
 /// The data of a binary, a string or a symbol.
 #[tactic(auto, unfolding(crate::specs::Reading::text_at))]
+#[inline(always)]
 pub(crate) fn read_text(
     text: Text,
     width: SizeWidth,
@@ -134,6 +141,7 @@ pub(crate) fn read_text(
 
 /// How many items there are, and the octets in which they lie.
 #[tactic(auto, unfolding(crate::specs::Reading::counted_at))]
+#[inline(always)]
 pub(crate) fn read_counted(width: SizeWidth, at: usize, bytes: &[u8]) -> Read<'_, (u32, &[u8])>
     ensures { Gives (λ x. ((x.0.0, x.0.1.now), x.1.now)) result (counted_at width at bytes.now) }
 {

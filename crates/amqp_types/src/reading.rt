@@ -8,8 +8,7 @@ ghost use Rattle.std.specs.Prelude.{◌≡◌, ◌+◌, ◌-◌, ◌<◌, ◌≤
 ghost use Rattle.amqp_types.specs.Part as parts;
 ghost use Rattle.flow_counts.specs.Words.{Gives};
 ghost use Rattle.amqp_types.specs.Reading.{items_at, nested_at, described_at, tagged_at, array_at, elements_at, constructor_at, element_at, item_at, data_at, seen_at};
-ghost use Rattle.amqp_types.specs.Items.{are_items, items_in, is_value, is_element, element_of, seen_of};
-ghost use Rattle.amqp_types.specs.Grammar.{IsValue, IsConstructor, IsElement};
+ghost use Rattle.amqp_types.specs.Items.{behind};
 ghost use Rattle.amqp_types.specs.Form.{constructor_of, form};
 ghost use Rattle.amqp_types.specs.View.{view, part_of, array_part};
 
@@ -22,23 +21,79 @@ use crate::sequence::{Array, Sequence};
 use crate::value::{Content, Value};
 use flow_counts::MAX_DEPTH;
 
-/// A value, or an element where there is a constructor.
+/// The octets behind the data of a code, which is passed over: at once where it holds no values.
+#[cycle(reader)]
+#[tactic(auto, unfolding(crate::specs::Reading::data_at, crate::specs::Reading::data_by))]
+#[inline(always)]
+fn pass_coded(levels: usize, code: Code, at: usize, bytes: &[u8]) -> Result<&[u8], ValueFault>
+    requires some { 0 < levels }
+    requires levels { levels ≤ MAX_DEPTH }
+    requires room { at + 1 + length bytes.now < 2 ^ 64 }
+    ensures { Gives (λ x. x.now) result (behind (data_at levels 0 code at bytes.now)) }
+{
+    match code {
+        Code::Fixed(scalar) => match read_fixed(scalar, at, bytes) {
+            Ok((_, rest)) => Ok(rest),
+            Err(fault) => Err(fault),
+        },
+        _ => pass_data(levels, code, at, bytes),
+    }
+}
+
+/// The octets behind a value, which is passed over.
+#[cycle(reader)]
+#[tactic(auto, unfolding(crate::specs::Reading::seen_at, crate::specs::Reading::value_at, crate::specs::Reading::value_by, crate::specs::Reading::coded_at))]
+fn pass_value(levels: usize, at: usize, bytes: &[u8]) -> Result<&[u8], ValueFault>
+    requires levels { levels ≤ MAX_DEPTH }
+    requires room { at + length bytes.now < 2 ^ 64 }
+    ensures { Gives (λ x. x.now) result (behind (seen_at levels at bytes.now)) }
+{
+    let Some((first, data)) = bytes.split_first() else {
+        return Err(ValueFaultKind::Short.of(at));
+    };
+    if levels == 0 {
+        return Err(ValueFaultKind::TooDeep.of(at));
+    }
+    let Some(code) = Code::of(*first) else {
+        return Err(ValueFaultKind::UnknownCode.of(at));
+    };
+    pass_coded(levels, code, at, data)
+}
+
+/// The octets behind an element, which is passed over.
+#[cycle(reader)]
+fn pass_element<'a>(
+    levels: usize,
+    constructor: Constructor<'a>,
+    at: usize,
+    bytes: &'a [u8],
+) -> Result<&'a [u8], ValueFault>
+    requires tags { constructor.tags < levels }
+    requires levels { levels ≤ MAX_DEPTH }
+    requires room { at + 1 + length bytes.now < 2 ^ 64 }
+    ensures { Gives (λ x. x.now) result (behind (element_at levels (constructor_of constructor.entry) at bytes.now)) }
+{
+    pass_coded(levels - constructor.tags, constructor.code, at, bytes)
+}
+
+/// The octets behind a value, or behind an element where there is a constructor.
 #[cycle(reader)]
 #[tactic(auto, unfolding(crate::specs::Reading::item_at))]
-fn read_item<'a>(
+#[inline(always)]
+fn pass_item<'a>(
     levels: usize,
     constructor: Option<Constructor<'a>>,
     at: usize,
     bytes: &'a [u8],
-) -> Read<'a, Value<'a>>
+) -> Result<&'a [u8], ValueFault>
     requires levels { levels ≤ MAX_DEPTH }
     requires room { at + length bytes.now < 2 ^ 64 }
     requires fits { IfSome constructor (λ c. (c.tags < levels) × (at + 1 + length bytes.now < 2 ^ 64)) }
-    ensures { Gives (λ x. (view x.0, x.1.now)) result (item_at levels (form constructor.entry) at bytes.now) }
+    ensures { Gives (λ x. x.now) result (behind (item_at levels (form constructor.entry) at bytes.now)) }
 {
     match constructor {
-        None => read_value(levels, at, bytes),
-        Some(constructor) => read_element(levels, constructor, at, bytes),
+        None => pass_value(levels, at, bytes),
+        Some(constructor) => pass_element(levels, constructor, at, bytes),
     }
 }
 
@@ -59,8 +114,8 @@ fn read_items<'a>(
     let mut place = at;
     let mut rest = bytes;
     for _ in 0..count {
-        let (item, after) = read_item(levels, constructor, place, rest)?;
-        place += item.raw.len();
+        let after = pass_item(levels, constructor, place, rest)?;
+        place += rest.len() - after.len();
         rest = after;
     }
     Ok(rest)
@@ -75,10 +130,10 @@ fn read_nested(
     width: SizeWidth,
     at: usize,
     bytes: &[u8],
-) -> Read<'_, Content<'_>>
+) -> Read<'_, Sequence<'_>>
     requires levels { levels ≤ MAX_DEPTH }
     requires room { at + 1 + length bytes.now < 2 ^ 64 }
-    ensures { Gives (λ x. (part_of x.0, x.1.now)) result (nested_at (item_at levels None) kind width at bytes.now) }
+    ensures { Gives (λ x. (parts.Nested kind x.0.count x.0.body.now, x.1.now)) result (nested_at (item_at levels None) kind width at bytes.now) }
 {
     let ((count, body), rest) = read_counted(width, at, bytes)?;
     if kind.is_odd(count) {
@@ -86,7 +141,7 @@ fn read_nested(
     }
     let first = at + 1 + width.octets() + width.octets();
     match read_items(levels, None, count, first, body) {
-        Ok([]) => Ok((Content::Nested(kind, Sequence { count, body }), rest)),
+        Ok([]) => Ok((Sequence { count, body }, rest)),
         Ok(_) => Err(ValueFaultKind::BadSize.of(at)),
         Err(fault) => Err(fault.within(at)),
     }
@@ -95,7 +150,7 @@ fn read_nested(
 /// The constructor of elements, which stands in front of their data.
 #[cycle(reader)]
 #[tactic(auto, unfolding(crate::specs::Reading::constructor_at, crate::specs::Reading::constructor_by))]
-fn read_constructor(levels: usize, at: usize, bytes: &[u8]) -> Read<'_, Constructor<'_>>
+pub(crate) fn read_constructor(levels: usize, at: usize, bytes: &[u8]) -> Read<'_, Constructor<'_>>
     requires levels { levels ≤ MAX_DEPTH }
     requires room { at + length bytes.now < 2 ^ 64 }
     ensures { Gives (λ x. (constructor_of x.0, x.1.now)) result (constructor_at levels at bytes.now) }
@@ -146,9 +201,8 @@ fn read_tagged(levels: usize, at: usize, bytes: &[u8]) -> Read<'_, Constructor<'
 }
 
 /// An element of an array, whose constructor was read before.
-#[cycle(reader)]
 #[tactic(auto, unfolding(crate::specs::Reading::element_at, crate::specs::Reading::element_by))]
-fn read_element<'a>(
+pub(crate) fn read_element<'a>(
     levels: usize,
     constructor: Constructor<'a>,
     at: usize,
@@ -204,39 +258,70 @@ fn read_elements(
 /// The data of an array.
 #[cycle(reader)]
 #[tactic(auto, unfolding(crate::specs::Reading::array_at))]
-fn read_array(levels: usize, width: SizeWidth, at: usize, bytes: &[u8]) -> Read<'_, Content<'_>>
+fn read_array(levels: usize, width: SizeWidth, at: usize, bytes: &[u8]) -> Read<'_, Array<'_>>
     requires levels { levels ≤ MAX_DEPTH }
     requires room { at + 1 + length bytes.now < 2 ^ 64 }
-    ensures { Gives (λ x. (part_of x.0, x.1.now)) result (array_at (constructor_at levels) (λ c. item_at levels (Some c)) width at bytes.now) }
+    ensures { Gives (λ x. (array_part x.0, x.1.now)) result (array_at (constructor_at levels) (λ c. item_at levels (Some c)) width at bytes.now) }
 {
     let ((count, body), rest) = read_counted(width, at, bytes)?;
     match read_elements(levels, count, at, body) {
-        Ok(array) => Ok((Content::Array(array), rest)),
+        Ok(array) => Ok((array, rest)),
         Err(fault) => Err(fault.in_array(at)),
     }
 }
 
 /// A descriptor, and the value that it describes.
 #[cycle(reader)]
-#[tactic(auto, unfolding(crate::specs::Reading::described_at))]
-fn read_described(levels: usize, at: usize, bytes: &[u8]) -> Read<'_, Content<'_>>
+fn read_described(levels: usize, at: usize, bytes: &[u8]) -> Read<'_, Described<'_>>
     requires levels { levels ≤ MAX_DEPTH }
     requires room { at + 1 + length bytes.now < 2 ^ 64 }
-    ensures { Gives (λ x. (part_of x.0, x.1.now)) result (described_at (seen_at levels) at bytes.now) }
+    ensures { Gives (λ x. (parts.Described x.0.descriptor.now x.0.value.now, x.1.now)) result (described_at (seen_at levels) at bytes.now) }
 {
-    let (descriptor, behind) = read_value(levels, at + 1, bytes)?;
-    let (value, rest) = read_value(levels, at + 1 + descriptor.raw.len(), behind)?;
-    let pair = Described {
-        descriptor: descriptor.raw,
-        value: value.raw,
-    };
-    Ok((Content::Described(pair), rest))
+    let described = pass_value(levels, at + 1, bytes)?;
+    let descriptor = &bytes[..bytes.len() - described.len()];
+    let rest = pass_value(levels, at + 1 + descriptor.len(), described)?;
+    let value = &described[..described.len() - rest.len()];
+    Ok((Described { descriptor, value }, rest))
+}
+
+/// The octets behind the data of a code, which is passed over.
+#[cycle(reader)]
+#[tactic(auto, unfolding(crate::specs::Reading::data_at, crate::specs::Reading::data_by))]
+fn pass_data(levels: usize, code: Code, at: usize, bytes: &[u8]) -> Result<&[u8], ValueFault>
+    requires some { 0 < levels }
+    requires levels { levels ≤ MAX_DEPTH }
+    requires room { at + 1 + length bytes.now < 2 ^ 64 }
+    ensures { Gives (λ x. x.now) result (behind (data_at levels 0 code at bytes.now)) }
+{
+    match code {
+        Code::Fixed(scalar) => match read_fixed(scalar, at, bytes) {
+            Ok((_, rest)) => Ok(rest),
+            Err(fault) => Err(fault),
+        },
+        Code::Sized(text, width) => match read_text(text, width, at, bytes) {
+            Ok((_, rest)) => Ok(rest),
+            Err(fault) => Err(fault),
+        },
+        Code::EmptyList => Ok(bytes),
+        Code::Nested(kind, width) => match read_nested(levels - 1, kind, width, at, bytes) {
+            Ok((_, rest)) => Ok(rest),
+            Err(fault) => Err(fault),
+        },
+        Code::Array(width) => match read_array(levels - 1, width, at, bytes) {
+            Ok((_, rest)) => Ok(rest),
+            Err(fault) => Err(fault),
+        },
+        Code::Described => match read_described(levels - 1, at, bytes) {
+            Ok((_, rest)) => Ok(rest),
+            Err(fault) => Err(fault),
+        },
+    }
 }
 
 /// What is behind a code.
 #[cycle(reader)]
 #[tactic(auto, unfolding(crate::specs::Reading::data_at, crate::specs::Reading::data_by))]
-fn read_data(levels: usize, code: Code, at: usize, bytes: &[u8]) -> Read<'_, Content<'_>>
+pub(crate) fn read_data(levels: usize, code: Code, at: usize, bytes: &[u8]) -> Read<'_, Content<'_>>
     requires some { 0 < levels }
     requires levels { levels ≤ MAX_DEPTH }
     requires room { at + 1 + length bytes.now < 2 ^ 64 }
@@ -246,9 +331,18 @@ fn read_data(levels: usize, code: Code, at: usize, bytes: &[u8]) -> Read<'_, Con
         Code::Fixed(scalar) => read_fixed(scalar, at, bytes),
         Code::Sized(text, width) => read_text(text, width, at, bytes),
         Code::EmptyList => Ok((Content::Nested(Kind::List, Sequence::empty()), bytes)),
-        Code::Nested(kind, width) => read_nested(levels - 1, kind, width, at, bytes),
-        Code::Array(width) => read_array(levels - 1, width, at, bytes),
-        Code::Described => read_described(levels - 1, at, bytes),
+        Code::Nested(kind, width) => match read_nested(levels - 1, kind, width, at, bytes) {
+            Ok((sequence, rest)) => Ok((Content::Nested(kind, sequence), rest)),
+            Err(fault) => Err(fault),
+        },
+        Code::Array(width) => match read_array(levels - 1, width, at, bytes) {
+            Ok((array, rest)) => Ok((Content::Array(array), rest)),
+            Err(fault) => Err(fault),
+        },
+        Code::Described => match read_described(levels - 1, at, bytes) {
+            Ok((pair, rest)) => Ok((Content::Described(pair), rest)),
+            Err(fault) => Err(fault),
+        },
     }
 }
 
@@ -272,50 +366,4 @@ pub(crate) fn read_value(levels: usize, at: usize, bytes: &[u8]) -> Read<'_, Val
     let (content, rest) = read_data(levels, code, at, behind)?;
     let raw = &bytes[..bytes.len() - rest.len()];
     Ok((Value { raw, content }, rest))
-}
-
-/// The value that octets are which were read as one before.
-pub(crate) fn whole(octets: &[u8]) -> Value<'_>
-    requires { IsTrue (is_value octets.now) }
-    ensures same { view result ≡ seen_of octets.now }
-    ensures whole { (view result).octets ≡ octets.now }
-    ensures value { IsValue MAX_DEPTH octets.now (view result).part }
-{
-    match read_value(MAX_DEPTH, 0, octets) {
-        Ok((value, _)) => value,
-        Err(_) => unreachable!(),
-    }
-}
-
-/// The element that octets are, with its constructor, both of which were read before.
-pub(crate) fn whole_element<'a>(constructor: &'a [u8], octets: &'a [u8]) -> Value<'a>
-    requires { IsTrue (is_element constructor.now octets.now) }
-    ensures same { view result ≡ element_of constructor.now octets.now }
-    ensures whole { (view result).octets ≡ octets.now }
-    ensures element { (c : parts.Constructor) × IsConstructor MAX_DEPTH constructor.now c × IsElement MAX_DEPTH c octets.now (view result).part }
-{
-    let Ok((constructor, _)) = read_constructor(MAX_DEPTH, 0, constructor) else {
-        unreachable!()
-    };
-    match read_element(MAX_DEPTH, constructor, 0, octets) {
-        Ok((value, _)) => value,
-        Err(_) => unreachable!(),
-    }
-}
-
-/// The first of some items, which were read before, and the octets of the others.
-pub(crate) fn first_of<'a>(
-    constructor: Option<Constructor<'a>>,
-    count: u32,
-    octets: &'a [u8],
-) -> (Value<'a>, &'a [u8])
-    requires some { 0 < count }
-    requires filled { IsTrue (are_items (form constructor) count octets.now) }
-    ensures first { items_in (form constructor.entry) count octets.now ≡ view result.0 ∷ items_in (form constructor.entry) (count - 1) result.1.now }
-    ensures others { IsTrue (are_items (form constructor.entry) (count - 1) result.1.now) }
-{
-    match read_item(MAX_DEPTH, constructor, 0, octets) {
-        Ok(read) => read,
-        Err(_) => unreachable!(),
-    }
 }

@@ -5,7 +5,7 @@ ghost use Rattle.amqp_types.specs.Items.{are_items};
 ghost use Rattle.amqp_types.specs.Form.{form};
 
 use crate::constructor::Constructor;
-use crate::reading::first_of;
+use crate::known::first_of;
 use crate::value::Value;
 
 /// Values that lie one after the other.
@@ -132,6 +132,7 @@ impl<'a> Iterator for Items<'a> {
     ghost remaining = { item_count items_left };
 
     #[tactic(auto, unfolding(crate::specs::Items::items_in))]
+    #[inline(always)]
     fn next(&mut self) -> Option<Value<'a>> {
         if self.left == 0 {
             return None;

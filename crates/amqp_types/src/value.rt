@@ -3,7 +3,8 @@
 use crate::code::{Kind, Opaque};
 use crate::described::{Described, Tagged};
 use crate::fault::ValueFault;
-use crate::reading::{read_value, whole, whole_element};
+use crate::known::{whole, whole_element};
+use crate::reading::read_value;
 use crate::sequence::{Array, Items, Sequence};
 use flow_counts::MAX_DEPTH;
 
@@ -257,6 +258,7 @@ impl<'a> Value<'a> {
     }
 
     /// The descriptor, if the value is a described one.
+    #[inline(always)]
     pub fn descriptor(&self) -> Option<Value<'a>>
         ensures same { view_of result ≡ descriptor_of (view self.now).part }
         ensures whole { IsValueOf (descriptor_octets (view self.now).part) (view_of result) }
@@ -269,6 +271,7 @@ impl<'a> Value<'a> {
     }
 
     /// The value that the descriptor describes, if the value is a described one.
+    #[inline(always)]
     pub fn described(&self) -> Option<Value<'a>>
         ensures same { view_of result ≡ described_of (view self.now).part }
         ensures whole { IsDescribedOf (view self.now).part (view_of result) }

@@ -1,67 +1,140 @@
-use Rattle.std.proofs.Common.{rules, ◌≡◌, ℕ, ◌+◌, ◌-◌, ◌<◌, List, drop, slice_index, Some, None, refl, sym, ap, subst, ◌∙◌, arith}
+use Rattle.std.proofs.Common.{rules, Bor, length, ◌≡◌, ℕ, ◌+◌, ◌-◌, List, drop, slice_index, Some, None, sym, ap, subst, ◌∙◌, arith}
 use Rattle.std.proofs.lemmas.Result.{err_from_is_err_and}
-use Rattle.std.proofs.lemmas.List.{nil_from_length, length-drop}
+use Rattle.std.proofs.lemmas.List.{nil_from_length, length-drop, length-take}
 use Rattle.amqp_types.specs.declared.constructor.Tag.{Tag}
 use Rattle.amqp_types.specs.declared.code.Code.TheVariants as codes
 use Rattle.amqp_types.specs.Codes.{code_of}
-use Rattle.amqp_types.specs.Reading.{seen_at}
+use Rattle.amqp_types.specs.Reading.{seen_at, data_at}
 use Rattle.amqp_types.specs.Items.{form_of}
 use Rattle.amqp_types.specs.Form.{constructor_of, form}
 use Rattle.amqp_types.specs.View.{view, part_of}
 use Rattle.amqp_types.proofs.Steps.{some_is, done}
 use Rattle.amqp_types.proofs.Octets.{counted_lengths}
 use Rattle.amqp_types.proofs.Values.{data_shorter}
-use Rattle.amqp_types.proofs.Levels.{data_nested, data_array, data_described, described_is, constructor_tagged, element_fault, element_is}
-use Rattle.amqp_types.proofs.Held.{held_value, held_items, element_held}
+use Rattle.amqp_types.proofs.Levels.{data_nested, data_array, data_described, described_is, constructor_tagged}
+use Rattle.amqp_types.proofs.Held.{held_value, held_items}
 use Rattle.amqp_types.proofs.Constructors.{constructor_lengths, constructor_tags, constructor_form, tagged_is}
-use Rattle.amqp_types.proofs.Loop.{seen_lengths, item_lengths, goes_on, ends, is_done}
+use Rattle.amqp_types.specs.declared.code.Code.{Code}
+use Rattle.amqp_types.specs.Part.{Part}
+use Rattle.flow_counts.specs.Words.{Gives}
+use Rattle.amqp_types.specs.Items.{behind}
+use Rattle.amqp_types.proofs.PassedOver.{passes_element, value_shorter, front_held, descriptor_fault, described_fault, described_passed}
+use Rattle.amqp_types.proofs.Loop.{seen_lengths, behind_shorter, goes_past, stops, is_done}
 use Rattle.amqp_types.proofs.reading.+reader.Goals as goal
-use Rattle.amqp_types.proofs.reading.+reader.Goals.{read_element-in-None, read_element-in-Some}
 
-pub read_data-returns-in-Nested : goal.read_data-returns-in-Nested
-read_data-returns-in-Nested t c =
+pub pass_data-returns-in-Ok-read_nested : goal.pass_data-returns-in-Ok-read_nested
+pass_data-returns-in-Ok-read_nested t c =
     let arm = c.in-Nested in
-    rw (arm.is, data_nested c.args.levels arm.kind arm.width c.args.at c.args.bytes.now c.requires.some) c.read_nested.ensures
+    ap (behind {A = Part}) (ap (λ (code : Code). data_at c.args.levels 0 code c.args.at c.args.bytes.now) arm.is ∙ data_nested c.args.levels arm.kind arm.width c.args.at c.args.bytes.now c.requires.some ∙ c.in-Ok-read_nested.ensures)
 
-pub read_data-returns-in-Array : goal.read_data-returns-in-Array
-read_data-returns-in-Array t c =
+pub read_data-returns-in-Ok : goal.read_data-returns-in-Ok
+read_data-returns-in-Ok t c =
+    let arm = c.in-Nested in
+    ap (λ (code : Code). data_at c.args.levels 0 code c.args.at c.args.bytes.now) arm.is ∙ data_nested c.args.levels arm.kind arm.width c.args.at c.args.bytes.now c.requires.some ∙ c.in-Ok.ensures
+
+pub pass_data-returns-in-Err-read_nested : goal.pass_data-returns-in-Err-read_nested
+pass_data-returns-in-Err-read_nested t c =
+    let arm = c.in-Nested in
+    ap (behind {A = Part}) (ap (λ (code : Code). data_at c.args.levels 0 code c.args.at c.args.bytes.now) arm.is ∙ data_nested c.args.levels arm.kind arm.width c.args.at c.args.bytes.now c.requires.some ∙ c.in-Err-read_nested.ensures)
+
+pub read_data-returns-in-Err : goal.read_data-returns-in-Err
+read_data-returns-in-Err t c =
+    let arm = c.in-Nested in
+    ap (λ (code : Code). data_at c.args.levels 0 code c.args.at c.args.bytes.now) arm.is ∙ data_nested c.args.levels arm.kind arm.width c.args.at c.args.bytes.now c.requires.some ∙ c.in-Err.ensures
+
+pub pass_data-returns-in-Ok-read_array : goal.pass_data-returns-in-Ok-read_array
+pass_data-returns-in-Ok-read_array t c =
     let arm = c.in-Array in
-    rw (arm.is, data_array c.args.levels arm.width c.args.at c.args.bytes.now c.requires.some) c.read_array.ensures
+    ap (behind {A = Part}) (ap (λ (code : Code). data_at c.args.levels 0 code c.args.at c.args.bytes.now) arm.is ∙ data_array c.args.levels arm.width c.args.at c.args.bytes.now c.requires.some ∙ c.in-Ok-read_array.ensures)
 
-pub read_data-returns-in-Described : goal.read_data-returns-in-Described
-read_data-returns-in-Described t c = rw (c.in-Described.is, data_described c.args.levels c.args.at c.args.bytes.now c.requires.some) c.read_described.ensures
+pub read_data-returns-in-Ok-read_array : goal.read_data-returns-in-Ok-read_array
+read_data-returns-in-Ok-read_array t c =
+    let arm = c.in-Array in
+    ap (λ (code : Code). data_at c.args.levels 0 code c.args.at c.args.bytes.now) arm.is ∙ data_array c.args.levels arm.width c.args.at c.args.bytes.now c.requires.some ∙ c.in-Ok-read_array.ensures
 
-pub read_described-overflow_add-at-3 : goal.read_described-overflow_add-at-3
-read_described-overflow_add-at-3 t c =
-    let descriptor = c.in_ok-descriptor in
-    omega (arith, c.requires.room, seen_lengths c.args.levels (c.args.at + 1) c.args.bytes.now (view descriptor.descriptor, descriptor.behind.now) descriptor.ensures)
+pub pass_data-returns-in-Err-read_array : goal.pass_data-returns-in-Err-read_array
+pass_data-returns-in-Err-read_array t c =
+    let arm = c.in-Array in
+    ap (behind {A = Part}) (ap (λ (code : Code). data_at c.args.levels 0 code c.args.at c.args.bytes.now) arm.is ∙ data_array c.args.levels arm.width c.args.at c.args.bytes.now c.requires.some ∙ c.in-Err-read_array.ensures)
 
-pub read_described-read_value-requires-2 : goal.read_described-read_value-requires-2
-read_described-read_value-requires-2 t c =
-    let descriptor = c.in_ok-descriptor in
-    (search rules, (c.requires.levels, omega (arith, c.requires.room, seen_lengths c.args.levels (c.args.at + 1) c.args.bytes.now (view descriptor.descriptor, descriptor.behind.now) descriptor.ensures)))
+pub read_data-returns-in-Err-read_array : goal.read_data-returns-in-Err-read_array
+read_data-returns-in-Err-read_array t c =
+    let arm = c.in-Array in
+    ap (λ (code : Code). data_at c.args.levels 0 code c.args.at c.args.bytes.now) arm.is ∙ data_array c.args.levels arm.width c.args.at c.args.bytes.now c.requires.some ∙ c.in-Err-read_array.ensures
 
-pub read_described-invariant_of-pair : goal.read_described-invariant_of-pair
-read_described-invariant_of-pair t c =
-    let descriptor = c.in_ok-descriptor in
-    let value = c.in_ok-value in
+pub pass_data-returns-in-Ok-read_described : goal.pass_data-returns-in-Ok-read_described
+pass_data-returns-in-Ok-read_described t c =
+    let arm = c.in-Described in
+    ap (behind {A = Part}) (ap (λ (code : Code). data_at c.args.levels 0 code c.args.at c.args.bytes.now) arm.is ∙ data_described c.args.levels c.args.at c.args.bytes.now c.requires.some ∙ c.in-Ok-read_described.ensures)
+
+pub read_data-returns-in-Ok-read_described : goal.read_data-returns-in-Ok-read_described
+read_data-returns-in-Ok-read_described t c =
+    let arm = c.in-Described in
+    ap (λ (code : Code). data_at c.args.levels 0 code c.args.at c.args.bytes.now) arm.is ∙ data_described c.args.levels c.args.at c.args.bytes.now c.requires.some ∙ c.in-Ok-read_described.ensures
+
+pub pass_data-returns-in-Err-read_described : goal.pass_data-returns-in-Err-read_described
+pass_data-returns-in-Err-read_described t c =
+    let arm = c.in-Described in
+    ap (behind {A = Part}) (ap (λ (code : Code). data_at c.args.levels 0 code c.args.at c.args.bytes.now) arm.is ∙ data_described c.args.levels c.args.at c.args.bytes.now c.requires.some ∙ c.in-Err-read_described.ensures)
+
+pub read_data-returns-in-Err-read_described : goal.read_data-returns-in-Err-read_described
+read_data-returns-in-Err-read_described t c =
+    let arm = c.in-Described in
+    ap (λ (code : Code). data_at c.args.levels 0 code c.args.at c.args.bytes.now) arm.is ∙ data_described c.args.levels c.args.at c.args.bytes.now c.requires.some ∙ c.in-Err-read_described.ensures
+
+pub read_described-returns-in_err-described : goal.read_described-returns-in_err-described
+read_described-returns-in_err-described t c =
+    let p = err_from_is_err_and c.from_residual.result c.from_residual.ensures.1 in
+    rw (p.1, p.2) (descriptor_fault c.args.levels c.args.at c.args.bytes.now c.in_err-described.field-0.0 c.in_err-described.ensures)
+
+pub read_described-slice_bounds-descriptor-count : goal.read_described-slice_bounds-descriptor-count
+read_described-slice_bounds-descriptor-count t c = value_shorter c.args.levels (c.args.at + 1) c.args.bytes.now c.in_ok-described.described.now c.in_ok-described.ensures
+
+pub read_described-pass_value-requires-2 : goal.read_described-pass_value-requires-2
+read_described-pass_value-requires-2 t c =
+    let mid = c.in_ok-described in
+    let shorter = value_shorter c.args.levels (c.args.at + 1) c.args.bytes.now mid.described.now mid.ensures in
+    let front = length-take (length c.args.bytes.now - length mid.described.now) c.args.bytes.now in
+    (search rules, (c.requires.levels, omega (arith, c.requires.room, shorter, front)))
+
+pub read_described-returns-in_err-rest : goal.read_described-returns-in_err-rest
+read_described-returns-in_err-rest t c =
+    let p = err_from_is_err_and c.from_residual-in_err-rest.result c.from_residual-in_err-rest.ensures.1 in
+    rw (p.1, p.2) (described_fault c.args.levels c.args.at c.args.bytes.now c.in_ok-described.described.now c.in_err-rest.field-0.0 c.in_ok-described.ensures c.in_err-rest.ensures)
+
+pub read_described-slice_bounds-value-count : goal.read_described-slice_bounds-value-count
+read_described-slice_bounds-value-count t c = value_shorter c.args.levels _ c.in_ok-described.described.now c.in_ok-rest.rest.now c.in_ok-rest.ensures
+
+pub read_described-invariant_of-result : goal.read_described-invariant_of-result
+read_described-invariant_of-result t c =
+    let mid = c.in_ok-described in
     record {
-      descriptor_read = held_value c.args.levels _ c.args.bytes.now (view descriptor.descriptor, descriptor.behind.now) c.requires.levels descriptor.ensures;
-      value_read = held_value c.args.levels _ descriptor.behind.now (view value.value, value.rest.now) c.requires.levels value.ensures;
+      descriptor_read = front_held c.args.levels (c.args.at + 1) c.args.bytes.now mid.described.now c.requires.levels mid.ensures;
+      value_read = front_held c.args.levels _ mid.described.now c.in_ok-rest.rest.now c.requires.levels c.in_ok-rest.ensures;
     }
 
-pub read_items-returns-in_err-item : goal.read_items-returns-in_err-item
-read_items-returns-in_err-item t c =
+pub read_described-returns : goal.read_described-returns
+read_described-returns t c =
+    described_passed c.args.levels c.args.at c.args.bytes.now c.in_ok-described.described.now c.in_ok-rest.rest.now c.in_ok-described.ensures c.in_ok-rest.ensures
+
+pub pass_element-returns : goal.pass_element-returns
+pass_element-returns t c =
+    subst (Gives (λ (x : Bor (List ℕ)). x.now) c.pass_coded.result) (sym (passes_element c.args.levels (constructor_of c.args.constructor) c.args.at c.args.bytes.now c.requires.tags)) c.pass_coded.ensures
+
+pub read_items-returns-in_err-after : goal.read_items-returns-in_err-after
+read_items-returns-in_err-after t c =
     let p = err_from_is_err_and c.from_residual.result c.from_residual.ensures.1 in
-    rw (p.1, p.2) (ends c.args.levels (form c.args.constructor) c.args.count c.args.at c.args.bytes.now c.loop.counter c.loop.place c.loop.rest.now c.in_err-item.field-0.0 c.loop-test.true c.in_err-item.ensures c.loop.invariant)
+    rw (p.1, p.2) (stops c.args.levels (form c.args.constructor) c.args.count c.args.at c.args.bytes.now c.loop.counter c.loop.place c.loop.rest.now c.in_err-after.field-0.0 c.loop-test.true c.in_err-after.ensures c.loop.invariant)
+
+pub read_items-overflow_sub-place : goal.read_items-overflow_sub-place
+read_items-overflow_sub-place t c = behind_shorter c.args.levels (form c.args.constructor) c.loop.place c.loop.rest.now c.in_ok-after.after.now c.in_ok-after.ensures
 
 pub read_items-overflow_add-place : goal.read_items-overflow_add-place
-read_items-overflow_add-place t c =
-    omega (arith, c.requires.room, c.loop.invariant.room, item_lengths c.args.levels (form c.args.constructor) c.loop.place c.loop.rest.now (view c.in_ok-item.item, c.in_ok-item.after.now) c.in_ok-item.ensures)
+read_items-overflow_add-place t c = omega (arith, c.requires.room, c.loop.invariant.room)
 
 pub read_items-loop-preserved : goal.read_items-loop-preserved
 read_items-loop-preserved t c =
-    goes_on c.args.levels (form c.args.constructor) c.args.count c.args.at c.args.bytes.now c.loop.counter c.loop.place c.loop.rest.now (view c.in_ok-item.item, c.in_ok-item.after.now) c.loop-test.true c.in_ok-item.ensures c.loop.invariant
+    goes_past c.args.levels (form c.args.constructor) c.args.count c.args.at c.args.bytes.now c.loop.counter c.loop.place c.loop.rest.now c.in_ok-after.after.now c.loop-test.true c.in_ok-after.ensures c.loop.invariant
 
 pub read_items-returns : goal.read_items-returns
 read_items-returns t c = is_done c.args.levels (form c.args.constructor) c.args.count c.args.at c.args.bytes.now c.loop.counter c.loop.place c.loop.rest.now c.loop-test.false c.loop.invariant
@@ -104,36 +177,6 @@ read_elements-invariant_of-result t c =
     let constructor = c.in_ok-constructor in
     let none = nil_from_length c.in-Ok-empty.field-0.now (omega (arith, c.in-Ok-empty.len_below)) in
     record { few = omega arith; filled = held_items c.args.levels (Some (constructor_of constructor.constructor)) c.args.count _ constructor.body.now c.requires.levels (c.in-Ok-empty.ensures ∙ ap done none) }
-
-pub read_element-returns-in_err-content : goal.read_element-returns-in_err-content
-read_element-returns-in_err-content t c =
-    let p = err_from_is_err_and c.from_residual.result c.from_residual.ensures.1 in
-    rw (p.1, p.2) (element_fault c.args.levels (constructor_of c.args.constructor) c.args.at c.args.bytes.now c.in_err-content.field-0.0 c.requires.tags c.in_err-content.ensures)
-
-pub read_element-slice_bounds-raw-count : goal.read_element-slice_bounds-raw-count
-read_element-slice_bounds-raw-count t c =
-    let content = c.in_ok-content in
-    let some : 0 < c.args.levels - c.args.constructor.tags = omega (arith, c.requires.tags) in
-    data_shorter (c.args.levels - c.args.constructor.tags) c.args.constructor.code c.args.at c.args.bytes.now (part_of content.content, content.rest.now) content.ensures
-
-pub read_element-invariant_of-content : goal.read_element-invariant_of-content
-read_element-invariant_of-content t c =
-    let content = c.in_ok-content in
-    let tag = c.in-Some.tag in
-    let inner = c.args.constructor.inner tag c.in-Some.is in
-    record {
-      descriptor_read = tag.descriptor_read;
-      data_read = element_held c.args.levels c.args.constructor.tags c.args.constructor.code c.args.at tag.constructor.now c.args.bytes.now (part_of content.content, content.rest.now) c.requires.tags c.requires.levels inner content.ensures;
-    }
-
-pub read_element-returns : goal.read_element-returns
-read_element-returns t c =
-    let content = c.in_ok-content in
-    let said = element_is c.args.levels (constructor_of c.args.constructor) c.args.at c.args.bytes.now (part_of content.content, content.rest.now) c.requires.tags content.ensures in
-    elim c.match-constructor.branch [
-      | read_element-in-None w ↦ said ∙ rw (w.in-None.is, w.content-is) refl
-      | read_element-in-Some w ↦ said ∙ rw (w.in-Some.is, w.content-is) refl
-    ]
 
 pub read_constructor-returns-then-is_described : goal.read_constructor-returns-then-is_described
 read_constructor-returns-then-is_described t c =

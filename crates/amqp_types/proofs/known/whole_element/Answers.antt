@@ -5,7 +5,7 @@ use Rattle.amqp_types.specs.Form.{constructor_of}
 use Rattle.amqp_types.specs.View.{view}
 use Rattle.amqp_types.proofs.Steps.{never_both}
 use Rattle.amqp_types.proofs.Held.{whole_parts, whole_element_is, whole_element_read}
-use Rattle.amqp_types.proofs.reading.whole_element.Goals as goal
+use Rattle.amqp_types.proofs.known.whole_element.Goals as goal
 
 pub unreachable-requires : goal.unreachable-requires
 unreachable-requires c =

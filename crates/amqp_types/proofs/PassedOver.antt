@@ -1,0 +1,95 @@
+-- Values that are passed over: what is behind them is what is behind them where they are read.
+use Rattle.std.proofs.Common.{◌≡◌, ℕ, suc, ◌+◌, ◌-◌, ◌≤◌, ◌<◌, true, List, ◌∷◌, length, Option, Some, Ok, Err, refl, sym, ap, subst, ◌∙◌, arith}
+use Rattle.std.proofs.lemmas.List.{length-append}
+use Rattle.amqp_types.specs.declared.fault.ValueFault.{ValueFault}
+use Rattle.amqp_types.specs.declared.code.Code.{Code}
+use Rattle.amqp_types.specs.Codes.{code_of}
+use Rattle.amqp_types.specs.Part.{Part, Described, Seen, Tag, Constructor}
+use Rattle.flow_counts.specs.declared.profile.TheConstants.{MAX_DEPTH}
+use Rattle.amqp_types.specs.Reading.{Read, data_at, value_at, value_by, coded_at, in_front, with_octets, with_tag, seen_at, element_by, element_at, described_at}
+use Rattle.amqp_types.specs.Items.{behind, is_value}
+use Rattle.amqp_types.proofs.Steps.{done}
+use Rattle.amqp_types.proofs.Pieces.{in_front_is}
+use Rattle.amqp_types.proofs.Values.{seen_found}
+use Rattle.amqp_types.proofs.Levels.{data_behind}
+use Rattle.amqp_types.proofs.Held.{held_value}
+
+-- what was read in front of a rest
+pub behind_found : {A : Type 0} (r : Read A) (rest : List ℕ) → behind r ≡ Ok rest → (x : A) × (r ≡ Ok (x, rest))
+behind_found (Ok x) rest e = (x.0, let same : x.1 ≡ rest = cc in rw same refl)
+behind_found (Err d) rest e = absurd cc
+
+-- where nothing was read, there is a fault
+pub behind_fault : {A : Type 0} (r : Read A) (d : ValueFault) → behind r ≡ Err d → r ≡ Err d
+behind_fault (Ok x) d e = absurd cc
+behind_fault (Err c) d e = cc
+
+behind_octets : (bytes : List ℕ) (r : Read Part) → behind (with_octets bytes r) ≡ behind r
+behind_octets bytes (Ok x) = refl
+behind_octets bytes (Err d) = refl
+
+behind_tag : (tag : Option Tag) (bytes : List ℕ) (r : Read Part) → behind (with_tag tag (with_octets bytes r)) ≡ behind r
+behind_tag tag bytes (Ok x) = refl
+behind_tag tag bytes (Err d) = refl
+
+one_level : (levels at first : ℕ) (code : Code) (bytes : List ℕ) → code_of first ≡ Some code → behind (seen_at (suc levels) at (first ∷ bytes)) ≡ behind (data_at (suc levels) 0 code at bytes)
+unfolding seen_at value_at value_by coded_at
+one_level levels at first code bytes known = rw known (behind_octets (first ∷ bytes) (data_at (suc levels) 0 code at bytes))
+
+-- a value by its code
+pub passes_value : (levels at first : ℕ) (code : Code) (bytes : List ℕ) → 0 < levels → code_of first ≡ Some code → behind (seen_at levels at (first ∷ bytes)) ≡ behind (data_at levels 0 code at bytes)
+passes_value levels at first code bytes some known =
+    let below : levels ≡ suc (levels - 1) = omega (arith, some) in
+    subst (λ (n : ℕ). behind (seen_at n at (first ∷ bytes)) ≡ behind (data_at n 0 code at bytes)) (sym below) (one_level (levels - 1) at first code bytes known)
+
+-- an element by the code behind its descriptors
+pub passes_element : (levels : ℕ) (c : Constructor) (at : ℕ) (bytes : List ℕ) → c.tags < levels → behind (element_at levels c at bytes) ≡ behind (data_at (levels - c.tags) 0 c.code at bytes)
+unfolding element_at element_by
+passes_element levels c at bytes lt = behind_tag c.tag bytes (data_at levels c.tags c.code at bytes) ∙ ap behind (data_behind levels c.tags c.code at bytes lt)
+
+-- the octets of a value are those in front of the rest
+pub front_octets : (levels at : ℕ) (bytes : List ℕ) (x : Seen × List ℕ) → seen_at levels at bytes ≡ Ok x → x.0.octets ≡ in_front bytes x.1
+front_octets levels at bytes x e =
+    let front = seen_found levels at bytes x e in
+    sym (ap (λ (t : List ℕ). in_front t x.1) front.parts ∙ in_front_is x.0.octets x.1)
+
+-- what is behind a value is no longer than what was there
+pub value_shorter : (levels at : ℕ) (bytes rest : List ℕ) → behind (seen_at levels at bytes) ≡ Ok rest → length rest ≤ length bytes
+value_shorter levels at bytes rest e =
+    let x = behind_found (seen_at levels at bytes) rest e in
+    let front = seen_found levels at bytes (x.0, rest) x.1 in
+    omega (arith, ap length front.parts, length-append x.0.octets rest)
+
+-- the octets of a value that was passed over are one
+pub front_held : (levels at : ℕ) (bytes rest : List ℕ) → levels ≤ MAX_DEPTH → behind (seen_at levels at bytes) ≡ Ok rest → is_value (in_front bytes rest) ≡ true
+front_held levels at bytes rest le e =
+    let x = behind_found (seen_at levels at bytes) rest e in
+    subst (λ (t : List ℕ). is_value t ≡ true) (front_octets levels at bytes (x.0, rest) x.1) (held_value levels at bytes (x.0, rest) le x.1)
+
+-- a descriptor at fault
+pub descriptor_fault : (levels at : ℕ) (bytes : List ℕ) (d : ValueFault) → behind (seen_at levels (at + 1) bytes) ≡ Err d → described_at (seen_at levels) at bytes ≡ Err d
+unfolding described_at
+descriptor_fault levels at bytes d e = rw (behind_fault (seen_at levels (at + 1) bytes) d e) refl
+
+-- a value at fault that a descriptor describes
+pub described_fault : (levels at : ℕ) (bytes rest : List ℕ) (d : ValueFault) → behind (seen_at levels (at + 1) bytes) ≡ Ok rest
+    → behind (seen_at levels (at + 1 + length (in_front bytes rest)) rest) ≡ Err d → described_at (seen_at levels) at bytes ≡ Err d
+unfolding described_at
+described_fault levels at bytes rest d e failed =
+    let x = behind_found (seen_at levels (at + 1) bytes) rest e in
+    let place : seen_at levels (at + 1 + length x.0.octets) rest ≡ Err d =
+    ap (λ (t : List ℕ). seen_at levels (at + 1 + length t) rest) (front_octets levels (at + 1) bytes (x.0, rest) x.1)
+    ∙ behind_fault (seen_at levels (at + 1 + length (in_front bytes rest)) rest) d failed in
+    rw (x.1, place) refl
+
+-- a descriptor and the value that it describes, both passed over
+pub described_passed : (levels at : ℕ) (bytes mid rest : List ℕ) → behind (seen_at levels (at + 1) bytes) ≡ Ok mid
+    → behind (seen_at levels (at + 1 + length (in_front bytes mid)) mid) ≡ Ok rest → described_at (seen_at levels) at bytes ≡ Ok (Described (in_front bytes mid) (in_front mid rest), rest)
+unfolding described_at
+described_passed levels at bytes mid rest e f =
+    let x = behind_found (seen_at levels (at + 1) bytes) mid e in
+    let octets = front_octets levels (at + 1) bytes (x.0, mid) x.1 in
+    let y = behind_found (seen_at levels (at + 1 + length (in_front bytes mid)) mid) rest f in
+    let place : seen_at levels (at + 1 + length x.0.octets) mid ≡ Ok (y.0, rest) = ap (λ (t : List ℕ). seen_at levels (at + 1 + length t) mid) octets ∙ y.1 in
+    let others = front_octets levels (at + 1 + length (in_front bytes mid)) mid (y.0, rest) y.1 in
+    rw (x.1, place) (ap (λ (t : List ℕ). done {A = Part × List ℕ} (Described t y.0.octets, rest)) octets ∙ ap (λ (t : List ℕ). done {A = Part × List ℕ} (Described (in_front bytes mid) t, rest)) others)

@@ -1,0 +1,87 @@
+-- What was read once is read again, and what it holds is known.
+use Rattle.std.proofs.Common.{◌≡◌, ℕ, ◌+◌, ◌≤◌, ◌<◌, true, cond, List, [], ◌∷◌, length, Option, Some, None, Result, Ok, Err, refl, sym, ap, ◌∙◌, arith}
+use Rattle.std.specs.Result.{is_ok}
+use Rattle.amqp_types.specs.declared.fault.ValueFault.{ValueFault}
+use Rattle.amqp_types.specs.declared.fault.ValueFaultKind.TheVariants.{OddMap, UnknownCode}
+use Rattle.amqp_types.specs.declared.code.Kind.{Kind}
+use Rattle.amqp_types.specs.declared.code.SizeWidth.{SizeWidth}
+use Rattle.amqp_types.specs.declared.code.Code.{Code}
+use Rattle.amqp_types.specs.Codes.{code_of, size_len}
+use Rattle.amqp_types.specs.Part.{Part, Nested, Constructor}
+use Rattle.flow_counts.specs.Words.{Gives}
+use Rattle.flow_counts.specs.declared.profile.TheConstants.{MAX_DEPTH}
+use Rattle.amqp_types.specs.Reading.{◌>>=◌, Read, fault, counted_at, nested_at, items_at, all_used, is_odd, data_at, value_at, value_by, coded_at, with_octets, seen_at, item_at}
+use Rattle.amqp_types.specs.Items.{is_read, is_value, are_items}
+use Rattle.amqp_types.proofs.Steps.{bind_ok, guard_ok}
+use Rattle.amqp_types.proofs.Pieces.{all_used_ok}
+use Rattle.amqp_types.proofs.Held.{held_items, whole_read, first_read}
+
+-- what was read
+pub read_is : {A : Type 0} (r : Read A) → is_read r ≡ true → (x : A × List ℕ) × (r ≡ Ok x)
+read_is (Ok x) e = (x, refl)
+read_is (Err d) e = absurd cc
+
+-- what is read has no fault
+pub never_failed : {A : Type 0} (r : Read A) (d : ValueFault) → is_read r ≡ true → r ≡ Err d → ⊥
+never_failed (Ok x) d e h = cc
+never_failed (Err c) d e h = cc
+
+-- a call that gives what is read does not fail
+pub is_known : {X A : Type 0} (view : X → A × List ℕ) (result : Result X ValueFault) (r : Read A) → is_read r ≡ true → Gives view result r → is_ok result ≡ true
+is_known view (Ok x) r e given = refl
+is_known view (Err d) r e given = absurd (never_failed r d e given)
+
+-- a list or a map that is read has a size and a count
+pub known_counted : (levels : ℕ) (kind : Kind) (width : SizeWidth) (at : ℕ) (bytes : List ℕ) (d : ValueFault) → is_read (nested_at (item_at levels None) kind width at bytes) ≡ true → counted_at width at bytes ≡ Err d → ⊥
+unfolding nested_at
+known_counted levels kind width at bytes d e failed =
+    let fails : nested_at (item_at levels None) kind width at bytes ≡ Err d = rw failed refl in
+    never_failed (nested_at (item_at levels None) kind width at bytes) d e fails
+
+-- so many items lie in its octets
+pub known_items : (levels : ℕ) (kind : Kind) (width : SizeWidth) (at : ℕ) (bytes : List ℕ) (c : (ℕ × List ℕ) × List ℕ) → levels ≤ MAX_DEPTH
+    → is_read (nested_at (item_at levels None) kind width at bytes) ≡ true → counted_at width at bytes ≡ Ok c
+    → (are_items None c.0.0 c.0.1 ≡ true) × (nested_at (item_at levels None) kind width at bytes ≡ Ok (Nested kind c.0.0 c.0.1, c.1))
+unfolding nested_at
+known_items levels kind width at bytes c le e counted =
+    let place = at + 1 + size_len width + size_len width in
+    let others : (ℕ × List ℕ) × List ℕ → Read Part = λ counted. all_used at (items_at (item_at levels None) counted.0.0 (at + 1 + size_len width + size_len width) counted.0.1) >>= λ end. Ok (Nested kind counted.0.0 counted.0.1, counted.1) in
+    let whole = read_is (nested_at (item_at levels None) kind width at bytes) e in
+    let step : cond (is_odd kind c.0.0) (fault OddMap at) (others c) ≡ Ok whole.0 = sym (rw counted refl) ∙ whole.1 in
+    let g = guard_ok (is_odd kind c.0.0) (record { kind = OddMap; at = at }) (others c) whole.0 step in
+    let b = bind_ok (all_used at (items_at (item_at levels None) c.0.0 place c.0.1)) (λ end. Ok (Nested kind c.0.0 c.0.1, c.1)) whole.0 g.1 in
+    let all = all_used_ok at (items_at (item_at levels None) c.0.0 place c.0.1) b.0 b.1 in
+    (held_items levels None c.0.0 place c.0.1 le all, whole.1 ∙ sym b.2)
+
+-- a value that is read has a first octet
+pub known_first : (bytes : List ℕ) → is_read (seen_at MAX_DEPTH 0 bytes) ≡ true → 0 < length bytes
+unfolding seen_at value_at value_by
+known_first [] e = absurd cc
+known_first (b ∷ bytes) e = omega arith
+
+octets_known : (bytes : List ℕ) (r : Read Part) → is_read (with_octets bytes r) ≡ true → is_read r ≡ true
+octets_known bytes (Ok x) e = refl
+octets_known bytes (Err d) e = absurd cc
+
+-- which is a code
+pub known_code : (first : ℕ) (bytes : List ℕ) → is_read (seen_at MAX_DEPTH 0 (first ∷ bytes)) ≡ true → code_of first ≡ None → ⊥
+unfolding seen_at value_at value_by coded_at
+known_code first bytes e none =
+    let d : ValueFault = record { kind = UnknownCode; at = 0 } in
+    let fails : seen_at MAX_DEPTH 0 (first ∷ bytes) ≡ Err d = rw none refl in
+    never_failed (seen_at MAX_DEPTH 0 (first ∷ bytes)) d e fails
+
+-- and what is behind it is read
+pub known_behind : (first : ℕ) (code : Code) (bytes : List ℕ) → is_read (seen_at MAX_DEPTH 0 (first ∷ bytes)) ≡ true → code_of first ≡ Some code → is_read (data_at MAX_DEPTH 0 code 0 bytes) ≡ true
+unfolding seen_at value_at value_by coded_at
+known_behind first code bytes e is =
+    let same : seen_at MAX_DEPTH 0 (first ∷ bytes) ≡ with_octets (first ∷ bytes) (data_at MAX_DEPTH 0 code 0 bytes) = rw is refl in
+    octets_known (first ∷ bytes) (data_at MAX_DEPTH 0 code 0 bytes) (sym (ap is_read same) ∙ e)
+
+-- octets that are a value are read
+pub known_whole : (octets : List ℕ) → is_value octets ≡ true → is_read (seen_at MAX_DEPTH 0 octets) ≡ true
+known_whole octets e = let one = whole_read octets e in rw one.1 refl
+
+-- the first of some items is read
+pub known_one : (form : Option Constructor) (n : ℕ) (octets : List ℕ) → 0 < n → are_items form n octets ≡ true → is_read (item_at MAX_DEPTH form 0 octets) ≡ true
+known_one form n octets some e = let first = first_read form n octets some e in rw first.1.read refl

@@ -1,0 +1,136 @@
+//! Values of octets that were read before. Nothing of them is tested again, and what a list, a map or an array
+//! holds is not gone over.
+
+ghost use Rattle.std.specs.Prelude.{◌≡◌, ◌-◌, ◌<◌, ◌∷◌, IsTrue, Ok, None};
+ghost use Rattle.std.specs.Result.{is_ok};
+ghost use Rattle.amqp_types.specs.Part as parts;
+ghost use Rattle.amqp_types.specs.Reading.{data_at, nested_at, item_at, seen_at};
+ghost use Rattle.amqp_types.specs.Items.{is_read, are_items, items_in, is_value, is_element, element_of, seen_of};
+ghost use Rattle.amqp_types.specs.Grammar.{IsValue, IsConstructor, IsElement};
+ghost use Rattle.amqp_types.specs.Form.{form};
+ghost use Rattle.amqp_types.specs.View.{view, part_of};
+
+use crate::code::{Code, Kind, SizeWidth};
+use crate::constructor::Constructor;
+use crate::primitive::{Read, read_counted, read_fixed, read_text};
+use crate::reading::{read_constructor, read_data, read_element};
+use crate::sequence::Sequence;
+use crate::value::{Content, Value};
+use flow_counts::MAX_DEPTH;
+
+/// What a reading gave that does not fail.
+#[inline(always)]
+fn known<'a>(read: Read<'a, Content<'a>>) -> (Content<'a>, &'a [u8])
+    requires { IsTrue (is_ok read) }
+    ensures { read.entry ≡ Ok result }
+{
+    match read {
+        Ok(known) => known,
+        Err(_) => unreachable!(),
+    }
+}
+
+/// The data of a list or a map.
+#[inline(always)]
+fn known_nested(kind: Kind, width: SizeWidth, bytes: &[u8]) -> (Content<'_>, &[u8])
+    requires { IsTrue (is_read (nested_at (item_at (MAX_DEPTH - 1) None) kind width 0 bytes.now)) }
+    ensures { nested_at (item_at (MAX_DEPTH - 1) None) kind width 0 bytes.now ≡ Ok (part_of result.0, result.1.now) }
+{
+    let Ok(((count, body), rest)) = read_counted(width, 0, bytes) else {
+        unreachable!()
+    };
+    (Content::Nested(kind, Sequence { count, body }), rest)
+}
+
+/// What is behind a code.
+#[tactic(auto, unfolding(crate::specs::Reading::data_at, crate::specs::Reading::data_by), using(crate::proofs::ReadBefore::is_known))]
+#[inline(always)]
+fn known_data(code: Code, bytes: &[u8]) -> (Content<'_>, &[u8])
+    requires { IsTrue (is_read (data_at MAX_DEPTH 0 code 0 bytes.now)) }
+    ensures { data_at MAX_DEPTH 0 code 0 bytes.now ≡ Ok (part_of result.0, result.1.now) }
+{
+    match code {
+        Code::Fixed(scalar) => known(read_fixed(scalar, 0, bytes)),
+        Code::Sized(text, width) => known(read_text(text, width, 0, bytes)),
+        Code::EmptyList => (Content::Nested(Kind::List, Sequence::empty()), bytes),
+        Code::Nested(kind, width) => known_nested(kind, width, bytes),
+        Code::Array(_) | Code::Described => known(read_data(MAX_DEPTH, code, 0, bytes)),
+    }
+}
+
+/// The value at the front of the octets, and the octets behind it.
+#[tactic(auto, unfolding(crate::specs::Reading::seen_at, crate::specs::Reading::value_at, crate::specs::Reading::value_by, crate::specs::Reading::coded_at))]
+#[inline(always)]
+fn known_value(bytes: &[u8]) -> (Value<'_>, &[u8])
+    requires { IsTrue (is_read (seen_at MAX_DEPTH 0 bytes.now)) }
+    ensures { seen_at MAX_DEPTH 0 bytes.now ≡ Ok (view result.0, result.1.now) }
+{
+    let Some((first, behind)) = bytes.split_first() else {
+        unreachable!()
+    };
+    let Some(code) = Code::of(*first) else {
+        unreachable!()
+    };
+    let (content, rest) = known_data(code, behind);
+    let raw = &bytes[..bytes.len() - rest.len()];
+    (Value { raw, content }, rest)
+}
+
+/// The item at the front of the octets, an element where there is a constructor, and the octets behind it.
+#[tactic(auto, unfolding(crate::specs::Reading::item_at))]
+#[inline(always)]
+fn known_item<'a>(constructor: Option<Constructor<'a>>, bytes: &'a [u8]) -> (Value<'a>, &'a [u8])
+    requires { IsTrue (is_read (item_at MAX_DEPTH (form constructor) 0 bytes.now)) }
+    ensures { item_at MAX_DEPTH (form constructor.entry) 0 bytes.now ≡ Ok (view result.0, result.1.now) }
+{
+    match constructor {
+        None => known_value(bytes),
+        Some(constructor) => match read_element(MAX_DEPTH, constructor, 0, bytes) {
+            Ok(read) => read,
+            Err(_) => unreachable!(),
+        },
+    }
+}
+
+/// The value that octets are which were read as one before.
+#[inline(always)]
+pub(crate) fn whole(octets: &[u8]) -> Value<'_>
+    requires { IsTrue (is_value octets.now) }
+    ensures same { view result ≡ seen_of octets.now }
+    ensures whole { (view result).octets ≡ octets.now }
+    ensures value { IsValue MAX_DEPTH octets.now (view result).part }
+{
+    let (value, _) = known_value(octets);
+    value
+}
+
+/// The element that octets are, with its constructor, both of which were read before.
+pub(crate) fn whole_element<'a>(constructor: &'a [u8], octets: &'a [u8]) -> Value<'a>
+    requires { IsTrue (is_element constructor.now octets.now) }
+    ensures same { view result ≡ element_of constructor.now octets.now }
+    ensures whole { (view result).octets ≡ octets.now }
+    ensures element { (c : parts.Constructor) × IsConstructor MAX_DEPTH constructor.now c × IsElement MAX_DEPTH c octets.now (view result).part }
+{
+    let Ok((constructor, _)) = read_constructor(MAX_DEPTH, 0, constructor) else {
+        unreachable!()
+    };
+    match read_element(MAX_DEPTH, constructor, 0, octets) {
+        Ok((value, _)) => value,
+        Err(_) => unreachable!(),
+    }
+}
+
+/// The first of some items, which were read before, and the octets of the others.
+#[inline(always)]
+pub(crate) fn first_of<'a>(
+    constructor: Option<Constructor<'a>>,
+    count: u32,
+    octets: &'a [u8],
+) -> (Value<'a>, &'a [u8])
+    requires some { 0 < count }
+    requires filled { IsTrue (are_items (form constructor) count octets.now) }
+    ensures first { items_in (form constructor.entry) count octets.now ≡ view result.0 ∷ items_in (form constructor.entry) (count - 1) result.1.now }
+    ensures others { IsTrue (are_items (form constructor.entry) (count - 1) result.1.now) }
+{
+    known_item(constructor, octets)
+}
