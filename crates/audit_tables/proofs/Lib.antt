@@ -1,6 +1,4 @@
 mod ConnectionSteps
-mod EventSessions
-mod EndedSessions
 mod UnansweredSteps
 mod SessionSteps
 mod KeptSteps

@@ -26,7 +26,7 @@ use Rattle.trace_events.proofs.SessionSteps.{live_session-same, live_session-ove
 use Rattle.trace_clauses.proofs.OpenedConnections.{begun-not_over}
 use Rattle.audit_tables.specs.Sessions.{counted, session_at, begun, moved, opens_or_ends, session_next, session_behind}
 use Rattle.audit_tables.specs.declared.sessions.Counted.{Counted}
-use Rattle.audit_tables.proofs.EventSessions.{spoken-channel, session-begun, session-live, said-live}
+use Rattle.trace_events.proofs.EventSessions.{spoken-channel, session-begun, session-live, said-live}
 
 abbrev made : Session → ℕ → ℕ → ℕ → ℕ → Counted
 made s a b c d = record { session = s; window = a; given_window = b; next_outgoing_id = c; next_incoming_id = d }

@@ -9,7 +9,7 @@ use Rattle.trace_clauses.specs.Clauses.{first_broken}
 use Rattle.trace_events.proofs.Judged.{AreJudged}
 use Rattle.audit_tables.specs.Unanswered.{nothing, is_nothing, begin_to_answer, unanswered_at, begin_next, owes_end_next, awaits_end_next, unanswered_next}
 use Rattle.audit_tables.specs.declared.unanswered.Unanswered.{Unanswered}
-use Rattle.audit_tables.proofs.EndedSessions.{ended-was_unended}
+use Rattle.trace_clauses.proofs.EndedSessions.{ended-was_unended}
 
 abbrev made : Option Begin → Bool → Bool → Unanswered
 made begin owes awaits = record { begin = begin; owes_end = owes; awaits_end = awaits }

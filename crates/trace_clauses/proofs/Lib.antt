@@ -27,6 +27,7 @@ pub mod Pairs
 pub mod OutgoingProgress
 pub mod BegunDeliveries
 pub mod LinkEnds
+pub mod EndedSessions
 pub mod IncomingProgress
 pub mod SettlingList
 pub mod CompletionOrder

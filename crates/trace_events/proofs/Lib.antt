@@ -31,4 +31,5 @@ pub mod FirstOpens
 pub mod Owed
 pub mod SessionNumbers
 pub mod SessionPlaces
+pub mod EventSessions
 pub mod Ends

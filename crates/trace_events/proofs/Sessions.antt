@@ -28,7 +28,7 @@ begin_in m = option_and_then as_begin (option_map (λ (spoken : Spoken). spoken.
 abbrev begin_of : Option Spoken → Option Begin
 begin_of o = option_and_then as_begin (option_map (λ (spoken : Spoken). spoken.meaning) o)
 
-abbrev begun_on : ℕ → ℕ → ℕ → Option Begin → List Event → Option Session
+abbrev pub begun_on : ℕ → ℕ → ℕ → Option Begin → List Event → Option Session
 begun_on number c channel begin past = option_map (λ (ours : Begin). new_session number c channel ours (last_in_begin c channel past)) begin
 
 -- the session of what is written, and of any moment
@@ -36,7 +36,7 @@ abbrev session_said : ℕ → ℕ → Option Spoken → List Event → Option Se
 session_said number c o past =
     or_else (option_and_then (λ (spoken : Spoken). begun_on number c spoken.channel (begin_of o) past) o) (option_and_then (λ (spoken : Spoken). live_session c spoken.channel past) o)
 
-abbrev session_in : ℕ → ℕ → Moment → List Event → Option Session
+abbrev pub session_in : ℕ → ℕ → Moment → List Event → Option Session
 session_in number c m past =
     or_else (option_and_then (λ (spoken : Spoken). begun_on number c spoken.channel (begin_in m) past) (option_and_then (λ (frame : Frame). spoken_in frame.body) (out_frame m)))
     (session_of c m past)
@@ -66,28 +66,35 @@ begun_number rules past r t is e = begun_number_by (length past) r.connection (m
 
 -- ---- it is the one that is found on its channel
 
-own_body : (number c own channel : ℕ) (body : Body) (past : List Event) (s : Session) → begun_on number c channel (begin_of (spoken_in body)) past ≡ Some s
-    → (is_number (channel_in body) channel && (own == c)) ≡ true → session_said number own (spoken_in body) past ≡ Some s
-own_body number c own channel NoFrame past s e on = absurd cc
-own_body number c own channel (Empty other) past s e on = absurd cc
-own_body number c own channel (NoPerformative other) past s e on = absurd cc
-own_body number c own channel (Says spoken) past s e on =
+first : (number c channel : ℕ) (begin : Option Begin) (live : Option Session) (past : List Event) → is_some begin ≡ true
+    → or_else (begun_on number c channel begin past) live ≡ begun_on number c channel begin past
+first number c channel None live past is = absurd cc
+first number c channel (Some begin) live past is = refl
+
+said_begun : (number c own channel : ℕ) (body : Body) (past : List Event) → is_some (begin_of (spoken_in body)) ≡ true → is_number (channel_in body) channel && (own == c) ≡ true
+    → session_said number own (spoken_in body) past ≡ begun_on number c channel (begin_of (spoken_in body)) past
+said_begun number c own channel NoFrame past begins on = absurd cc
+said_begun number c own channel (Empty other) past begins on = absurd cc
+said_begun number c own channel (NoPerformative other) past begins on = absurd cc
+said_begun number c own channel (Says spoken) past begins on =
     let same_channel : spoken.channel ≡ channel = eqb-true spoken.channel channel (and_first (spoken.channel == channel) (own == c) on) in
     let same : own ≡ c = eqb-true own c (and_last (spoken.channel == channel) (own == c) on) in
-    rw (same_channel, same) (ap (λ (o : Option Session). or_else o (live_session c channel past)) e)
+    first number own spoken.channel (as_begin spoken.meaning) (live_session own spoken.channel past) past begins
+    ∙ (ap (λ n. begun_on number n spoken.channel (as_begin spoken.meaning) past) same ∙ ap (λ n. begun_on number c n (as_begin spoken.meaning) past) same_channel)
 
-own_moment : (number c own channel : ℕ) (m : Moment) (past : List Event) (s : Session) → begun_on number c channel (begin_in m) past ≡ Some s
-    → (is_number (channel_of m) channel && (own == c)) ≡ true → session_in number own m past ≡ Some s
-own_moment number c own channel (Out frame) past s e on = own_body number c own channel frame.body past s e on
-own_moment number c own channel (In frame) past s e on = absurd cc
-own_moment number c own channel Opened past s e on = absurd cc
-own_moment number c own channel Lost past s e on = absurd cc
-own_moment number c own channel Broken past s e on = absurd cc
+pub begun_in : (number c own channel : ℕ) (m : Moment) (past : List Event) → is_some (begin_in m) ≡ true → is_number (channel_of m) channel && (own == c) ≡ true
+    → session_in number own m past ≡ begun_on number c channel (begin_in m) past
+begun_in number c own channel (Out frame) past begins on = said_begun number c own channel frame.body past begins on
+begun_in number c own channel (In frame) past begins on = absurd cc
+begun_in number c own channel Opened past begins on = absurd cc
+begun_in number c own channel Lost past begins on = absurd cc
+begun_in number c own channel Broken past begins on = absurd cc
 
 own_is : (rules : List RuleText) (past : List Event) (r : Record) (c channel : ℕ) (s : Session) → begins_out c channel (judge rules past r) ≡ true → session_begun c channel (judge rules past r) past ≡ Some s
     → (judge rules past r).session ≡ Some s
 own_is rules past r c channel s begins e =
-    own_moment (length past) c r.connection channel (moment_of r.what) past s e (and_last (is_some (out_begin (judge rules past r))) (is_on_channel c channel (judge rules past r)) begins)
+    let x = judge rules past r in
+    begun_in (length past) c r.connection channel (moment_of r.what) past (and_first (is_some (out_begin x)) (is_on_channel c channel x) begins) (and_last (is_some (out_begin x)) (is_on_channel c channel x) begins) ∙ e
 
 -- ---- the sessions that are known
 

@@ -19,7 +19,7 @@ use Rattle.trace_events.proofs.EventKinds.{out_said, out_said-in}
 use Rattle.trace_events.proofs.Judged.{AreJudged}
 use Rattle.trace_clauses.proofs.ClausesMet.{met}
 use Rattle.trace_clauses.proofs.OpenedConnections.{IsInPlace, written-in_place, written-not_over}
-use Rattle.audit_tables.proofs.EventSessions.{spoken-channel, session-live, said-live}
+use Rattle.trace_events.proofs.EventSessions.{spoken-channel, session-live, said-live}
 
 -- ---- no event is both an end of the client and a begin of the router, or an end of the router and a begin
 
