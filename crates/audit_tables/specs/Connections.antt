@@ -1,5 +1,5 @@
 -- What the table of connections stands for.
-use Rattle.std.specs.Prelude.{◌≡◌, ℕ, false, ◌||◌, ◌⊎◌, List, ◌∷◌, Option, None, IfSome, is_some, option_map, option_and_then, unwrap_or, nat_eq, ◌==◌, ◌&&◌, if◌then◌else◌}
+use Rattle.std.specs.Prelude.{◌≡◌, ℕ, true, false, ◌||◌, ◌⊎◌, List, ◌∷◌, Option, Some, None, is_some, option_map, option_and_then, unwrap_or, nat_eq, ◌==◌, ◌&&◌, if◌then◌else◌}
 use Rattle.indexmap.specs.IndexMap.{get, spare}
 use Rattle.flow_counts.specs.declared.profile.TheConstants.{MIN_MAX_FRAME_SIZE}
 use Rattle.capture_form.specs.declared.records.Record.{Record}
@@ -11,7 +11,7 @@ use Rattle.trace_events.specs.Event.{Event, is_opened, is_lost, is_broken, is_ou
 use Rattle.trace_events.specs.Said.{in_open, is_out_close, is_in_close}
 use Rattle.trace_events.specs.Connection as law
 use Rattle.trace_events.specs.Connection.{is_final, bounded_limit}
-use Rattle.audit_tables.specs.Sessions.{session_at, session_next, session_behind}
+use Rattle.audit_tables.specs.Sessions.{session_at, opens_or_ends, session_next, session_behind}
 use Rattle.audit_tables.specs.Unanswered.{nothing, unanswered_at, unanswered_next}
 use Rattle.audit_tables.specs.declared.connection.Seen.{Seen}
 use Rattle.audit_tables.specs.declared.connection.Connection.{Connection}
@@ -132,6 +132,11 @@ pub record AreSame (earlier later : Connections) : Type 0 where
   pub sessions : (c channel : ℕ) → session_in later c channel ≡ session_in earlier c channel
   pub unanswered : (c channel : ℕ) → unanswered_in later c channel ≡ unanswered_in earlier c channel
 
--- no room is left for what the connection may add
-abbrev pub HasNoRoom : Connections → ℕ → Type 0
-HasNoRoom table c = IfSome (get nat_eq table.entries c) IsFull
+-- no room is left for what the event adds: for a begin or an end, in a table of its connection that is full; or the
+-- connection is new, and so is its table for a begin or an end, or the table of connections is full
+abbrev pub NoRoomIn : Connections → Event → Option Connection → Type 0
+NoRoomIn table e (Some x) = (opens_or_ends e ≡ true) × IsFull x
+NoRoomIn table e None = (opens_or_ends e ≡ true) ⊎ (spare table.entries ≡ 0)
+
+abbrev pub HasNoRoom : Connections → Event → Type 0
+HasNoRoom table e = NoRoomIn table e (get nat_eq table.entries e.connection)

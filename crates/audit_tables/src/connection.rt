@@ -130,11 +130,11 @@ impl Connection {
     ///
     /// # Errors
     ///
-    /// Memory was refused to a table that was full; then all stays as it was.
+    /// Memory was refused, for a begin or an end and a table that was full; then all stays as it was.
     pub(crate) fn take(&mut self, event: &Event) -> Result<(), AllocError>
         ensures taken { OnOk result (Takes (event_view event.now) self.old self.new) }
         ensures unchanged { OnErr result (IsSame self.old self.new) }
-        ensures full { OnErr result (IsFull self.old) }
+        ensures full { OnErr result ((opens_or_ends (event_view event.now) ≡ true) × IsFull self.old) }
     {
         if let Some(channel) = event.moment.channel() {
             self.take_on(channel, event)?;
@@ -150,7 +150,7 @@ impl Connection {
     fn take_on(&mut self, channel: u16, event: &Event) -> Result<(), AllocError>
         ensures taken { OnOk result (TakesOn channel (event_view event.now) self.old self.new) }
         ensures unchanged { OnErr result (IsSame self.old self.new) }
-        ensures full { OnErr result (IsFull self.old) }
+        ensures full { OnErr result ((opens_or_ends (event_view event.now) ≡ true) × IsFull self.old) }
     {
         if opens_or_ends(event) {
             return self.open_or_end(channel, event);

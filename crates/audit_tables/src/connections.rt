@@ -70,13 +70,14 @@ impl Connections {
     ///
     /// # Errors
     ///
-    /// Memory was refused, for a connection that is new or a table of its that is full; then all stays as it was.
+    /// Memory was refused, for a connection that is new, or for a begin or an end where a table of its connection is full;
+    /// then all stays as it was.
     pub fn take(&mut self, event: &Event) -> Result<(), AllocError>
         ensures seen { OnOk result ((history : Events) → AreSeen self.old history → AreSeen self.new (event_view event.now ∷ history)) }
         ensures kept { OnOk result ((rules : List RuleText) (records : List Record) (r : Record) → IsLawfulNext rules records r (event_view event.now) →
             AreKept self.old (history rules records) → AreKept self.new (event_view event.now ∷ history rules records)) }
         ensures unchanged { OnErr result (AreSame self.old self.new) }
-        ensures full { OnErr result (HasNoRoom self.old event.now.connection) }
+        ensures full { OnErr result (HasNoRoom self.old (event_view event.now)) }
     {
         self.put(event)?;
         Ok(())
@@ -86,7 +87,7 @@ impl Connections {
     fn put(&mut self, event: &Event) -> Result<(), AllocError>
         ensures taken { OnOk result (TakesOne (event_view event.now) self.old self.new) }
         ensures unchanged { OnErr result (AreSame self.old self.new) }
-        ensures full { OnErr result (HasNoRoom self.old event.now.connection) }
+        ensures full { OnErr result (HasNoRoom self.old (event_view event.now)) }
     {
         match self.entries.get_mut(&event.connection) {
             Some(connection) => connection.take(event),
@@ -99,6 +100,7 @@ impl Connections {
         requires new { get nat_eq self.old.entries event.now.connection ≡ None }
         ensures taken { OnOk result (TakesOne (event_view event.now) self.old self.new) }
         ensures unchanged { OnErr result (AreSame self.old self.new) }
+        ensures full { OnErr result (HasNoRoom self.old (event_view event.now)) }
     {
         let mut connection = Connection::new(self.alloc);
         connection.take(event)?;
