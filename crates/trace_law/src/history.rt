@@ -274,8 +274,8 @@ fn opened_link<'a, P: Openings<'a>>(past: &P, event: &Event<'a>) -> Option<Link<
     if !opens_link(&attach) {
         return None;
     }
-    let theirs = past.last_in_attach(session, attach.handle);
-    Some(Link::new(event.number, session, &attach, theirs))
+    let their_first_count = past.last_first_count(session, attach.handle);
+    Some(Link::new(event.number, session, &attach, their_first_count))
 }
 
 // In five steps: where the record stands, whether it is heard, its fault, the deliveries that it is of, and what it

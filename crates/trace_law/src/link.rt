@@ -4,6 +4,8 @@ ghost use Rattle.std.specs.Prelude.{◌≡◌, option_map};
 ghost use Rattle.amqp_perf.specs.View.{attach_fields};
 ghost use Rattle.amqp_perf.specs.NestedViews.{address_view, terminus_view, target_view};
 ghost use Rattle.trace_events.specs.Link.{opens_link, address_text, source_address, target_address, address_at, first_count, is_settled_mode};
+ghost use Rattle.trace_law.specs.Known.{their_first_count};
+ghost use Rattle.trace_law.specs.View.{event_view};
 
 pub(crate) mod address;
 pub(crate) mod credit;
@@ -65,6 +67,20 @@ fn first_count(attach: &Attach) -> u32
     attach.initial_delivery_count.unwrap_or(0)
 }
 
+/// The same of the client's attach that an event is, 0 where there is none.
+pub(crate) fn their_first_count(event: Option<Event>) -> u32
+    ensures { result ≡ their_first_count (option_map event_view event.entry) }
+{
+    let attach = match event {
+        Some(event) => event.in_attach(),
+        None => None,
+    };
+    match attach {
+        Some(attach) => first_count(&attach),
+        None => 0,
+    }
+}
+
 /// Deliveries are sent settled (2.8.2).
 fn is_settled_mode(mode: SenderSettleMode) -> bool
     ensures { result ≡ is_settled_mode mode }
@@ -73,28 +89,21 @@ fn is_settled_mode(mode: SenderSettleMode) -> bool
 }
 
 impl<'a> Link<'a> {
-    ghost use Rattle.std.specs.Prelude.{◌≡◌, option_map};
+    ghost use Rattle.std.specs.Prelude.{◌≡◌};
     ghost use Rattle.amqp_perf.specs.View.{attach_fields};
-    ghost use Rattle.trace_events.specs.Link.{new_link, is_producer, is_consumer};
-    ghost use Rattle.trace_law.specs.View.{link_view, event_view};
+    ghost use Rattle.trace_events.specs.Link.{is_producer, is_consumer};
+    ghost use Rattle.trace_law.specs.Known.{link_answering};
+    ghost use Rattle.trace_law.specs.View.{link_view};
 
-    /// The link that an Out attach, in this record, opens in answer to the client's.
+    /// The link that an Out attach, in this record, opens in answer to the client's of this initial-delivery-count.
     pub(crate) fn new(
         number: u64,
         session: Session,
         ours: &Attach<'a>,
-        theirs: Option<Event<'a>>,
+        their_first_count: u32,
     ) -> Link<'a>
-        ensures { link_view result ≡ new_link number session (attach_fields ours.now) (option_map event_view theirs.entry) }
+        ensures { link_view result ≡ link_answering number session (attach_fields ours.now) their_first_count }
     {
-        let their_attach = match theirs {
-            Some(event) => event.in_attach(),
-            None => None,
-        };
-        let their_first_count = match their_attach {
-            Some(attach) => first_count(&attach),
-            None => 0,
-        };
         Link {
             number,
             session,
@@ -108,14 +117,14 @@ impl<'a> Link<'a> {
     }
 
     /// Deliveries come from the client.
-    pub(crate) fn is_producer(&self) -> bool
+    pub fn is_producer(&self) -> bool
         ensures { result ≡ is_producer (link_view self.now) }
     {
         self.role == Role::Receiver
     }
 
     /// Deliveries go to the client.
-    pub(crate) fn is_consumer(&self) -> bool
+    pub fn is_consumer(&self) -> bool
         ensures { result ≡ is_consumer (link_view self.now) }
     {
         self.role == Role::Sender
@@ -198,7 +207,7 @@ impl<'p, 'a> Past<'p, 'a> {
             if event.attaches_out(session, handle) {
                 let ours = event.out_attach()?;
                 if opens_link(&ours) {
-                    let theirs = earlier.last_in_attach(session, handle);
+                    let theirs = their_first_count(earlier.last_in_attach(session, handle));
                     return Some(Link::new(event.number, session, &ours, theirs));
                 }
             }

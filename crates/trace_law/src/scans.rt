@@ -4,6 +4,7 @@ use crate::clauses::broken_clause;
 use crate::clauses::link::Asking;
 use crate::history::event::{Event, Incoming, Link, Outgoing, Past};
 use crate::history::{judge, judge_unopened};
+use crate::link::their_first_count;
 use crate::questions::{Carriage, Counts, History, Inputs, Openings, Outcomes, Questions};
 use amqp_perf::{Begin, Disposition};
 use capture_form::{Record, Rule};
@@ -95,12 +96,8 @@ impl<'p, 'a> Outcomes<'a> for Past<'p, 'a> {
         self.is_complete(delivery)
     }
 
-    fn is_settled(&self, delivery: &Incoming) -> bool {
-        self.is_settled(delivery)
-    }
-
-    fn is_told(&self, delivery: &Incoming) -> bool {
-        self.is_told(delivery)
+    fn is_closed(&self, delivery: &Incoming) -> bool {
+        self.is_closed(delivery)
     }
 
     fn is_gone(&self, rules: &[Rule], delivery: &Incoming) -> bool {
@@ -157,8 +154,8 @@ impl<'p, 'a> Openings<'a> for Past<'p, 'a> {
         self.owes_end(connection, channel)
     }
 
-    fn last_in_attach(&self, session: Session, handle: u32) -> Option<Event<'a>> {
-        self.last_in_attach(session, handle)
+    fn last_first_count(&self, session: Session, handle: u32) -> u32 {
+        their_first_count(self.last_in_attach(session, handle))
     }
 
     fn asking(&self, session: Session, handle: u32) -> Option<Asking<'a>> {

@@ -136,7 +136,7 @@ impl<'a> Asking<'a> {
     ghost use Rattle.trace_law.specs.View.{asking_view, event_view};
 
     /// What the attach of this event asks for.
-    pub(crate) fn of(event: &Event, theirs: &Attach<'a>) -> Asking<'a>
+    pub fn of(event: &Event, theirs: &Attach<'a>) -> Asking<'a>
         ensures { asking_view result ≡ law.asked_by (event_view event.now) (attach_fields theirs.now) }
     {
         Asking {

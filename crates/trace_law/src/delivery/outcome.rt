@@ -204,8 +204,5 @@ pub fn may_be_told<'a, P: Outcomes<'a>>(past: &P, delivery: &Incoming) -> bool
     ensures { (history : Events) → P.stands_for past.now history → P.knows_incoming past.now (incoming_view delivery.now) history →
         (result ≡ rows.may_be_told (incoming_view delivery.now) history) }
 {
-    past.is_complete(delivery)
-        && !past.is_settled(delivery)
-        && !past.is_told(delivery)
-        && past.is_live(&delivery.link)
+    past.is_complete(delivery) && !past.is_closed(delivery)
 }

@@ -12,7 +12,7 @@ impl<'p, 'a> Past<'p, 'a> {
     ghost use Rattle.trace_law.specs.View.{incoming_view, outgoing_view, events};
 
     /// Nothing more is to be told of an incoming delivery: it is told, settled, or of a link that is over.
-    fn is_closed(&self, delivery: &Incoming) -> bool
+    pub(crate) fn is_closed(&self, delivery: &Incoming) -> bool
         ensures { result ≡ law.is_closed (events self.now) (incoming_view delivery.now) }
     {
         self.is_told(delivery) || self.is_settled(delivery) || !self.is_live(&delivery.link)

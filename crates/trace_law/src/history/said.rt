@@ -81,14 +81,14 @@ impl<'a> Event<'a> {
     ghost use Rattle.trace_events.specs.Said as said;
     ghost use Rattle.trace_law.specs.View.{spoken_view, link_view, event_view};
 
-    pub(crate) fn is_on_channel(&self, connection: u32, channel: u16) -> bool
+    pub fn is_on_channel(&self, connection: u32, channel: u16) -> bool
         ensures { result ≡ is_on_channel connection channel (event_view self.now) }
     {
         self.moment.channel() == Some(channel) && self.connection == connection
     }
 
     /// It stands on the session.
-    pub(crate) fn is_on_session(&self, session: Session) -> bool
+    pub fn is_on_session(&self, session: Session) -> bool
         ensures { result ≡ is_on_session session (event_view self.now) }
     {
         match self.session {
@@ -98,7 +98,7 @@ impl<'a> Event<'a> {
     }
 
     /// It names the link while it lives.
-    pub(crate) fn is_on_link(&self, link: &Link) -> bool
+    pub fn is_on_link(&self, link: &Link) -> bool
         ensures { result ≡ is_on_link (link_view link.now) (event_view self.now) }
     {
         match self.link {
@@ -137,7 +137,7 @@ impl<'a> Event<'a> {
         }
     }
 
-    pub(crate) fn in_attach(&self) -> Option<Attach<'a>>
+    pub fn in_attach(&self) -> Option<Attach<'a>>
         ensures { option_map attach_fields result ≡ said.in_attach (event_view self.now) }
     {
         match self.in_spoken()?.performative {
@@ -146,7 +146,7 @@ impl<'a> Event<'a> {
         }
     }
 
-    pub(crate) fn in_transfer(&self) -> Option<Transfer<'a>>
+    pub fn in_transfer(&self) -> Option<Transfer<'a>>
         ensures { option_map transfer_fields result ≡ said.in_transfer (event_view self.now) }
     {
         match self.in_spoken()?.performative {
@@ -155,7 +155,7 @@ impl<'a> Event<'a> {
         }
     }
 
-    pub(crate) fn in_disposition(&self) -> Option<Disposition<'a>>
+    pub fn in_disposition(&self) -> Option<Disposition<'a>>
         ensures { option_map disposition_fields result ≡ said.in_disposition (event_view self.now) }
     {
         match self.in_spoken()?.performative {
@@ -164,7 +164,7 @@ impl<'a> Event<'a> {
         }
     }
 
-    pub(crate) fn in_detach(&self) -> Option<Detach<'a>>
+    pub fn in_detach(&self) -> Option<Detach<'a>>
         ensures { option_map detach_fields result ≡ said.in_detach (event_view self.now) }
     {
         match self.in_spoken()?.performative {
@@ -206,7 +206,7 @@ impl<'a> Event<'a> {
         }
     }
 
-    pub(crate) fn out_attach(&self) -> Option<Attach<'a>>
+    pub fn out_attach(&self) -> Option<Attach<'a>>
         ensures { option_map attach_fields result ≡ said.out_attach (event_view self.now) }
     {
         match self.out_spoken()?.performative {
@@ -215,7 +215,7 @@ impl<'a> Event<'a> {
         }
     }
 
-    pub(crate) fn out_transfer(&self) -> Option<Transfer<'a>>
+    pub fn out_transfer(&self) -> Option<Transfer<'a>>
         ensures { option_map transfer_fields result ≡ said.out_transfer (event_view self.now) }
     {
         match self.out_spoken()?.performative {
@@ -224,7 +224,7 @@ impl<'a> Event<'a> {
         }
     }
 
-    pub(crate) fn out_disposition(&self) -> Option<Disposition<'a>>
+    pub fn out_disposition(&self) -> Option<Disposition<'a>>
         ensures { option_map disposition_fields result ≡ said.out_disposition (event_view self.now) }
     {
         match self.out_spoken()?.performative {
@@ -233,7 +233,7 @@ impl<'a> Event<'a> {
         }
     }
 
-    pub(crate) fn out_detach(&self) -> Option<Detach<'a>>
+    pub fn out_detach(&self) -> Option<Detach<'a>>
         ensures { option_map detach_fields result ≡ said.out_detach (event_view self.now) }
     {
         match self.out_spoken()?.performative {

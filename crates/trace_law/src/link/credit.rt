@@ -5,7 +5,7 @@ use amqp_perf::{Flow, Performative};
 
 /// What moves the credit of a link.
 #[derive(Clone, Copy)]
-pub(crate) enum LinkEvent {
+pub enum LinkEvent {
     /// A flow from the client.
     TheirFlow(Flow),
     /// A flow to the client.
@@ -22,7 +22,7 @@ impl<'a> Event<'a> {
     ghost use Rattle.trace_law.specs.LinkEvents.{link_event_view};
 
     /// A delivery from the client begins with it.
-    pub(crate) fn begins_incoming(&self) -> bool
+    pub fn begins_incoming(&self) -> bool
         ensures { result ≡ law.begins_incoming (event_view self.now) }
     {
         match self.incoming {
@@ -32,7 +32,7 @@ impl<'a> Event<'a> {
     }
 
     /// A delivery to the client begins with it.
-    pub(crate) fn begins_outgoing(&self) -> bool
+    pub fn begins_outgoing(&self) -> bool
         ensures { result ≡ law.begins_outgoing (event_view self.now) }
     {
         match self.outgoing {
@@ -42,7 +42,7 @@ impl<'a> Event<'a> {
     }
 
     /// How it moves the credit of the link that it names.
-    fn any_link_event(&self) -> Option<LinkEvent>
+    pub fn link_event(&self) -> Option<LinkEvent>
         ensures { option_map link_event_view result ≡ law.link_event (event_view self.now) (event_view self.now).moment }
     {
         match self.moment {
@@ -61,12 +61,12 @@ impl<'a> Event<'a> {
     }
 
     /// How it moves the credit of this link.
-    fn link_event(&self, link: &Link) -> Option<LinkEvent>
+    fn event_of(&self, link: &Link) -> Option<LinkEvent>
         ensures { option_map link_event_view result
             ≡ (if is_on_link (link_view link.now) (event_view self.now) then law.link_event (event_view self.now) (event_view self.now).moment else None) }
     {
         if self.is_on_link(link) {
-            self.any_link_event()
+            self.link_event()
         } else {
             None
         }
@@ -78,7 +78,7 @@ ghost use Rattle.flow_counts.specs.Credit.{is_drain_answer};
 ghost use Rattle.amqp_perf.specs.Meaning.{flag};
 
 /// A flow to the client says that all credit is used up, as drain asks.
-fn is_drain_answer(flow: &Flow) -> bool
+pub fn is_drain_answer(flow: &Flow) -> bool
     ensures { result ≡ is_drain_answer flow.now.link_credit (flag flow.now.drain) }
 {
     flow.link_credit == Some(0) && flow.drains()
@@ -100,7 +100,7 @@ impl<'p, 'a> Past<'p, 'a> {
         let mut begun: u32 = 0;
         let mut rest = self;
         while let Past::After(event, earlier) = rest {
-            match event.link_event(link) {
+            match event.event_of(link) {
                 Some(LinkEvent::Begun) => begun = begun.wrapping_add(1),
                 Some(LinkEvent::OurFlow(flow)) => {
                     if let Some(count) = flow.delivery_count {
@@ -121,7 +121,7 @@ impl<'p, 'a> Past<'p, 'a> {
     {
         let mut rest = self;
         while let Past::After(event, earlier) = rest {
-            match event.link_event(link) {
+            match event.event_of(link) {
                 Some(LinkEvent::TheirFlow(flow)) => {
                     if let Some(credit) = flow.link_credit {
                         let known = flow.delivery_count.unwrap_or(link.our_first_count);
@@ -144,7 +144,7 @@ impl<'p, 'a> Past<'p, 'a> {
         let mut left = self.granted_credit(link);
         let mut rest = self;
         while let Past::After(event, earlier) = rest {
-            match event.link_event(link) {
+            match event.event_of(link) {
                 Some(LinkEvent::Begun) => left = left.saturating_sub(1),
                 Some(LinkEvent::TheirFlow(flow)) if flow.link_credit.is_some() => return left,
                 Some(LinkEvent::OurFlow(flow)) if is_drain_answer(&flow) => return left,
@@ -161,7 +161,7 @@ impl<'p, 'a> Past<'p, 'a> {
     {
         let mut rest = self;
         while let Past::After(event, earlier) = rest {
-            match event.link_event(link) {
+            match event.event_of(link) {
                 Some(LinkEvent::TheirFlow(flow)) if flow.link_credit.is_some() => {
                     return flow.drains();
                 }
@@ -178,7 +178,7 @@ impl<'p, 'a> Past<'p, 'a> {
     {
         let mut rest = self;
         while let Past::After(event, earlier) = rest {
-            if let Some(LinkEvent::OurFlow(flow)) = event.link_event(link) {
+            if let Some(LinkEvent::OurFlow(flow)) = event.event_of(link) {
                 if let Some(credit) = flow.link_credit {
                     return credit;
                 }
@@ -195,7 +195,7 @@ impl<'p, 'a> Past<'p, 'a> {
         let mut left = self.last_given(link);
         let mut rest = self;
         while let Past::After(event, earlier) = rest {
-            match event.link_event(link) {
+            match event.event_of(link) {
                 Some(LinkEvent::Begun) => left = left.saturating_sub(1),
                 Some(LinkEvent::OurFlow(flow)) if flow.link_credit.is_some() => return left,
                 _ => {}
@@ -213,7 +213,7 @@ impl<'p, 'a> Past<'p, 'a> {
         let mut count = link.their_first_count;
         let mut rest = self;
         while let Past::After(event, earlier) = rest {
-            if let Some(LinkEvent::Begun) = event.link_event(link) {
+            if let Some(LinkEvent::Begun) = event.event_of(link) {
                 count = count.wrapping_add(1);
             }
             rest = *earlier;
@@ -229,7 +229,7 @@ impl<'p, 'a> Past<'p, 'a> {
         let mut count: u64 = 0;
         let mut rest = self;
         while let Past::After(event, earlier) = rest {
-            if let Some(LinkEvent::Begun) = event.link_event(link) {
+            if let Some(LinkEvent::Begun) = event.event_of(link) {
                 count += 1;
             }
             rest = *earlier;

@@ -1,7 +1,6 @@
 //! What is asked of the past when the router opens a connection, a session or a link, or ends one.
 
 use crate::clauses::link::Asking;
-use crate::history::event::Event;
 use crate::questions::History;
 use amqp_perf::Begin;
 use trace_events::Session;
@@ -16,7 +15,8 @@ pub trait Openings<'a>: History {
     ghost use Rattle.trace_events.specs.Link as links;
     ghost use Rattle.trace_events.specs.Session as sessions;
     ghost use Rattle.trace_events.specs.Session.{IsLiveOn};
-    ghost use Rattle.trace_law.specs.View.{Events, asking_view, event_view};
+    ghost use Rattle.trace_law.specs.Known.{their_first_count};
+    ghost use Rattle.trace_law.specs.View.{Events, asking_view};
 
     /// The connection was opened.
     fn was_opened(&self, connection: u32) -> bool
@@ -48,10 +48,10 @@ pub trait Openings<'a>: History {
     fn owes_end(&self, connection: u32, channel: u16) -> bool
         ensures { (history : Events) → Self.stands_for self.now history → (result ≡ sessions.owes_end connection channel history) };
 
-    /// The event of the client's last attach of the handle, where it is known.
-    fn last_in_attach(&self, session: Session, handle: u32) -> Option<Event<'a>>
+    /// The initial-delivery-count of the client's last attach of the handle, where it is known; 0 where it has none.
+    fn last_first_count(&self, session: Session, handle: u32) -> u32
         ensures { (history : Events) → Self.stands_for self.now history → IsLiveOn session history →
-            Self.knows_attach self.now session handle history → (option_map event_view result ≡ links.last_in_attach session handle history) };
+            Self.knows_attach self.now session handle history → (result ≡ their_first_count (links.last_in_attach session handle history)) };
 
     /// What an attach of the client's asks for that is still to be answered.
     fn asking(&self, session: Session, handle: u32) -> Option<Asking<'a>>

@@ -43,15 +43,10 @@ pub trait Outcomes<'a>: History {
         ensures { (history : Events) → Self.stands_for self.now history → Self.knows_incoming self.now (incoming_view delivery.now) history →
             (result ≡ received.is_complete (incoming_view delivery.now) history) };
 
-    /// A part of it, or a disposition of its producer, says that it is settled.
-    fn is_settled(&self, delivery: &Incoming) -> bool
+    /// Nothing more is to be told of it: it is told, settled by its producer, or of a link that is over.
+    fn is_closed(&self, delivery: &Incoming) -> bool
         ensures { (history : Events) → Self.stands_for self.now history → Self.knows_incoming self.now (incoming_view delivery.now) history →
-            (result ≡ received.is_settled (incoming_view delivery.now) history) };
-
-    /// Its outcome was told.
-    fn is_told(&self, delivery: &Incoming) -> bool
-        ensures { (history : Events) → Self.stands_for self.now history → Self.knows_incoming self.now (incoming_view delivery.now) history →
-            (result ≡ received.is_told (incoming_view delivery.now) history) };
+            (result ≡ settling.is_closed history (incoming_view delivery.now)) };
 
     /// It found no consumer, or lost the last one, and goes to none any more.
     fn is_gone(&self, rules: &[Rule], delivery: &Incoming) -> bool
