@@ -4,3 +4,6 @@ mod SessionSteps
 mod KeptSteps
 mod EntrySteps
 mod LiveEntries
+pub mod LinkSteps
+pub mod HandleSteps
+pub mod HandlesOfChannels

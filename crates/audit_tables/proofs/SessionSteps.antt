@@ -113,7 +113,7 @@ module _ (rules : List RuleText) (e : Event) (past : List Event) (are : AreJudge
   own : (c == c) ≡ true
   own = eq-eqb c c refl
 
-  live-known : (channel : ℕ) (s : Session) → live_session c channel past ≡ Some s → IsKnown past s
+  pub live-known : (channel : ℕ) (s : Session) → live_session c channel past ≡ Some s → IsKnown past s
   live-known channel s is = last_session-known rules past are.1 c channel s (last_live c channel past s is)
 
   -- the last one
@@ -126,7 +126,7 @@ module _ (rules : List RuleText) (e : Event) (past : List Event) (are : AreJudge
     off_channel : is_on_channel c channel e ≡ false
     off_channel = ap (λ b. b && (c == c)) off
 
-    live-same : live_session c channel (e ∷ past) ≡ live_session c channel past
+    pub live-same : live_session c channel (e ∷ past) ≡ live_session c channel past
     live-same =
         live_session-same c channel e past going (and_none (is_in_end e) (is_on_channel c channel e) off_channel) (and_none (is_out_end e) (is_on_channel c channel e) off_channel)
         (and_none (is_some (out_begin e)) (is_on_channel c channel e) off_channel)
@@ -149,7 +149,7 @@ module _ (rules : List RuleText) (e : Event) (past : List Event) (are : AreJudge
         let opens : own_session e ≡ Some t = ap (λ b. if b then e.session else None) (ap is_some begins) ∙ on in
         absurd (omega (arith, own_session-number rules e past t are opens, eqb-true t.number s.number same, (live-known channel s live).before))
 
-    off_session : (s : Session) → live_session c channel past ≡ Some s → (o : Option Session) → e.session ≡ o → is_some_and o (λ t. t.number == s.number) ≡ false
+    pub off_session : (s : Session) → live_session c channel past ≡ Some s → (o : Option Session) → e.session ≡ o → is_some_and o (λ t. t.number == s.number) ≡ false
     off_session s live None on = refl
     off_session s live (Some t) on = off_by s live (out_begin e) refl t on (t.number == s.number) refl
 
@@ -211,7 +211,7 @@ module _ (rules : List RuleText) (e : Event) (past : List Event) (are : AreJudge
     silent Lost none = refl
     silent Broken none = refl
 
-    on_session : (s : Session) → out_begin e ≡ None → live_session c channel past ≡ Some s → (spoken : Spoken) → spoken_of e.moment ≡ Some spoken → is_on_session s e ≡ true
+    pub on_session : (s : Session) → out_begin e ≡ None → live_session c channel past ≡ Some s → (spoken : Spoken) → spoken_of e.moment ≡ Some spoken → is_on_session s e ≡ true
     on_session s none live spoken said =
         let same : spoken.channel ≡ channel = eqb-true spoken.channel channel (sym (ap (λ o. is_number o channel) (spoken-channel e.moment spoken said)) ∙ at) in
         let on : e.session ≡ Some s = session-live rules e past are none ∙ (said-live c e.moment past spoken said ∙ (ap (λ n. live_session c n past) same ∙ live)) in
