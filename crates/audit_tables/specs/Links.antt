@@ -1,6 +1,6 @@
 -- What stands of a handle on a live session: its link with the counts of its credit, and what is still to be answered
 -- (part 2 of the standard, sections 2.6.3 to 2.6.7).
-use Rattle.std.specs.Prelude.{ℕ, ◌-◌, Bool, true, false, ◌&&◌, ◌||◌, List, [], Option, Some, None, is_some, is_none, option_and_then, option_map, unwrap_or, if◌then◌else◌, ◌==◌}
+use Rattle.std.specs.Prelude.{ℕ, ◌-◌, Bool, true, false, ◌&&◌, ◌||◌, not, List, [], Option, Some, None, is_some, is_none, option_and_then, option_map, unwrap_or, if◌then◌else◌, ◌==◌}
 use Rattle.amqp_perf.specs.Meaning.{AttachFields}
 use Rattle.flow_counts.specs.Credit.{LinkEvent, TheirFlow, OurFlow, Begun, credit_lag, is_drain_answer}
 use Rattle.flow_counts.specs.Serial.{serial_add}
@@ -76,6 +76,9 @@ pub record Standing : Type 0 where
 
 abbrev pub nothing : Standing
 nothing = record { link = None; asked = None; owes_detach = false; awaits_detach = false; is_undetached = false }
+
+abbrev pub is_nothing : Standing → Bool
+is_nothing x = is_none x.link && is_none x.asked && not x.owes_detach && not x.awaits_detach && not x.is_undetached
 
 abbrev pub counted : Link → List Event → Counted
 counted l past = record { link = l; counts = link_counts l past }

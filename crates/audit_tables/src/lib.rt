@@ -11,7 +11,11 @@
 mod answers;
 mod connection;
 mod connections;
+mod handle;
+mod held_attach;
+mod held_link;
 mod link_counts;
+mod octets;
 mod sessions;
 #[cfg(test)]
 mod tests;
@@ -19,6 +23,10 @@ mod unanswered;
 
 pub use connection::{Connection, Seen};
 pub use connections::Connections;
+pub use handle::Handle;
+pub use held_attach::{HeldAddress, HeldAttach};
+pub use held_link::HeldLink;
 pub use link_counts::LinkCounts;
+pub use octets::Octets;
 pub use sessions::Counted;
 pub use unanswered::Unanswered;

@@ -54,7 +54,7 @@ impl<'a> Moment<'a> {
     }
 
     /// The performative of a frame, in either direction.
-    pub(crate) fn spoken(&self) -> Option<Spoken<'a>>
+    pub fn spoken(&self) -> Option<Spoken<'a>>
         ensures { option_map spoken_view result ≡ spoken_of (moment_view self.now) }
     {
         match self {
@@ -273,7 +273,7 @@ ghost use Rattle.trace_events.specs.Said as said;
 ghost use Rattle.trace_events.specs.Heard as heard;
 
 /// The handle that a flow, a transfer or a detach names.
-pub(crate) fn handle_in(performative: &Performative) -> Option<u32>
+pub fn handle_in(performative: &Performative) -> Option<u32>
     ensures { result ≡ said.handle_in (view performative.now) }
 {
     match performative {
