@@ -15,7 +15,7 @@ use Rattle.trace_events.proofs.EventSessions.{spoken-channel, session-begun, ses
 use Rattle.trace_events.proofs.Judged.{AreJudged}
 use Rattle.trace_events.proofs.LinkLives.{judged-stands, live_session-at}
 use Rattle.trace_events.proofs.SessionSteps.{live_session-same, live_session-over, live_session-was_over, live_session-ended, live_session-begun}
-use Rattle.audit_tables.specs.Links.{Standing, nothing, standing, standing_at, standing_next, standing_behind}
+use Rattle.audit_tables.specs.Links.{Standing, nothing, standing, standing_at, standing_next, standing_here, standing_behind}
 use Rattle.audit_tables.proofs.HandleSteps.{standing-elsewhere, standing-here, nothing-begun}
 use Rattle.audit_tables.proofs.SessionSteps.{live-known, live-same, off_session}
 
@@ -123,7 +123,7 @@ module _ (rules : List RuleText) (e : Event) (past : List Event) (are : AreJudge
       standing-going = ap now same ∙ by_spoken (spoken_of e.moment) refl
 
     standing-here-at : standing_at c channel handle (e ∷ past)
-        ≡ (if is_in_end e || is_out_end e || is_some (out_begin e) then nothing else if is_some e.session then standing_next handle e (standing_at c channel handle past) else standing_at c channel handle past)
+        ≡ standing_here handle e (standing_at c channel handle past)
     standing-here-at = by (is_in_end e) (is_out_end e) (out_begin e) refl refl refl
       where
         by : (a b : Bool) (o : Option Begin) → is_in_end e ≡ a → is_out_end e ≡ b → out_begin e ≡ o
@@ -143,8 +143,7 @@ module _ (rules : List RuleText) (e : Event) (past : List Event) (are : AreJudge
       by : (final on : Bool) → is_final e.moment ≡ final → is_number (channel_of e.moment) channel ≡ on
           → standing_at c channel handle (e ∷ past)
           ≡ (if final then nothing
-          else if on
-          then (if is_in_end e || is_out_end e || is_some (out_begin e) then nothing else if is_some e.session then standing_next handle e (standing_at c channel handle past) else standing_at c channel handle past)
+          else if on then standing_here handle e (standing_at c channel handle past)
           else standing_at c channel handle past)
       by true on is at = standing-final channel handle is
       by false true is at = standing-here-at channel handle is at

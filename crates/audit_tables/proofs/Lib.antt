@@ -4,6 +4,8 @@ mod SessionSteps
 mod KeptSteps
 mod EntrySteps
 mod LiveEntries
-pub mod LinkSteps
-pub mod HandleSteps
-pub mod HandlesOfChannels
+mod LinkSteps
+mod HandleSteps
+mod HandlesOfChannels
+mod HandleTables
+mod LinksTaken

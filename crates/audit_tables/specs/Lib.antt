@@ -3,3 +3,4 @@ pub mod Sessions
 pub mod Connections
 pub mod Links
 pub mod HeldAddress
+pub mod LinkTables

@@ -1,7 +1,7 @@
 -- What stands of a handle on a live session: its link with the counts of its credit, and what is still to be answered
 -- (part 2 of the standard, sections 2.6.3 to 2.6.7).
 use Rattle.std.specs.Prelude.{ℕ, ◌-◌, Bool, true, false, ◌&&◌, ◌||◌, not, List, [], Option, Some, None, is_some, is_none, option_and_then, option_map, unwrap_or, if◌then◌else◌, ◌==◌}
-use Rattle.amqp_perf.specs.Meaning.{AttachFields}
+use Rattle.amqp_perf.specs.Meaning.{Meaning, AnAttach, AttachFields}
 use Rattle.flow_counts.specs.Credit.{LinkEvent, TheirFlow, OurFlow, Begun, credit_lag, is_drain_answer}
 use Rattle.flow_counts.specs.Serial.{serial_add}
 use Rattle.trace_events.specs.Words.{is_some_and, is_number, or_else}
@@ -163,11 +163,27 @@ standing_next handle e x = record {
   is_undetached = undetached_next handle e x.is_undetached;
 }
 
--- of an event of the connection, for a channel: nothing outlives the session, nor its connection
+-- of an event of the channel: nothing outlives the session
+abbrev pub standing_here : ℕ → Event → Standing → Standing
+standing_here handle e earlier =
+    if is_in_end e || is_out_end e || is_some (out_begin e) then nothing
+    else if is_some e.session then standing_next handle e earlier else earlier
+
+-- of an event of the connection, for a channel: nor does anything outlive the connection
 abbrev pub standing_behind : ℕ → ℕ → Event → Standing → Standing
 standing_behind channel handle e earlier =
-    if is_final e.moment then nothing
-    else if is_number (channel_of e.moment) channel
-    then (if is_in_end e || is_out_end e || is_some (out_begin e) then nothing
-    else if is_some e.session then standing_next handle e earlier else earlier)
-    else earlier
+    if is_final e.moment then nothing else if is_number (channel_of e.moment) channel then standing_here handle e earlier else earlier
+
+-- ---- the tables
+
+-- the handle of which a performative says something
+abbrev pub handle_about : Meaning → Option ℕ
+handle_about (AnAttach fields) = Some fields.handle
+handle_about meaning = handle_in meaning
+
+abbrev pub handle_of : Event → Option ℕ
+handle_of e = option_and_then (λ spoken. handle_about spoken.meaning) (spoken_of e.moment)
+
+-- the event says something of a handle on a live session
+abbrev pub says_of_handle : Event → Bool
+says_of_handle e = is_some e.session && is_some (handle_of e)

@@ -11,10 +11,13 @@
 mod answers;
 mod connection;
 mod connections;
+mod channels;
 mod handle;
+mod handles;
 mod held_attach;
 mod held_link;
 mod link_counts;
+mod links;
 mod octets;
 mod sessions;
 #[cfg(test)]
@@ -23,7 +26,10 @@ mod unanswered;
 
 pub use connection::{Connection, Seen};
 pub use connections::Connections;
+pub use channels::Channels;
 pub use handle::Handle;
+pub use handles::Handles;
+pub use links::Links;
 pub use held_attach::{HeldAddress, HeldAttach};
 pub use held_link::HeldLink;
 pub use link_counts::LinkCounts;
