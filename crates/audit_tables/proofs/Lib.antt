@@ -9,3 +9,4 @@ mod HandleSteps
 mod HandlesOfChannels
 mod HandleTables
 mod LinksTaken
+mod LiveHandles

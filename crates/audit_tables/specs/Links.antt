@@ -83,6 +83,19 @@ is_nothing x = is_none x.link && is_none x.asked && not x.owes_detach && not x.a
 abbrev pub counted : Link → List Event → Counted
 counted l past = record { link = l; counts = link_counts l past }
 
+-- the parts of what stands
+abbrev pub link_of : Standing → Option Link
+link_of x = option_map (λ l. l.link) x.link
+
+abbrev pub counts_of : Standing → Option LinkCounts
+counts_of x = option_map (λ l. l.counts) x.link
+
+abbrev pub asking_of : Standing → Option Asking
+asking_of x = option_map (λ a. a.asking) x.asked
+
+abbrev pub first_count_of : Standing → ℕ
+first_count_of x = unwrap_or (option_map (λ a. a.first_count) x.asked) 0
+
 abbrev pub asks : Event → AttachFields → Asked
 asks e fields = record { asking = asked_by e fields; first_count = first_count fields }
 

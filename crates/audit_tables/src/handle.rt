@@ -3,13 +3,14 @@
 ghost use Rattle.std.specs.Prelude.{◌≡◌, IfOk, None, OnOk, OnErr, is_some, option_map, ◌&&◌, if◌then◌else◌};
 ghost use Rattle.audit_tables.specs.Links as law;
 ghost use Rattle.audit_tables.specs.Links.{asked_in, asked_next, awaits_next, begun, link_next, nothing, owes_next, standing_next, undetached_next};
-ghost use Rattle.trace_law.specs.View.{event_view};
+ghost use Rattle.trace_law.specs.View.{asking_view, event_view, link_view};
 
 use crate::held_attach::HeldAttach;
 use crate::held_link::HeldLink;
+use crate::link_counts::LinkCounts;
 use std::alloc::{AllocError, Global};
 use std::marker::Model;
-use trace_law::{Event, handle_in};
+use trace_law::{Asking, Event, Link, handle_in};
 
 /// What stands of a handle.
 #[doc(hidden)]
@@ -130,6 +131,60 @@ impl Handle {
             && !self.owes_detach
             && !self.awaits_detach
             && !self.is_undetached
+    }
+
+    /// The live link.
+    pub(crate) fn link(&self) -> Option<Link<'_>>
+        ensures { option_map link_view result ≡ law.link_of self.now }
+    {
+        match &self.link {
+            Some(link) => Some(link.link()),
+            None => None,
+        }
+    }
+
+    /// Its counts.
+    pub(crate) fn counts(&self) -> Option<LinkCounts>
+        ensures { result ≡ law.counts_of self.now }
+    {
+        match &self.link {
+            Some(link) => Some(link.counts()),
+            None => None,
+        }
+    }
+
+    /// What the client's attach asks for that is to be answered.
+    pub(crate) fn asking(&self) -> Option<Asking<'_>>
+        ensures { option_map asking_view result ≡ law.asking_of self.now }
+    {
+        match &self.attach {
+            Some(attach) => Some(attach.asking()),
+            None => None,
+        }
+    }
+
+    /// The initial-delivery-count of that attach, 0 where it has none, or there is none.
+    pub(crate) fn first_count(&self) -> u32
+        ensures { result ≡ law.first_count_of self.now }
+    {
+        match &self.attach {
+            Some(attach) => attach.first_count(),
+            None => 0,
+        }
+    }
+
+    /// A detach of the client's, or an attach of its that was refused, is to be answered.
+    pub(crate) fn owes_detach(&self) -> bool
+        ensures { result ≡ self.now.owes_detach }
+    {
+        self.owes_detach
+    }
+
+    /// The router has detached it, and the client hasn't.
+    pub(crate) fn awaits_detach(&self) -> bool
+        ensures { result ≡ self.now.awaits_detach }
+    {
+        self.awaits_detach
     }
 
     /// An event stands on its session.

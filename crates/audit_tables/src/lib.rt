@@ -16,6 +16,7 @@ mod handle;
 mod handles;
 mod held_attach;
 mod held_link;
+mod link_answers;
 mod link_counts;
 mod links;
 mod octets;
