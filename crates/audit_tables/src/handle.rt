@@ -100,9 +100,7 @@ fn asked(alloc: Global, handle: u32, event: &Event) -> Result<Option<HeldAttach>
 {
     match event.in_attach() {
         Some(attach) if attach.handle == handle && event.is_heard => Ok(Some(HeldAttach::new(
-            alloc,
-            event,
-            &attach,
+            alloc, event, &attach,
         )?)),
         _ => Ok(None),
     }

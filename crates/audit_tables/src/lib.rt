@@ -9,9 +9,9 @@
 #![tactic(auto)]
 
 mod answers;
+mod channels;
 mod connection;
 mod connections;
-mod channels;
 mod handle;
 mod handles;
 mod held_attach;
@@ -25,15 +25,15 @@ mod sessions;
 mod tests;
 mod unanswered;
 
+pub use channels::Channels;
 pub use connection::{Connection, Seen};
 pub use connections::Connections;
-pub use channels::Channels;
 pub use handle::Handle;
 pub use handles::Handles;
-pub use links::Links;
 pub use held_attach::{HeldAddress, HeldAttach};
 pub use held_link::HeldLink;
 pub use link_counts::LinkCounts;
+pub use links::Links;
 pub use octets::Octets;
 pub use sessions::Counted;
 pub use unanswered::Unanswered;

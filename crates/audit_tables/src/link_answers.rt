@@ -23,7 +23,8 @@ impl Links {
         ensures { (history : Events) → AreLinked self.now history → IsLiveOn session history →
             option_map link_view result ≡ links.session_link session handle history }
     {
-        self.handle(session.connection, session.channel, handle)?.link()
+        self.handle(session.connection, session.channel, handle)?
+            .link()
     }
 
     /// The link lives.

@@ -1,6 +1,8 @@
 //! A connection from its opening to its end, a session from its begin to its end, and the windows of a session, with known
 //! answers.
 
+mod links;
+
 use crate::{Connections, Counted, Seen, Unanswered};
 use amqp_perf::{Begin, Flow, Performative, Transfer};
 use pairing_cert::Note;

@@ -1,0 +1,200 @@
+//! The link of a consumer from its attach to its detach, an attach that is refused, and what outlives a session, with known
+//! answers.
+
+use super::{SESSION, event, spoken};
+use crate::{LinkCounts, Links};
+use amqp_perf::{
+    Address, Attach, Detach, ErrorCondition, Flow, Performative, Role, Terminus, Transfer,
+};
+use pairing_cert::Note;
+use std::test::Fail;
+use trace_law::{Event, Fault, Frame, Link, Moment, Outgoing};
+
+// A consumer's attach from the queue `q`, and the link that the router opens in answer to it in record 21.
+const ATTACH: Attach = Attach {
+    name: "in",
+    handle: 4,
+    role: Role::Receiver,
+    snd_settle_mode: None,
+    rcv_settle_mode: None,
+    source: Some(Terminus {
+        address: Some(Address::Text("q")),
+        dynamic: None,
+    }),
+    target: None,
+    initial_delivery_count: None,
+    max_message_size: None,
+};
+
+const LINK: Link<'static> = Link {
+    number: 21,
+    session: SESSION,
+    handle: 4,
+    role: Role::Sender,
+    address: b"q",
+    is_pre_settled: false,
+    our_first_count: 0,
+    their_first_count: 0,
+};
+
+const DETACH: Performative<'static> = Performative::Detach(Detach {
+    handle: 4,
+    closed: Some(true),
+    error: None,
+});
+
+const PART: Performative<'static> = Performative::Transfer(Transfer {
+    handle: 4,
+    delivery_id: Some(0),
+    delivery_tag: None,
+    message_format: None,
+    settled: None,
+    more: None,
+    resume: None,
+    aborted: None,
+});
+
+fn on_handle<'a>(number: u64, moment: Moment<'a>, link: Option<Link<'a>>) -> Event<'a> {
+    Event {
+        session: Some(SESSION),
+        link,
+        is_heard: true,
+        ..event(number, 3, moment)
+    }
+}
+
+fn credit(count: u32, credit: u32, drain: bool) -> Frame<'static> {
+    spoken(Performative::Flow(Flow {
+        next_incoming_id: Some(0),
+        incoming_window: 2048,
+        next_outgoing_id: 0,
+        outgoing_window: 2048,
+        handle: Some(4),
+        delivery_count: Some(count),
+        link_credit: Some(credit),
+        drain: Some(drain),
+        echo: None,
+    }))
+}
+
+fn asked<'a>(number: u64) -> Event<'a> {
+    on_handle(
+        number,
+        Moment::In(spoken(Performative::Attach(ATTACH))),
+        None,
+    )
+}
+
+fn answered<'a>(number: u64, link: Option<Link<'a>>) -> Event<'a> {
+    let ours = Attach {
+        role: Role::Sender,
+        ..ATTACH
+    };
+    on_handle(
+        number,
+        Moment::Out(spoken(Performative::Attach(ours))),
+        link,
+    )
+}
+
+/// The client attaches, and gives a credit of 10; a delivery begins; the client asks to drain, not knowing of it, and is
+/// answered; it detaches, and the router answers.
+#[test]
+fn a_link_from_its_attach_to_its_detach(rt: HostRuntime) -> Result<(), Fail> {
+    let mut links = Links::new(rt.alloc());
+    links.take(&asked(20))?;
+    let asking = links.asking(SESSION, 4).ok_or("an attach")?;
+    assert_eq!(rt; (asking.name, asking.role), ("in", Role::Receiver));
+    assert!(rt; links.session_link(SESSION, 4).is_none());
+
+    links.take(&answered(21, Some(LINK)))?;
+    let link = links.session_link(SESSION, 4).ok_or("a link")?;
+    assert_eq!(rt; (link.number, link.address), (21, b"q".as_slice()));
+    assert!(rt; links.is_live(&LINK) && links.asking(SESSION, 4).is_none());
+
+    links.take(&on_handle(22, Moment::In(credit(0, 10, false)), Some(LINK)))?;
+    let begun = Event {
+        outgoing: Some(Outgoing {
+            number: 23,
+            link: LINK,
+            id: Some(0),
+            is_settled: false,
+            note: Note::Pair(5),
+        }),
+        ..on_handle(23, Moment::Out(spoken(PART)), Some(LINK))
+    };
+    links.take(&begun)?;
+    assert_eq!(rt;
+        (links.link_credit(&LINK), links.delivery_count(&LINK)),
+        (9, 1)
+    );
+    assert!(rt; !links.is_draining(&LINK));
+
+    links.take(&on_handle(24, Moment::In(credit(0, 10, true)), Some(LINK)))?;
+    assert!(rt; links.is_draining(&LINK));
+    assert_eq!(rt;
+        (links.link_credit(&LINK), links.delivery_count(&LINK)),
+        (9, 1)
+    );
+    links.take(&on_handle(25, Moment::Out(credit(10, 0, true)), Some(LINK)))?;
+    assert_eq!(rt;
+        (links.link_credit(&LINK), links.delivery_count(&LINK)),
+        (0, 10)
+    );
+
+    links.take(&on_handle(26, Moment::In(spoken(DETACH)), Some(LINK)))?;
+    assert!(rt; links.owes_detach(SESSION, 4) && !links.is_live(&LINK));
+    links.take(&on_handle(27, Moment::Out(spoken(DETACH)), None))?;
+    assert!(rt; !links.owes_detach(SESSION, 4) && !links.awaits_detach(SESSION, 4));
+    Ok(())
+}
+
+/// An attach at fault is answered without a link, the router detaches, and the client's detach is awaited.
+#[test]
+fn an_attach_that_is_refused(rt: HostRuntime) -> Result<(), Fail> {
+    let mut links = Links::new(rt.alloc());
+    let faulty = Event {
+        fault: Some(Fault::Refuse(ErrorCondition::InvalidField)),
+        ..asked(20)
+    };
+    links.take(&faulty)?;
+    assert!(rt;
+        links
+            .asking(SESSION, 4)
+            .is_some_and(|asking| asking.fault == faulty.fault)
+    );
+    links.take(&answered(21, None))?;
+    assert!(rt; links.owes_detach(SESSION, 4) && links.session_link(SESSION, 4).is_none());
+    links.take(&on_handle(22, Moment::Out(spoken(DETACH)), None))?;
+    assert!(rt; links.awaits_detach(SESSION, 4) && !links.owes_detach(SESSION, 4));
+    links.take(&on_handle(23, Moment::In(spoken(DETACH)), None))?;
+    assert!(rt; !links.awaits_detach(SESSION, 4));
+    Ok(())
+}
+
+/// A link ends with its session, and with its connection; the counts of one that is new are those of its attaches.
+#[test]
+fn nothing_outlives_a_session(rt: HostRuntime) -> Result<(), Fail> {
+    let counts = LinkCounts::new(&Link {
+        our_first_count: 7,
+        their_first_count: 4294967295,
+        ..LINK
+    });
+    assert_eq!(rt;
+        (counts.delivery_count, counts.received_count),
+        (7, 4294967295)
+    );
+    assert_eq!(rt; (counts.link_credit, counts.given_credit), (0, 0));
+
+    let mut links = Links::new(rt.alloc());
+    links.take(&asked(20))?;
+    links.take(&answered(21, Some(LINK)))?;
+    links.take(&on_handle(22, Moment::In(spoken(Performative::End(None))), None))?;
+    assert!(rt; !links.is_live(&LINK));
+
+    links.take(&answered(21, Some(LINK)))?;
+    assert!(rt; links.is_live(&LINK));
+    links.take(&event(23, 3, Moment::Lost))?;
+    assert!(rt; !links.is_live(&LINK));
+    Ok(())
+}
