@@ -19,6 +19,7 @@ mod held_link;
 mod link_answers;
 mod link_counts;
 mod links;
+mod looked;
 mod octets;
 mod sessions;
 #[cfg(test)]
@@ -34,6 +35,7 @@ pub use held_attach::{HeldAddress, HeldAttach};
 pub use held_link::HeldLink;
 pub use link_counts::LinkCounts;
 pub use links::Links;
+pub use looked::Looked;
 pub use octets::Octets;
 pub use sessions::Counted;
 pub use unanswered::Unanswered;
