@@ -4,3 +4,7 @@ mod SessionSteps
 mod KeptSteps
 mod EntrySteps
 mod LiveEntries
+mod FateSteps
+mod HeldSteps
+mod HeldExamples
+mod HeldAnswers

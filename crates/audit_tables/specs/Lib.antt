@@ -1,3 +1,4 @@
 pub mod Unanswered
 pub mod Sessions
 pub mod Connections
+pub mod Held

@@ -11,6 +11,7 @@
 mod answers;
 mod connection;
 mod connections;
+mod held;
 mod sessions;
 #[cfg(test)]
 mod tests;
@@ -18,5 +19,6 @@ mod unanswered;
 
 pub use connection::{Connection, Seen};
 pub use connections::Connections;
+pub use held::Fate;
 pub use sessions::Counted;
 pub use unanswered::Unanswered;

@@ -1,23 +1,32 @@
--- A part of a delivery from a client comes while the delivery is incomplete, wasn't given up, and its link lives; and before
--- its first part nothing is known of a delivery.
-use Rattle.std.proofs.Common.{◌≡◌, refl, sym, ap, subst, ◌∙◌, ℕ, ◌≤◌, Bool, true, false, ◌&&◌, ◌||◌, ◌==◌, List, [], ◌∷◌, length, Option, Some, None, IfSome, find, option_map, if◌then◌else◌, inl, inr, arith}
+-- A part of a delivery from a client comes while the delivery is incomplete, wasn't given up, and its link lives; before its
+-- first part nothing is known of a delivery; and one that is complete was not given up.
+use Rattle.std.proofs.Common.{◌≡◌, refl, sym, ap, subst, ◌∙◌, ℕ, ◌≤◌, Bool, true, false, not, ◌&&◌, ◌||◌, ◌==◌, List, [], ◌∷◌, length, Option, Some, None, IfSome, find, option_map, if◌then◌else◌, inl, inr, arith, eqb-true}
 use Rattle.std.specs.List.{list_any}
 use Rattle.std.proofs.lemmas.Bool.{le-ltb}
 use Rattle.capture_form.specs.declared.records.Record.{Record}
 use Rattle.capture_form.specs.Rules.{RuleText}
 use Rattle.trace_events.specs.Words.{is_some_and}
-use Rattle.trace_events.specs.Event.{Event, Link, Incoming, is_on_session}
+use Rattle.trace_events.specs.Frame.{Frame}
+use Rattle.trace_events.specs.Event.{Event, Link, Incoming, In, is_on_session}
+use Rattle.trace_events.specs.declared.session.Session.{Session}
 use Rattle.trace_events.specs.Said.{in_transfer, in_disposition}
-use Rattle.amqp_perf.specs.Meaning.{flag}
-use Rattle.trace_events.specs.Link.{is_live, is_sender}
+use Rattle.amqp_perf.specs.Meaning.{TransferFields, flag}
+use Rattle.trace_events.specs.Connection.{is_over}
+use Rattle.trace_events.specs.Session.{last_session}
+use Rattle.trace_events.specs.Link.{is_live, is_sender, IsLiveLink}
 use Rattle.trace_events.specs.Disposition.{covers_id}
-use Rattle.trace_events.specs.Incoming.{is_part, payload, completes, is_complete, completion, is_aborted, settles_part, settles_id, is_settled}
-use Rattle.trace_events.specs.History.{judge}
+use Rattle.trace_events.specs.Incoming.{is_part, payload, is_last_part, completed_by, completes, is_complete, completion, is_aborted, settles_part, settles_id, is_settled}
+use Rattle.trace_events.specs.History.{judge, moment_of}
+use Rattle.trace_events.proofs.Along.{standing, some_passes}
 use Rattle.trace_events.proofs.Judged.{AreJudged, judged-number}
 use Rattle.trace_events.proofs.IncomingSteps.{payload-same}
+use Rattle.trace_events.proofs.Links.{IsKnown}
+use Rattle.trace_events.proofs.LinkLives.{judged-stands}
+use Rattle.trace_events.proofs.SessionNumbers.{last_session-known}
 use Rattle.trace_clauses.proofs.Incomings.{judged-sound}
 use Rattle.trace_clauses.proofs.IncomingProgress.{judged-kept}
-use Rattle.trace_clauses.proofs.Parts.{EachPart, record_part}
+use Rattle.trace_clauses.proofs.LiveLinks.{placed-names}
+use Rattle.trace_clauses.proofs.Parts.{EachPart, record_part, came_link, holds_some}
 use Rattle.trace_clauses.proofs.Undecided.{AreWhole, whole_step, part_whole, part_link, named_live}
 
 -- what is in progress was not given up
@@ -32,6 +41,19 @@ pub record MayGoOn (past : List Event) (d : Incoming) : Type 0 where
   pub incomplete : is_complete d past ≡ false
   pub whole : is_aborted d past ≡ false
   pub live : is_live past d.link ≡ true
+  pub linked : IsKnown past d.link
+
+last_of : (over : Bool) (last : Option Session) (s : Session) → (if over then None else last) ≡ Some s → last ≡ Some s
+last_of true last s is = absurd cc
+last_of false last s is = is
+
+-- the link that a frame of the client names was opened before
+named_linked : (rules : List RuleText) (past : List Event) (r : Record) (frame : Frame) (l : Link) → AreJudged rules past → moment_of r.what ≡ In frame → (judge rules past r).link ≡ Some l → IsKnown past l
+named_linked rules past r frame l are came on =
+    let live : IsLiveLink l past = holds_some (λ (m : Link). IsLiveLink m past) (standing rules past r).link l (sym (came_link rules past r frame came) ∙ on) (placed-names past r.connection (moment_of r.what) r.note) in
+    let s = l.session in
+    (judged-stands rules past are).known s l.handle l
+    (last_session-known rules past are s.connection s.channel s (last_of (is_over s.connection past) (last_session s.connection s.channel past) s live.0)) live.1
 
 record-goes_on : (rules : List RuleText) (past : List Event) (r : Record) (d : Incoming) → AreJudged rules past → (judge rules past r).incoming ≡ Some d → MayGoOn past d
 record-goes_on rules past r d are is =
@@ -47,6 +69,7 @@ record-goes_on rules past r d are is =
       ];
       whole = part_whole rules past r all (judged-whole rules past are) d is p p.part.kind;
       live = subst (λ (l : Link). is_live past l ≡ true) (part_link rules past r d all p p.part.kind) (named_live rules past r p.frame p.part.link p.came p.part.on);
+      linked = subst (IsKnown past) (part_link rules past r d all p p.part.kind) (named_linked rules past r p.frame p.part.link are p.came p.part.on);
     }
 
 pub part-goes_on : (rules : List RuleText) (e : Event) (past : List Event) → AreJudged rules (e ∷ past) → (d : Incoming) → e.incoming ≡ Some d → MayGoOn past d
@@ -97,3 +120,46 @@ unbegun-settled rules (e ∷ past) d are each above =
     all_off true true false = refl
     all_off true false c = refl
     all_off false b c = refl
+
+-- ---- what is complete was not given up
+
+last_whole : (o : Option TransferFields) → is_some_and o is_last_part ≡ true → is_some_and o (λ fields. flag fields.aborted) ≡ false
+last_whole None last = refl
+last_whole (Some fields) last = by (flag fields.more) (flag fields.aborted) last
+  where
+    by : (more aborted : Bool) → not more && not aborted ≡ true → aborted ≡ false
+    by more false is = refl
+    by true true is = absurd cc
+    by false true is = absurd cc
+
+last_part : (b : Bool) (o : Option Incoming) (n : ℕ) → is_some_and (if b then o else None) (λ x. x.number == n) ≡ true → (b ≡ true) × ((x : Incoming) × (o ≡ Some x) × (x.number ≡ n))
+last_part true None n is = absurd cc
+last_part true (Some x) n is = (refl, (x, refl, eqb-true x.number n is))
+last_part false o n is = absurd cc
+
+same_aborted : (past : List Event) (c d : Incoming) → c.number ≡ d.number → is_aborted c past ≡ is_aborted d past
+same_aborted past c d same =
+    ap (λ (n : ℕ). list_any (λ (e : Event). is_some_and e.incoming (λ x. x.number == n) && is_some_and (in_transfer e) (λ fields. flag fields.aborted)) past) same
+
+same_complete : (past : List Event) (c d : Incoming) → c.number ≡ d.number → is_complete c past ≡ is_complete d past
+same_complete past c d same = ap (λ (n : ℕ). list_any (λ (e : Event). is_some_and (completed_by e) (λ x. x.number == n)) past) same
+
+pub complete-whole : (rules : List RuleText) (past : List Event) → AreJudged rules past → (d : Incoming) → is_complete d past ≡ true → is_aborted d past ≡ false
+complete-whole rules [] are d done = absurd cc
+complete-whole rules (e ∷ past) are d done = by (completes d e) refl done (complete-whole rules past are.1 d)
+  where
+    off_part : is_complete d past ≡ true → (b : Bool) → is_part d e ≡ b → b ≡ false
+    off_part was false is = refl
+    off_part was true is =
+        let x = some_passes (λ (x : Incoming). x.number == d.number) e.incoming is in
+        let not_yet : is_complete d past ≡ false = sym (same_complete past x.0 d (eqb-true x.0.number d.number x.2)) ∙ (part-goes_on rules e past are x.0 x.1).incomplete in
+        absurd cc
+
+    by : (b : Bool) → completes d e ≡ b → b || is_complete d past ≡ true → (is_complete d past ≡ true → is_aborted d past ≡ false) → is_aborted d (e ∷ past) ≡ false
+    by true here was earlier =
+        let p = last_part (is_some_and (in_transfer e) is_last_part) e.incoming d.number here in
+        ap (λ b. (is_part d e && b) || is_aborted d past) (last_whole (in_transfer e) p.0)
+        ∙ (ap (λ b. b || is_aborted d past) (and_off (is_part d e))
+        ∙ (sym (same_aborted past p.1.0 d p.1.2) ∙ (part-goes_on rules e past are p.1.0 p.1.1).whole))
+    by false none was earlier =
+        ap (λ b. (b && is_some_and (in_transfer e) (λ fields. flag fields.aborted)) || is_aborted d past) (off_part was (is_part d e) refl) ∙ earlier was
