@@ -94,13 +94,28 @@ fate_next rules e has_consumer d Gone = Gone
 fate_next rules e has_consumer d Paired = Paired
 fate_next rules e has_consumer d Copied = Copied
 
+abbrev pub payload_next : Event → Incoming → List ℕ → List ℕ
+payload_next e d payload = if is_part d e then payload ++ part_payload (in_spoken e) else payload
+
+abbrev pub completion_next : Event → Incoming → Option ℕ → Option ℕ
+completion_next e d completion = if completes d e then Some e.number else completion
+
+abbrev pub told_next : Event → Incoming → Bool → Bool
+told_next e d told = is_number e.told d.number || told
+
+abbrev pub settled_next : Event → Incoming → Bool → Bool
+settled_next e d settled = (settles_part d e || settles_id d e) || settled
+
+abbrev pub live_next : Event → Incoming → Bool → Bool
+live_next e d live = live && not (ends_link d.link e)
+
 abbrev pub moved : List RuleText → Event → Bool → Held → Held
 moved rules e has_consumer x = record x {
-  payload = if is_part x.delivery e then x.payload ++ part_payload (in_spoken e) else x.payload;
-  completion = if completes x.delivery e then Some e.number else x.completion;
-  is_told = is_number e.told x.delivery.number || x.is_told;
-  is_settled = (settles_part x.delivery e || settles_id x.delivery e) || x.is_settled;
-  is_live = x.is_live && not (ends_link x.delivery.link e);
+  payload = payload_next e x.delivery x.payload;
+  completion = completion_next e x.delivery x.completion;
+  is_told = told_next e x.delivery x.is_told;
+  is_settled = settled_next e x.delivery x.is_settled;
+  is_live = live_next e x.delivery x.is_live;
   fate = fate_next rules e has_consumer x.delivery x.fate;
 }
 
@@ -114,6 +129,10 @@ stays_with e d over Copied = true
 
 abbrev pub stays : Event → Held → Bool
 stays e x = stays_with e x.delivery (closed x) x.fate
+
+-- with the octets of its part
+abbrev pub joined : Event → Held → Held
+joined e x = record x { payload = payload_next e x.delivery x.payload }
 
 -- what is left of it, if it is kept
 abbrev pub held_next : List RuleText → Event → Bool → Held → Option Held

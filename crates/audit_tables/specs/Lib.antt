@@ -2,3 +2,4 @@ pub mod Unanswered
 pub mod Sessions
 pub mod Connections
 pub mod Held
+pub mod HeldViews

@@ -1,4 +1,19 @@
-//! A delivery from a client.
+//! A delivery from a client, from its first part on for as long as something may still come of it: its payload, what has
+//! become of it, and what is still to be told (part 2 of the standard, sections 2.6.12 and 2.6.14).
+
+ghost use Rattle.std.specs.Prelude.{◌≡◌, ◌&&◌, List, [], Some, None, OnOk, OnErr, IfOk, option_map, if◌then◌else◌};
+ghost use Rattle.capture_form.specs.Rules.{RuleText};
+ghost use Rattle.trace_events.specs.Incoming as law;
+ghost use Rattle.trace_events.specs.Said.{in_spoken};
+ghost use Rattle.trace_events.specs.Waiting.{is_of_multicast};
+ghost use Rattle.audit_tables.specs.Held as kept;
+ghost use Rattle.audit_tables.specs.HeldViews.{held_view};
+ghost use Rattle.trace_law.specs.View.{incoming_view, link_view, event_view};
+
+use crate::held_link::HeldLink;
+use capture_form::{Distribution, Rule, distribution_of};
+use std::alloc::{AllocError, Global};
+use trace_law::{Event, Incoming, Link};
 
 /// What has become of it.
 #[derive(Clone, Copy, Debug, PartialEq, Eq)]
@@ -13,4 +28,221 @@ pub enum Fate {
     Paired,
     /// Of multicast, it is complete.
     Copied,
+}
+
+/// A delivery from a client that is kept.
+#[doc(hidden)]
+#[derive(Drop)]
+pub struct HeldDelivery {
+    number: u64,
+    link: HeldLink,
+    id: Option<u32>,
+    format: u32,
+    payload: Vec<u8>,
+    /// The record that completed it.
+    completion: Option<u64>,
+    is_told: bool,
+    is_settled: bool,
+    /// Its link lives.
+    is_live: bool,
+    fate: Fate,
+}
+
+impl HeldDelivery {
+    /// Before its first part.
+    fn unbegun(alloc: Global, delivery: &Incoming) -> Result<HeldDelivery, AllocError>
+        ensures { IfOk result (λ held. held_view held ≡ kept.unbegun (incoming_view delivery.now)) }
+    {
+        Ok(HeldDelivery {
+            number: delivery.number,
+            link: HeldLink::new(alloc, &delivery.link)?,
+            id: delivery.id,
+            format: delivery.format,
+            payload: Vec::new(alloc),
+            completion: None,
+            is_told: false,
+            is_settled: false,
+            is_live: true,
+            fate: Fate::Arriving,
+        })
+    }
+
+    /// The delivery that the event begins, unless nothing is left of it at once; `has_consumer` says whether its address has
+    /// one behind the event.
+    ///
+    /// # Errors
+    ///
+    /// Memory was refused.
+    pub fn begin(
+        alloc: Global,
+        rules: &[Rule],
+        event: &Event,
+        has_consumer: bool,
+    ) -> Result<Option<HeldDelivery>, AllocError>
+        ensures { IfOk result (λ held. option_map held_view held ≡ kept.held_begun rules.now (event_view event.now) has_consumer) }
+    {
+        let Some(delivery) = event.incoming_begun() else {
+            return Ok(None);
+        };
+        let mut held = HeldDelivery::unbegun(alloc, &delivery)?;
+        if held.take(rules, event, has_consumer)? {
+            Ok(Some(held))
+        } else {
+            Ok(None)
+        }
+    }
+
+    /// The delivery itself.
+    pub fn delivery(&self) -> Incoming<'_>
+        ensures { incoming_view result ≡ (held_view self.now).delivery }
+    {
+        Incoming {
+            number: self.number,
+            link: self.link.link(),
+            id: self.id,
+            format: self.format,
+        }
+    }
+
+    /// What has come of its payload.
+    pub fn payload(&self) -> &[u8]
+        ensures { result.now ≡ (held_view self.now).payload }
+    {
+        &self.payload
+    }
+
+    /// Nothing more is to be told of it.
+    pub fn is_closed(&self) -> bool
+        ensures { result ≡ kept.closed (held_view self.now) }
+    {
+        self.is_told || self.is_settled || !self.is_live
+    }
+
+    /// The event follows those of the delivery so far; `has_consumer` says whether its address has one behind it. It is kept
+    /// on where the result is true, and else nothing is left of it.
+    ///
+    /// # Errors
+    ///
+    /// Memory was refused, for the payload; then all stays as it was.
+    pub fn take(
+        &mut self,
+        rules: &[Rule],
+        event: &Event,
+        has_consumer: bool,
+    ) -> Result<bool, AllocError>
+        ensures next { IfOk result (λ stays. (if stays then Some (held_view self.new) else None)
+            ≡ kept.held_next rules.now (event_view event.now) has_consumer (held_view self.old)) }
+        ensures unchanged { OnErr result (held_view self.new ≡ held_view self.old) }
+    {
+        let fate = self.fate_after(rules, event, has_consumer);
+        let completion = self.completion_after(event);
+        let is_told = self.is_told_after(event);
+        let is_settled = self.is_settled_after(event);
+        let is_live = self.is_live_after(event);
+        self.join(event)?;
+        self.fate = fate;
+        self.completion = completion;
+        self.is_told = is_told;
+        self.is_settled = is_settled;
+        self.is_live = is_live;
+        Ok(self.stays(event))
+    }
+
+    /// The octets that the event adds stand behind those so far.
+    fn join(&mut self, event: &Event) -> Result<(), AllocError>
+        ensures joined { OnOk result (held_view self.new ≡ kept.joined (event_view event.now) (held_view self.old)) }
+        ensures unchanged { OnErr result (held_view self.new ≡ held_view self.old) }
+    {
+        if event.is_incoming_part(&self.delivery()) {
+            self.payload.extend_from_slice(payload_of(event))?;
+        }
+        Ok(())
+    }
+
+    fn fate_after(&self, rules: &[Rule], event: &Event, has_consumer: bool) -> Fate
+        ensures { result ≡ kept.fate_next rules.now (event_view event.now) has_consumer (held_view self.now).delivery self.now.fate }
+    {
+        match self.fate {
+            Fate::Arriving if event.completes(&self.delivery()) => self.fate_completed(
+                rules,
+                has_consumer,
+            ),
+            Fate::Waiting if event.pairs(&self.delivery()) => Fate::Paired,
+            Fate::Waiting if !has_consumer => Fate::Gone,
+            fate => fate,
+        }
+    }
+
+    fn fate_completed(&self, rules: &[Rule], has_consumer: bool) -> Fate
+        ensures { result ≡ kept.fate_completed rules.now (held_view self.now).delivery has_consumer }
+    {
+        if self.is_of_multicast(rules) {
+            Fate::Copied
+        } else if has_consumer {
+            Fate::Waiting
+        } else {
+            Fate::Gone
+        }
+    }
+
+    /// Its address goes to all its consumers.
+    fn is_of_multicast(&self, rules: &[Rule]) -> bool
+        ensures { result ≡ is_of_multicast rules.now (held_view self.now).delivery }
+    {
+        matches!(
+            distribution_of(rules, self.delivery().link.address),
+            Distribution::Multicast
+        )
+    }
+
+    fn completion_after(&self, event: &Event) -> Option<u64>
+        ensures { result ≡ kept.completion_next (event_view event.now) (held_view self.now).delivery self.now.completion }
+    {
+        if event.completes(&self.delivery()) {
+            Some(event.number)
+        } else {
+            self.completion
+        }
+    }
+
+    fn is_told_after(&self, event: &Event) -> bool
+        ensures { result ≡ kept.told_next (event_view event.now) (held_view self.now).delivery self.now.is_told }
+    {
+        event.told == Some(self.number) || self.is_told
+    }
+
+    fn is_settled_after(&self, event: &Event) -> bool
+        ensures { result ≡ kept.settled_next (event_view event.now) (held_view self.now).delivery self.now.is_settled }
+    {
+        let delivery = self.delivery();
+        (event.settles_part(&delivery) || event.settles_id(&delivery)) || self.is_settled
+    }
+
+    fn is_live_after(&self, event: &Event) -> bool
+        ensures { result ≡ kept.live_next (event_view event.now) (held_view self.now).delivery self.now.is_live }
+    {
+        self.is_live && !event.ends_link(&self.link.link())
+    }
+
+    /// It is kept behind the event, which it has taken.
+    fn stays(&self, event: &Event) -> bool
+        ensures { result ≡ kept.stays (event_view event.now) (held_view self.now) }
+    {
+        let delivery = self.delivery();
+        match self.fate {
+            Fate::Arriving => !event.aborts(&delivery) && !event.ends_link(&delivery.link),
+            Fate::Gone => !self.is_closed(),
+            Fate::Waiting | Fate::Paired | Fate::Copied => true,
+        }
+    }
+}
+
+/// What stands behind the transfer that the event is.
+fn payload_of<'a>(event: &Event<'a>) -> &'a [u8]
+    ensures { result.now ≡ law.part_payload (in_spoken (event_view event.now)) }
+{
+    match event.in_spoken() {
+        Some(spoken) => spoken.payload,
+        None => &[],
+    }
 }

@@ -5,6 +5,7 @@
 //! - `sessions`: a live session, and what its windows have come to;
 //! - `connection`: what a connection has come to, with its channels;
 //! - `connections`: all of them;
+//! - `held`: a delivery from a client that is kept;
 //! - `answers`: what they answer to the questions of `trace_law`.
 #![tactic(auto)]
 
@@ -12,6 +13,7 @@ mod answers;
 mod connection;
 mod connections;
 mod held;
+mod held_link;
 mod sessions;
 #[cfg(test)]
 mod tests;
@@ -19,6 +21,6 @@ mod unanswered;
 
 pub use connection::{Connection, Seen};
 pub use connections::Connections;
-pub use held::Fate;
+pub use held::{Fate, HeldDelivery};
 pub use sessions::Counted;
 pub use unanswered::Unanswered;
