@@ -326,10 +326,11 @@ module _ (rules : List RuleText) (e : Event) (past : List Event) (are : AreJudge
 -- ---- of any number
 
 module _ (rules : List RuleText) (e : Event) (past : List Event) (are : AreJudged rules (e ∷ past)) (lawful : first_broken rules (e ∷ past) ≡ None) (n : ℕ) where
-  abbrev on : Held → Option Held
+  abbrev pub on : Held → Option Held
   on x = held_next rules e (has_consumer (address_of x.delivery) (e ∷ past)) x
 
-  older : incoming_at n (e ∷ past) ≡ incoming_at n past → held_at rules n (e ∷ past) ≡ option_and_then on (held_at rules n past)
+  -- one that the event doesn't begin
+  pub older : incoming_at n (e ∷ past) ≡ incoming_at n past → held_at rules n (e ∷ past) ≡ option_and_then on (held_at rules n past)
   older still = ap (λ o. option_map (held rules (e ∷ past)) (where_passes (is_held rules (e ∷ past)) o)) still ∙ by (incoming_at n past) refl
     where
       same-if : (d : Incoming) (b : Bool) → option_and_then (held_next rules e (has_consumer (address_of d) (e ∷ past))) (option_map (held rules past) (if b then Some d else None))

@@ -8,3 +8,4 @@ mod FateSteps
 mod HeldSteps
 mod HeldExamples
 mod HeldAnswers
+mod HeldKnown

@@ -1,10 +1,13 @@
 -- What the entry of a delivery from a client stands for, and what one event makes of it (own rules).
-use Rattle.std.specs.Prelude.{ℕ, Bool, true, false, ◌&&◌, ◌||◌, not, List, [], ◌++◌, Option, Some, None, option_map, option_and_then, nat_lt, if◌then◌else◌, ◌==◌}
+use Rattle.std.specs.Prelude.{◌≡◌, ◌∷◌, ℕ, Bool, true, false, ◌&&◌, ◌||◌, not, List, [], ◌++◌, Option, Some, None, option_map, option_and_then, nat_lt, if◌then◌else◌, ◌==◌}
 use Rattle.amqp_perf.specs.Meaning.{flag}
 use Rattle.capture_form.specs.Rules.{RuleText}
+use Rattle.capture_form.specs.declared.records.Record.{Record}
 use Rattle.trace_events.specs.Words.{is_some_and, is_number, where_passes}
 use Rattle.trace_events.specs.Event.{Event, Incoming}
 use Rattle.trace_events.specs.Said.{in_spoken, in_transfer}
+use Rattle.trace_events.specs.Address.{has_consumer}
+use Rattle.trace_events.specs.History.{history}
 use Rattle.trace_events.specs.Link.{is_live}
 use Rattle.trace_events.specs.Ends.{ends_link}
 use Rattle.trace_events.specs.Incoming as incoming
@@ -13,6 +16,7 @@ use Rattle.trace_events.specs.Outgoing.{is_paired}
 use Rattle.trace_events.specs.Waiting.{is_of_multicast, always_had_consumer, is_gone}
 use Rattle.trace_events.specs.Queue.{pairs}
 use Rattle.trace_events.specs.Settling.{is_closed}
+use Rattle.audit_tables.specs.Connections.{IsLawfulNext}
 use Rattle.audit_tables.specs.declared.held.Fate.{Fate}
 use Rattle.audit_tables.specs.declared.held.Fate.TheVariants.{Arriving, Waiting, Gone, Paired, Copied}
 
@@ -85,14 +89,14 @@ gives_up d e = is_part d e && is_some_and (in_transfer e) (λ fields. flag field
 
 -- one of multicast is copied; one of anycast waits where there is a consumer, and is gone where there is none
 abbrev pub fate_completed : List RuleText → Incoming → Bool → Fate
-fate_completed rules d has_consumer = if is_of_multicast rules d then Copied else if has_consumer then Waiting else Gone
+fate_completed rules d has = if is_of_multicast rules d then Copied else if has then Waiting else Gone
 
 abbrev pub fate_next : List RuleText → Event → Bool → Incoming → Fate → Fate
-fate_next rules e has_consumer d Arriving = if completes d e then fate_completed rules d has_consumer else Arriving
-fate_next rules e has_consumer d Waiting = if pairs d e then Paired else if has_consumer then Waiting else Gone
-fate_next rules e has_consumer d Gone = Gone
-fate_next rules e has_consumer d Paired = Paired
-fate_next rules e has_consumer d Copied = Copied
+fate_next rules e has d Arriving = if completes d e then fate_completed rules d has else Arriving
+fate_next rules e has d Waiting = if pairs d e then Paired else if has then Waiting else Gone
+fate_next rules e has d Gone = Gone
+fate_next rules e has d Paired = Paired
+fate_next rules e has d Copied = Copied
 
 abbrev pub payload_next : Event → Incoming → List ℕ → List ℕ
 payload_next e d payload = if is_part d e then payload ++ part_payload (in_spoken e) else payload
@@ -110,13 +114,13 @@ abbrev pub live_next : Event → Incoming → Bool → Bool
 live_next e d live = live && not (ends_link d.link e)
 
 abbrev pub moved : List RuleText → Event → Bool → Held → Held
-moved rules e has_consumer x = record x {
+moved rules e has x = record x {
   payload = payload_next e x.delivery x.payload;
   completion = completion_next e x.delivery x.completion;
   is_told = told_next e x.delivery x.is_told;
   is_settled = settled_next e x.delivery x.is_settled;
   is_live = live_next e x.delivery x.is_live;
-  fate = fate_next rules e has_consumer x.delivery x.fate;
+  fate = fate_next rules e has x.delivery x.fate;
 }
 
 -- whether it is kept behind the event, by what has become of it
@@ -136,7 +140,7 @@ joined e x = record x { payload = payload_next e x.delivery x.payload }
 
 -- what is left of it, if it is kept
 abbrev pub held_next : List RuleText → Event → Bool → Held → Option Held
-held_next rules e has_consumer x = where_passes (stays e) (Some (moved rules e has_consumer x))
+held_next rules e has x = where_passes (stays e) (Some (moved rules e has x))
 
 -- before its first part
 abbrev pub unbegun : Incoming → Held
@@ -144,7 +148,7 @@ unbegun d = record { delivery = d; payload = []; completion = None; is_told = fa
 
 -- the delivery that the event begins
 abbrev pub held_begun : List RuleText → Event → Bool → Option Held
-held_begun rules e has_consumer = option_and_then (λ d. held_next rules e has_consumer (unbegun d)) (incoming_begun e)
+held_begun rules e has = option_and_then (λ d. held_next rules e has (unbegun d)) (incoming_begun e)
 
 -- the event begins the delivery of this number
 abbrev pub begins_number : Event → ℕ → Bool
@@ -152,9 +156,9 @@ begins_number e n = is_some_and (incoming_begun e) (λ d. d.number == n)
 
 -- what the event makes of the delivery of this number, where these addresses have a consumer behind it
 abbrev pub held_behind : List RuleText → Event → (List ℕ → Bool) → ℕ → Option Held → Option Held
-held_behind rules e has_consumer n earlier =
-    if begins_number e n then held_begun rules e (is_some_and (incoming_begun e) (λ d. has_consumer (address_of d)))
-    else option_and_then (λ x. held_next rules e (has_consumer (address_of x.delivery)) x) earlier
+held_behind rules e has n earlier =
+    if begins_number e n then held_begun rules e (is_some_and (incoming_begun e) (λ d. has (address_of d)))
+    else option_and_then (λ x. held_next rules e (has (address_of x.delivery)) x) earlier
 
 -- ---- what is asked of one that is kept
 
@@ -173,3 +177,23 @@ is_open x = x.is_live && (says_arriving x.fate || says_waiting x.fate || not (cl
 -- the one was completed before the other
 abbrev pub comes_before : Held → Held → Bool
 comes_before x y = is_some_and x.completion (λ m. is_some_and y.completion (λ n. nat_lt m n))
+
+-- ---- in a capture that is lawful with the event
+
+-- it is what the events say of its number
+abbrev pub IsEntry : List RuleText → List Event → Held → Type 0
+IsEntry rules past x = held_at rules x.delivery.number past ≡ Some x
+
+-- what was the entry before the event is this behind it
+abbrev pub Follows : List RuleText → Event → Bool → Held → Option Held → Type 0
+Follows rules e has earlier later =
+    (records : List Record) (r : Record) → IsLawfulNext rules records r e → IsEntry rules (history rules records) earlier
+    → has ≡ has_consumer (address_of earlier.delivery) (e ∷ history rules records)
+    → held_at rules earlier.delivery.number (e ∷ history rules records) ≡ later
+
+-- this is the entry of the event's own number behind it
+abbrev pub Begins : List RuleText → Event → Bool → Option Held → Type 0
+Begins rules e has later =
+    (records : List Record) (r : Record) → IsLawfulNext rules records r e
+    → has ≡ is_some_and (incoming_begun e) (λ d. has_consumer (address_of d) (e ∷ history rules records))
+    → held_at rules e.number (e ∷ history rules records) ≡ later
