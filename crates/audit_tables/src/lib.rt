@@ -14,6 +14,8 @@ mod connection;
 mod connections;
 mod held;
 mod held_link;
+#[cfg(test)]
+mod held_tests;
 mod sessions;
 #[cfg(test)]
 mod tests;
