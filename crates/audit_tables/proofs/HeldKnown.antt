@@ -7,7 +7,7 @@ use Rattle.trace_events.specs.Address.{has_consumer}
 use Rattle.trace_events.specs.Incoming.{address_of, incoming_begun, incoming_at}
 use Rattle.trace_events.specs.History.{history}
 use Rattle.trace_events.specs.Link.{is_live}
-use Rattle.trace_events.specs.Incoming.{payload, completion, is_told, is_settled, is_complete}
+use Rattle.trace_events.specs.Incoming.{payload, completion, completed_before, is_told, is_settled, is_complete}
 use Rattle.trace_events.specs.Outgoing.{is_paired}
 use Rattle.trace_events.specs.Waiting.{is_of_multicast, is_waiting, is_gone, is_undecided}
 use Rattle.trace_clauses.specs.Clauses.{first_broken}
@@ -20,10 +20,10 @@ use Rattle.trace_events.proofs.Links.{passing}
 use Rattle.trace_clauses.proofs.Incomings.{judged-part, judged-sound, at-step}
 use Rattle.trace_clauses.proofs.OneConsumer.{incoming_at-is}
 use Rattle.audit_tables.specs.Held.{IsEntry, Held, held, is_held, held_at, held_next, unbegun, held_begun, Follows, Begins}
-use Rattle.audit_tables.specs.Held.{says_arriving, says_waiting, says_gone, says_paired, may_go, may_tell, is_open}
+use Rattle.audit_tables.specs.Held.{says_arriving, says_waiting, says_gone, says_paired, may_go, may_tell, is_open, comes_before}
 use Rattle.audit_tables.specs.declared.held.Fate.{Fate}
 use Rattle.audit_tables.proofs.HeldSteps.{on, older, held-behind}
-use Rattle.audit_tables.proofs.HeldAnswers.{IsHeldOf, held-of, held-payload, held-completion, held-told, held-settled, held-live, held-complete, held-waiting, held-gone, held-paired, may_be_told-held, to_carry-held, is_undecided-held}
+use Rattle.audit_tables.proofs.HeldAnswers.{IsHeldOf, held-of, held-payload, held-completion, held-told, held-settled, held-live, held-complete, held-waiting, held-gone, held-paired, held-before, may_be_told-held, to_carry-held, is_undecided-held}
 
 module _ (rules : List RuleText) (e : Event) (past : List Event) (are : AreJudged rules (e ∷ past)) (lawful : first_broken rules (e ∷ past) ≡ None) where
   -- one that began before
@@ -168,3 +168,8 @@ module _ (rules : List RuleText) (records : List Record) (x : Held) (entry : IsE
 
   pub known_open : is_open x ≡ is_undecided rules x.delivery (history rules records)
   known_open = entry_undecided rules records x.delivery x.payload x.completion x.is_told x.is_settled x.is_live x.fate entry
+
+-- of two
+pub known_before : (rules : List RuleText) (past : List Event) (x y : Held) → IsEntry rules past x → IsEntry rules past y → comes_before x y ≡ completed_before x.delivery y.delivery past
+known_before rules past x y first second =
+    sym (held-before rules x.delivery.number y.delivery.number past x y (held-of rules x.delivery.number past x first) (held-of rules y.delivery.number past y second))

@@ -1,4 +1,4 @@
--- What the entry of a delivery from a client stands for.
+-- What the code's entry of a delivery says.
 use Rattle.trace_events.specs.Event.{Link}
 use Rattle.audit_tables.specs.Held.{Held}
 use Rattle.audit_tables.specs.declared.held_link.HeldLink.{HeldLink}

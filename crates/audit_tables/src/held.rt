@@ -282,6 +282,25 @@ impl HeldDelivery {
         self.is_live && (self.fate.is_arriving() || self.fate.is_waiting() || !self.is_closed())
     }
 
+    /// It was completed before the other.
+    pub fn is_completed_before(&self, other: &HeldDelivery) -> bool
+        ensures stored { result ≡ kept.comes_before (held_view self.now) (held_view other.now) }
+        ensures known { (rules : List RuleText) (history : Events) → IsEntry rules history (held_view self.now) →
+            IsEntry rules history (held_view other.now) →
+            result ≡ law.completed_before (held_view self.now).delivery (held_view other.now).delivery history }
+    {
+        self.comes_before(other)
+    }
+
+    fn comes_before(&self, other: &HeldDelivery) -> bool
+        ensures { result ≡ kept.comes_before (held_view self.now) (held_view other.now) }
+    {
+        match (self.completion, other.completion) {
+            (Some(first), Some(second)) => first < second,
+            _ => false,
+        }
+    }
+
     /// Nothing more is to be told of it.
     pub fn is_closed(&self) -> bool
         ensures { result ≡ kept.closed (held_view self.now) }

@@ -230,3 +230,18 @@ fn deliveries_of_one_part(rt: HostRuntime) -> Result<(), Fail> {
     }
     Ok(())
 }
+
+/// Of two that are complete the one comes first; one that is incomplete is neither before nor behind.
+#[test]
+fn deliveries_in_their_order(rt: HostRuntime) -> Result<(), Fail> {
+    let first = HeldDelivery::begin(rt.alloc(), &[], &part(15, PART, b"hi"), true)?;
+    let arriving = HeldDelivery::begin(rt.alloc(), &[], &part(15, MORE, b"he"), true)?;
+    let mut second = HeldDelivery::begin(rt.alloc(), &[], &part(15, MORE, b"he"), true)?;
+    assert!(rt; first.is_some() && arriving.is_some() && second.is_some());
+    if let (Some(first), Some(arriving), Some(second)) = (&first, &arriving, &mut second) {
+        second.take(&[], &part(16, PART, b"llo"), true)?;
+        assert!(rt; first.is_completed_before(second) && !second.is_completed_before(first));
+        assert!(rt; !first.is_completed_before(arriving) && !arriving.is_completed_before(first));
+    }
+    Ok(())
+}
