@@ -10,3 +10,8 @@ mod HandlesOfChannels
 mod HandleTables
 mod LinksTaken
 mod LiveHandles
+mod FateSteps
+mod HeldSteps
+mod HeldExamples
+mod HeldAnswers
+mod HeldKnown

@@ -4,5 +4,5 @@ use Rattle.audit_tables.specs.declared.held_attach.HeldAddress.{HeldAddress}
 use Rattle.audit_tables.specs.declared.held_attach.HeldAddress.TheVariants.{Given, Made}
 
 abbrev pub asked_octets : HeldAddress → List ℕ
-asked_octets (Given octets) = octets
+asked_octets (Given octets) = octets.items
 asked_octets (Made number) = codes "dyn/" ++ decimal number

@@ -4,3 +4,5 @@ pub mod Connections
 pub mod Links
 pub mod HeldAddress
 pub mod LinkTables
+pub mod Held
+pub mod HeldViews

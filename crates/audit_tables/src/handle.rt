@@ -5,8 +5,8 @@ ghost use Rattle.audit_tables.specs.Links as law;
 ghost use Rattle.audit_tables.specs.Links.{asked_in, asked_next, awaits_next, begun, link_next, nothing, owes_next, standing_next, undetached_next};
 ghost use Rattle.trace_law.specs.View.{asking_view, event_view, link_view};
 
+use crate::counted_link::CountedLink;
 use crate::held_attach::HeldAttach;
-use crate::held_link::HeldLink;
 use crate::link_counts::LinkCounts;
 use std::alloc::{AllocError, Global};
 use std::marker::Model;
@@ -16,7 +16,7 @@ use trace_law::{Asking, Event, Link, handle_in};
 #[doc(hidden)]
 #[derive(Drop)]
 pub struct Handle {
-    link: Option<HeldLink>,
+    link: Option<CountedLink>,
     attach: Option<HeldAttach>,
     owes_detach: bool,
     awaits_detach: bool,
@@ -85,11 +85,11 @@ fn detaches_out(handle: u32, event: &Event) -> bool
 }
 
 /// The link that the router's attach of the handle opens.
-fn opened(alloc: Global, handle: u32, event: &Event) -> Result<Option<HeldLink>, AllocError>
+fn opened(alloc: Global, handle: u32, event: &Event) -> Result<Option<CountedLink>, AllocError>
     ensures { IfOk result (λ x. x ≡ (if law.attaches_out handle (event_view event.now) then option_map begun (event_view event.now).link else None)) }
 {
     match event.link {
-        Some(link) if attaches_out(handle, event) => Ok(Some(HeldLink::new(alloc, &link)?)),
+        Some(link) if attaches_out(handle, event) => Ok(Some(CountedLink::new(alloc, &link)?)),
         _ => Ok(None),
     }
 }
@@ -210,7 +210,7 @@ impl Handle {
     }
 
     /// The link behind the event, where this is the one that it opens.
-    fn put_link(&mut self, handle: u32, event: &Event, link: Option<HeldLink>)
+    fn put_link(&mut self, handle: u32, event: &Event, link: Option<CountedLink>)
         requires { link ≡ (if law.attaches_out handle (event_view event.now) then option_map begun (event_view event.now).link else None) }
         ensures { self.new ≡ record self.old { link = link_next handle (event_view event.now) self.old.link } }
     {

@@ -6,7 +6,6 @@ ghost use Rattle.audit_tables.specs.HeldAddress.{asked_octets};
 ghost use Rattle.audit_tables.specs.Links.{asks};
 ghost use Rattle.trace_law.specs.View.{address_view, asking_view, event_view};
 
-use crate::octets::Octets;
 use amqp_perf::{Attach, ReceiverSettleMode, Role, SenderSettleMode};
 use std::alloc::{AllocError, Global};
 use std::marker::Model;
@@ -17,7 +16,7 @@ use trace_law::{AskedAddress, Asking, Event};
 #[doc(hidden)]
 #[derive(Drop)]
 pub enum HeldAddress {
-    Given(Octets),
+    Given(Vec<u8>),
     /// One that is made up, for the attach in this record.
     Made(u64),
 }
@@ -27,7 +26,7 @@ impl HeldAddress {
         ensures { IfOk result (λ x. asked_octets x ≡ address_view asked.now) }
     {
         match *asked {
-            AskedAddress::Given(octets) => Ok(HeldAddress::Given(Octets::new(alloc, octets)?)),
+            AskedAddress::Given(octets) => Ok(HeldAddress::Given(Vec::from_slice(alloc, octets)?)),
             AskedAddress::Made(number) => Ok(HeldAddress::Made(number)),
         }
     }
@@ -37,7 +36,7 @@ impl HeldAddress {
         ensures { address_view result ≡ asked_octets self.now }
     {
         match self {
-            HeldAddress::Given(octets) => AskedAddress::Given(octets.as_slice()),
+            HeldAddress::Given(octets) => AskedAddress::Given(octets),
             HeldAddress::Made(number) => AskedAddress::Made(*number),
         }
     }

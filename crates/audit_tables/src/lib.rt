@@ -5,22 +5,29 @@
 //! - `sessions`: a live session, and what its windows have come to;
 //! - `connection`: what a connection has come to, with its channels;
 //! - `connections`: all of them;
-//! - `answers`: what they answer to the questions of `trace_law`.
+//! - `link_counts`: what the credit of a live link has come to;
+//! - `handle`: a handle of a live session, with its link (`counted_link`) and the client's attach (`held_attach`); `handles`:
+//!   those of a session; `channels`: those of a connection; `links`: all of them;
+//! - `held`: a delivery from a client that is kept, with its link (`held_link`);
+//! - `answers`, `link_answers`: what they answer to the questions of `trace_law`; `looked`: all tables, lent to be asked.
 #![tactic(auto)]
 
 mod answers;
 mod channels;
 mod connection;
 mod connections;
+mod counted_link;
 mod handle;
 mod handles;
+mod held;
 mod held_attach;
 mod held_link;
+#[cfg(test)]
+mod held_tests;
 mod link_answers;
 mod link_counts;
 mod links;
 mod looked;
-mod octets;
 mod sessions;
 #[cfg(test)]
 mod tests;
@@ -29,13 +36,14 @@ mod unanswered;
 pub use channels::Channels;
 pub use connection::{Connection, Seen};
 pub use connections::Connections;
+pub use counted_link::CountedLink;
 pub use handle::Handle;
 pub use handles::Handles;
+pub use held::{Fate, HeldDelivery};
 pub use held_attach::{HeldAddress, HeldAttach};
 pub use held_link::HeldLink;
 pub use link_counts::LinkCounts;
 pub use links::Links;
 pub use looked::Looked;
-pub use octets::Octets;
 pub use sessions::Counted;
 pub use unanswered::Unanswered;

@@ -145,7 +145,7 @@ known-by rules e past are lawful n true is earlier told =
     omega (arith, at.0)
 known-by rules e past are lawful n false is earlier told = omega (arith, earlier told)
 
-told-known : (rules : List RuleText) (past : List Event) → AreJudged rules past → first_broken rules past ≡ None → (n : ℕ) → list_any (λ e. is_number e.told n) past ≡ true → n < length past
+pub told-known : (rules : List RuleText) (past : List Event) → AreJudged rules past → first_broken rules past ≡ None → (n : ℕ) → list_any (λ e. is_number e.told n) past ≡ true → n < length past
 told-known rules [] are lawful n told = absurd cc
 told-known rules (e ∷ past) are lawful n told =
     known-by rules e past are lawful n (is_number e.told n) refl (told-known rules past are.1 (lawful-past rules e past lawful) n) told

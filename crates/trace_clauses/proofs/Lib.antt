@@ -36,6 +36,7 @@ pub mod LinkOrder
 pub mod CopiesCounted
 pub mod FirstSent
 pub mod OutcomesToTell
+pub mod PartsGoOn
 mod ClauseExamples
 mod FaultExamples
 mod ReadingExamples

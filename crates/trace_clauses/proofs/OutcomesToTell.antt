@@ -201,16 +201,16 @@ module _ (rules : List RuleText) (e : Event) (past : List Event) (are : AreJudge
         unanswered-bits false unsettled last ends = refl
 
 -- what a transfer that begins a delivery carries is not gone, and not paired where it is anycast
-record IsFirst (rules : List RuleText) (past : List Event) (d : Incoming) : Type 0 where
-  whole : is_gone rules d past ≡ false
-  alone : is_of_multicast rules d ≡ false → is_paired d past ≡ false
+pub record IsFirst (rules : List RuleText) (past : List Event) (d : Incoming) : Type 0 where
+  pub whole : is_gone rules d past ≡ false
+  pub alone : is_of_multicast rules d ≡ false → is_paired d past ≡ false
 
 off : (b : Bool) → not b ≡ true → b ≡ false
 off false is = refl
 off true is = absurd cc
 
 module _ (rules : List RuleText) (e : Event) (past : List Event) (are : AreJudged rules (e ∷ past)) (lawful : first_broken rules (e ∷ past) ≡ None) (j : Outgoing) (begun : outgoing_begun e ≡ Some j) where
-  carries_first : IsFirst rules past (begun-carries rules e past are lawful j begun).delivery
+  pub carries_first : IsFirst rules past (begun-carries rules e past are lawful j begun).delivery
   carries_first =
       let own = passing (λ (x : Outgoing). x.number == e.number) e.outgoing j begun in
       let t : IsTransfer e.moment = subst (λ (o : Option Outgoing). IfSome o (λ k. IsTransfer e.moment)) own.0 (judged-transfer rules e past are) in

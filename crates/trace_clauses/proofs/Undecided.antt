@@ -273,7 +273,7 @@ live_is c channel handle past s l live linked =
     ∙ (ap (λ (o : Option Session). is_some_and (option_and_then (λ (t : Session). session_link t handle past) o) (λ m. m.number == l.number)) live
     ∙ (ap (λ (o : Option Link). is_some_and o (λ m. m.number == l.number)) linked ∙ eq-eqb l.number l.number refl))))
 
-named_live : (rules : List RuleText) (past : List Event) (r : Record) (frame : Frame) (l : Link) → moment_of r.what ≡ In frame → (judge rules past r).link ≡ Some l → is_live past l ≡ true
+pub named_live : (rules : List RuleText) (past : List Event) (r : Record) (frame : Frame) (l : Link) → moment_of r.what ≡ In frame → (judge rules past r).link ≡ Some l → is_live past l ≡ true
 named_live rules past r frame l came on = elim (of_kind rules past r l on) [
   | inl opens ↦ let never : false ≡ true = sym (ap (λ (m : Moment). is_some (attach_in m)) came) ∙ opens in absurd cc
   | inr named ↦

@@ -134,7 +134,8 @@ impl<'a> Link<'a> {
 impl<'a> Event<'a> {
     ghost use Rattle.std.specs.Prelude.{◌≡◌};
     ghost use Rattle.trace_events.specs.Link.{attaches_in, attaches_out, detaches_in, detaches_out};
-    ghost use Rattle.trace_law.specs.View.{event_view};
+    ghost use Rattle.trace_events.specs.Ends.{replaces_link, ends_link};
+    ghost use Rattle.trace_law.specs.View.{link_view, event_view};
 
     fn attaches_in(&self, session: Session, handle: u32) -> bool
         ensures { result ≡ attaches_in session handle (event_view self.now) }
@@ -170,6 +171,26 @@ impl<'a> Event<'a> {
             Some(detach) => detach.handle == handle && self.is_on_session(session),
             None => false,
         }
+    }
+
+    /// An Out attach of the link's handle that opens another.
+    fn replaces_link(&self, link: &Link) -> bool
+        ensures { result ≡ replaces_link (link_view link.now) (event_view self.now) }
+    {
+        match self.out_attach() {
+            Some(attach) => opens_link(&attach) && self.attaches_out(link.session, link.handle),
+            None => false,
+        }
+    }
+
+    /// The end of the link's session, a detach of its handle, or an Out attach that opens another.
+    pub fn ends_link(&self, link: &Link) -> bool
+        ensures { result ≡ ends_link (link_view link.now) (event_view self.now) }
+    {
+        self.ends_session(link.session)
+            || (self.detaches_in(link.session, link.handle)
+                || self.detaches_out(link.session, link.handle))
+            || self.replaces_link(link)
     }
 }
 

@@ -10,6 +10,7 @@ use trace_events::Session;
 impl<'a> Event<'a> {
     ghost use Rattle.std.specs.Prelude.{◌≡◌};
     ghost use Rattle.trace_events.specs.Session.{begins_in, begins_out, ends_in, ends_out};
+    ghost use Rattle.trace_events.specs.Ends.{ends_session};
     ghost use Rattle.trace_law.specs.View.{event_view};
 
     fn begins_in(&self, connection: u32, channel: u16) -> bool
@@ -34,6 +35,16 @@ impl<'a> Event<'a> {
         ensures { result ≡ ends_out connection channel (event_view self.now) }
     {
         self.is_out_end() && self.is_on_channel(connection, channel)
+    }
+
+    /// The end of the session's connection, an end of its channel, or an Out begin there, which begins another.
+    pub fn ends_session(&self, session: Session) -> bool
+        ensures { result ≡ ends_session session (event_view self.now) }
+    {
+        self.moment.is_final() && self.connection == session.connection
+            || (self.ends_in(session.connection, session.channel)
+                || self.ends_out(session.connection, session.channel))
+            || self.begins_out(session.connection, session.channel)
     }
 }
 

@@ -45,7 +45,7 @@ impl<'a> Event<'a> {
     ghost use Rattle.trace_law.specs.View.{incoming_view, event_view};
 
     /// It is one of the delivery's parts.
-    fn is_incoming_part(&self, delivery: &Incoming) -> bool
+    pub fn is_incoming_part(&self, delivery: &Incoming) -> bool
         ensures { result ≡ law.is_part (incoming_view delivery.now) (event_view self.now) }
     {
         match self.incoming {
@@ -64,7 +64,8 @@ impl<'a> Event<'a> {
         }
     }
 
-    pub(crate) fn completes(&self, delivery: &Incoming) -> bool
+    /// It completes the delivery.
+    pub fn completes(&self, delivery: &Incoming) -> bool
         ensures { result ≡ law.completes (incoming_view delivery.now) (event_view self.now) }
     {
         match self.completed_by() {
@@ -74,7 +75,7 @@ impl<'a> Event<'a> {
     }
 
     /// Its producer gives the delivery up (part 2, section 2.7.5).
-    fn aborts(&self, delivery: &Incoming) -> bool
+    pub fn aborts(&self, delivery: &Incoming) -> bool
         ensures { result ≡ (law.is_part (incoming_view delivery.now) (event_view self.now)
             && is_some_and (in_transfer (event_view self.now)) (λ fields. flag fields.aborted)) }
     {
@@ -85,7 +86,7 @@ impl<'a> Event<'a> {
     }
 
     /// The delivery that begins in it.
-    pub(crate) fn incoming_begun(&self) -> Option<Incoming<'a>>
+    pub fn incoming_begun(&self) -> Option<Incoming<'a>>
         ensures { option_map incoming_view result ≡ law.incoming_begun (event_view self.now) }
     {
         match self.incoming {
@@ -95,7 +96,7 @@ impl<'a> Event<'a> {
     }
 
     /// A heard disposition of the producer, behind the delivery's first transfer, that settles its id.
-    fn settles_id(&self, delivery: &Incoming) -> bool
+    pub fn settles_id(&self, delivery: &Incoming) -> bool
         ensures { result ≡ law.settles_id (incoming_view delivery.now) (event_view self.now) }
     {
         match self.in_disposition() {
@@ -112,7 +113,7 @@ impl<'a> Event<'a> {
     }
 
     /// A part of the delivery that says that it is settled.
-    fn settles_part(&self, delivery: &Incoming) -> bool
+    pub fn settles_part(&self, delivery: &Incoming) -> bool
         ensures { result ≡ law.settles_part (incoming_view delivery.now) (event_view self.now) }
     {
         match self.in_transfer() {

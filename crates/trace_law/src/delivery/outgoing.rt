@@ -28,7 +28,8 @@ impl<'a> Event<'a> {
     ghost use Rattle.trace_events.specs.Words.{is_some_and};
     ghost use Rattle.trace_events.specs.Said.{out_transfer};
     ghost use Rattle.trace_events.specs.Outgoing as law;
-    ghost use Rattle.trace_law.specs.View.{link_view, outgoing_view, event_view};
+    ghost use Rattle.trace_events.specs.Queue.{pairs};
+    ghost use Rattle.trace_law.specs.View.{link_view, incoming_view, outgoing_view, event_view};
 
     /// It is one of the delivery's parts.
     fn is_outgoing_part(&self, delivery: &Outgoing) -> bool
@@ -58,6 +59,16 @@ impl<'a> Event<'a> {
         match self.outgoing {
             Some(own) if own.number == self.number => Some(own),
             _ => None,
+        }
+    }
+
+    /// A delivery to a client that carries the incoming one begins in it.
+    pub fn pairs(&self, delivery: &Incoming) -> bool
+        ensures { result ≡ pairs (incoming_view delivery.now) (event_view self.now) }
+    {
+        match self.outgoing_begun() {
+            Some(outgoing) => names(delivery.number, outgoing.note),
+            None => false,
         }
     }
 

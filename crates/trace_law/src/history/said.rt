@@ -107,7 +107,7 @@ impl<'a> Event<'a> {
         }
     }
 
-    pub(crate) fn in_spoken(&self) -> Option<Spoken<'a>>
+    pub fn in_spoken(&self) -> Option<Spoken<'a>>
         ensures { option_map spoken_view result ≡ said.in_spoken (event_view self.now) }
     {
         self.moment.in_frame()?.spoken()
