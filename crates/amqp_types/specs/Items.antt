@@ -58,6 +58,16 @@ seen_or_null octets (Err e) = record { octets = octets; part = Null }
 unfoldable pub seen_of : List ℕ → Seen
 seen_of octets = seen_or_null octets (seen_at MAX_DEPTH 0 octets)
 
+-- the constructor that was read, with nothing behind it
+abbrev pub constructor_read : Read Constructor → Option Constructor
+constructor_read (Ok (c, [])) = Some c
+constructor_read (Ok (c, b ∷ rest)) = None
+constructor_read (Err e) = None
+
+-- the constructor that octets are, if they are one
+unfoldable pub constructor_in : List ℕ → Option Constructor
+constructor_in octets = constructor_read (constructor_at MAX_DEPTH 0 octets)
+
 -- how many descriptors, and which code, octets hold that are a constructor
 abbrev pub form_read : Read Constructor → Option (ℕ × Code)
 form_read (Ok (c, [])) = Some (c.tags, c.code)

@@ -6,7 +6,7 @@ ghost use Rattle.amqp_types.specs.Reading.{is_odd};
 
 /// A type whose data has the same length in each value: part 1, 1.2.1.
 #[derive(Clone, Copy, Debug, PartialEq, Eq)]
-pub(crate) enum Scalar {
+pub enum Scalar {
     Null,
     True,
     False,
@@ -63,14 +63,14 @@ pub enum Kind {
 
 /// How many octets a size has, and the count behind it.
 #[derive(Clone, Copy, Debug, PartialEq, Eq)]
-pub(crate) enum SizeWidth {
+pub enum SizeWidth {
     One,
     Four,
 }
 
 /// What the first octet of a value says of the octets behind it.
 #[derive(Clone, Copy, Debug, PartialEq, Eq)]
-pub(crate) enum Code {
+pub enum Code {
     Fixed(Scalar),
     Sized(Text, SizeWidth),
     /// A list without items, which has no data.

@@ -245,11 +245,7 @@ fn read_elements(
     }
     let (constructor, body) = read_constructor(levels, at, bytes)?;
     match read_items(levels, Some(constructor), count, at, body) {
-        Ok([]) => Ok(Array {
-            constructor: Some(constructor),
-            count,
-            body,
-        }),
+        Ok([]) => Ok(Array::of(constructor, count, body)),
         Ok(_) => Err(ValueFaultKind::BadSize.of(at)),
         Err(fault) => Err(fault.within(at)),
     }
