@@ -6,7 +6,7 @@ use crate::fields::Fields;
 use crate::state::State;
 use crate::table::{
     ANY, BINARY, BOOLEAN, Field, MANDATORY_BOOLEAN, MANDATORY_STR, MANDATORY_UINT, RECEIVER_MODE,
-    SENDER_MODE, SOURCE, STATE, TARGET, UINT, USHORT,
+    SENDER_MODE, UINT, USHORT,
 };
 use crate::terminus::{Target, Terminus};
 use amqp_types::{Items, Value};
@@ -185,7 +185,12 @@ impl<'a> CheckedFields<'a> {
         ensures left { fields_left self.new.items ≡ others (fields_left self.old.items) }
         ensures fit { self.new.fit ≡ (self.old.fit && fits_field (optional types.State) (first (fields_left self.old.items))) }
     {
-        State::of_value(self.take(STATE)?)
+        let value = self.take(ANY)?;
+        let state = State::of_value(value);
+        if state.is_none() && !value.is_null() {
+            self.fit = false;
+        }
+        state
     }
 
     pub(crate) fn source(&mut self) -> Option<Terminus<'a>>
@@ -193,7 +198,12 @@ impl<'a> CheckedFields<'a> {
         ensures left { fields_left self.new.items ≡ others (fields_left self.old.items) }
         ensures fit { self.new.fit ≡ (self.old.fit && fits_field (optional types.Source) (first (fields_left self.old.items))) }
     {
-        Terminus::source(self.take(SOURCE)?)
+        let value = self.take(ANY)?;
+        let source = Terminus::source(value);
+        if source.is_none() && !value.is_null() {
+            self.fit = false;
+        }
+        source
     }
 
     pub(crate) fn target(&mut self) -> Option<Target<'a>>
@@ -201,7 +211,12 @@ impl<'a> CheckedFields<'a> {
         ensures left { fields_left self.new.items ≡ others (fields_left self.old.items) }
         ensures fit { self.new.fit ≡ (self.old.fit && fits_field (optional types.Target) (first (fields_left self.old.items))) }
     {
-        Target::of_value(self.take(TARGET)?)
+        let value = self.take(ANY)?;
+        let target = Target::of_value(value);
+        if target.is_none() && !value.is_null() {
+            self.fit = false;
+        }
+        target
     }
 
     /// The condition of an error, where the field is one; it may hold anything.

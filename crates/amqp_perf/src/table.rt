@@ -72,17 +72,17 @@ pub(crate) const RECEIVER_MODE: Field = Field {
     field_type: FieldType::ReceiverMode,
 };
 
-pub(crate) const STATE: Field = Field {
+const STATE: Field = Field {
     is_mandatory: false,
     field_type: FieldType::State,
 };
 
-pub(crate) const SOURCE: Field = Field {
+const SOURCE: Field = Field {
     is_mandatory: false,
     field_type: FieldType::Source,
 };
 
-pub(crate) const TARGET: Field = Field {
+const TARGET: Field = Field {
     is_mandatory: false,
     field_type: FieldType::Target,
 };

@@ -10,7 +10,7 @@ use Rattle.amqp_types.specs.declared.fault.ValueFault.{ValueFault}
 use Rattle.amqp_types.specs.Part.{Part, Seen, Constructor, tagged}
 use Rattle.amqp_types.specs.Reading.{Read, in_front, data_at, constructor_at, element_at, item_at, seen_at, items_at}
 use Rattle.flow_counts.specs.declared.profile.TheConstants.{MAX_DEPTH}
-use Rattle.amqp_types.specs.Items.{seen_in, items_in, is_value, is_used_up, are_items, is_filled, seen_of, form_read, form_of, element_read, is_element, element_of}
+use Rattle.amqp_types.specs.Items.{seen_in, items_in, is_value, is_used_up, are_items, is_filled, seen_of, constructor_in, form_read, form_of, element_read, is_element, element_of}
 use Rattle.amqp_types.specs.Grammar.{AreItems, IsData, IsConstructor, IsValue, IsElement, IsItem, AreOf, AreValuesOf}
 use Rattle.amqp_types.proofs.Steps.{ok_is, some_is, done}
 use Rattle.amqp_types.proofs.Pieces.{items_found, items_again, in_front_is}
@@ -161,6 +161,11 @@ constructor_whole octets c is = ap (constructor_at MAX_DEPTH 0) (sym (append-nil
 pub constructor_held : (levels : ℕ) (octets : List ℕ) (c : Constructor) → levels ≤ MAX_DEPTH → IsConstructor levels octets c → form_of octets ≡ Some (c.tags, c.code)
 unfolding form_of
 constructor_held levels octets c le is = rw (constructor_whole octets c (constructor_deeper levels MAX_DEPTH le octets c is)) refl
+
+-- octets that were read as a constructor are one
+pub constructor_kept : (levels at : ℕ) (bytes : List ℕ) (x : Constructor × List ℕ) → levels ≤ MAX_DEPTH → constructor_at levels at bytes ≡ Ok x → constructor_in x.0.octets ≡ Some x.0
+unfolding constructor_in
+constructor_kept levels at bytes x le e = rw (constructor_whole x.0.octets x.0 (constructor_deeper levels MAX_DEPTH le x.0.octets x.0 (constructor_found levels at bytes x e).1)) refl
 
 -- a constructor by how many descriptors and which code it has
 abbrev HasForm : List ℕ → ℕ → Code → Type 0

@@ -1,13 +1,17 @@
 -- Values that are passed over: what is behind them is what is behind them where they are read.
-use Rattle.std.proofs.Common.{◌≡◌, ℕ, suc, ◌+◌, ◌-◌, ◌≤◌, ◌<◌, true, List, ◌∷◌, length, Option, Some, Ok, Err, refl, sym, ap, subst, ◌∙◌, arith}
+use Rattle.std.proofs.Common.{◌≡◌, ℕ, suc, ◌+◌, ◌-◌, ◌≤◌, ◌<◌, true, List, ◌∷◌, length, Option, Some, Ok, Err, refl, sym, ap, subst, ◌∙◌, take, drop, zero, false, ltb, arith}
+use Rattle.std.proofs.lemmas.Bool.{le-ltb}
 use Rattle.std.proofs.lemmas.List.{length-append}
 use Rattle.amqp_types.specs.declared.fault.ValueFault.{ValueFault}
 use Rattle.amqp_types.specs.declared.code.Code.{Code}
-use Rattle.amqp_types.specs.Codes.{code_of}
+use Rattle.amqp_types.specs.declared.code.Code.TheVariants as codes
+use Rattle.amqp_types.specs.declared.code.Scalar.{Scalar}
+use Rattle.amqp_types.specs.declared.code.Scalar.TheVariants as scalars
+use Rattle.amqp_types.specs.Codes.{code_of, takes_any, width_of}
 use Rattle.amqp_types.specs.Part.{Part, Described, Seen, Tag, Constructor}
 use Rattle.flow_counts.specs.declared.profile.TheConstants.{MAX_DEPTH}
-use Rattle.amqp_types.specs.Reading.{Read, data_at, value_at, value_by, coded_at, in_front, with_octets, with_tag, seen_at, element_by, element_at, described_at}
-use Rattle.amqp_types.specs.Items.{behind, is_value}
+use Rattle.amqp_types.specs.Reading.{Read, data_at, value_at, value_by, coded_at, in_front, with_octets, with_tag, seen_at, element_by, element_at, described_at, scalar_of, octets_at, fixed_at, data_by}
+use Rattle.amqp_types.specs.Items.{behind, is_value, IsPlain, IsPassed}
 use Rattle.amqp_types.proofs.Steps.{done}
 use Rattle.amqp_types.proofs.Pieces.{in_front_is}
 use Rattle.amqp_types.proofs.Values.{seen_found}
@@ -93,3 +97,59 @@ described_passed levels at bytes mid rest e f =
     let place : seen_at levels (at + 1 + length x.0.octets) mid ≡ Ok (y.0, rest) = ap (λ (t : List ℕ). seen_at levels (at + 1 + length t) mid) octets ∙ y.1 in
     let others = front_octets levels (at + 1 + length (in_front bytes mid)) mid (y.0, rest) y.1 in
     rw (x.1, place) (ap (λ (t : List ℕ). done {A = Part × List ℕ} (Described t y.0.octets, rest)) octets ∙ ap (λ (t : List ℕ). done {A = Part × List ℕ} (Described (in_front bytes mid) t, rest)) others)
+
+-- what any octets say
+any_said : (scalar : Scalar) (octets : List ℕ) → takes_any scalar ≡ true → (part : Part) × (scalar_of scalar octets ≡ Ok part)
+unfolding scalar_of
+any_said scalars.Null octets any = (_, refl)
+any_said scalars.True octets any = (_, refl)
+any_said scalars.False octets any = (_, refl)
+any_said scalars.Ubyte octets any = (_, refl)
+any_said scalars.Ushort octets any = (_, refl)
+any_said scalars.UintZero octets any = (_, refl)
+any_said scalars.UintOctet octets any = (_, refl)
+any_said scalars.Uint octets any = (_, refl)
+any_said scalars.UlongZero octets any = (_, refl)
+any_said scalars.UlongOctet octets any = (_, refl)
+any_said scalars.Ulong octets any = (_, refl)
+any_said scalars.Byte octets any = (_, refl)
+any_said scalars.Short octets any = (_, refl)
+any_said scalars.IntOctet octets any = (_, refl)
+any_said scalars.Int octets any = (_, refl)
+any_said scalars.LongOctet octets any = (_, refl)
+any_said scalars.Long octets any = (_, refl)
+any_said (scalars.Opaque opaque) octets any = (_, refl)
+any_said scalars.Boolean octets any = absurd cc
+
+octets_there : (n at : ℕ) (bytes : List ℕ) → n ≤ length bytes → octets_at n at bytes ≡ Ok (take n bytes, drop n bytes)
+unfolding octets_at
+octets_there n at bytes long = let enough : ltb (length bytes) n ≡ false = le-ltb _ _ long in rw enough refl
+
+fixed_passed : (scalar : Scalar) (at : ℕ) (bytes : List ℕ) → takes_any scalar ≡ true → width_of scalar ≤ length bytes → behind (fixed_at scalar at bytes) ≡ Ok (drop (width_of scalar) bytes)
+unfolding fixed_at
+fixed_passed scalar at bytes any long = rw (octets_there (width_of scalar) at bytes long, (any_said scalar (take (width_of scalar) bytes) any).1) refl
+
+fixed_data : (levels at : ℕ) (scalar : Scalar) (bytes : List ℕ) → data_at (suc levels) zero (codes.Fixed scalar) at bytes ≡ fixed_at scalar at bytes
+unfolding data_at data_by
+fixed_data levels at scalar bytes = refl
+
+passed_by : (levels at first : ℕ) (scalar : Scalar) (bytes : List ℕ) → code_of first ≡ Some (codes.Fixed scalar) → takes_any scalar ≡ true → width_of scalar ≤ length bytes
+    → behind (seen_at (suc levels) at (first ∷ bytes)) ≡ Ok (drop (width_of scalar) bytes)
+passed_by levels at first scalar bytes known any long =
+    one_level levels at first (codes.Fixed scalar) bytes known ∙ ap behind (fixed_data levels at scalar bytes) ∙ fixed_passed scalar at bytes any long
+
+-- what is behind a value whose first octet says how long it is
+pub plain_passed : (bytes : List ℕ) (first width : ℕ) (behind_first : List ℕ) → bytes ≡ first ∷ behind_first → IsPlain first width → width ≤ length behind_first → IsPassed bytes (drop width behind_first)
+unfolding IsPlain IsPassed
+plain_passed bytes first width behind_first same plain long = λ levels at some.
+    let below : levels ≡ suc (levels - 1) = omega (arith, some) in
+    let wide : width_of plain.0 ≤ length behind_first = subst (λ (n : ℕ). n ≤ length behind_first) (sym plain.3) long in
+    let passed : behind (seen_at (suc (levels - 1)) at (first ∷ behind_first)) ≡ Ok (drop (width_of plain.0) behind_first) = passed_by (levels - 1) at first plain.0 behind_first plain.1 plain.2 wide in
+    let here : behind (seen_at levels at (first ∷ behind_first)) ≡ Ok (drop (width_of plain.0) behind_first) = subst (λ (n : ℕ). behind (seen_at n at (first ∷ behind_first)) ≡ Ok (drop (width_of plain.0) behind_first)) (sym below) passed in
+    let there : behind (seen_at levels at bytes) ≡ Ok (drop (width_of plain.0) behind_first) = subst (λ (t : List ℕ). behind (seen_at levels at t) ≡ Ok (drop (width_of plain.0) behind_first)) (sym same) here in
+    there ∙ ap (λ (n : ℕ). done {A = List ℕ} (drop n behind_first)) plain.3
+
+-- behind a value that lies somewhere
+pub passed_here : (levels at : ℕ) (bytes rest : List ℕ) → 0 < levels → IsPassed bytes rest → behind (seen_at levels at bytes) ≡ Ok rest
+unfolding IsPassed
+passed_here levels at bytes rest some passed = passed levels at some

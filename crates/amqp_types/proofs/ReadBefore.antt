@@ -1,5 +1,6 @@
 -- What was read once is read again, and what it holds is known.
 use Rattle.std.proofs.Common.{◌≡◌, ℕ, ◌+◌, ◌≤◌, ◌<◌, true, cond, List, [], ◌∷◌, length, Option, Some, None, Result, Ok, Err, refl, sym, ap, ◌∙◌, arith}
+use Rattle.std.specs.Prelude.{is_some}
 use Rattle.std.specs.Result.{is_ok}
 use Rattle.amqp_types.specs.declared.fault.ValueFault.{ValueFault}
 use Rattle.amqp_types.specs.declared.fault.ValueFaultKind.TheVariants.{OddMap, UnknownCode}
@@ -10,8 +11,8 @@ use Rattle.amqp_types.specs.Codes.{code_of, size_len}
 use Rattle.amqp_types.specs.Part.{Part, Nested, Constructor}
 use Rattle.flow_counts.specs.Words.{Gives}
 use Rattle.flow_counts.specs.declared.profile.TheConstants.{MAX_DEPTH}
-use Rattle.amqp_types.specs.Reading.{◌>>=◌, Read, fault, counted_at, nested_at, items_at, all_used, is_odd, data_at, value_at, value_by, coded_at, with_octets, seen_at, item_at}
-use Rattle.amqp_types.specs.Items.{is_read, is_value, are_items}
+use Rattle.amqp_types.specs.Reading.{◌>>=◌, Read, fault, counted_at, nested_at, items_at, all_used, is_odd, data_at, value_at, value_by, coded_at, with_octets, seen_at, item_at, element_at, constructor_at}
+use Rattle.amqp_types.specs.Items.{is_read, is_value, are_items, constructor_read, constructor_in}
 use Rattle.amqp_types.proofs.Steps.{bind_ok, guard_ok}
 use Rattle.amqp_types.proofs.Pieces.{all_used_ok}
 use Rattle.amqp_types.proofs.Held.{held_items, whole_read, first_read}
@@ -85,3 +86,22 @@ known_whole octets e = let one = whole_read octets e in rw one.1 refl
 -- the first of some items is read
 pub known_one : (form : Option Constructor) (n : ℕ) (octets : List ℕ) → 0 < n → are_items form n octets ≡ true → is_read (item_at MAX_DEPTH form 0 octets) ≡ true
 known_one form n octets some e = let first = first_read form n octets some e in rw first.1.read refl
+
+-- octets that are a constructor are read
+pub known_form : (octets : List ℕ) (d : ValueFault) → is_some (constructor_in octets) ≡ true → constructor_at MAX_DEPTH 0 octets ≡ Err d → ⊥
+unfolding constructor_in
+known_form octets d e failed = let wrong : is_some (constructor_read (Err d)) ≡ true = sym (ap (λ (r : Read Constructor). is_some (constructor_read r)) failed) ∙ e in cc
+
+nothing_behind : (x : Constructor × List ℕ) → is_some (constructor_read (Ok x)) ≡ true → constructor_read (Ok x) ≡ Some x.0
+nothing_behind (c, []) e = refl
+nothing_behind (c, b ∷ rest) e = absurd cc
+
+-- and what is read is the constructor that they are
+pub form_known : (octets : List ℕ) (x : Constructor × List ℕ) → is_some (constructor_in octets) ≡ true → constructor_at MAX_DEPTH 0 octets ≡ Ok x → constructor_in octets ≡ Some x.0
+unfolding constructor_in
+form_known octets x e read = ap constructor_read read ∙ nothing_behind x (sym (ap (λ (r : Read Constructor). is_some (constructor_read r)) read) ∙ e)
+
+-- an item is an element of the constructor
+pub item_of : (form : Option Constructor) (c : Constructor) (bytes : List ℕ) → form ≡ Some c → item_at MAX_DEPTH form 0 bytes ≡ element_at MAX_DEPTH c 0 bytes
+unfolding item_at
+item_of form c bytes e = rw e refl

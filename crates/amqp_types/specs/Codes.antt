@@ -41,6 +41,11 @@ scalar_of_code b =
     if b == 0x94 then Some (scalars.Opaque opaques.Decimal128) else
     if b == 0x98 then Some (scalars.Opaque opaques.Uuid) else None
 
+-- whether any octets may be the data: a boolean's is 0 or 1 (part 1, 1.6.2)
+abbrev pub takes_any : Scalar → Bool
+takes_any scalars.Boolean = false
+takes_any other = true
+
 -- what the first octet of a value says (part 1, 1.2 and 1.6)
 unfoldable pub code_of : ℕ → Option Code
 code_of b =

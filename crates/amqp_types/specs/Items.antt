@@ -1,6 +1,9 @@
 -- The values that are nested in a value that was read.
-use Rattle.std.specs.Prelude.{ℕ, zero, suc, Bool, true, false, List, [], ◌∷◌, length, Option, Some, None, Result, Ok, Err, ◌==◌}
+use Rattle.std.specs.Prelude.{◌≡◌, ◌<◌, ℕ, zero, suc, Bool, true, false, List, [], ◌∷◌, length, Option, Some, None, Result, Ok, Err, ◌==◌}
 use Rattle.amqp_types.specs.declared.code.Code.{Code}
+use Rattle.amqp_types.specs.declared.code.Code.TheVariants.{Fixed}
+use Rattle.amqp_types.specs.declared.code.Scalar.{Scalar}
+use Rattle.amqp_types.specs.Codes.{code_of, takes_any, width_of}
 use Rattle.amqp_types.specs.declared.fault.ValueFault.{ValueFault}
 use Rattle.amqp_types.specs.declared.fault.ValueFaultKind.TheVariants.{BadSize}
 use Rattle.amqp_types.specs.Part.{Part, Null, Nested, Array, Described, Tagged, Seen, Constructor}
@@ -11,6 +14,14 @@ use Rattle.flow_counts.specs.declared.profile.TheConstants.{MAX_DEPTH}
 abbrev pub behind : {A : Type 0} → Read A → Result (List ℕ) ValueFault
 behind (Ok x) = Ok x.1
 behind (Err e) = Err e
+
+-- a value with this first octet has so many octets behind it, whatever they are
+unfoldable pub IsPlain : ℕ → ℕ → Type 0
+IsPlain first width = (scalar : Scalar) × (code_of first ≡ Some (Fixed scalar)) × (takes_any scalar ≡ true) × (width_of scalar ≡ width)
+
+-- these octets are behind a value, wherever it lies
+unfoldable pub IsPassed : List ℕ → List ℕ → Type 0
+IsPassed bytes rest = (levels at : ℕ) → 0 < levels → behind (seen_at levels at bytes) ≡ Ok rest
 
 -- whether something was read
 abbrev pub is_read : {A : Type 0} → Read A → Bool
@@ -57,6 +68,16 @@ seen_or_null octets (Err e) = record { octets = octets; part = Null }
 -- the value that octets are
 unfoldable pub seen_of : List ℕ → Seen
 seen_of octets = seen_or_null octets (seen_at MAX_DEPTH 0 octets)
+
+-- the constructor that was read, with nothing behind it
+abbrev pub constructor_read : Read Constructor → Option Constructor
+constructor_read (Ok (c, [])) = Some c
+constructor_read (Ok (c, b ∷ rest)) = None
+constructor_read (Err e) = None
+
+-- the constructor that octets are, if they are one
+unfoldable pub constructor_in : List ℕ → Option Constructor
+constructor_in octets = constructor_read (constructor_at MAX_DEPTH 0 octets)
 
 -- how many descriptors, and which code, octets hold that are a constructor
 abbrev pub form_read : Read Constructor → Option (ℕ × Code)

@@ -12,11 +12,11 @@ use Rattle.amqp_types.specs.Part as parts
 use Rattle.amqp_types.specs.Part.{Part, Null, Boolean, Ubyte, Ushort, Uint, Ulong, Kept, Sized, Nested, Array, Described, Tagged, Seen}
 use Rattle.amqp_types.specs.Reading.{is_text}
 use Rattle.amqp_types.specs.Items.{items_in}
-use Rattle.amqp_types.specs.Form.{form}
+use Rattle.amqp_types.specs.Form.{kept_form}
 
 -- what an array says
 abbrev pub array_part : code_array.Array → Part
-array_part array = Array (form array.constructor) array.count array.body.now
+array_part array = Array (kept_form array.form) array.count array.body.now
 
 -- what a value says
 abbrev pub part_of : Content → Part
@@ -45,7 +45,7 @@ view value = record { octets = value.raw.now; part = part_of value.content }
 
 -- the values that an iterator has not given yet
 abbrev pub items_left : Items → List Seen
-items_left items = items_in (form items.constructor) items.left items.rest.now
+items_left items = items_in (kept_form items.form) items.left items.rest.now
 
 -- a value that may be there
 abbrev pub view_of : Option Value → Option Seen

@@ -1,12 +1,12 @@
 //! The format codes: what each first octet of a value says of the octets behind it.
 
 ghost use Rattle.std.specs.Prelude.{◌≡◌};
-ghost use Rattle.amqp_types.specs.Codes.{code_of, scalar_of_code, width_of, opaque_width, size_len, is_described};
+ghost use Rattle.amqp_types.specs.Codes.{code_of, scalar_of_code, width_of, opaque_width, size_len, is_described, takes_any};
 ghost use Rattle.amqp_types.specs.Reading.{is_odd};
 
 /// A type whose data has the same length in each value: part 1, 1.2.1.
 #[derive(Clone, Copy, Debug, PartialEq, Eq)]
-pub(crate) enum Scalar {
+pub enum Scalar {
     Null,
     True,
     False,
@@ -63,14 +63,14 @@ pub enum Kind {
 
 /// How many octets a size has, and the count behind it.
 #[derive(Clone, Copy, Debug, PartialEq, Eq)]
-pub(crate) enum SizeWidth {
+pub enum SizeWidth {
     One,
     Four,
 }
 
 /// What the first octet of a value says of the octets behind it.
 #[derive(Clone, Copy, Debug, PartialEq, Eq)]
-pub(crate) enum Code {
+pub enum Code {
     Fixed(Scalar),
     Sized(Text, SizeWidth),
     /// A list without items, which has no data.
@@ -179,6 +179,14 @@ impl Scalar {
             _ => return None,
         };
         Some(scalar)
+    }
+
+    /// Whether any octets may be the data.
+    #[inline(always)]
+    pub(crate) fn takes_any(self) -> bool
+        ensures { result ≡ takes_any self }
+    {
+        !matches!(self, Scalar::Boolean)
     }
 
     /// How many octets of data the type has.

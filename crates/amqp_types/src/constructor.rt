@@ -1,8 +1,9 @@
-//! The constructor of an array's elements, which is read once with the array.
+//! The constructor of an array's elements, which is read with the array.
 
 ghost use Rattle.std.specs.Prelude.{◌≡◌, ◌<◌, ◌-◌, Some, IsTrue};
 ghost use Rattle.std.specs.Option.{ForSome};
-ghost use Rattle.amqp_types.specs.Items.{is_value, form_of};
+ghost use Rattle.std.specs.Prelude.{is_some};
+ghost use Rattle.amqp_types.specs.Items.{is_value, form_of, constructor_in};
 ghost use Rattle.flow_counts.specs.declared.profile.TheConstants.{MAX_DEPTH};
 
 use crate::code::Code;
@@ -30,4 +31,12 @@ pub(crate) struct Constructor<'a> {
     pub(crate) tag: Option<Tag<'a>>,
     ghost shallow: { tags < MAX_DEPTH },
     ghost inner: { ForSome tag (λ t. form_of t.constructor.now ≡ Some (tags - 1, code)) },
+}
+
+/// The octets of a constructor, which were read before.
+#[derive(Clone, Copy, Debug)]
+pub(crate) struct Form<'a> {
+    /// The octets.
+    pub(crate) octets: &'a [u8],
+    ghost read: { IsTrue (is_some (constructor_in octets.now)) },
 }

@@ -1,17 +1,17 @@
 //! Values of octets that were read before. Nothing of them is tested again, and what a list, a map or an array
 //! holds is not gone over.
 
-ghost use Rattle.std.specs.Prelude.{◌≡◌, ◌-◌, ◌<◌, ◌∷◌, IsTrue, Ok, None};
+ghost use Rattle.std.specs.Prelude.{◌≡◌, ◌-◌, ◌<◌, ◌∷◌, IsTrue, Ok, Some, None};
 ghost use Rattle.std.specs.Result.{is_ok};
 ghost use Rattle.amqp_types.specs.Part as parts;
 ghost use Rattle.amqp_types.specs.Reading.{data_at, nested_at, item_at, seen_at};
-ghost use Rattle.amqp_types.specs.Items.{is_read, are_items, items_in, is_value, is_element, element_of, seen_of};
+ghost use Rattle.amqp_types.specs.Items.{is_read, are_items, items_in, is_value, is_element, element_of, seen_of, constructor_in};
 ghost use Rattle.amqp_types.specs.Grammar.{IsValue, IsConstructor, IsElement};
-ghost use Rattle.amqp_types.specs.Form.{form};
+ghost use Rattle.amqp_types.specs.Form.{kept_form, constructor_of};
 ghost use Rattle.amqp_types.specs.View.{view, part_of};
 
 use crate::code::{Code, Kind, SizeWidth};
-use crate::constructor::Constructor;
+use crate::constructor::{Constructor, Form};
 use crate::primitive::{Read, read_counted, read_fixed, read_text};
 use crate::reading::{read_constructor, read_data, read_element};
 use crate::sequence::Sequence;
@@ -76,19 +76,38 @@ fn known_value(bytes: &[u8]) -> (Value<'_>, &[u8])
     (Value { raw, content }, rest)
 }
 
+/// The constructor that octets are.
+fn known_constructor(form: Form<'_>) -> Constructor<'_>
+    ensures { constructor_in form.entry.octets.now ≡ Some (constructor_of result) }
+{
+    let Ok((constructor, _)) = read_constructor(MAX_DEPTH, 0, form.octets) else {
+        unreachable!()
+    };
+    constructor
+}
+
+/// The element at the front of the octets, and the octets behind it.
+fn known_element<'a>(form: Form<'a>, bytes: &'a [u8]) -> (Value<'a>, &'a [u8])
+    requires { IsTrue (is_read (item_at MAX_DEPTH (constructor_in form.octets.now) 0 bytes.now)) }
+    ensures { item_at MAX_DEPTH (constructor_in form.entry.octets.now) 0 bytes.now ≡ Ok (view result.0, result.1.now) }
+{
+    let constructor = known_constructor(form);
+    match read_element(MAX_DEPTH, constructor, 0, bytes) {
+        Ok(read) => read,
+        Err(_) => unreachable!(),
+    }
+}
+
 /// The item at the front of the octets, an element where there is a constructor, and the octets behind it.
 #[tactic(auto, unfolding(crate::specs::Reading::item_at))]
 #[inline(always)]
-fn known_item<'a>(constructor: Option<Constructor<'a>>, bytes: &'a [u8]) -> (Value<'a>, &'a [u8])
-    requires { IsTrue (is_read (item_at MAX_DEPTH (form constructor) 0 bytes.now)) }
-    ensures { item_at MAX_DEPTH (form constructor.entry) 0 bytes.now ≡ Ok (view result.0, result.1.now) }
+fn known_item<'a>(form: Option<Form<'a>>, bytes: &'a [u8]) -> (Value<'a>, &'a [u8])
+    requires { IsTrue (is_read (item_at MAX_DEPTH (kept_form form) 0 bytes.now)) }
+    ensures { item_at MAX_DEPTH (kept_form form.entry) 0 bytes.now ≡ Ok (view result.0, result.1.now) }
 {
-    match constructor {
+    match form {
         None => known_value(bytes),
-        Some(constructor) => match read_element(MAX_DEPTH, constructor, 0, bytes) {
-            Ok(read) => read,
-            Err(_) => unreachable!(),
-        },
+        Some(form) => known_element(form, bytes),
     }
 }
 
@@ -123,14 +142,14 @@ pub(crate) fn whole_element<'a>(constructor: &'a [u8], octets: &'a [u8]) -> Valu
 /// The first of some items, which were read before, and the octets of the others.
 #[inline(always)]
 pub(crate) fn first_of<'a>(
-    constructor: Option<Constructor<'a>>,
+    form: Option<Form<'a>>,
     count: u32,
     octets: &'a [u8],
 ) -> (Value<'a>, &'a [u8])
     requires some { 0 < count }
-    requires filled { IsTrue (are_items (form constructor) count octets.now) }
-    ensures first { items_in (form constructor.entry) count octets.now ≡ view result.0 ∷ items_in (form constructor.entry) (count - 1) result.1.now }
-    ensures others { IsTrue (are_items (form constructor.entry) (count - 1) result.1.now) }
+    requires filled { IsTrue (are_items (kept_form form) count octets.now) }
+    ensures first { items_in (kept_form form.entry) count octets.now ≡ view result.0 ∷ items_in (kept_form form.entry) (count - 1) result.1.now }
+    ensures others { IsTrue (are_items (kept_form form.entry) (count - 1) result.1.now) }
 {
-    known_item(constructor, octets)
+    known_item(form, octets)
 }

@@ -23,7 +23,7 @@ mod sequence;
 mod value;
 mod writing;
 
-pub use code::{Kind, Opaque, Text};
+pub use code::{Code, Kind, Opaque, Scalar, SizeWidth, Text};
 pub use fault::{ValueFault, ValueFaultKind};
 pub use sequence::Items;
 pub use value::Value;

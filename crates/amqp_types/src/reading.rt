@@ -8,7 +8,7 @@ ghost use Rattle.std.specs.Prelude.{◌≡◌, ◌+◌, ◌-◌, ◌<◌, ◌≤
 ghost use Rattle.amqp_types.specs.Part as parts;
 ghost use Rattle.flow_counts.specs.Words.{Gives};
 ghost use Rattle.amqp_types.specs.Reading.{items_at, nested_at, described_at, tagged_at, array_at, elements_at, constructor_at, element_at, item_at, data_at, seen_at};
-ghost use Rattle.amqp_types.specs.Items.{behind};
+ghost use Rattle.amqp_types.specs.Items.{behind, IsPlain, IsPassed};
 ghost use Rattle.amqp_types.specs.Form.{constructor_of, form};
 ghost use Rattle.amqp_types.specs.View.{view, part_of, array_part};
 
@@ -38,6 +38,33 @@ fn pass_coded(levels: usize, code: Code, at: usize, bytes: &[u8]) -> Result<&[u8
         },
         _ => pass_data(levels, code, at, bytes),
     }
+}
+
+/// How many octets are behind the first one of a value, where any may stand there.
+#[tactic(auto, unfolding(crate::specs::Items::IsPlain))]
+#[inline(always)]
+fn plain_width(first: u8) -> Option<usize>
+    ensures { IfSome result (IsPlain first) }
+{
+    match Code::of(first)? {
+        Code::Fixed(scalar) if scalar.takes_any() => Some(scalar.width()),
+        _ => None,
+    }
+}
+
+/// The octets behind a value, where its first octet says how long it is, and any octets may stand behind that.
+#[tactic(auto, using(crate::proofs::PassedOver::plain_passed))]
+#[inline(always)]
+fn pass_plain(bytes: &[u8]) -> Option<&[u8]>
+    ensures { IfSome result (λ rest. IsPassed bytes.now rest.now) }
+{
+    let (first, data) = bytes.split_first()?;
+    let width = plain_width(*first)?;
+    if data.len() < width {
+        return None;
+    }
+    let (_, rest) = data.split_at(width);
+    Some(rest)
 }
 
 /// The octets behind a value, which is passed over.
@@ -78,7 +105,7 @@ fn pass_element<'a>(
 
 /// The octets behind a value, or behind an element where there is a constructor.
 #[cycle(reader)]
-#[tactic(auto, unfolding(crate::specs::Reading::item_at))]
+#[tactic(auto, unfolding(crate::specs::Reading::item_at), using(crate::proofs::PassedOver::passed_here))]
 #[inline(always)]
 fn pass_item<'a>(
     levels: usize,
@@ -92,7 +119,14 @@ fn pass_item<'a>(
     ensures { Gives (λ x. x.now) result (behind (item_at levels (form constructor.entry) at bytes.now)) }
 {
     match constructor {
-        None => pass_value(levels, at, bytes),
+        None => {
+            if levels != 0 {
+                if let Some(rest) = pass_plain(bytes) {
+                    return Ok(rest);
+                }
+            }
+            pass_value(levels, at, bytes)
+        }
         Some(constructor) => pass_element(levels, constructor, at, bytes),
     }
 }
@@ -245,11 +279,7 @@ fn read_elements(
     }
     let (constructor, body) = read_constructor(levels, at, bytes)?;
     match read_items(levels, Some(constructor), count, at, body) {
-        Ok([]) => Ok(Array {
-            constructor: Some(constructor),
-            count,
-            body,
-        }),
+        Ok([]) => Ok(Array::of(constructor, count, body)),
         Ok(_) => Err(ValueFaultKind::BadSize.of(at)),
         Err(fault) => Err(fault.within(at)),
     }

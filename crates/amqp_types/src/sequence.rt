@@ -2,9 +2,9 @@
 
 ghost use Rattle.std.specs.Prelude.{◌<◌, ◌^◌, IsTrue, None};
 ghost use Rattle.amqp_types.specs.Items.{are_items};
-ghost use Rattle.amqp_types.specs.Form.{form};
+ghost use Rattle.amqp_types.specs.Form.{kept_form};
 
-use crate::constructor::Constructor;
+use crate::constructor::{Constructor, Form};
 use crate::known::first_of;
 use crate::value::Value;
 
@@ -43,7 +43,7 @@ impl<'a> Sequence<'a> {
         ensures whole { AreValuesOf self.now.count self.now.body.now (items_left result) }
     {
         Items {
-            constructor: None,
+            form: None,
             left: self.count,
             rest: self.body,
         }
@@ -54,19 +54,20 @@ impl<'a> Sequence<'a> {
 #[derive(Clone, Copy, Debug)]
 pub(crate) struct Array<'a> {
     /// The elements' constructor. An array without elements may have none.
-    pub(crate) constructor: Option<Constructor<'a>>,
+    pub(crate) form: Option<Form<'a>>,
     /// How many elements there are.
     pub(crate) count: u32,
     /// The octets of their data.
     pub(crate) body: &'a [u8],
     ghost few: { count < 2 ^ 32 },
-    ghost filled: { IsTrue (are_items (form constructor) count body.now) },
+    ghost filled: { IsTrue (are_items (kept_form form) count body.now) },
 }
 
 impl<'a> Array<'a> {
-    ghost use Rattle.std.specs.Prelude.{◌≡◌, [], length};
+    ghost use Rattle.std.specs.Prelude.{◌≡◌, [], length, Some};
     ghost use Rattle.amqp_types.specs.Part as parts;
-    ghost use Rattle.amqp_types.specs.Items.{items_in};
+    ghost use Rattle.amqp_types.specs.Form.{constructor_of};
+    ghost use Rattle.amqp_types.specs.Items.{items_in, constructor_in};
     ghost use Rattle.amqp_types.specs.Grammar.{AreOf, IsItem};
     ghost use Rattle.flow_counts.specs.declared.profile.TheConstants.{MAX_DEPTH};
     ghost use Rattle.amqp_types.specs.View.{array_part, items_left};
@@ -77,20 +78,36 @@ impl<'a> Array<'a> {
         ensures { array_part result ≡ parts.Array None 0 [] }
     {
         Array {
-            constructor: None,
+            form: None,
             count: 0,
             body: &[],
         }
     }
 
+    /// So many elements, whose constructor was read.
+    pub(crate) fn of(constructor: Constructor<'a>, count: u32, body: &'a [u8]) -> Array<'a>
+        requires kept { constructor_in constructor.octets.now ≡ Some (constructor_of constructor) }
+        requires filled { IsTrue (are_items (Some (constructor_of constructor)) count body.now) }
+        ensures { array_part result ≡ parts.Array (Some (constructor_of constructor.entry)) count body.entry.now }
+    {
+        let form = Form {
+            octets: constructor.octets,
+        };
+        Array {
+            form: Some(form),
+            count,
+            body,
+        }
+    }
+
     /// The elements, first to last.
     pub(crate) fn items(&self) -> Items<'a>
-        ensures same { items_left result ≡ items_in (form self.now.constructor) self.now.count self.now.body.now }
+        ensures same { items_left result ≡ items_in (kept_form self.now.form) self.now.count self.now.body.now }
         ensures few { length (items_left result) < 2 ^ 32 }
-        ensures whole { AreOf (IsItem MAX_DEPTH (form self.now.constructor)) self.now.count self.now.body.now (items_left result) }
+        ensures whole { AreOf (IsItem MAX_DEPTH (kept_form self.now.form)) self.now.count self.now.body.now (items_left result) }
     {
         Items {
-            constructor: self.constructor,
+            form: self.form,
             left: self.count,
             rest: self.body,
         }
@@ -101,12 +118,12 @@ impl<'a> Array<'a> {
 #[derive(Clone, Copy, Debug)]
 pub struct Items<'a> {
     /// The constructor of an array's elements, which it was read with.
-    pub(crate) constructor: Option<Constructor<'a>>,
+    pub(crate) form: Option<Form<'a>>,
     /// How many values are left.
     pub(crate) left: u32,
     /// Their octets.
     pub(crate) rest: &'a [u8],
-    ghost filled: { IsTrue (are_items (form constructor) left rest.now) },
+    ghost filled: { IsTrue (are_items (kept_form form) left rest.now) },
 }
 
 impl<'a> Items<'a> {
@@ -137,9 +154,9 @@ impl<'a> Iterator for Items<'a> {
         if self.left == 0 {
             return None;
         }
-        let (value, rest) = first_of(self.constructor, self.left, self.rest);
+        let (value, rest) = first_of(self.form, self.left, self.rest);
         *self = Items {
-            constructor: self.constructor,
+            form: self.form,
             left: self.left - 1,
             rest,
         };

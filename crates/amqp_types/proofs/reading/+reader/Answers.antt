@@ -12,7 +12,7 @@ use Rattle.amqp_types.proofs.Steps.{some_is, done}
 use Rattle.amqp_types.proofs.Octets.{counted_lengths}
 use Rattle.amqp_types.proofs.Values.{data_shorter}
 use Rattle.amqp_types.proofs.Levels.{data_nested, data_array, data_described, described_is, constructor_tagged}
-use Rattle.amqp_types.proofs.Held.{held_value, held_items}
+use Rattle.amqp_types.proofs.Held.{held_value, held_items, constructor_kept}
 use Rattle.amqp_types.proofs.Constructors.{constructor_lengths, constructor_tags, constructor_form, tagged_is}
 use Rattle.amqp_types.specs.declared.code.Code.{Code}
 use Rattle.amqp_types.specs.Part.{Part}
@@ -172,11 +172,14 @@ read_elements-read_items-requires t c =
     let tags = constructor_tags c.args.levels c.args.at c.args.bytes.now (constructor_of constructor.constructor, constructor.body.now) constructor.ensures in
     (search rules, (c.requires.levels, (omega (arith, c.requires.room, lengths), (tags, omega (arith, c.requires.room, lengths)))))
 
-pub read_elements-invariant_of-result : goal.read_elements-invariant_of-result
-read_elements-invariant_of-result t c =
+pub read_elements-of-requires : goal.read_elements-of-requires
+read_elements-of-requires t c =
     let constructor = c.in_ok-constructor in
     let none = nil_from_length c.in-Ok-empty.field-0.now (omega (arith, c.in-Ok-empty.len_below)) in
-    record { few = omega arith; filled = held_items c.args.levels (Some (constructor_of constructor.constructor)) c.args.count _ constructor.body.now c.requires.levels (c.in-Ok-empty.ensures ∙ ap done none) }
+    record {
+      kept = constructor_kept c.args.levels c.args.at c.args.bytes.now (constructor_of constructor.constructor, constructor.body.now) c.requires.levels constructor.ensures;
+      filled = held_items c.args.levels (Some (constructor_of constructor.constructor)) c.args.count _ constructor.body.now c.requires.levels (c.in-Ok-empty.ensures ∙ ap done none);
+    }
 
 pub read_constructor-returns-then-is_described : goal.read_constructor-returns-then-is_described
 read_constructor-returns-then-is_described t c =
