@@ -17,3 +17,4 @@ pub mod Nested
 pub mod Shortest
 pub mod Written
 mod WrittenExamples
+mod KnownExamples
