@@ -23,7 +23,7 @@ ghost use Rattle.trace_law.specs.View.{Events, incoming_view, event_view};
 use crate::held_link::HeldLink;
 use capture_form::{Distribution, Rule, distribution_of};
 use std::alloc::{AllocError, Global};
-use trace_law::{Event, Incoming, Link};
+use trace_law::{Event, Incoming};
 
 /// What has become of it.
 #[derive(Clone, Copy, Debug, PartialEq, Eq)]
@@ -122,7 +122,7 @@ impl HeldDelivery {
         Ok(held)
     }
 
-    /// Of the first part.
+    /// The same, by what the event makes of it.
     fn first(
         alloc: Global,
         rules: &[Rule],
