@@ -15,3 +15,4 @@ mod HeldSteps
 mod HeldExamples
 mod HeldAnswers
 mod HeldKnown
+mod OpenedKnown
