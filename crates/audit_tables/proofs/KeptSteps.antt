@@ -37,7 +37,7 @@ module _ (rules : List RuleText) (e : Event) (past : List Event) (are : AreJudge
       by true own =
           ap (session_behind e channel) (kept.sessions c channel ∙ ap (λ n. session_at n channel past) (sym (eqb-true e.connection c own)))
           ∙ (sym (session-behind rules e past are lawful channel) ∙ ap (λ n. session_at n channel (e ∷ past)) (eqb-true e.connection c own))
-      by false other = kept.sessions c channel ∙ sym (session-other c channel e past other)
+      by false other = kept.sessions c channel ∙ sym (session-other rules e past are lawful c channel other)
 
   unanswered : (c channel : ℕ) → unanswered_in new c channel ≡ unanswered_at c channel (e ∷ past)
   unanswered c channel = takes.unanswered c channel ∙ by (e.connection == c) (is_number (channel_of e.moment) channel) refl refl

@@ -5,6 +5,7 @@ ghost use Rattle.std.specs.Prelude.{◌≡◌, true};
 ghost use Rattle.trace_events.specs.Connection as connections;
 ghost use Rattle.trace_events.specs.Session as sessions;
 ghost use Rattle.trace_events.specs.Session.{IsLiveOn};
+ghost use Rattle.trace_events.specs.Outgoing.{next_delivery_id};
 ghost use Rattle.trace_events.specs.Window as windows;
 ghost use Rattle.audit_tables.specs.Connections.{AreKept};
 ghost use Rattle.trace_law.specs.View.{Events};
@@ -80,6 +81,18 @@ impl Connections {
     {
         match self.session(session.connection, session.channel) {
             Some(live) => live.next_incoming_id,
+            None => 0,
+        }
+    }
+
+    /// The id of the next delivery to the client on a live session.
+    #[tactic(auto, using(crate::proofs::LiveEntries::counts_live))]
+    pub fn next_delivery_id(&self, session: Session) -> u32
+        ensures { (history : Events) → AreKept self.now history → IsLiveOn session history →
+            result ≡ next_delivery_id session history }
+    {
+        match self.session(session.connection, session.channel) {
+            Some(live) => live.next_delivery_id,
             None => 0,
         }
     }

@@ -2,7 +2,8 @@
 
 ghost use Rattle.std.specs.Prelude.{◌≡◌, [], ◌∷◌, true, option_map};
 ghost use Rattle.flow_counts.specs.Window.{lag};
-ghost use Rattle.audit_tables.specs.Sessions.{begun, counted, moved, opens_or_ends, session_next};
+ghost use Rattle.trace_events.specs.Outgoing.{next_delivery_id};
+ghost use Rattle.audit_tables.specs.Sessions.{begins_delivery, begun, counted, moved, moved_by, opens_or_ends, session_next};
 ghost use Rattle.trace_events.specs.Event.{is_on_session};
 ghost use Rattle.trace_events.specs.Window.{window_event, window_events};
 ghost use Rattle.trace_law.specs.View.{Events, event_view};
@@ -22,13 +23,28 @@ pub struct Counted {
     /// The id of the router's next transfer, and of the client's.
     pub next_outgoing_id: u32,
     pub next_incoming_id: u32,
+    /// The id of the next delivery to the client.
+    pub next_delivery_id: u32,
+}
+
+/// A delivery to the client of the session begins with the event.
+fn begins_delivery(event: &Event, session: Session) -> bool
+    ensures { result ≡ begins_delivery (event_view event.now) session }
+{
+    match event.outgoing {
+        Some(delivery) => {
+            delivery.number == event.number && delivery.link.session.number == session.number
+        }
+        None => false,
+    }
 }
 
 impl Counted {
     /// A session of which no event stands yet.
     pub fn new(session: Session) -> Counted
         ensures begun { result ≡ begun session }
-        ensures known { (history : Events) → window_events session history ≡ [] → result ≡ counted session history }
+        ensures known { (history : Events) → window_events session history ≡ [] → next_delivery_id session history ≡ 0 →
+            result ≡ counted session history }
     {
         Counted {
             session,
@@ -36,15 +52,31 @@ impl Counted {
             given_window: INCOMING_WINDOW,
             next_outgoing_id: session.our_first_id,
             next_incoming_id: session.their_first_id,
+            next_delivery_id: 0,
         }
     }
 
     /// With one more of its events.
     #[tactic(auto, using(crate::proofs::SessionSteps::counted_next))]
     pub fn after(self, event: &Event) -> Counted
-        ensures moved { result ≡ moved self (window_event (event_view event.now).moment) }
+        ensures moved { result ≡ moved_by (event_view event.now) self }
         ensures known { (history : Events) → self ≡ counted self.session history → is_on_session self.session (event_view event.now) ≡ true →
             result ≡ counted self.session (event_view event.now ∷ history) }
+    {
+        let later = self.with_windows(event);
+        if begins_delivery(event, self.session) {
+            Counted {
+                next_delivery_id: later.next_delivery_id.wrapping_add(1),
+                ..later
+            }
+        } else {
+            later
+        }
+    }
+
+    /// With what the event does to its windows.
+    fn with_windows(self, event: &Event) -> Counted
+        ensures { result ≡ moved self (window_event (event_view event.now).moment) }
     {
         match event.moment.window_event() {
             None => self,

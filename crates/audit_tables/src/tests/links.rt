@@ -1,13 +1,14 @@
 //! The link of a consumer from its attach to its detach, an attach that is refused, and what outlives a session, with known
 //! answers.
 
-use super::{SESSION, event, spoken};
-use crate::{LinkCounts, Links};
+use super::{BEGIN, SESSION, event, on_session, spoken};
+use crate::{Connections, LinkCounts, Links};
 use amqp_perf::{
     Address, Attach, Detach, ErrorCondition, Flow, Performative, Role, Terminus, Transfer,
 };
 use pairing_cert::Note;
 use std::test::Fail;
+use trace_events::Session;
 use trace_law::{Event, Fault, Frame, Link, Moment, Outgoing};
 
 // A consumer's attach from the queue `q`, and the link that the router opens in answer to it in record 21.
@@ -196,5 +197,49 @@ fn nothing_outlives_a_session(rt: HostRuntime) -> Result<(), Fail> {
     assert!(rt; links.is_live(&LINK));
     links.take(&event(23, 3, Moment::Lost))?;
     assert!(rt; !links.is_live(&LINK));
+    Ok(())
+}
+
+/// A delivery has the session's next id, whatever parts follow; one of another session takes none.
+#[test]
+fn ids_of_deliveries_to_the_client(rt: HostRuntime) -> Result<(), Fail> {
+    let mut connections = Connections::new(rt.alloc());
+    connections.take(&on_session(11, Moment::Out(spoken(Performative::Begin(BEGIN)))))?;
+    assert_eq!(rt; connections.next_delivery_id(SESSION), 0);
+
+    let delivery = Outgoing {
+        number: 23,
+        link: LINK,
+        id: Some(0),
+        is_settled: false,
+        note: Note::Pair(5),
+    };
+    let part = Event {
+        outgoing: Some(delivery),
+        ..on_handle(23, Moment::Out(spoken(PART)), Some(LINK))
+    };
+    connections.take(&part)?;
+    assert_eq!(rt; connections.next_delivery_id(SESSION), 1);
+    connections.take(&Event { number: 24, ..part })?;
+    assert_eq!(rt; connections.next_delivery_id(SESSION), 1);
+
+    let beside = Session {
+        number: 12,
+        ..SESSION
+    };
+    let elsewhere = Outgoing {
+        number: 25,
+        link: Link {
+            session: beside,
+            ..LINK
+        },
+        ..delivery
+    };
+    connections.take(&Event {
+        number: 25,
+        outgoing: Some(elsewhere),
+        ..part
+    })?;
+    assert_eq!(rt; connections.next_delivery_id(SESSION), 1);
     Ok(())
 }
