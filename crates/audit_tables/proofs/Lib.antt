@@ -16,3 +16,4 @@ mod HeldExamples
 mod HeldAnswers
 mod HeldKnown
 mod OpenedKnown
+mod HeldUntouched

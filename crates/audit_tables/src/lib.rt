@@ -8,7 +8,7 @@
 //! - `link_counts`: what the credit of a live link has come to;
 //! - `handle`: a handle of a live session, with its link (`counted_link`) and the client's attach (`held_attach`); `handles`:
 //!   those of a session; `channels`: those of a connection; `links`: all of them;
-//! - `held`: a delivery from a client that is kept, with its link (`held_link`);
+//! - `held`: a delivery from a client that is kept, with its link (`held_link`); `deliveries`: those that are kept, by number;
 //! - `answers`, `link_answers`: what they answer to the questions of `trace_law`; `looked`: all tables, lent to be asked.
 #![tactic(auto)]
 
@@ -17,6 +17,7 @@ mod channels;
 mod connection;
 mod connections;
 mod counted_link;
+mod deliveries;
 mod handle;
 mod handles;
 mod held;
@@ -37,6 +38,7 @@ pub use channels::Channels;
 pub use connection::{Connection, Seen};
 pub use connections::Connections;
 pub use counted_link::CountedLink;
+pub use deliveries::Deliveries;
 pub use handle::Handle;
 pub use handles::Handles;
 pub use held::{Fate, HeldDelivery};
