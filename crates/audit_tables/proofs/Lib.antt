@@ -17,3 +17,4 @@ mod HeldAnswers
 mod HeldKnown
 mod OpenedKnown
 mod HeldUntouched
+mod HeldSparse

@@ -36,9 +36,11 @@ module _ (rules : List RuleText) (e : Event) (past : List Event) (lawful : first
 
   said : (spoken : Spoken) (m : Meaning) → meaning_meets rules e spoken past m L2 ≡ true → meaning_meets rules e spoken past m L3 ≡ true → AreBegun (Some m) (Some spoken) × AreAsked (Some m)
   said spoken (ABegin begin) begins attaches = (and_first (has_unanswered_begin e.connection spoken.channel past) _ (and_first _ _ begins), tt)
-  said spoken (AnAttach fields) begins attaches =
-      (tt, passing (λ (s : Session). is_some (asking s fields.handle past) ≡ true) (answers_attach rules fields past) e.session
-      (λ s answers. some_of (asking s fields.handle past) (answers_one rules fields) answers) attaches)
+  said spoken (AnAttach fields) begins attaches = (
+    tt,
+    passing (λ (s : Session). is_some (asking s fields.handle past) ≡ true) (answers_attach rules fields past) e.session
+        (λ s answers. some_of (asking s fields.handle past) (answers_one rules fields) answers) attaches,
+  )
   said spoken (AnOpen fields) begins attaches = (tt, tt)
   said spoken (AFlow flow) begins attaches = (tt, tt)
   said spoken (ATransfer fields) begins attaches = (tt, tt)
