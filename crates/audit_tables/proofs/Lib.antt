@@ -10,11 +10,4 @@ mod HandlesOfChannels
 mod HandleTables
 mod LinksTaken
 mod LiveHandles
-mod FateSteps
-mod HeldSteps
-mod HeldExamples
-mod HeldAnswers
-mod HeldKnown
 mod OpenedKnown
-mod HeldUntouched
-mod HeldSparse

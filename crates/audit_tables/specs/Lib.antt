@@ -4,6 +4,4 @@ pub mod Connections
 pub mod Links
 pub mod HeldAddress
 pub mod LinkTables
-pub mod Held
 pub mod HeldViews
-pub mod HeldTables

@@ -24,8 +24,12 @@ pub struct HeldLink {
 }
 
 impl HeldLink {
-    /// A copy of it; memory may be refused, for the address.
-    pub(crate) fn new(alloc: Global, link: &Link) -> Result<HeldLink, AllocError>
+    /// A copy of it.
+    ///
+    /// # Errors
+    ///
+    /// Memory was refused, for the address.
+    pub fn new(alloc: Global, link: &Link) -> Result<HeldLink, AllocError>
         ensures { IfOk result (λ own. held_link_view own ≡ link_view link.now) }
     {
         let mut address = Vec::new(alloc);
@@ -43,7 +47,7 @@ impl HeldLink {
     }
 
     /// The link, with the address lent.
-    pub(crate) fn link(&self) -> Link<'_>
+    pub fn link(&self) -> Link<'_>
         ensures { link_view result ≡ held_link_view self.now }
     {
         Link {

@@ -8,7 +8,7 @@
 //! - `link_counts`: what the credit of a live link has come to;
 //! - `handle`: a handle of a live session, with its link (`counted_link`) and the client's attach (`held_attach`); `handles`:
 //!   those of a session; `channels`: those of a connection; `links`: all of them;
-//! - `held`: a delivery from a client that is kept, with its link (`held_link`); `deliveries`: those that are kept, by number;
+//! - `held_link`: the link of a delivery that is kept;
 //! - `answers`, `link_answers`: what they answer to the questions of `trace_law`; `looked`: all tables, lent to be asked.
 #![tactic(auto)]
 
@@ -17,14 +17,10 @@ mod channels;
 mod connection;
 mod connections;
 mod counted_link;
-mod deliveries;
 mod handle;
 mod handles;
-mod held;
 mod held_attach;
 mod held_link;
-#[cfg(test)]
-mod held_tests;
 mod link_answers;
 mod link_counts;
 mod links;
@@ -38,10 +34,8 @@ pub use channels::Channels;
 pub use connection::{Connection, Seen};
 pub use connections::Connections;
 pub use counted_link::CountedLink;
-pub use deliveries::Deliveries;
 pub use handle::Handle;
 pub use handles::Handles;
-pub use held::{Fate, HeldDelivery};
 pub use held_attach::{HeldAddress, HeldAttach};
 pub use held_link::HeldLink;
 pub use link_counts::LinkCounts;
