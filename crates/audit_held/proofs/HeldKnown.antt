@@ -37,7 +37,7 @@ module _ (rules : List RuleText) (e : Event) (past : List Event) (are : AreJudge
       ∙ ap (option_and_then (on rules e past are lawful n)) entry
 
   -- before the event nothing has its number
-  unheld : held_at rules e.number past ≡ None
+  pub unheld : held_at rules e.number past ≡ None
   unheld = by (incoming_at e.number past) refl (incoming_at-is rules past e.number are.1)
     where
       by : (o : Option Incoming) → incoming_at e.number past ≡ o → IfSome o (λ d. (e.number < length past) × (d.number ≡ e.number)) → held_at rules e.number past ≡ None

@@ -6,3 +6,8 @@ mod HeldAnswers
 mod HeldKnown
 mod HeldUntouched
 mod HeldSparse
+mod Regrouped
+mod GroupLists
+mod TouchedKnown
+mod EndedKnown
+mod TouchedAll

@@ -1,3 +1,7 @@
 pub mod Held
 pub mod HeldViews
 pub mod HeldTouched
+pub mod Ids
+pub mod Grouped
+pub mod Touched
+pub mod HeldTables

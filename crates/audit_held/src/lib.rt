@@ -2,10 +2,19 @@
 //! by one event after the other.
 //!
 //! - `held`: a delivery that is kept, and what one event makes of it;
+//! - `groups`: which of those that are kept arrive, are undecided, or wait;
+//! - `touched`: which of them an event may touch;
+//! - `deliveries`: all of them, by number.
 #![tactic(auto)]
 
+mod deliveries;
+mod groups;
 mod held;
 #[cfg(test)]
 mod tests;
+mod touched;
 
+pub use deliveries::Deliveries;
+pub use groups::HeldGroups;
 pub use held::{Fate, HeldDelivery};
+pub use touched::Addresses;

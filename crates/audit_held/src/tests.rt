@@ -1,6 +1,6 @@
 //! A delivery from a client from its first part to its end, with known answers.
 
-use crate::HeldDelivery;
+use crate::{Deliveries, HeldDelivery};
 use amqp_perf::{Detach, Disposition, Performative, Role, Transfer};
 use capture_form::{Distribution, Rule};
 use pairing_cert::Note;
@@ -243,5 +243,37 @@ fn deliveries_in_their_order(rt: HostRuntime) -> Result<(), Fail> {
         assert!(rt; first.is_completed_before(second) && !second.is_completed_before(first));
         assert!(rt; !first.is_completed_before(arriving) && !arriving.is_completed_before(first));
     }
+    Ok(())
+}
+
+/// In the table an event touches the delivery of its number alone: one of two is told without a consumer, and goes.
+#[test]
+fn a_table_of_deliveries(rt: HostRuntime) -> Result<(), Fail> {
+    let mut deliveries = Deliveries::new(rt.alloc());
+    deliveries.begin(&[], &part(15, PART, b"hello"), false)?;
+    let beside = Incoming {
+        number: 16,
+        id: Some(4),
+        ..DELIVERY
+    };
+    let second = Event {
+        incoming: Some(beside),
+        ..part(16, MORE, b"wo")
+    };
+    deliveries.begin(&[], &second, true)?;
+    assert!(rt; deliveries.get(15).is_some_and(|held| held.is_gone()));
+    assert!(rt; deliveries.get(16).is_some_and(|held| !held.is_complete()));
+
+    deliveries.touch(15, &[], &telling(17), false)?;
+    assert!(rt; deliveries.get(15).is_none());
+    let last = Event {
+        number: 18,
+        incoming: Some(beside),
+        ..part(18, PART, b"rld")
+    };
+    deliveries.touch(16, &[], &last, true)?;
+    let held = deliveries.get(16).ok_or("a delivery")?;
+    assert!(rt; held.is_waiting() && *held.payload() == *b"world".as_slice());
+    assert!(rt; deliveries.get(18).is_none());
     Ok(())
 }

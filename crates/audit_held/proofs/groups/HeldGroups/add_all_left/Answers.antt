@@ -1,0 +1,19 @@
+use Rattle.std.proofs.Common.{nat_eq}
+use Rattle.indexmap.specs.IndexSet.{contains}
+use Rattle.audit_held.specs.Touched as law
+use Rattle.trace_law.specs.View.{link_view}
+use Rattle.audit_held.proofs.GroupLists.{nothing-yet, each-more, each-in}
+use Rattle.audit_held.proofs.groups.HeldGroups.add_all_left.Goals as goal
+
+pub loop-link-init : goal.loop-link-init
+loop-link-init g c = λ n. nothing-yet (λ link. law.is_left c.args.self.now (g.A.Addresses.has_one c.args.addresses.now) n (link_view link)) c.args.ended.now (contains nat_eq c.args.touched.now n)
+
+pub loop-link-preserved : goal.loop-link-preserved
+loop-link-preserved g c = λ n.
+    each-more (λ link. law.is_left c.args.self.now (g.A.Addresses.has_one c.args.addresses.now) n (link_view link)) c.args.ended.now c.loop-link.link-index _
+    (contains nat_eq c.args.touched.now n) _ _ c.loop-link-test.true (c.loop-link.invariant n) (c.in_ok-add_left.ensures n)
+
+pub returns : goal.returns
+returns g c = λ n.
+    each-in (λ link. law.is_left c.args.self.now (g.A.Addresses.has_one c.args.addresses.now) n (link_view link)) c.args.ended.now c.loop-link.link-index
+    (contains nat_eq c.args.touched.now n) _ c.loop-link-test.false (c.loop-link.invariant n)

@@ -1,0 +1,156 @@
+//! Which of the deliveries that are kept still arrive, are undecided, or wait: by their link, their session, their id there, and
+//! their address.
+
+ghost use Rattle.std.specs.Prelude.{◌≡◌, ℕ, List, None, OnOk, bytes_eq, nat_eq, ◌==◌, ◌&&◌, if◌then◌else◌};
+ghost use Rattle.number_groups.specs.Groups.{is_member};
+ghost use Rattle.number_groups.specs.OctetGroups as octets;
+ghost use Rattle.audit_held.specs.Grouped.{AreGrouped, IsPut, marks_of, unmarked};
+ghost use Rattle.audit_held.specs.HeldViews.{held_view};
+ghost use Rattle.audit_held.specs.Ids.{same_id};
+ghost use Rattle.trace_law.specs.View.{incoming_view};
+
+use crate::held::HeldDelivery;
+use number_groups::{Groups, OctetGroups};
+use std::alloc::{AllocError, Global};
+use trace_law::Incoming;
+
+/// What a delivery is found by.
+#[derive(Clone, Copy)]
+pub(crate) struct Marks {
+    is_arriving: bool,
+    is_undecided: bool,
+    is_waiting: bool,
+}
+
+impl Marks {
+    /// Of one that is not kept.
+    pub(crate) fn none() -> Marks
+        ensures { result ≡ unmarked }
+    {
+        Marks {
+            is_arriving: false,
+            is_undecided: false,
+            is_waiting: false,
+        }
+    }
+
+    /// Of one that is kept.
+    pub(crate) fn of(held: &HeldDelivery) -> Marks
+        ensures { result ≡ marks_of (held_view held.now) }
+    {
+        Marks {
+            is_arriving: !held.is_complete(),
+            is_undecided: held.is_undecided(),
+            is_waiting: held.is_waiting(),
+        }
+    }
+}
+
+/// The id of a delivery, on its session.
+#[derive(Clone, Copy, PartialEq, Eq, Hash)]
+pub(crate) struct IdOn {
+    session: u64,
+    id: u32,
+}
+
+/// The numbers of the deliveries that are kept, in groups.
+#[doc(hidden)]
+#[derive(Drop)]
+pub struct HeldGroups {
+    /// Those that arrive, by the number of their link.
+    pub(crate) arriving: Groups<u64>,
+    /// Those that are undecided, by the number of their link.
+    pub(crate) undecided: Groups<u64>,
+    /// By that of their session.
+    pub(crate) of_session: Groups<u64>,
+    /// By their id.
+    pub(crate) in_use: Groups<IdOn>,
+    /// Those that wait, by their address.
+    pub(crate) waiting: OctetGroups,
+}
+
+/// The number is in the group of the key, or not.
+fn put(groups: &mut Groups<u64>, key: u64, number: u64, is_in: bool) -> Result<(), AllocError>
+    ensures { OnOk result ((at n : ℕ) → is_member nat_eq groups.new at n ≡ (if (key == at) && (number == n) then is_in else is_member nat_eq groups.old at n)) }
+{
+    if is_in {
+        groups.insert(key, number)?;
+    } else {
+        groups.remove(&key, number);
+    }
+    Ok(())
+}
+
+/// The same, of an id.
+fn put_id(groups: &mut Groups<IdOn>, key: IdOn, number: u64, is_in: bool) -> Result<(), AllocError>
+    ensures { OnOk result ((at : IdOn) (n : ℕ) → is_member same_id groups.new at n ≡ (if same_id key at && (number == n) then is_in else is_member same_id groups.old at n)) }
+{
+    if is_in {
+        groups.insert(key, number)?;
+    } else {
+        groups.remove(&key, number);
+    }
+    Ok(())
+}
+
+/// The same, of an address.
+fn put_at(
+    groups: &mut OctetGroups,
+    address: &[u8],
+    number: u64,
+    is_in: bool,
+) -> Result<(), AllocError>
+    ensures { OnOk result ((at : List ℕ) (n : ℕ) → octets.is_member groups.new at n ≡ (if bytes_eq address.now at && (number == n) then is_in else octets.is_member groups.old at n)) }
+{
+    if is_in {
+        groups.insert(address, number)?;
+    } else {
+        groups.remove(address, number);
+    }
+    Ok(())
+}
+
+impl HeldGroups {
+    /// No deliveries.
+    pub(crate) fn new(alloc: Global) -> HeldGroups
+        ensures { AreGrouped result (λ n. None) }
+    {
+        HeldGroups {
+            arriving: Groups::new(alloc),
+            undecided: Groups::new(alloc),
+            of_session: Groups::new(alloc),
+            in_use: Groups::new(alloc),
+            waiting: OctetGroups::new(alloc),
+        }
+    }
+
+    /// The delivery stands where the marks say.
+    ///
+    /// # Errors
+    ///
+    /// Memory was refused; then it may stand in some of the groups and not in others.
+    pub(crate) fn put(&mut self, delivery: &Incoming, marks: Marks) -> Result<(), AllocError>
+        ensures { OnOk result (IsPut (incoming_view delivery.now) marks self.old self.new) }
+    {
+        let number = delivery.number;
+        let link = delivery.link.number;
+        let session = delivery.link.session.number;
+        put(&mut self.arriving, link, number, marks.is_arriving)?;
+        put(&mut self.undecided, link, number, marks.is_undecided)?;
+        put(&mut self.of_session, session, number, marks.is_undecided)?;
+        if let Some(id) = delivery.id {
+            put_id(
+                &mut self.in_use,
+                IdOn { session, id },
+                number,
+                marks.is_undecided,
+            )?;
+        }
+        put_at(
+            &mut self.waiting,
+            delivery.link.address,
+            number,
+            marks.is_waiting,
+        )
+    }
+}

@@ -1,0 +1,164 @@
+//! The deliveries that an event may touch.
+
+ghost use Rattle.std.specs.Prelude.{◌≡◌, ℕ, ◌||◌, IfOk, OnOk, map, nat_eq};
+ghost use Rattle.std.specs.List.{list_any};
+ghost use Rattle.indexmap.specs.IndexSet.{contains};
+ghost use Rattle.number_groups.specs.Groups.{is_member};
+ghost use Rattle.number_groups.specs.OctetGroups as octets;
+ghost use Rattle.trace_events.specs.Words.{is_number, is_some_and};
+ghost use Rattle.audit_held.specs.Touched as law;
+ghost use Rattle.trace_law.specs.View.{event_view, link_view};
+
+use crate::groups::HeldGroups;
+use amqp_perf::Role;
+use indexmap::IndexSet;
+use number_groups::{Groups, OctetGroups};
+use pairing_cert::Note;
+use std::alloc::{AllocError, Global};
+use trace_law::{Event, Link};
+
+/// What is known of the consumers of addresses.
+pub trait Addresses {
+    ghost use Rattle.std.specs.Prelude.{◌≡◌, ℕ, Bool, List};
+
+    /// Which addresses have one.
+    ghost has_one: { Self → List ℕ → Bool };
+
+    /// The address has a consumer.
+    fn has_consumer(&self, address: &[u8]) -> bool
+        ensures { result ≡ Self.has_one self.now address.now };
+}
+
+/// The number comes in, if there is one.
+fn add(touched: &mut IndexSet<u64>, number: Option<u64>) -> Result<(), AllocError>
+    ensures { OnOk result ((n : ℕ) → contains nat_eq touched.new n ≡ (contains nat_eq touched.old n || is_number number n)) }
+{
+    if let Some(number) = number {
+        touched.insert(number)?;
+    }
+    Ok(())
+}
+
+/// All numbers of the group come in.
+fn add_group(touched: &mut IndexSet<u64>, groups: &Groups<u64>, key: u64) -> Result<(), AllocError>
+    ensures { OnOk result ((n : ℕ) → contains nat_eq touched.new n ≡ (contains nat_eq touched.old n || is_member nat_eq groups.now key n)) }
+{
+    for index in 0..groups.count(&key) {
+        add(touched, groups.get(&key, index))?;
+    }
+    Ok(())
+}
+
+/// All numbers of the group of an address come in.
+fn add_waiting(
+    touched: &mut IndexSet<u64>,
+    groups: &OctetGroups,
+    address: &[u8],
+) -> Result<(), AllocError>
+    ensures { OnOk result ((n : ℕ) → contains nat_eq touched.new n ≡ (contains nat_eq touched.old n || octets.is_member groups.now address.now n)) }
+{
+    for index in 0..groups.count(address) {
+        add(touched, groups.get(address, index))?;
+    }
+    Ok(())
+}
+
+/// The delivery that the event is a part of.
+fn part_number(event: &Event) -> Option<u64>
+    ensures { result ≡ law.part_number (event_view event.now) }
+{
+    match &event.incoming {
+        Some(delivery) => Some(delivery.number),
+        None => None,
+    }
+}
+
+/// The delivery that the one carries of which the event is a part.
+fn carried_number(event: &Event) -> Option<u64>
+    ensures { result ≡ law.carried_number (event_view event.now) }
+{
+    match event.outgoing.as_ref()?.note {
+        Note::Pair(number) => Some(number),
+        Note::None | Note::Told(_) => None,
+    }
+}
+
+/// The session on which a disposition of a producer stands.
+fn settled_session(event: &Event) -> Option<u64>
+    ensures { result ≡ law.settled_session (event_view event.now) }
+{
+    match event.in_disposition()?.role {
+        Role::Sender => Some(event.session?.number),
+        Role::Receiver => None,
+    }
+}
+
+impl HeldGroups {
+    /// What a link that ended leaves comes in.
+    fn add_left<A: Addresses>(
+        &self,
+        touched: &mut IndexSet<u64>,
+        addresses: &A,
+        link: &Link,
+    ) -> Result<(), AllocError>
+        ensures { OnOk result ((n : ℕ) → contains nat_eq touched.new n
+            ≡ (contains nat_eq touched.old n || law.is_left self.now (A.has_one addresses.now) n (link_view link.now))) }
+    {
+        add_group(touched, &self.undecided, link.number)?;
+        if !addresses.has_consumer(link.address) {
+            add_waiting(touched, &self.waiting, link.address)?;
+        }
+        Ok(())
+    }
+
+    /// What the producer of a session may settle comes in.
+    fn add_settled(&self, touched: &mut IndexSet<u64>, event: &Event) -> Result<(), AllocError>
+        ensures { OnOk result ((n : ℕ) → contains nat_eq touched.new n
+            ≡ (contains nat_eq touched.old n || is_some_and (law.settled_session (event_view event.now)) (λ session. is_member nat_eq self.now.of_session session n))) }
+    {
+        match settled_session(event) {
+            Some(session) => add_group(touched, &self.of_session, session),
+            None => Ok(()),
+        }
+    }
+
+    /// What the links that ended leave comes in.
+    fn add_all_left<A: Addresses>(
+        &self,
+        touched: &mut IndexSet<u64>,
+        addresses: &A,
+        ended: &[Link],
+    ) -> Result<(), AllocError>
+        ensures { OnOk result ((n : ℕ) → contains nat_eq touched.new n
+            ≡ (contains nat_eq touched.old n || list_any (λ l. law.is_left self.now (A.has_one addresses.now) n (link_view l)) ended.now)) }
+    {
+        for link in ended {
+            self.add_left(touched, addresses, link)?;
+        }
+        Ok(())
+    }
+
+    /// The deliveries that the event may touch, with which these links end; the addresses are those behind it.
+    ///
+    /// # Errors
+    ///
+    /// Memory was refused.
+    pub(crate) fn touched<A: Addresses>(
+        &self,
+        alloc: Global,
+        addresses: &A,
+        ended: &[Link],
+        event: &Event,
+    ) -> Result<IndexSet<u64>, AllocError>
+        ensures { IfOk result (λ touched. (n : ℕ) → contains nat_eq touched n
+            ≡ law.may_touch self.now (A.has_one addresses.now) (map link_view ended.now) (event_view event.now) n) }
+    {
+        let mut touched = IndexSet::new(alloc);
+        add(&mut touched, part_number(event))?;
+        add(&mut touched, event.told)?;
+        add(&mut touched, carried_number(event))?;
+        self.add_settled(&mut touched, event)?;
+        self.add_all_left(&mut touched, addresses, ended)?;
+        Ok(touched)
+    }
+}
