@@ -87,7 +87,7 @@ fn known_constructor(form: Form<'_>) -> Constructor<'_>
 }
 
 /// The element at the front of the octets, and the octets behind it.
-fn known_element<'a>(form: Form<'a>, bytes: &'a [u8]) -> (Value<'a>, &'a [u8])
+pub(crate) fn known_element<'a>(form: Form<'a>, bytes: &'a [u8]) -> (Value<'a>, &'a [u8])
     requires { IsTrue (is_read (item_at MAX_DEPTH (constructor_in form.octets.now) 0 bytes.now)) }
     ensures { item_at MAX_DEPTH (constructor_in form.entry.octets.now) 0 bytes.now ≡ Ok (view result.0, result.1.now) }
 {
