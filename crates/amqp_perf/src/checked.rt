@@ -72,12 +72,22 @@ impl<'a> CheckedFields<'a> {
         }
         let simple = self.items.next_simple();
         if simple.is_none() {
-            self.items.next();
+            self.skip();
         }
         simple
     }
 
+    /// Takes the next field, whatever it is. The fields that a performative is made of are hardly ever taken so.
+    #[inline(never)]
+    fn skip(&mut self)
+        ensures left { fields_left self.new.items ≡ others (fields_left self.old.items) }
+        ensures fit { self.new.fit ≡ self.old.fit }
+    {
+        self.items.next();
+    }
+
     /// Takes a field that may hold anything.
+    #[inline(never)]
     pub(crate) fn pass_over(&mut self)
         ensures left { fields_left self.new.items ≡ others (fields_left self.old.items) }
         ensures fit { self.new.fit ≡ (self.old.fit && fits_field (optional types.Any) (first (fields_left self.old.items))) }
@@ -85,6 +95,7 @@ impl<'a> CheckedFields<'a> {
         let _ = self.simple();
     }
 
+    #[inline(never)]
     pub(crate) fn boolean(&mut self) -> Option<bool>
         ensures value { result ≡ boolean_in (first (fields_left self.old.items)).part }
         ensures left { fields_left self.new.items ≡ others (fields_left self.old.items) }
@@ -100,6 +111,7 @@ impl<'a> CheckedFields<'a> {
         }
     }
 
+    #[inline(never)]
     pub(crate) fn uint(&mut self) -> Option<u32>
         ensures value { result ≡ uint_in (first (fields_left self.old.items)).part }
         ensures left { fields_left self.new.items ≡ others (fields_left self.old.items) }
@@ -115,6 +127,7 @@ impl<'a> CheckedFields<'a> {
         }
     }
 
+    #[inline(never)]
     pub(crate) fn ushort(&mut self) -> Option<u16>
         ensures value { result ≡ ushort_in (first (fields_left self.old.items)).part }
         ensures left { fields_left self.new.items ≡ others (fields_left self.old.items) }
@@ -131,6 +144,7 @@ impl<'a> CheckedFields<'a> {
     }
 
     /// An ushort of a field that may hold anything.
+    #[inline(never)]
     pub(crate) fn any_ushort(&mut self) -> Option<u16>
         ensures value { result ≡ ushort_in (first (fields_left self.old.items)).part }
         ensures left { fields_left self.new.items ≡ others (fields_left self.old.items) }
@@ -143,6 +157,7 @@ impl<'a> CheckedFields<'a> {
     }
 
     /// An uint of a field that may hold anything.
+    #[inline(never)]
     pub(crate) fn any_uint(&mut self) -> Option<u32>
         ensures value { result ≡ uint_in (first (fields_left self.old.items)).part }
         ensures left { fields_left self.new.items ≡ others (fields_left self.old.items) }
@@ -155,6 +170,7 @@ impl<'a> CheckedFields<'a> {
     }
 
     /// An ulong of a field that may hold anything.
+    #[inline(never)]
     pub(crate) fn any_ulong(&mut self) -> Option<u64>
         ensures value { result ≡ ulong_in (first (fields_left self.old.items)).part }
         ensures left { fields_left self.new.items ≡ others (fields_left self.old.items) }
@@ -175,6 +191,7 @@ impl<'a> CheckedFields<'a> {
     }
 
     /// A mandatory uint: 0 where the field is none.
+    #[inline(never)]
     pub(crate) fn number(&mut self) -> u32
         ensures value { result ≡ unwrap_or (uint_in (first (fields_left self.old.items)).part) 0 }
         ensures left { fields_left self.new.items ≡ others (fields_left self.old.items) }
@@ -202,6 +219,7 @@ impl<'a> CheckedFields<'a> {
     }
 
     /// A mandatory role: that of a sender where the field is none.
+    #[inline(never)]
     pub(crate) fn role(&mut self) -> Role
         ensures value { result ≡ role_of (unwrap_or (boolean_in (first (fields_left self.old.items)).part) false) }
         ensures left { fields_left self.new.items ≡ others (fields_left self.old.items) }
