@@ -55,7 +55,7 @@ fn plain_width(first: u8) -> Option<usize>
 /// The octets behind a value, where its first octet says how long it is, and any octets may stand behind that.
 #[tactic(auto, using(crate::proofs::PassedOver::plain_passed))]
 #[inline(always)]
-fn pass_plain(bytes: &[u8]) -> Option<&[u8]>
+pub(crate) fn pass_plain(bytes: &[u8]) -> Option<&[u8]>
     ensures { IfSome result (λ rest. IsPassed bytes.now rest.now) }
 {
     let (first, data) = bytes.split_first()?;
@@ -70,7 +70,7 @@ fn pass_plain(bytes: &[u8]) -> Option<&[u8]>
 /// The octets behind a value, which is passed over.
 #[cycle(reader)]
 #[tactic(auto, unfolding(crate::specs::Reading::seen_at, crate::specs::Reading::value_at, crate::specs::Reading::value_by, crate::specs::Reading::coded_at))]
-fn pass_value(levels: usize, at: usize, bytes: &[u8]) -> Result<&[u8], ValueFault>
+pub(crate) fn pass_value(levels: usize, at: usize, bytes: &[u8]) -> Result<&[u8], ValueFault>
     requires levels { levels ≤ MAX_DEPTH }
     requires room { at + length bytes.now < 2 ^ 64 }
     ensures { Gives (λ x. x.now) result (behind (seen_at levels at bytes.now)) }
