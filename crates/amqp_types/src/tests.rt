@@ -194,7 +194,7 @@ fn numbers(rt: HostRuntime) {
 }
 
 #[test]
-fn simple(rt: HostRuntime) {
+fn simple_values(rt: HostRuntime) {
     // null, two booleans, an ubyte, an ushort, an uint, two ulongs, a symbol, and null again
     let list: &[u8] =
         b"\xC0\x19\x0A\x40\x41\x56\x00\x50\x07\x60\x01\x02\x52\x09\x44\x80\x01\x02\x03\x04\x05\x06\x07\x08\xA3\x00\x40";
