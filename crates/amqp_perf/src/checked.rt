@@ -4,12 +4,9 @@ use crate::attach::{ReceiverSettleMode, Role, SenderSettleMode};
 use crate::descriptor::{Descriptor, described_list};
 use crate::fields::Fields;
 use crate::state::State;
-use crate::table::{
-    ANY, BINARY, BOOLEAN, Field, MANDATORY_BOOLEAN, MANDATORY_STR, MANDATORY_UINT, RECEIVER_MODE,
-    SENDER_MODE, UINT, USHORT,
-};
+use crate::table::{ANY, BINARY, Field, MANDATORY_STR, RECEIVER_MODE, SENDER_MODE};
 use crate::terminus::{Target, Terminus};
-use amqp_types::{Items, Value};
+use amqp_types::{Items, Simple, Value};
 
 /// The fields of a described list that are left, in order, and whether those that were taken fit their places.
 /// Behind the last one all others count as null.
@@ -22,6 +19,7 @@ pub(crate) struct CheckedFields<'a> {
 impl<'a> CheckedFields<'a> {
     ghost use Rattle.std.specs.Prelude.{◌≡◌, [], true, false, ◌&&◌, unwrap_or, option_map};
     ghost use Rattle.std.specs.Option.{option_copied};
+    ghost use Rattle.amqp_types.specs.Simple.{simple_in};
     ghost use Rattle.amqp_types.specs.Typed.{boolean_in, ushort_in, uint_in, ulong_in, binary_in, str_in};
     ghost use Rattle.amqp_perf.specs.declared.table.FieldType.TheVariants as types;
     ghost use Rattle.amqp_perf.specs.FieldPlaces.{first, others};
@@ -61,63 +59,127 @@ impl<'a> CheckedFields<'a> {
         value
     }
 
+    /// Takes the next field and gives what it says, where it is null, a boolean or a number without a sign: null where
+    /// it is missing.
+    #[inline(always)]
+    fn simple(&mut self) -> Option<Simple>
+        ensures value { result ≡ simple_in (first (fields_left self.old.items)).part }
+        ensures left { fields_left self.new.items ≡ others (fields_left self.old.items) }
+        ensures fit { self.new.fit ≡ self.old.fit }
+    {
+        if self.items.len() == 0 {
+            return Some(Simple::Null);
+        }
+        let simple = self.items.next_simple();
+        if simple.is_none() {
+            self.skip();
+        }
+        simple
+    }
+
+    /// Takes the next field, whatever it is. The fields that a performative is made of are hardly ever taken so.
+    #[inline(never)]
+    fn skip(&mut self)
+        ensures left { fields_left self.new.items ≡ others (fields_left self.old.items) }
+        ensures fit { self.new.fit ≡ self.old.fit }
+    {
+        self.items.next();
+    }
+
     /// Takes a field that may hold anything.
+    #[inline(never)]
     pub(crate) fn pass_over(&mut self)
         ensures left { fields_left self.new.items ≡ others (fields_left self.old.items) }
         ensures fit { self.new.fit ≡ (self.old.fit && fits_field (optional types.Any) (first (fields_left self.old.items))) }
     {
-        let _ = self.take(ANY);
+        let _ = self.simple();
     }
 
+    #[inline(never)]
     pub(crate) fn boolean(&mut self) -> Option<bool>
         ensures value { result ≡ boolean_in (first (fields_left self.old.items)).part }
         ensures left { fields_left self.new.items ≡ others (fields_left self.old.items) }
         ensures fit { self.new.fit ≡ (self.old.fit && fits_field (optional types.Boolean) (first (fields_left self.old.items))) }
     {
-        self.take(BOOLEAN)?.as_bool()
+        match self.simple() {
+            Some(Simple::Boolean(value)) => Some(value),
+            Some(Simple::Null) => None,
+            _ => {
+                self.fit = false;
+                None
+            }
+        }
     }
 
+    #[inline(never)]
     pub(crate) fn uint(&mut self) -> Option<u32>
         ensures value { result ≡ uint_in (first (fields_left self.old.items)).part }
         ensures left { fields_left self.new.items ≡ others (fields_left self.old.items) }
         ensures fit { self.new.fit ≡ (self.old.fit && fits_field (optional types.Uint) (first (fields_left self.old.items))) }
     {
-        self.take(UINT)?.as_uint()
+        match self.simple() {
+            Some(Simple::Uint(number)) => Some(number),
+            Some(Simple::Null) => None,
+            _ => {
+                self.fit = false;
+                None
+            }
+        }
     }
 
+    #[inline(never)]
     pub(crate) fn ushort(&mut self) -> Option<u16>
         ensures value { result ≡ ushort_in (first (fields_left self.old.items)).part }
         ensures left { fields_left self.new.items ≡ others (fields_left self.old.items) }
         ensures fit { self.new.fit ≡ (self.old.fit && fits_field (optional types.Ushort) (first (fields_left self.old.items))) }
     {
-        self.take(USHORT)?.as_ushort()
+        match self.simple() {
+            Some(Simple::Ushort(number)) => Some(number),
+            Some(Simple::Null) => None,
+            _ => {
+                self.fit = false;
+                None
+            }
+        }
     }
 
     /// An ushort of a field that may hold anything.
+    #[inline(never)]
     pub(crate) fn any_ushort(&mut self) -> Option<u16>
         ensures value { result ≡ ushort_in (first (fields_left self.old.items)).part }
         ensures left { fields_left self.new.items ≡ others (fields_left self.old.items) }
         ensures fit { self.new.fit ≡ (self.old.fit && fits_field (optional types.Any) (first (fields_left self.old.items))) }
     {
-        self.take(ANY)?.as_ushort()
+        match self.simple() {
+            Some(Simple::Ushort(number)) => Some(number),
+            _ => None,
+        }
     }
 
     /// An uint of a field that may hold anything.
+    #[inline(never)]
     pub(crate) fn any_uint(&mut self) -> Option<u32>
         ensures value { result ≡ uint_in (first (fields_left self.old.items)).part }
         ensures left { fields_left self.new.items ≡ others (fields_left self.old.items) }
         ensures fit { self.new.fit ≡ (self.old.fit && fits_field (optional types.Any) (first (fields_left self.old.items))) }
     {
-        self.take(ANY)?.as_uint()
+        match self.simple() {
+            Some(Simple::Uint(number)) => Some(number),
+            _ => None,
+        }
     }
 
     /// An ulong of a field that may hold anything.
+    #[inline(never)]
     pub(crate) fn any_ulong(&mut self) -> Option<u64>
         ensures value { result ≡ ulong_in (first (fields_left self.old.items)).part }
         ensures left { fields_left self.new.items ≡ others (fields_left self.old.items) }
         ensures fit { self.new.fit ≡ (self.old.fit && fits_field (optional types.Any) (first (fields_left self.old.items))) }
     {
-        self.take(ANY)?.as_ulong()
+        match self.simple() {
+            Some(Simple::Ulong(number)) => Some(number),
+            _ => None,
+        }
     }
 
     pub(crate) fn binary(&mut self) -> Option<&'a [u8]>
@@ -129,14 +191,18 @@ impl<'a> CheckedFields<'a> {
     }
 
     /// A mandatory uint: 0 where the field is none.
+    #[inline(never)]
     pub(crate) fn number(&mut self) -> u32
         ensures value { result ≡ unwrap_or (uint_in (first (fields_left self.old.items)).part) 0 }
         ensures left { fields_left self.new.items ≡ others (fields_left self.old.items) }
         ensures fit { self.new.fit ≡ (self.old.fit && fits_field (mandatory types.Uint) (first (fields_left self.old.items))) }
     {
-        match self.take(MANDATORY_UINT) {
-            Some(value) => value.as_uint().unwrap_or(0),
-            None => 0,
+        match self.simple() {
+            Some(Simple::Uint(number)) => number,
+            _ => {
+                self.fit = false;
+                0
+            }
         }
     }
 
@@ -153,15 +219,19 @@ impl<'a> CheckedFields<'a> {
     }
 
     /// A mandatory role: that of a sender where the field is none.
+    #[inline(never)]
     pub(crate) fn role(&mut self) -> Role
         ensures value { result ≡ role_of (unwrap_or (boolean_in (first (fields_left self.old.items)).part) false) }
         ensures left { fields_left self.new.items ≡ others (fields_left self.old.items) }
         ensures fit { self.new.fit ≡ (self.old.fit && fits_field (mandatory types.Boolean) (first (fields_left self.old.items))) }
     {
-        Role::of(match self.take(MANDATORY_BOOLEAN) {
-            Some(value) => value.as_bool().unwrap_or(false),
-            None => false,
-        })
+        match self.simple() {
+            Some(Simple::Boolean(is_receiver)) => Role::of(is_receiver),
+            _ => {
+                self.fit = false;
+                Role::Sender
+            }
+        }
     }
 
     pub(crate) fn sender_mode(&mut self) -> Option<SenderSettleMode>

@@ -36,7 +36,7 @@ impl<'a> Performative<'a> {
     ghost use Rattle.std.specs.Option.{option_copied};
     ghost use Rattle.amqp_perf.specs.Meaning.{Meaning, meaning_of, state_told, state_octets};
     ghost use Rattle.flow_counts.specs.Words.{Gives};
-    ghost use Rattle.amqp_perf.specs.Reading.{performative_at, said};
+    ghost use Rattle.amqp_perf.specs.Reading.{performative_at, said, before};
     ghost use Rattle.amqp_perf.specs.Grammar.{IsFront};
     ghost use Rattle.amqp_perf.specs.Writing.{IfThere, IsWritableState};
     ghost use Rattle.amqp_perf.specs.View.{view};
@@ -68,15 +68,15 @@ impl<'a> Performative<'a> {
         ensures { Gives (λ x. (view x.0, x.1.now)) result (performative_at octets.now) }
     {
         match Value::read(octets) {
-            Ok((value, rest)) => Ok((Performative::of_value(value)?, rest)),
+            Ok((value, rest)) => Performative::of_value(value, rest),
             Err(fault) => Err(PerfFault::Value(fault)),
         }
     }
 
-    /// What a value says as a performative.
+    /// What a value says as a performative, and the octets behind the value.
     #[tactic(auto, using(crate::proofs::Fits::none_at_fault))]
-    fn of_value(value: Value<'a>) -> Result<Performative<'a>, PerfFault>
-        ensures { Gives view result (said (values.view value.entry).part) }
+    fn of_value(value: Value<'a>, rest: &'a [u8]) -> Result<(Performative<'a>, &'a [u8]), PerfFault>
+        ensures { Gives (λ x. (view x.0, x.1.now)) result (before rest.entry.now (said (values.view value.entry).part)) }
     {
         let Some((Descriptor::Performative(kind), items)) = described_list(value) else {
             return Err(PerfFault::NotPerformative);
@@ -88,10 +88,10 @@ impl<'a> Performative<'a> {
         let mut fields = CheckedFields::new(items);
         let performative = Performative::of_fields(kind, &mut fields);
         if fields.fit() {
-            return Ok(performative);
+            return Ok((performative, rest));
         }
         Fields::new(items).check(table)?;
-        Ok(performative)
+        Ok((performative, rest))
     }
 
     /// From the fields of a performative of this kind, as far as they fit its table.

@@ -20,10 +20,13 @@ impl<'a> State<'a> {
     pub(crate) fn of_value(value: Value<'a>) -> Option<State<'a>>
         ensures { option_map state_view result ≡ state_in (view value.entry) }
     {
-        value.descriptor()?;
         let outcome = match described_list(value) {
             Some((Descriptor::Outcome(outcome), _)) => Some(outcome),
-            _ => None,
+            Some(_) => None,
+            None => {
+                value.descriptor()?;
+                None
+            }
         };
         Some(State {
             raw: value.raw(),

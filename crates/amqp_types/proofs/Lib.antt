@@ -12,6 +12,7 @@ pub mod Loop
 pub mod Levels
 pub mod PassedOver
 pub mod ReadBefore
+pub mod SimpleValues
 pub mod Front
 pub mod Nested
 pub mod Shortest

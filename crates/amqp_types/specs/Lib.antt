@@ -8,3 +8,4 @@ pub mod View
 pub mod Grammar
 pub mod Typed
 pub mod Writing
+pub mod Simple

@@ -4,16 +4,17 @@
 ghost use Rattle.std.specs.Prelude.{◌≡◌, ◌-◌, ◌<◌, ◌∷◌, IsTrue, Ok, Some, None};
 ghost use Rattle.std.specs.Result.{is_ok};
 ghost use Rattle.amqp_types.specs.Part as parts;
-ghost use Rattle.amqp_types.specs.Reading.{data_at, nested_at, item_at, seen_at};
-ghost use Rattle.amqp_types.specs.Items.{is_read, are_items, items_in, is_value, is_element, element_of, seen_of, constructor_in};
+ghost use Rattle.amqp_types.specs.Reading.{data_at, nested_at, described_at, item_at, seen_at};
+ghost use Rattle.amqp_types.specs.Items.{is_read, behind, are_items, items_in, is_value, is_element, element_of, seen_of, constructor_in};
 ghost use Rattle.amqp_types.specs.Grammar.{IsValue, IsConstructor, IsElement};
 ghost use Rattle.amqp_types.specs.Form.{kept_form, constructor_of};
 ghost use Rattle.amqp_types.specs.View.{view, part_of};
 
 use crate::code::{Code, Kind, SizeWidth};
 use crate::constructor::{Constructor, Form};
+use crate::described::Described;
 use crate::primitive::{Read, read_counted, read_fixed, read_text};
-use crate::reading::{read_constructor, read_data, read_element};
+use crate::reading::{pass_plain, pass_value, read_constructor, read_data, read_element};
 use crate::sequence::Sequence;
 use crate::value::{Content, Value};
 use flow_counts::MAX_DEPTH;
@@ -42,6 +43,47 @@ fn known_nested(kind: Kind, width: SizeWidth, bytes: &[u8]) -> (Content<'_>, &[u
     (Content::Nested(kind, Sequence { count, body }), rest)
 }
 
+/// The octets behind a value, which is passed over: of a list or a map by its size.
+#[tactic(auto, unfolding(crate::specs::Reading::seen_at, crate::specs::Reading::value_at, crate::specs::Reading::value_by, crate::specs::Reading::coded_at, crate::specs::Reading::data_at, crate::specs::Reading::data_by))]
+fn known_behind(bytes: &[u8]) -> &[u8]
+    requires { IsTrue (is_read (seen_at MAX_DEPTH 0 bytes.now)) }
+    ensures { behind (seen_at MAX_DEPTH 0 bytes.now) ≡ Ok result.now }
+{
+    if let Some(rest) = pass_plain(bytes) {
+        return rest;
+    }
+    let Some((first, data)) = bytes.split_first() else {
+        unreachable!()
+    };
+    let Some(code) = Code::of(*first) else {
+        unreachable!()
+    };
+    match code {
+        Code::EmptyList => data,
+        Code::Nested(kind, width) => {
+            let (_, rest) = known_nested(kind, width, data);
+            rest
+        }
+        _ => match pass_value(MAX_DEPTH, 0, bytes) {
+            Ok(rest) => rest,
+            Err(_) => unreachable!(),
+        },
+    }
+}
+
+/// A descriptor, and the value that it describes.
+#[inline(never)]
+fn known_described(bytes: &[u8]) -> (Described<'_>, &[u8])
+    requires { IsTrue (is_read (described_at (seen_at (MAX_DEPTH - 1)) 0 bytes.now)) }
+    ensures { described_at (seen_at (MAX_DEPTH - 1)) 0 bytes.now ≡ Ok (parts.Described result.0.descriptor.now result.0.value.now, result.1.now) }
+{
+    let described = known_behind(bytes);
+    let descriptor = &bytes[..bytes.len() - described.len()];
+    let rest = known_behind(described);
+    let value = &described[..described.len() - rest.len()];
+    (Described { descriptor, value }, rest)
+}
+
 /// What is behind a code.
 #[tactic(auto, unfolding(crate::specs::Reading::data_at, crate::specs::Reading::data_by), using(crate::proofs::ReadBefore::is_known))]
 #[inline(always)]
@@ -54,7 +96,11 @@ fn known_data(code: Code, bytes: &[u8]) -> (Content<'_>, &[u8])
         Code::Sized(text, width) => known(read_text(text, width, 0, bytes)),
         Code::EmptyList => (Content::Nested(Kind::List, Sequence::empty()), bytes),
         Code::Nested(kind, width) => known_nested(kind, width, bytes),
-        Code::Array(_) | Code::Described => known(read_data(MAX_DEPTH, code, 0, bytes)),
+        Code::Array(_) => known(read_data(MAX_DEPTH, code, 0, bytes)),
+        Code::Described => {
+            let (pair, rest) = known_described(bytes);
+            (Content::Described(pair), rest)
+        }
     }
 }
 
@@ -87,7 +133,7 @@ fn known_constructor(form: Form<'_>) -> Constructor<'_>
 }
 
 /// The element at the front of the octets, and the octets behind it.
-fn known_element<'a>(form: Form<'a>, bytes: &'a [u8]) -> (Value<'a>, &'a [u8])
+pub(crate) fn known_element<'a>(form: Form<'a>, bytes: &'a [u8]) -> (Value<'a>, &'a [u8])
     requires { IsTrue (is_read (item_at MAX_DEPTH (constructor_in form.octets.now) 0 bytes.now)) }
     ensures { item_at MAX_DEPTH (constructor_in form.entry.octets.now) 0 bytes.now ≡ Ok (view result.0, result.1.now) }
 {

@@ -9,7 +9,7 @@
 //! were read with the value that holds them: to take them out cannot fail.
 //!
 //! Reading order: `fault`, `code`, `value`, `sequence`, `constructor`, `described`, `primitive`,
-//! `reading`, `known`, `writing`.
+//! `reading`, `known`, `simple`, `writing`.
 #![tactic(auto)]
 
 mod code;
@@ -20,12 +20,14 @@ mod known;
 mod primitive;
 mod reading;
 mod sequence;
+mod simple;
 mod value;
 mod writing;
 
 pub use code::{Code, Kind, Opaque, Scalar, SizeWidth, Text};
 pub use fault::{ValueFault, ValueFaultKind};
 pub use sequence::Items;
+pub use simple::Simple;
 pub use value::Value;
 pub use writing::{
     put_binary, put_bool, put_described_list, put_list, put_null, put_parts, put_str, put_symbol,

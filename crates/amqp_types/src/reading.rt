@@ -55,7 +55,7 @@ fn plain_width(first: u8) -> Option<usize>
 /// The octets behind a value, where its first octet says how long it is, and any octets may stand behind that.
 #[tactic(auto, using(crate::proofs::PassedOver::plain_passed))]
 #[inline(always)]
-fn pass_plain(bytes: &[u8]) -> Option<&[u8]>
+pub(crate) fn pass_plain(bytes: &[u8]) -> Option<&[u8]>
     ensures { IfSome result (λ rest. IsPassed bytes.now rest.now) }
 {
     let (first, data) = bytes.split_first()?;
@@ -70,7 +70,7 @@ fn pass_plain(bytes: &[u8]) -> Option<&[u8]>
 /// The octets behind a value, which is passed over.
 #[cycle(reader)]
 #[tactic(auto, unfolding(crate::specs::Reading::seen_at, crate::specs::Reading::value_at, crate::specs::Reading::value_by, crate::specs::Reading::coded_at))]
-fn pass_value(levels: usize, at: usize, bytes: &[u8]) -> Result<&[u8], ValueFault>
+pub(crate) fn pass_value(levels: usize, at: usize, bytes: &[u8]) -> Result<&[u8], ValueFault>
     requires levels { levels ≤ MAX_DEPTH }
     requires room { at + length bytes.now < 2 ^ 64 }
     ensures { Gives (λ x. x.now) result (behind (seen_at levels at bytes.now)) }
@@ -85,6 +85,23 @@ fn pass_value(levels: usize, at: usize, bytes: &[u8]) -> Result<&[u8], ValueFaul
         return Err(ValueFaultKind::UnknownCode.of(at));
     };
     pass_coded(levels, code, at, data)
+}
+
+/// The octets behind a value, which is passed over: at once where its first octet says how long it is.
+#[cycle(reader)]
+#[tactic(auto, using(crate::proofs::PassedOver::passed_here))]
+#[inline(always)]
+fn pass_front(levels: usize, at: usize, bytes: &[u8]) -> Result<&[u8], ValueFault>
+    requires levels { levels ≤ MAX_DEPTH }
+    requires room { at + length bytes.now < 2 ^ 64 }
+    ensures { Gives (λ x. x.now) result (behind (seen_at levels at bytes.now)) }
+{
+    if levels != 0 {
+        if let Some(rest) = pass_plain(bytes) {
+            return Ok(rest);
+        }
+    }
+    pass_value(levels, at, bytes)
 }
 
 /// The octets behind an element, which is passed over.
@@ -105,7 +122,7 @@ fn pass_element<'a>(
 
 /// The octets behind a value, or behind an element where there is a constructor.
 #[cycle(reader)]
-#[tactic(auto, unfolding(crate::specs::Reading::item_at), using(crate::proofs::PassedOver::passed_here))]
+#[tactic(auto, unfolding(crate::specs::Reading::item_at))]
 #[inline(always)]
 fn pass_item<'a>(
     levels: usize,
@@ -119,14 +136,7 @@ fn pass_item<'a>(
     ensures { Gives (λ x. x.now) result (behind (item_at levels (form constructor.entry) at bytes.now)) }
 {
     match constructor {
-        None => {
-            if levels != 0 {
-                if let Some(rest) = pass_plain(bytes) {
-                    return Ok(rest);
-                }
-            }
-            pass_value(levels, at, bytes)
-        }
+        None => pass_front(levels, at, bytes),
         Some(constructor) => pass_element(levels, constructor, at, bytes),
     }
 }
@@ -307,7 +317,7 @@ fn read_described(levels: usize, at: usize, bytes: &[u8]) -> Read<'_, Described<
     requires room { at + 1 + length bytes.now < 2 ^ 64 }
     ensures { Gives (λ x. (parts.Described x.0.descriptor.now x.0.value.now, x.1.now)) result (described_at (seen_at levels) at bytes.now) }
 {
-    let described = pass_value(levels, at + 1, bytes)?;
+    let described = pass_front(levels, at + 1, bytes)?;
     let descriptor = &bytes[..bytes.len() - described.len()];
     let rest = pass_value(levels, at + 1 + descriptor.len(), described)?;
     let value = &described[..described.len() - rest.len()];

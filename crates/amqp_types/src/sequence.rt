@@ -6,6 +6,7 @@ ghost use Rattle.amqp_types.specs.Form.{kept_form};
 
 use crate::constructor::{Constructor, Form};
 use crate::known::first_of;
+use crate::simple::{Simple, simple_item};
 use crate::value::Value;
 
 /// Values that lie one after the other.
@@ -128,6 +129,7 @@ pub struct Items<'a> {
 
 impl<'a> Items<'a> {
     ghost use Rattle.std.specs.Prelude.{◌≡◌, length};
+    ghost use Rattle.amqp_types.specs.Simple.{simple_first, behind_simple};
     ghost use Rattle.amqp_types.specs.View.{items_left};
 
     /// How many values are left.
@@ -135,6 +137,30 @@ impl<'a> Items<'a> {
         ensures { result ≡ length (items_left self.now) }
     {
         self.left as usize
+    }
+
+    /// Takes the next value, where it is null, a boolean or a number without a sign, and gives what it says. Another is
+    /// left: then, and behind the last, nothing is given.
+    #[tactic(auto, unfolding(crate::specs::Items::items_in))]
+    #[inline(always)]
+    pub fn next_simple(&mut self) -> Option<Simple>
+        ensures value { result ≡ simple_first (items_left self.old) }
+        ensures left { items_left self.new ≡ behind_simple (items_left self.old) }
+    {
+        let Some(left) = self.left.checked_sub(1) else {
+            return None;
+        };
+        match simple_item(self.form, self.rest) {
+            Some((simple, rest)) => {
+                *self = Items {
+                    form: self.form,
+                    left,
+                    rest,
+                };
+                Some(simple)
+            }
+            None => None,
+        }
     }
 }
 

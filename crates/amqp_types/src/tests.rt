@@ -194,6 +194,38 @@ fn numbers(rt: HostRuntime) {
 }
 
 #[test]
+fn simple_values(rt: HostRuntime) {
+    // null, two booleans, an ubyte, an ushort, an uint, two ulongs, a symbol, and null again
+    let list: &[u8] =
+        b"\xC0\x19\x0A\x40\x41\x56\x00\x50\x07\x60\x01\x02\x52\x09\x44\x80\x01\x02\x03\x04\x05\x06\x07\x08\xA3\x00\x40";
+    let mut items = value(&rt, list).items();
+    let simple = [
+        Simple::Null,
+        Simple::Boolean(true),
+        Simple::Boolean(false),
+        Simple::Ubyte(7),
+        Simple::Ushort(0x0102),
+        Simple::Uint(9),
+        Simple::Ulong(0),
+        Simple::Ulong(0x0102_0304_0506_0708),
+    ];
+    for value in simple {
+        assert_eq!(rt; items.next_simple(), Some(value));
+    }
+    // the symbol stays until it is taken
+    assert_eq!(rt; items.next_simple(), None);
+    assert_eq!(rt; items.next().expect(&rt, "a symbol").as_symbol(), Some(""));
+    assert_eq!(rt; items.next_simple(), Some(Simple::Null));
+    assert_eq!(rt; items.next_simple(), None);
+    // elements have their constructor in the array
+    let array = [0xE0, 0x04, 0x02, 0x52, 0x07, 0x08];
+    let mut elements = value(&rt, &array).items();
+    assert_eq!(rt; elements.next_simple(), Some(Simple::Uint(7)));
+    assert_eq!(rt; elements.next_simple(), Some(Simple::Uint(8)));
+    assert_eq!(rt; elements.next_simple(), None);
+}
+
+#[test]
 fn others(rt: HostRuntime) {
     assert!(rt; value(&rt, &[0x40]).is_null());
     assert!(rt; !value(&rt, &[0x41]).is_null());

@@ -27,23 +27,26 @@ decreases-pass_value l = 8 * l.levels + 2
 abbrev pub decreases-pass_element : goal.decreases-pass_element
 decreases-pass_element l = 8 * l.levels + 2
 
+abbrev pub decreases-pass_front : goal.decreases-pass_front
+decreases-pass_front l = 8 * l.levels + 3
+
 abbrev pub decreases-pass_item : goal.decreases-pass_item
-decreases-pass_item l = 8 * l.levels + 3
+decreases-pass_item l = 8 * l.levels + 4
 
 abbrev pub decreases-read_items : goal.decreases-read_items
-decreases-read_items l = 8 * l.levels + 4
+decreases-read_items l = 8 * l.levels + 5
 
 abbrev pub decreases-read_nested : goal.decreases-read_nested
-decreases-read_nested l = 8 * l.levels + 5
+decreases-read_nested l = 8 * l.levels + 6
 
 abbrev pub decreases-read_elements : goal.decreases-read_elements
-decreases-read_elements l = 8 * l.levels + 5
+decreases-read_elements l = 8 * l.levels + 6
 
 abbrev pub decreases-read_array : goal.decreases-read_array
-decreases-read_array l = 8 * l.levels + 6
+decreases-read_array l = 8 * l.levels + 7
 
 abbrev pub decreases-read_described : goal.decreases-read_described
-decreases-read_described l = 8 * l.levels + 5
+decreases-read_described l = 8 * l.levels + 6
 
 abbrev pub invariant-read_items-loop : goal.invariant-read_items-loop
 invariant-read_items-loop l = GoesOver l.levels (form l.constructor) l.count l.at l.bytes l.counter l.place l.rest
