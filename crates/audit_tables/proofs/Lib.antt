@@ -18,3 +18,7 @@ mod HeldKnown
 mod OpenedKnown
 mod HeldUntouched
 mod HeldSparse
+pub mod EndedMembers
+pub mod EndedSteps
+pub mod EndedTables
+pub mod EndedLaw

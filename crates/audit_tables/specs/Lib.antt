@@ -7,3 +7,4 @@ pub mod LinkTables
 pub mod Held
 pub mod HeldViews
 pub mod HeldTables
+pub mod EndedLinks

@@ -7,7 +7,7 @@
 //! - `connections`: all of them;
 //! - `link_counts`: what the credit of a live link has come to;
 //! - `handle`: a handle of a live session, with its link (`counted_link`) and the client's attach (`held_attach`); `handles`:
-//!   those of a session; `channels`: those of a connection; `links`: all of them;
+//!   those of a session; `channels`: those of a connection; `links`: all of them; `ended_links`: those that an event ends;
 //! - `held`: a delivery from a client that is kept, with its link (`held_link`); `deliveries`: those that are kept, by number;
 //! - `answers`, `link_answers`: what they answer to the questions of `trace_law`; `looked`: all tables, lent to be asked.
 #![tactic(auto)]
@@ -18,6 +18,7 @@ mod connection;
 mod connections;
 mod counted_link;
 mod deliveries;
+mod ended_links;
 mod handle;
 mod handles;
 mod held;
