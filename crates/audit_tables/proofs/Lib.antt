@@ -11,3 +11,7 @@ mod HandleTables
 mod LinksTaken
 mod LiveHandles
 mod OpenedKnown
+pub mod EndedMembers
+pub mod EndedSteps
+pub mod EndedTables
+pub mod EndedLaw

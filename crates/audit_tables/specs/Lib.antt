@@ -5,3 +5,4 @@ pub mod Links
 pub mod HeldAddress
 pub mod LinkTables
 pub mod HeldViews
+pub mod EndedLinks

@@ -18,7 +18,7 @@ use trace_law::Event;
 #[derive(Drop)]
 pub struct Channels {
     alloc: Global,
-    entries: IndexMap<u16, Handles>,
+    pub(crate) entries: IndexMap<u16, Handles>,
 }
 
 /// The event says something of a handle on a live session.

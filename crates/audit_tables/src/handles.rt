@@ -19,7 +19,7 @@ use trace_law::{Event, handle_in};
 #[derive(Drop)]
 pub struct Handles {
     alloc: Global,
-    entries: IndexMap<u32, Handle>,
+    pub(crate) entries: IndexMap<u32, Handle>,
 }
 
 /// The handle of which a performative says something.

@@ -7,7 +7,7 @@
 //! - `connections`: all of them;
 //! - `link_counts`: what the credit of a live link has come to;
 //! - `handle`: a handle of a live session, with its link (`counted_link`) and the client's attach (`held_attach`); `handles`:
-//!   those of a session; `channels`: those of a connection; `links`: all of them;
+//!   those of a session; `channels`: those of a connection; `links`: all of them; `ended_links`: those that an event ends;
 //! - `held_link`: the link of a delivery that is kept;
 //! - `answers`, `link_answers`: what they answer to the questions of `trace_law`; `looked`: all tables, lent to be asked.
 #![tactic(auto)]
@@ -17,6 +17,7 @@ mod channels;
 mod connection;
 mod connections;
 mod counted_link;
+mod ended_links;
 mod handle;
 mod handles;
 mod held_attach;

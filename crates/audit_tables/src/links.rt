@@ -20,7 +20,7 @@ use trace_law::Event;
 #[derive(Drop)]
 pub struct Links {
     alloc: Global,
-    entries: IndexMap<u32, Channels>,
+    pub(crate) entries: IndexMap<u32, Channels>,
 }
 
 impl Links {

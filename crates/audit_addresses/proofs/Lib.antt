@@ -1,0 +1,3 @@
+pub mod ConsumerSteps
+pub mod ConsumersOf
+pub mod EndedOnes

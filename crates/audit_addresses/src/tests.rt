@@ -1,0 +1,107 @@
+//! Consumers that come and go at two addresses, with known answers.
+
+use crate::Consumers;
+use amqp_perf::Role;
+use pairing_cert::Note;
+use std::test::Fail;
+use trace_events::Session;
+use trace_law::{Event, Link, Moment};
+
+// Consumers' links of the queue `q`, one of the queue `other`, and a producer's link of `q`.
+const FIRST: Link<'static> = Link {
+    number: 21,
+    session: Session {
+        number: 11,
+        connection: 3,
+        channel: 0,
+        our_first_id: 0,
+        their_first_id: 7,
+        their_window: 2,
+    },
+    handle: 4,
+    role: Role::Sender,
+    address: b"q",
+    is_pre_settled: false,
+    our_first_count: 0,
+    their_first_count: 0,
+};
+
+const SECOND: Link<'static> = Link {
+    number: 22,
+    handle: 5,
+    ..FIRST
+};
+
+const OTHER: Link<'static> = Link {
+    number: 23,
+    handle: 6,
+    address: b"other",
+    ..FIRST
+};
+
+const PRODUCER: Link<'static> = Link {
+    number: 24,
+    handle: 7,
+    role: Role::Receiver,
+    ..FIRST
+};
+
+/// An event that names a link, or opens it where it has its number.
+fn names<'a>(number: u64, link: Option<Link<'a>>) -> Event<'a> {
+    Event {
+        number,
+        connection: 3,
+        moment: Moment::Opened,
+        note: Note::None,
+        session: Some(FIRST.session),
+        link,
+        incoming: None,
+        outgoing: None,
+        told: None,
+        settled: None,
+        is_heard: true,
+        fault: None,
+    }
+}
+
+fn opens<'a>(link: Link<'a>) -> Event<'a> {
+    names(link.number, Some(link))
+}
+
+#[test]
+fn consumers_come_and_go(rt: HostRuntime) -> Result<(), Fail> {
+    let mut consumers = Consumers::new(rt.alloc());
+    assert!(rt; !consumers.has_consumer(b"q"));
+    for link in [FIRST, SECOND, OTHER, PRODUCER] {
+        consumers.take(&opens(link), &[])?;
+    }
+    consumers.take(&names(25, Some(FIRST)), &[])?;
+    assert_eq!(rt; (consumers.count(b"q"), consumers.count(b"other")), (2, 1));
+    consumers.take(&names(26, Some(FIRST)), &[FIRST])?;
+    assert!(rt; consumers.has_consumer(b"q"));
+    assert_eq!(rt; consumers.count(b"q"), 1);
+    consumers.take(&names(27, None), &[SECOND, PRODUCER])?;
+    assert!(rt; !consumers.has_consumer(b"q") && consumers.has_consumer(b"other"));
+    assert_eq!(rt; consumers.count(b"q"), 0);
+    Ok(())
+}
+
+/// A producer's link is no consumer, and where an attach opens a link in the place of another, the new one stands.
+#[test]
+fn a_link_in_the_place_of_another(rt: HostRuntime) -> Result<(), Fail> {
+    let mut consumers = Consumers::new(rt.alloc());
+    consumers.take(&opens(PRODUCER), &[])?;
+    assert!(rt; !consumers.has_consumer(b"q"));
+    consumers.take(&opens(FIRST), &[])?;
+    consumers.take(
+        &opens(Link {
+            handle: 4,
+            ..SECOND
+        }),
+        &[FIRST],
+    )?;
+    assert_eq!(rt; consumers.count(b"q"), 1);
+    consumers.take(&names(30, None), &[FIRST])?;
+    assert!(rt; consumers.has_consumer(b"q"));
+    Ok(())
+}

@@ -1,0 +1,5 @@
+use Rattle.number_groups.proofs.Moves.{none_distinct}
+use Rattle.number_groups.proofs.groups.Groups.count.Goals as goal
+
+pub returns-in-None-clause-distinct : goal.returns-in-None-clause-distinct
+returns-in-None-clause-distinct g c = none_distinct c.in-None.ensures.value

@@ -1,0 +1,115 @@
+//! Numbers in groups, under keys that are copied.
+
+ghost use Rattle.std.specs.Prelude.{◌≡◌, ◌↔◌, ℕ, [], None, IsTrue, OnOk, OnErr, false, length, nat_eq, slice_get};
+ghost use Rattle.std.specs.List.{IsDistinct};
+ghost use Rattle.indexmap.specs.IndexMap.{get};
+
+use indexmap::{IndexMap, IndexSet};
+use std::alloc::{AllocError, Global};
+use std::hash::Hash;
+
+/// Sets of numbers by key. A key without numbers takes no memory.
+#[derive(Drop)]
+pub struct Groups<K: Copy + Eq + Hash + Drop> {
+    alloc: Global,
+    entries: IndexMap<K, IndexSet<u64>>,
+}
+
+impl<K: Copy + Eq + Hash + Drop> Groups<K> {
+    ghost use Rattle.number_groups.specs.Groups.{AreSame, Joined, Left, is_kept, is_member, numbers};
+
+    /// No numbers.
+    pub fn new(alloc: Global) -> Groups<K>
+        ensures { (key : K) → numbers K.eq result key ≡ [] }
+    {
+        Groups {
+            alloc,
+            entries: IndexMap::new(alloc),
+        }
+    }
+
+    /// The number is in the group of the key, if it was not yet.
+    ///
+    /// # Errors
+    ///
+    /// Memory was refused; then all stays as it was.
+    pub fn insert(&mut self, key: K, number: u64) -> Result<(), AllocError>
+        ensures joined { OnOk result (Joined K.eq key number self.old self.new) }
+        ensures unchanged { OnErr result (AreSame K.eq self.old self.new) }
+    {
+        let Some(group) = self.entries.get_mut(&key) else {
+            return self.insert_first(key, number);
+        };
+        group.insert(number)?;
+        Ok(())
+    }
+
+    /// The number is the first of the group of the key.
+    fn insert_first(&mut self, key: K, number: u64) -> Result<(), AllocError>
+        requires new { get K.eq self.old.entries key ≡ None }
+        ensures joined { OnOk result (Joined K.eq key number self.old self.new) }
+        ensures unchanged { OnErr result (AreSame K.eq self.old self.new) }
+    {
+        let mut group = IndexSet::new(self.alloc);
+        group.insert(number)?;
+        self.entries.insert(key, group)?;
+        Ok(())
+    }
+
+    /// The number is not in the group of the key, whether it was or not. The last number of the group takes its place, and a
+    /// group without numbers goes.
+    pub fn remove(&mut self, key: &K, number: u64)
+        ensures left { Left K.eq key.now number self.old self.new }
+        ensures gone { numbers K.eq self.new key.now ≡ [] → is_kept K.eq self.new key.now ≡ false }
+    {
+        let Some(group) = self.entries.get_mut(key) else {
+            return;
+        };
+        group.swap_remove(&number);
+        if group.is_empty() {
+            self.entries.swap_remove(key);
+        }
+    }
+
+    /// The number is in the group of the key.
+    pub fn has(&self, key: &K, number: u64) -> bool
+        ensures { result ≡ is_member K.eq self.now key.now number }
+    {
+        match self.entries.get(key) {
+            Some(group) => group.contains(&number),
+            None => false,
+        }
+    }
+
+    /// No number is in the group of the key.
+    pub fn is_empty(&self, key: &K) -> bool
+        ensures { IsTrue result ↔ ((n : ℕ) → is_member K.eq self.now key.now n ≡ false) }
+    {
+        self.count(key) == 0
+    }
+
+    /// How many numbers the group of the key has.
+    pub fn count(&self, key: &K) -> usize
+        ensures count { result ≡ length (numbers K.eq self.now key.now) }
+        ensures distinct { IsDistinct nat_eq (numbers K.eq self.now key.now) }
+    {
+        match self.entries.get(key) {
+            Some(group) => group.len(),
+            None => 0,
+        }
+    }
+
+    /// The first number of the group, in an order that stays until a number of it is removed.
+    pub fn first(&self, key: &K) -> Option<u64>
+        ensures { result ≡ slice_get (numbers K.eq self.now key.now) 0 }
+    {
+        self.get(key, 0)
+    }
+
+    /// The number at the index, in that order.
+    pub fn get(&self, key: &K, index: usize) -> Option<u64>
+        ensures { result ≡ slice_get (numbers K.eq self.now key.now) index }
+    {
+        self.entries.get(key)?.get_index(index).copied()
+    }
+}

@@ -1,0 +1,13 @@
+//! Sets of numbers, each under a key: the links of an address, say.
+//!
+//! In reading order: `groups` has keys that are copied, as numbers or pairs of them; `octet_groups` has keys of octets. Each call
+//! takes the time of a look-up, however many numbers and keys there are.
+#![tactic(auto)]
+
+mod groups;
+mod octet_groups;
+#[cfg(test)]
+mod tests;
+
+pub use groups::Groups;
+pub use octet_groups::OctetGroups;
