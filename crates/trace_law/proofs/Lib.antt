@@ -7,3 +7,5 @@ pub mod OutcomeSizes
 mod Counted
 mod Copies
 mod KnownAll
+mod DecidedRows
+pub mod Carrying

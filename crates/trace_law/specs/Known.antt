@@ -1,10 +1,11 @@
 -- What of the past is asked for because of an event, where the one who is asked need not know of all that was.
-use Rattle.std.specs.Prelude.{ℕ, Option, None, IfSome, option_and_then, option_map, unwrap_or}
+use Rattle.std.specs.Prelude.{◌≡◌, ℕ, ◌⊎◌, List, length, Option, Some, None, IfSome, option_and_then, option_map, unwrap_or}
 use Rattle.amqp_perf.specs.Meaning.{AttachFields}
-use Rattle.trace_events.specs.Event.{Event, Link, Outgoing}
+use Rattle.trace_events.specs.Event.{Event, Link, Incoming, Outgoing}
 use Rattle.trace_events.specs.declared.session.Session.{Session}
 use Rattle.trace_events.specs.Said.{in_attach, out_spoken, out_begin, out_attach}
 use Rattle.trace_events.specs.Link.{first_count, new_link}
+use Rattle.trace_events.specs.Outgoing.{noted}
 
 -- the initial-delivery-count of the client's attach that an event is, 0 where there is none
 abbrev pub their_first_count : Option Event → ℕ
@@ -23,3 +24,7 @@ OpensKnown begin attach e =
 -- the delivery whose outcome is told, by its number, and the one that a transfer begins or goes on with
 abbrev pub CarriesKnown : (ℕ → Type 0) → (Outgoing → Type 0) → Event → Type 0
 CarriesKnown told sent e = IfSome e.told told × IfSome e.outgoing sent
+
+-- the delivery to a client begins behind these events, or its note names the delivery from a client
+abbrev pub IsCarriedBy : Incoming → List Event → Outgoing → Type 0
+IsCarriedBy d past j = (j.number ≡ length past) ⊎ (noted j.note past ≡ Some d)

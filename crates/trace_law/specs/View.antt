@@ -1,6 +1,9 @@
 -- What the code's events stand for.
-use Rattle.std.specs.Prelude.{ℕ, List, [], ◌∷◌, ◌++◌, option_map, codes, decimal}
+use Rattle.std.specs.Prelude.{ℕ, List, [], ◌∷◌, ◌++◌, Option, Some, None, option_map, codes, decimal}
+use Rattle.amqp_perf.specs.Nested.{StateFields}
 use Rattle.amqp_perf.specs.View as performatives
+use Rattle.trace_law.specs.declared.delivery.disposition.Decision.{Decision}
+use Rattle.trace_law.specs.declared.delivery.disposition.Decision.TheVariants as decisions
 use Rattle.trace_law.specs.declared.history.frame.Frame.{Frame}
 use Rattle.trace_law.specs.declared.history.frame.Spoken.{Spoken}
 use Rattle.trace_law.specs.declared.history.frame.Body.{Body}
@@ -90,6 +93,11 @@ asking_view asked = record {
   address = address_view asked.address;
   fault = asked.fault;
 }
+
+-- the terminal state that a decision tells
+abbrev pub decision_view : Decision → Option StateFields
+decision_view decisions.Settled = None
+decision_view (decisions.Terminal outcome octets) = Some (record { octets = octets.now; outcome = Some outcome })
 
 -- those before a record, the newest first
 abbrev pub Events : Type 0

@@ -1,6 +1,6 @@
 //! The law: the clauses that each record which the router has written must meet.
 
-ghost use Rattle.std.specs.Prelude.{◌≡◌, IfSome, Some, None, if◌then◌else◌, find, not};
+ghost use Rattle.std.specs.Prelude.{◌≡◌, IfSome, Some, None, if◌then◌else◌, find, length, not};
 ghost use Rattle.amqp_perf.specs.View.{disposition_fields, transfer_fields, attach_fields};
 ghost use Rattle.trace_events.specs.Words.{is_some_and};
 ghost use Rattle.trace_events.specs.Session.{StandsLive};
@@ -69,6 +69,7 @@ fn broken_by_transfer<'a, P: Counts + Carriage<'a>>(
 ) -> Option<Clause>
     requires few { P.is_short past.now }
     ensures { (history : Events) → P.stands_for past.now history → StandsLive (event_view event.now) history → NamesLive (event_view event.now) history →
+        (event_view event.now).number ≡ length history →
         CarriesKnown (λ n. P.knows_number past.now n history) (λ j. P.knows_outgoing past.now j history) (event_view event.now) →
         (result ≡ find (λ clause. not (law.transfer_meets rules.now (event_view event.now) (transfer_fields transfer.now) payload.now history clause)) law.clauses) }
 {
@@ -178,6 +179,7 @@ fn broken_by_spoken<'a, P: Questions<'a>>(
 ) -> Option<Clause>
     requires few { P.is_short past.now }
     ensures { (history : Events) → P.stands_for past.now history → StandsLive (event_view event.now) history → NamesLive (event_view event.now) history →
+        (event_view event.now).number ≡ length history →
         CarriesKnown (λ n. P.knows_number past.now n history) (λ j. P.knows_outgoing past.now j history) (event_view event.now) →
         (result ≡ law.broken_by rules.now (event_view event.now) (frame_view frame.now) history (Some (spoken_view spoken.now))) }
 {
@@ -208,6 +210,7 @@ pub fn broken_clause<'a, P: Questions<'a>>(
 ) -> Option<Clause>
     requires few { P.is_short past.now }
     ensures { (history : Events) → P.stands_for past.now history → StandsLive (event_view event.now) history → NamesLive (event_view event.now) history →
+        (event_view event.now).number ≡ length history →
         CarriesKnown (λ n. P.knows_number past.now n history) (λ j. P.knows_outgoing past.now j history) (event_view event.now) →
         (result ≡ law.broken_clause rules.now (event_view event.now) history) }
 {

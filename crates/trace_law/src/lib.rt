@@ -34,6 +34,7 @@ pub use ask::check::{credit_at, slow_check, waiting_at, window_at};
 pub use ask::tally::tally_capture;
 pub use clauses::broken_clause;
 pub use clauses::link::{AskedAddress, Asking};
+pub use delivery::disposition::{Decision, is_decisive};
 pub use delivery::outcome::{Told, may_be_told, row};
 pub use history::event::{Event, Incoming, Link, Moment, Outgoing};
 pub use history::frame::{Body, Frame, Spoken};

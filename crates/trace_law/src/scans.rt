@@ -2,11 +2,12 @@
 
 use crate::clauses::broken_clause;
 use crate::clauses::link::Asking;
+use crate::delivery::disposition::Decision;
 use crate::history::event::{Event, Incoming, Link, Outgoing, Past};
 use crate::history::{judge, judge_unopened};
 use crate::link::their_first_count;
 use crate::questions::{Carriage, Counts, History, Inputs, Openings, Outcomes, Questions};
-use amqp_perf::{Begin, Disposition};
+use amqp_perf::Begin;
 use capture_form::{Record, Rule};
 use pairing_cert::Note;
 use trace_clauses::Clause;
@@ -112,8 +113,8 @@ impl<'p, 'a> Outcomes<'a> for Past<'p, 'a> {
         self.pairing(delivery)
     }
 
-    fn decision(&self, delivery: &Outgoing) -> Option<Disposition<'a>> {
-        self.decision(delivery)
+    fn decision(&self, delivery: &Outgoing) -> Option<Decision<'a>> {
+        self.decided(delivery)
     }
 
     fn is_sent(&self, delivery: &Outgoing) -> bool {

@@ -1,6 +1,8 @@
 //! What each transfer that the router writes keeps to, L4 to L9.
 
-ghost use Rattle.std.specs.Prelude.{◌≡◌, ◌&&◌, ◌||◌, IfSome};
+ghost use Rattle.std.specs.Prelude.{◌≡◌, ◌&&◌, ◌||◌, true, List, Some, IfSome, length};
+ghost use Rattle.capture_form.specs.Rules.{RuleText};
+ghost use Rattle.trace_events.specs.Credit.{begins_outgoing};
 ghost use Rattle.amqp_perf.specs.View.{transfer_fields};
 ghost use Rattle.trace_events.specs.Session.{StandsLive};
 ghost use Rattle.trace_events.specs.Link.{IsLiveLink};
@@ -93,8 +95,11 @@ pub(crate) fn carries<'a, P: Carriage<'a>>(
     octets: &'a [u8],
     delivery: &Incoming,
 ) -> bool
-    ensures { (history : Events) → P.stands_for past.now history → P.knows_incoming past.now (incoming_view delivery.now) history →
-        IfSome (event_view event.now).outgoing (λ j. P.knows_outgoing past.now j history) →
+    ensures { (rules : List RuleText) (history : Events) → P.stands_for past.now history → P.knows_incoming past.now (incoming_view delivery.now) history →
+        IfSome (event_view event.now).outgoing (λ j. P.knows_outgoing past.now j history) → (event_view event.now).number ≡ length history →
+        Some (incoming_view delivery.now) ≡ law.to_carry rules event.now.note history →
+        (begins_outgoing (event_view event.now)
+        || is_some_and (event_view event.now).outgoing (λ j. law.goes_on_with j event.now.note (transfer_fields fields.now))) ≡ true →
         (result ≡ is_some_and (event_view event.now).outgoing (λ j. law.carries j (transfer_fields fields.now) octets.now history (incoming_view delivery.now))) }
 {
     match &event.outgoing {

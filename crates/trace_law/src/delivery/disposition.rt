@@ -5,8 +5,33 @@ ghost use Rattle.amqp_perf.specs.NestedViews.{state_view};
 ghost use Rattle.amqp_perf.specs.View.{disposition_fields};
 ghost use Rattle.flow_counts.specs.Covers as ranges;
 ghost use Rattle.trace_events.specs.Disposition as law;
+ghost use Rattle.trace_law.specs.View.{decision_view};
 
-use amqp_perf::{Disposition, State};
+use amqp_perf::{Disposition, Outcome, State};
+
+/// What a consumer decided (part 3 of the standard, section 3.4).
+#[derive(Clone, Copy)]
+pub enum Decision<'a> {
+    /// It settled, and told no outcome.
+    Settled,
+    /// A terminal state: its outcome, and its octets.
+    Terminal(Outcome, &'a [u8]),
+}
+
+impl<'a> Decision<'a> {
+    /// What a disposition that decides says.
+    pub fn of_disposition(fields: &Disposition<'a>) -> Decision<'a>
+        ensures { decision_view result ≡ law.terminal_state (disposition_fields fields.now) }
+    {
+        match fields.state {
+            Some(state) => match state.outcome() {
+                Some(outcome) => Decision::Terminal(outcome, state.raw()),
+                None => Decision::Settled,
+            },
+            None => Decision::Settled,
+        }
+    }
+}
 
 /// The id stands from the first to the last, counted as serial numbers; a range of half of all ids or more covers
 /// nothing.
@@ -38,7 +63,7 @@ pub(crate) fn terminal_state<'a>(fields: &Disposition<'a>) -> Option<State<'a>>
 }
 
 /// It decides the deliveries that it covers.
-pub(crate) fn is_decisive(fields: &Disposition) -> bool
+pub fn is_decisive(fields: &Disposition) -> bool
     ensures { result ≡ law.is_decisive (disposition_fields fields.now) }
 {
     fields.is_settled() || terminal_state(fields).is_some()

@@ -2,20 +2,19 @@
 //! this router).
 
 ghost use Rattle.std.specs.Prelude.{◌≡◌, ◌≤◌, ◌^◌, option_map};
-ghost use Rattle.amqp_perf.specs.View.{disposition_fields};
 ghost use Rattle.trace_clauses.specs.Outcome.{outcome_octets, bare_outcome};
 ghost use Rattle.std.specs.Option.{option_copied};
 ghost use Rattle.trace_events.specs.Outgoing.{pairing};
-ghost use Rattle.trace_law.specs.OutcomeSize.{told_view};
+ghost use Rattle.trace_law.specs.OutcomeSize.{decided_view, told_view};
 ghost use Rattle.trace_law.specs.View.{incoming_view, outgoing_view, Events};
 ghost use Rattle.trace_law.specs.OutcomeSize as law;
 ghost use Rattle.trace_clauses.specs.Outcome as rows;
 
-use crate::delivery::disposition::terminal_state;
+use crate::delivery::disposition::Decision;
 use crate::delivery::waiting::is_of_multicast;
 use crate::history::event::{Incoming, Outgoing};
 use crate::questions::Outcomes;
-use amqp_perf::{Disposition, Outcome, State};
+use amqp_perf::{Outcome, State};
 use capture_form::Rule;
 use pairing_cert::Why;
 
@@ -69,25 +68,22 @@ fn outcome_frame_size(id: u32, state: u64) -> u64
 }
 
 /// The outcome that a decision tells, as its octets came; none without a terminal state.
-fn decided<'a>(fields: &Disposition<'a>) -> Told<'a>
-    ensures { law.told_view result ≡ outcome_octets (disposition_fields fields.now) }
+fn decided<'a>(decision: &Decision<'a>) -> Told<'a>
+    ensures { law.told_view result ≡ outcome_octets (decided_view decision.now) }
 {
-    match terminal_state(fields) {
-        Some(state) => Told::Octets(state.raw()),
-        None => Told::Nothing,
+    match *decision {
+        Decision::Terminal(_, octets) => Told::Octets(octets),
+        Decision::Settled => Told::Nothing,
     }
 }
 
 /// The same outcome without its fields.
-fn decided_bare(fields: &Disposition) -> Told<'static>
-    ensures { law.told_view result ≡ bare_outcome (disposition_fields fields.now) }
+fn decided_bare(decision: &Decision) -> Told<'static>
+    ensures { law.told_view result ≡ bare_outcome (decided_view decision.now) }
 {
-    match terminal_state(fields) {
-        Some(state) => match state.outcome() {
-            Some(outcome) => Told::Bare(outcome),
-            None => Told::Nothing,
-        },
-        None => Told::Nothing,
+    match *decision {
+        Decision::Terminal(outcome, _) => Told::Bare(outcome),
+        Decision::Settled => Told::Nothing,
     }
 }
 
@@ -128,13 +124,13 @@ fn fits_producer<'a, P: Outcomes<'a>>(past: &P, delivery: &Incoming, state: Opti
 }
 
 /// The producer takes the frame that tells the decision's outcome.
-fn takes_decided<'a, P: Outcomes<'a>>(past: &P, delivery: &Incoming, fields: &Disposition) -> bool
+fn takes_decided<'a, P: Outcomes<'a>>(past: &P, delivery: &Incoming, decision: &Decision) -> bool
     ensures { (history : Events) → P.stands_for past.now history →
-        (result ≡ rows.fits_producer (incoming_view delivery.now) (rows.outcome_octets (disposition_fields fields.now)) history) }
+        (result ≡ rows.fits_producer (incoming_view delivery.now) (rows.outcome_octets (decided_view decision.now)) history) }
 {
-    match terminal_state(fields) {
-        Some(state) => fits_producer(past, delivery, Some(state.raw())),
-        None => fits_producer(past, delivery, None),
+    match *decision {
+        Decision::Terminal(_, octets) => fits_producer(past, delivery, Some(octets)),
+        Decision::Settled => fits_producer(past, delivery, None),
     }
 }
 
@@ -151,17 +147,15 @@ fn paired_row<'a, P: Outcomes<'a>>(
     past: &P,
     delivery: &Incoming,
     outgoing: &Outgoing,
-    decision: &Option<Disposition<'a>>,
+    decision: &Option<Decision<'a>>,
     why: Why,
 ) -> Option<Told<'a>>
     ensures { (history : Events) → P.stands_for past.now history → P.knows_outgoing past.now (outgoing_view outgoing.now) history → (option_map told_view result
-        ≡ rows.paired_row (incoming_view delivery.now) (outgoing_view outgoing.now) history (option_map disposition_fields decision.now) why) }
+        ≡ rows.paired_row (incoming_view delivery.now) (outgoing_view outgoing.now) history (option_map decided_view decision.now) why) }
 {
     match (decision, why) {
-        (Some(fields), Why::C) if takes_decided(past, delivery, fields) => Some(decided(fields)),
-        (Some(fields), Why::Z) if !takes_decided(past, delivery, fields) => Some(decided_bare(
-            fields,
-        )),
+        (Some(own), Why::C) if takes_decided(past, delivery, own) => Some(decided(own)),
+        (Some(own), Why::Z) if !takes_decided(past, delivery, own) => Some(decided_bare(own)),
         (_, Why::S) if is_sent_settled(past, outgoing) => Some(Told::Bare(Outcome::Accepted)),
         (None, Why::L) if !past.is_live(&outgoing.link) && !is_sent_settled(past, outgoing) => Some(
             Told::DeliveryFailed,
@@ -170,6 +164,7 @@ fn paired_row<'a, P: Outcomes<'a>>(
     }
 }
 
+#[tactic(auto, using(crate::proofs::DecidedRows::row_decided))]
 fn anycast_row<'a, P: Outcomes<'a>>(past: &P, delivery: &Incoming, why: Why) -> Option<Told<'a>>
     ensures { (history : Events) → P.stands_for past.now history → P.knows_incoming past.now (incoming_view delivery.now) history → (option_map told_view result
         ≡ rows.anycast_row (incoming_view delivery.now) history why (pairing (incoming_view delivery.now) history)) }

@@ -4,7 +4,7 @@
 ghost use Rattle.std.specs.Prelude.{◌≡◌};
 ghost use Rattle.trace_events.specs.Outgoing as law;
 
-use crate::delivery::disposition::{covers_id, is_decisive};
+use crate::delivery::disposition::{Decision, covers_id, is_decisive};
 use crate::history::event::{Event, Incoming, Link, Outgoing, Past};
 use amqp_perf::{Disposition, Role};
 use pairing_cert::Note;
@@ -32,7 +32,7 @@ impl<'a> Event<'a> {
     ghost use Rattle.trace_law.specs.View.{link_view, incoming_view, outgoing_view, event_view};
 
     /// It is one of the delivery's parts.
-    fn is_outgoing_part(&self, delivery: &Outgoing) -> bool
+    pub fn is_outgoing_part(&self, delivery: &Outgoing) -> bool
         ensures { result ≡ law.is_part (outgoing_view delivery.now) (event_view self.now) }
     {
         match self.outgoing {
@@ -42,7 +42,7 @@ impl<'a> Event<'a> {
     }
 
     /// It is the delivery's last part.
-    fn ends(&self, delivery: &Outgoing) -> bool
+    pub fn ends(&self, delivery: &Outgoing) -> bool
         ensures { result ≡ (law.is_part (outgoing_view delivery.now) (event_view self.now)
             && is_some_and (out_transfer (event_view self.now)) (λ fields. not (flag fields.more))) }
     {
@@ -53,7 +53,7 @@ impl<'a> Event<'a> {
     }
 
     /// The delivery that begins in it.
-    pub(crate) fn outgoing_begun(&self) -> Option<Outgoing<'a>>
+    pub fn outgoing_begun(&self) -> Option<Outgoing<'a>>
         ensures { option_map outgoing_view result ≡ law.outgoing_begun (event_view self.now) }
     {
         match self.outgoing {
@@ -82,7 +82,7 @@ impl<'a> Event<'a> {
     }
 
     /// A heard disposition of the consumer, behind the delivery's first transfer, that covers its id.
-    fn answering(&self, delivery: &Outgoing) -> Option<Disposition<'a>>
+    pub fn answering(&self, delivery: &Outgoing) -> Option<Disposition<'a>>
         ensures { option_map disposition_fields result ≡ law.answering (outgoing_view delivery.now) (event_view self.now) }
     {
         if !(self.is_heard
@@ -106,7 +106,8 @@ impl<'p, 'a> Past<'p, 'a> {
     ghost use Rattle.trace_events.specs.Words.{is_some_and};
     ghost use Rattle.trace_events.specs.Link.{is_live};
     ghost use Rattle.trace_events.specs.Outgoing as law;
-    ghost use Rattle.trace_law.specs.View.{link_view, incoming_view, outgoing_view, event_view, events};
+    ghost use Rattle.trace_events.specs.Disposition.{terminal_state};
+    ghost use Rattle.trace_law.specs.View.{decision_view, link_view, incoming_view, outgoing_view, event_view, events};
 
     /// The delivery of the link whose last part isn't written yet.
     pub(crate) fn outgoing_in_progress(&self, link: &Link) -> Option<Outgoing<'a>>
@@ -238,6 +239,16 @@ impl<'p, 'a> Past<'p, 'a> {
             return None;
         }
         self.first_deciding(delivery)
+    }
+
+    /// What the consumer decided.
+    pub(crate) fn decided(&self, delivery: &Outgoing) -> Option<Decision<'a>>
+        ensures { option_map decision_view result ≡ option_map terminal_state (law.decision (outgoing_view delivery.now) (events self.now)) }
+    {
+        match self.decision(delivery) {
+            Some(fields) => Some(Decision::of_disposition(&fields)),
+            None => None,
+        }
     }
 
     /// A disposition that answers the delivery settles it, while the link lives.

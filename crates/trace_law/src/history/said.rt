@@ -113,7 +113,7 @@ impl<'a> Event<'a> {
         self.moment.in_frame()?.spoken()
     }
 
-    pub(crate) fn out_spoken(&self) -> Option<Spoken<'a>>
+    pub fn out_spoken(&self) -> Option<Spoken<'a>>
         ensures { option_map spoken_view result ≡ said.out_spoken (event_view self.now) }
     {
         self.moment.out_frame()?.spoken()

@@ -15,6 +15,7 @@ pub trait Carriage<'a>: History {
     ghost use Rattle.trace_events.specs.Outgoing as sent;
     ghost use Rattle.trace_clauses.specs.TransferClause as transfers;
     ghost use Rattle.trace_events.specs.Link.{IsLiveLink};
+    ghost use Rattle.trace_law.specs.Known.{IsCarriedBy};
     ghost use Rattle.trace_law.specs.View.{Events, incoming_view, link_view, outgoing_view};
 
     /// The delivery of a consumer's link whose last part isn't written yet.
@@ -42,7 +43,7 @@ pub trait Carriage<'a>: History {
             Self.knows_incoming self.now (incoming_view b.now) history → (result ≡ received.completed_before (incoming_view a.now) (incoming_view b.now) history) };
 
     /// The payload of the outgoing delivery with these octets behind it is the first part of the incoming one's, and all of
-    /// it where no more follows.
+    /// it where no more follows; asked of an outgoing delivery that begins, or whose note names the incoming one.
     fn is_payload_so_far(
         &self,
         more: bool,
@@ -51,7 +52,7 @@ pub trait Carriage<'a>: History {
         octets: &'a [u8],
     ) -> bool
         ensures { (history : Events) → Self.stands_for self.now history → Self.knows_incoming self.now (incoming_view delivery.now) history →
-            Self.knows_outgoing self.now (outgoing_view outgoing.now) history →
+            Self.knows_outgoing self.now (outgoing_view outgoing.now) history → IsCarriedBy (incoming_view delivery.now) history (outgoing_view outgoing.now) →
             (result ≡ transfers.is_payload_so_far more (received.payload (incoming_view delivery.now) history)
             (sent.payload (outgoing_view outgoing.now) history ++ octets.now)) };
 

@@ -1,8 +1,8 @@
 //! What is asked of the past when an outcome is told or a delivery is settled.
 
+use crate::delivery::disposition::Decision;
 use crate::history::event::{Incoming, Link, Outgoing};
 use crate::questions::History;
-use amqp_perf::Disposition;
 use capture_form::Rule;
 use trace_events::Session;
 
@@ -11,15 +11,15 @@ use trace_events::Session;
 /// What takes a session is asked of a live one alone, and what takes a delivery of one that is known.
 pub trait Outcomes<'a>: History {
     ghost use Rattle.std.specs.Prelude.{◌≡◌, IfSome, option_map};
-    ghost use Rattle.amqp_perf.specs.View.{disposition_fields};
     ghost use Rattle.trace_events.specs.Connection as connections;
     ghost use Rattle.trace_events.specs.Incoming as received;
     ghost use Rattle.trace_events.specs.Link as links;
     ghost use Rattle.trace_events.specs.Outgoing as sent;
     ghost use Rattle.trace_events.specs.Settling as settling;
     ghost use Rattle.trace_events.specs.Waiting as waiting;
+    ghost use Rattle.trace_events.specs.Disposition.{terminal_state};
     ghost use Rattle.trace_events.specs.Session.{IsLiveOn};
-    ghost use Rattle.trace_law.specs.View.{Events, incoming_view, link_view, outgoing_view};
+    ghost use Rattle.trace_law.specs.View.{Events, decision_view, incoming_view, link_view, outgoing_view};
 
     /// The undecided delivery of the id on the session, whose outcome may be told.
     fn to_tell(&self, rules: &[Rule], session: Session, id: u32) -> Option<Incoming<'a>>
@@ -64,10 +64,10 @@ pub trait Outcomes<'a>: History {
         ensures known { (history : Events) → Self.stands_for self.now history → Self.knows_incoming self.now (incoming_view delivery.now) history →
             IfSome (option_map outgoing_view result) (λ j. Self.knows_outgoing self.now j history) };
 
-    /// The consumer's decision; on a pre-settled link there is none.
-    fn decision(&self, delivery: &Outgoing) -> Option<Disposition<'a>>
+    /// The consumer's decision, by the terminal state that it tells; on a pre-settled link there is none.
+    fn decision(&self, delivery: &Outgoing) -> Option<Decision<'a>>
         ensures { (history : Events) → Self.stands_for self.now history → Self.knows_outgoing self.now (outgoing_view delivery.now) history →
-            (option_map disposition_fields result ≡ sent.decision (outgoing_view delivery.now) history) };
+            (option_map decision_view result ≡ option_map terminal_state (sent.decision (outgoing_view delivery.now) history)) };
 
     /// Its last part is written.
     fn is_sent(&self, delivery: &Outgoing) -> bool

@@ -1,4 +1,4 @@
-use Rattle.std.proofs.Common.{refl, sym, ap, subst, ◌∙◌}
+use Rattle.std.proofs.Common.{◌≡◌, refl, sym, ap, subst, ◌∙◌, length}
 use Rattle.trace_events.specs.Event.{Event}
 use Rattle.trace_events.specs.Session.{StandsLive}
 use Rattle.trace_events.specs.History.{moment_of}
@@ -20,6 +20,7 @@ returns c =
     let judged = c.judge_unopened-event.ensures past refl c.requires.numbered in
     let live = subst (λ (e : Event). StandsLive e past) (sym judged) (placed-stands past entry.connection (moment_of entry.what) entry.note) in
     let names = subst (λ (e : Event). NamesLive e past) (sym judged) (placed-names past entry.connection (moment_of entry.what) entry.note) in
-    c.broken_clause.ensures past refl live names (carries_all (event_view c.judge_unopened-event.result))
+    let number : (event_view c.judge_unopened-event.result).number ≡ length past = ap (λ (e : Event). e.number) judged in
+    c.broken_clause.ensures past refl live names number (carries_all (event_view c.judge_unopened-event.result))
     ∙ (ap (λ (e : Event). broken_clause rules e past) judged
     ∙ sym (broken-unopened rules past entry))

@@ -1,0 +1,7 @@
+mod SentSteps
+mod SentBegun
+mod SentKnown
+mod SentUntouched
+mod SentSparse
+mod SentPayload
+mod SentExamples

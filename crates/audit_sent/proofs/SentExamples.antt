@@ -1,0 +1,384 @@
+-- What captures say of a delivery to a client, and what one more record makes of it.
+use Rattle.std.specs.Prelude.{◌≡◌, ℕ, Bool, true, false, List, [], ◌∷◌, ◌++◌, Option, Some, None, option_map, refl}
+use Rattle.std.specs.Fmt.{digits}
+use Rattle.amqp_perf.specs.declared.attach.Role.TheVariants.{Sender, Receiver}
+use Rattle.amqp_perf.specs.declared.attach.SenderSettleMode.TheVariants as modes
+use Rattle.amqp_perf.specs.Nested.{StateFields}
+use Rattle.amqp_perf.specs.Meaning.{AFlow, ADisposition}
+use Rattle.amqp_perf.proofs.Opened.{read, written}
+use Rattle.amqp_frames.specs.Writing.{frame_octets}
+use Rattle.amqp_frames.specs.Reading.{whole_frame, frame_at, sized_frame, headed_frame}
+use Rattle.pairing_cert.specs.declared.note.Why.TheVariants.{C}
+use Rattle.capture_form.specs.declared.records.Record.{Record}
+use Rattle.trace_events.specs.Frame.{frame_read}
+use Rattle.trace_events.specs.Words.{is_some_and}
+use Rattle.trace_events.specs.Event.{Outgoing}
+use Rattle.trace_events.specs.Link.{is_live}
+use Rattle.trace_events.specs.History.{history, judge}
+use Rattle.trace_clauses.specs.Written.{spoken_octets}
+use Rattle.trace_clauses.proofs.Made.{from, to, carry, tell, gives, first, next, with_more, as_settled, disposes, accepted, released, detach_of, hi, sent, sent_by}
+use Rattle.audit_sent.specs.Sent.{Sent, sent_at, sent_next, sent_begun, sent_behind, begins_number, ends_delivery, settles_answering, decided_with, to_settle, goes_on_with}
+use Rattle.audit_sent.specs.SentTables.{touches, is_finished}
+
+-- how many octets were sent, whether the last part is, the octets of the state that is decided, and who has settled it
+abbrev Shown : Type 0
+Shown = ℕ × Bool × Option (Option (List ℕ)) × Bool × Bool
+
+abbrev state_octets : Option StateFields → Option (List ℕ)
+state_octets state = option_map (λ (s : StateFields). s.octets) state
+
+abbrev shown : Sent → Shown
+shown x = (x.sent_count, x.is_sent, option_map state_octets x.decision, x.is_settled_by_consumer, x.is_settled_by_router)
+
+unfoldable sent_in : List Record → ℕ → Option Shown
+unfolding frame_read whole_frame frame_at sized_frame headed_frame read digits spoken_octets frame_octets written
+sent_in records n = option_map shown (sent_at n (history [] records))
+
+-- what one more record makes of it, where its link lived or not
+unfoldable next_in : List Record → Record → Bool → ℕ → Option Shown
+unfolding frame_read whole_frame frame_at sized_frame headed_frame read digits spoken_octets frame_octets written
+next_in records r live n = let past = history [] records in option_map (λ x. shown (sent_next (judge [] past r) live x)) (sent_at n past)
+
+unfoldable begun_in : List Record → Record → Option Shown
+unfolding frame_read whole_frame frame_at sized_frame headed_frame read digits spoken_octets frame_octets written
+begun_in records r = option_map shown (sent_begun (judge [] (history [] records) r))
+
+unfoldable behind_in : List Record → Record → ℕ → Option Shown
+unfolding frame_read whole_frame frame_at sized_frame headed_frame read digits spoken_octets frame_octets written
+behind_in records r n = let past = history [] records in option_map shown (sent_behind (judge [] past r) (is_live past) n (sent_at n past))
+
+unfoldable begins_in : List Record → Record → ℕ → Bool
+unfolding frame_read whole_frame frame_at sized_frame headed_frame read digits spoken_octets frame_octets written
+begins_in records r n = begins_number (judge [] (history [] records) r) n
+
+unfoldable ends_in : List Record → Record → ℕ → Bool
+unfolding frame_read whole_frame frame_at sized_frame headed_frame read digits spoken_octets frame_octets written
+ends_in records r n = let past = history [] records in is_some_and (sent_at n past) (λ x. ends_delivery (judge [] past r) x.delivery)
+
+unfoldable settles_in : List Record → Record → ℕ → Bool
+unfolding frame_read whole_frame frame_at sized_frame headed_frame read digits spoken_octets frame_octets written
+settles_in records r n = let past = history [] records in is_some_and (sent_at n past) (λ x. settles_answering (judge [] past r) x.delivery)
+
+unfoldable decided_in : List Record → Record → ℕ → Option (Option (Option (List ℕ)))
+unfolding frame_read whole_frame frame_at sized_frame headed_frame read digits spoken_octets frame_octets written
+decided_in records r n = let past = history [] records in option_map (λ x. option_map state_octets (decided_with (judge [] past r) x.delivery)) (sent_at n past)
+
+unfoldable touches_in : List Record → Record → ℕ → Bool
+unfolding frame_read whole_frame frame_at sized_frame headed_frame read digits spoken_octets frame_octets written
+touches_in records r n = let past = history [] records in is_some_and (sent_at n past) (touches (judge [] past r))
+
+-- ---- captures: delivery 17 goes to the consumer, in one part or in two
+
+abbrev half : Record
+half = carry 1 16 (with_more (first 0)) (0x68 ∷ [])
+
+abbrev rest : Record
+rest = carry 1 16 (next false) (0x69 ∷ [])
+
+abbrev begun : List Record
+begun = sent ++ (half ∷ [])
+
+abbrev whole : Record
+whole = carry 1 16 (first 0) hi
+
+abbrev carried : List Record
+carried = sent ++ (whole ∷ [])
+
+abbrev pre_settled : List Record
+pre_settled = sent_by modes.Settled ++ (carry 1 16 (as_settled (first 0)) hi ∷ [])
+
+-- the consumer accepts it, settles it, or does both
+abbrev accepts : Record
+accepts = from 1 (ADisposition (disposes Receiver 0 false accepted))
+
+abbrev settles : Record
+settles = from 1 (ADisposition (disposes Receiver 0 true None))
+
+abbrev finishes : Record
+finishes = from 1 (ADisposition (disposes Receiver 0 true accepted))
+
+abbrev releases : Record
+releases = from 1 (ADisposition (disposes Receiver 0 false released))
+
+-- it says something of another id, or no outcome
+abbrev accepts_another : Record
+accepts_another = from 1 (ADisposition (disposes Receiver 1 true accepted))
+
+abbrev says_nothing : Record
+says_nothing = from 1 (ADisposition (disposes Receiver 0 false None))
+
+abbrev tells : Record
+tells = tell 0 C (disposes Receiver 0 true accepted)
+
+abbrev router_settles : Record
+router_settles = to 1 (ADisposition (disposes Sender 0 true None))
+
+abbrev consumer_leaves : Record
+consumer_leaves = from 1 (detach_of true)
+
+abbrev told : List Record
+told = carried ++ (accepts ∷ tells ∷ [])
+
+-- a record that says nothing of deliveries
+abbrev gives_more : Record
+gives_more = from 1 (AFlow (gives 0 0 20))
+
+-- ---- what is said of it
+
+of_another : sent_in carried 16 ≡ None
+unfolding sent_in
+of_another = refl
+
+half_sent : sent_in begun 17 ≡ Some (1, false, None, false, false)
+unfolding sent_in
+half_sent = refl
+
+in_two_parts : sent_in (begun ++ (rest ∷ [])) 17 ≡ Some (2, true, None, false, false)
+unfolding sent_in
+in_two_parts = refl
+
+in_one_part : sent_in carried 17 ≡ Some (2, true, None, false, false)
+unfolding sent_in
+in_one_part = refl
+
+is_accepted : sent_in (carried ++ (accepts ∷ [])) 17 ≡ Some (2, true, Some accepted, false, false)
+unfolding sent_in
+is_accepted = refl
+
+-- settled without an outcome it is decided too
+is_settled : sent_in (carried ++ (settles ∷ [])) 17 ≡ Some (2, true, Some None, true, false)
+unfolding sent_in
+is_settled = refl
+
+is_both : sent_in (carried ++ (finishes ∷ [])) 17 ≡ Some (2, true, Some accepted, true, false)
+unfolding sent_in
+is_both = refl
+
+-- the first decision holds, and what settles it later settles it
+decided_once : sent_in (carried ++ (accepts ∷ releases ∷ settles ∷ [])) 17 ≡ Some (2, true, Some accepted, true, false)
+unfolding sent_in
+decided_once = refl
+
+-- not once its link is over
+decided_late : sent_in (carried ++ (consumer_leaves ∷ finishes ∷ [])) 17 ≡ Some (2, true, None, false, false)
+unfolding sent_in
+decided_late = refl
+
+router_settled : sent_in (told ++ (router_settles ∷ [])) 17 ≡ Some (2, true, Some accepted, false, true)
+unfolding sent_in
+router_settled = refl
+
+-- on a pre-settled link nothing is decided
+pre_settled_sent : sent_in (pre_settled ++ (finishes ∷ [])) 17 ≡ Some (2, true, None, true, false)
+unfolding sent_in
+pre_settled_sent = refl
+
+-- ---- its last part
+
+last_part : ends_in begun rest 17 ≡ true
+unfolding ends_in
+last_part = refl
+
+not_last : ends_in begun (carry 1 16 (next true) (0x69 ∷ [])) 17 ≡ false
+unfolding ends_in
+not_last = refl
+
+no_part : ends_in carried gives_more 17 ≡ false
+unfolding ends_in
+no_part = refl
+
+part_of_another : ends_in carried (carry 1 16 (first 1) hi) 17 ≡ false
+unfolding ends_in
+part_of_another = refl
+
+-- ---- its consumer settles it, and decides it
+
+settles_it : settles_in carried settles 17 ≡ true
+unfolding settles_in
+settles_it = refl
+
+settles_not : settles_in carried accepts 17 ≡ false
+unfolding settles_in
+settles_not = refl
+
+settles_another : settles_in carried accepts_another 17 ≡ false
+unfolding settles_in
+settles_another = refl
+
+decides_it : decided_in carried accepts 17 ≡ Some (Some accepted)
+unfolding decided_in
+decides_it = refl
+
+decides_by_settling : decided_in carried settles 17 ≡ Some (Some None)
+unfolding decided_in
+decides_by_settling = refl
+
+decides_nothing : decided_in carried says_nothing 17 ≡ Some None
+unfolding decided_in
+decides_nothing = refl
+
+decides_another : decided_in carried accepts_another 17 ≡ Some None
+unfolding decided_in
+decides_another = refl
+
+decides_pre_settled : decided_in pre_settled accepts 17 ≡ Some None
+unfolding decided_in
+decides_pre_settled = refl
+
+-- ---- what one more record makes of it
+
+next_part : next_in begun rest true 17 ≡ Some (2, true, None, false, false)
+unfolding next_in
+next_part = refl
+
+next_other : next_in begun gives_more true 17 ≡ Some (1, false, None, false, false)
+unfolding next_in
+next_other = refl
+
+next_decision : next_in carried finishes true 17 ≡ Some (2, true, Some accepted, true, false)
+unfolding next_in
+next_decision = refl
+
+-- where its link is over
+next_over : next_in carried finishes false 17 ≡ Some (2, true, None, false, false)
+unfolding next_in
+next_over = refl
+
+next_decided : next_in (carried ++ (accepts ∷ [])) releases true 17 ≡ Some (2, true, Some accepted, false, false)
+unfolding next_in
+next_decided = refl
+
+next_still_settled : next_in (carried ++ (settles ∷ [])) gives_more true 17 ≡ Some (2, true, Some None, true, false)
+unfolding next_in
+next_still_settled = refl
+
+next_settled : next_in told router_settles true 17 ≡ Some (2, true, Some accepted, false, true)
+unfolding next_in
+next_settled = refl
+
+next_still_by_router : next_in (told ++ (router_settles ∷ [])) gives_more true 17 ≡ Some (2, true, Some accepted, false, true)
+unfolding next_in
+next_still_by_router = refl
+
+-- ---- one that begins
+
+begins_half : begun_in sent half ≡ Some (1, false, None, false, false)
+unfolding begun_in
+begins_half = refl
+
+begins_whole : begun_in sent whole ≡ Some (2, true, None, false, false)
+unfolding begun_in
+begins_whole = refl
+
+begins_none : begun_in begun rest ≡ None
+unfolding begun_in
+begins_none = refl
+
+begins_it : begins_in sent half 17 ≡ true
+unfolding begins_in
+begins_it = refl
+
+begins_another : begins_in sent half 16 ≡ false
+unfolding begins_in
+begins_another = refl
+
+goes_on : begins_in begun rest 17 ≡ false
+unfolding begins_in
+goes_on = refl
+
+behind_first : behind_in sent half 17 ≡ Some (1, false, None, false, false)
+unfolding behind_in
+behind_first = refl
+
+behind_next : behind_in carried finishes 17 ≡ Some (2, true, Some accepted, true, false)
+unfolding behind_in
+behind_next = refl
+
+behind_over : behind_in (carried ++ (consumer_leaves ∷ [])) finishes 17 ≡ Some (2, true, None, false, false)
+unfolding behind_in
+behind_over = refl
+
+behind_none : behind_in sent half 16 ≡ None
+unfolding behind_in
+behind_none = refl
+
+-- ---- what an event touches
+
+touches_part : touches_in begun rest 17 ≡ true
+unfolding touches_in
+touches_part = refl
+
+touches_decided : touches_in carried accepts 17 ≡ true
+unfolding touches_in
+touches_decided = refl
+
+touches_half_decided : touches_in (carried ++ (accepts ∷ [])) settles 17 ≡ true
+unfolding touches_in
+touches_half_decided = refl
+
+touches_finished : touches_in (carried ++ (finishes ∷ [])) releases 17 ≡ false
+unfolding touches_in
+touches_finished = refl
+
+touches_settled : touches_in told router_settles 17 ≡ true
+unfolding touches_in
+touches_settled = refl
+
+touches_other : touches_in carried gives_more 17 ≡ false
+unfolding touches_in
+touches_other = refl
+
+touches_another : touches_in carried accepts_another 17 ≡ false
+unfolding touches_in
+touches_another = refl
+
+-- ---- whether it is to be settled
+
+module _ (j : Outgoing) where
+  abbrev entry : Option (Option StateFields) → Bool → Bool → Sent
+  entry decision by_consumer by_router =
+      record { delivery = j; sent_count = 0; is_sent = true; decision = decision; is_settled_by_consumer = by_consumer; is_settled_by_router = by_router }
+
+  is_to_settle : to_settle (entry (Some None) false false) true true ≡ true
+  is_to_settle = refl
+
+  of_no_link : to_settle (entry (Some None) false false) false true ≡ false
+  of_no_link = refl
+
+  not_decided : to_settle (entry None false false) true true ≡ false
+  not_decided = refl
+
+  by_its_consumer : to_settle (entry (Some None) true false) true true ≡ false
+  by_its_consumer = refl
+
+  by_the_router : to_settle (entry (Some None) false true) true true ≡ false
+  by_the_router = refl
+
+  carries_open : to_settle (entry (Some None) false false) true false ≡ false
+  carries_open = refl
+
+  finished : is_finished (entry (Some None) true false) ≡ true
+  finished = refl
+
+  unfinished : is_finished (entry (Some None) false false) ≡ false
+  unfinished = refl
+
+  undecided : is_finished (entry None true false) ≡ false
+  undecided = refl
+
+-- ---- whether octets go on with a payload
+
+more_follows : goes_on_with true (1 ∷ 2 ∷ 3 ∷ []) 1 (2 ∷ []) ≡ true
+more_follows = refl
+
+all_follows : goes_on_with false (1 ∷ 2 ∷ 3 ∷ []) 1 (2 ∷ 3 ∷ []) ≡ true
+all_follows = refl
+
+less_follows : goes_on_with false (1 ∷ 2 ∷ 3 ∷ []) 1 (2 ∷ []) ≡ false
+less_follows = refl
+
+other_follows : goes_on_with true (1 ∷ 2 ∷ 3 ∷ []) 1 (3 ∷ []) ≡ false
+other_follows = refl
+
+first_again : goes_on_with true (1 ∷ 2 ∷ 3 ∷ []) 1 (1 ∷ []) ≡ false
+first_again = refl

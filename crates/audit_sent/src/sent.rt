@@ -1,0 +1,280 @@
+//! A delivery to a client from its first part on: how far it is sent, how its consumer decided, and who has settled it (part 2
+//! of the standard, sections 2.6.12 and 2.6.14).
+
+ghost use Rattle.std.specs.Prelude.{◌≡◌, ◌++◌, List, None, Some, OnOk, OnErr, IfOk, option_map};
+ghost use Rattle.capture_form.specs.Rules.{RuleText};
+ghost use Rattle.capture_form.specs.declared.records.Record.{Record};
+ghost use Rattle.trace_events.specs.Said.{out_spoken};
+ghost use Rattle.trace_events.specs.Words.{is_some_and};
+ghost use Rattle.trace_events.specs.Event.{Incoming};
+ghost use Rattle.trace_events.specs.Disposition.{terminal_state};
+ghost use Rattle.trace_events.specs.Link as links;
+ghost use Rattle.trace_events.specs.Incoming as received;
+ghost use Rattle.trace_events.specs.Outgoing as law;
+ghost use Rattle.trace_events.specs.Settling as settling;
+ghost use Rattle.trace_events.specs.History.{history};
+ghost use Rattle.trace_clauses.specs.Clauses.{first_broken};
+ghost use Rattle.trace_clauses.specs.TransferClause.{is_payload_so_far};
+ghost use Rattle.audit_sent.specs.Sent as kept;
+ghost use Rattle.audit_sent.specs.Sent.{IsEntry, Follows, Begins};
+ghost use Rattle.audit_sent.specs.SentViews.{sent_view, decided_view};
+ghost use Rattle.trace_law.specs.View.{Events, decision_view, event_view, outgoing_view};
+
+use crate::decided::Decided;
+use crate::payload::goes_on_with;
+use crate::sent_link::SentLink;
+use pairing_cert::Note;
+use std::alloc::{AllocError, Global};
+use trace_law::{Decision, Event, Outgoing, is_decisive};
+
+/// A delivery to a client.
+#[doc(hidden)]
+#[derive(Drop)]
+pub struct SentDelivery {
+    alloc: Global,
+    number: u64,
+    link: SentLink,
+    id: Option<u32>,
+    is_settled: bool,
+    note: Note,
+    /// How many octets of its payload were sent, counted in 64 bits.
+    sent_count: u64,
+    is_sent: bool,
+    decision: Option<Decided>,
+    is_settled_by_consumer: bool,
+    is_settled_by_router: bool,
+}
+
+impl SentDelivery {
+    /// Before its first part.
+    fn unsent(alloc: Global, delivery: &Outgoing) -> Result<SentDelivery, AllocError>
+        ensures { IfOk result (λ own. sent_view own ≡ kept.unsent (outgoing_view delivery.now)) }
+    {
+        Ok(SentDelivery {
+            alloc,
+            number: delivery.number,
+            link: SentLink::new(alloc, &delivery.link)?,
+            id: delivery.id,
+            is_settled: delivery.is_settled,
+            note: delivery.note,
+            sent_count: 0,
+            is_sent: false,
+            decision: None,
+            is_settled_by_consumer: false,
+            is_settled_by_router: false,
+        })
+    }
+
+    /// The delivery that the event begins.
+    ///
+    /// # Errors
+    ///
+    /// Memory was refused.
+    pub fn begin(alloc: Global, event: &Event) -> Result<Option<SentDelivery>, AllocError>
+        ensures begun { IfOk result (λ own. option_map sent_view own ≡ kept.sent_begun (event_view event.now)) }
+        ensures known { IfOk result (λ own. Begins (event_view event.now) (option_map sent_view own)) }
+    {
+        let own = SentDelivery::first(alloc, event)?;
+        Ok(own)
+    }
+
+    /// The same, by what the event makes of it.
+    fn first(alloc: Global, event: &Event) -> Result<Option<SentDelivery>, AllocError>
+        ensures { IfOk result (λ own. option_map sent_view own ≡ kept.sent_begun (event_view event.now)) }
+    {
+        let Some(delivery) = event.outgoing_begun() else {
+            return Ok(None);
+        };
+        let mut own = SentDelivery::unsent(alloc, &delivery)?;
+        own.move_on(event, false)?;
+        Ok(Some(own))
+    }
+
+    /// The delivery itself.
+    pub fn delivery(&self) -> Outgoing<'_>
+        ensures { outgoing_view result ≡ (sent_view self.now).delivery }
+    {
+        Outgoing {
+            number: self.number,
+            link: self.link.link(),
+            id: self.id,
+            is_settled: self.is_settled,
+            note: self.note,
+        }
+    }
+
+    /// Its last part is written.
+    pub fn is_sent(&self) -> bool
+        ensures stored { result ≡ self.now.is_sent }
+        ensures known { (history : Events) → IsEntry history (sent_view self.now) →
+            result ≡ law.is_sent (sent_view self.now).delivery history }
+    {
+        self.is_sent
+    }
+
+    /// The consumer's decision, by the terminal state that it tells; on a pre-settled link there is none.
+    pub fn decision(&self) -> Option<Decision<'_>>
+        ensures stored { option_map decision_view result ≡ (sent_view self.now).decision }
+        ensures known { (history : Events) → IsEntry history (sent_view self.now) →
+            option_map decision_view result ≡ option_map terminal_state (law.decision (sent_view self.now).delivery history) }
+    {
+        self.decided()
+    }
+
+    fn decided(&self) -> Option<Decision<'_>>
+        ensures { option_map decision_view result ≡ (sent_view self.now).decision }
+    {
+        match &self.decision {
+            Some(own) => Some(own.decision()),
+            None => None,
+        }
+    }
+
+    /// Its consumer has settled it, whether it decided or not.
+    pub fn is_settled_by_consumer(&self) -> bool
+        ensures stored { result ≡ self.now.is_settled_by_consumer }
+        ensures known { (history : Events) → IsEntry history (sent_view self.now) →
+            result ≡ law.is_settled_by_consumer (sent_view self.now).delivery history }
+    {
+        self.is_settled_by_consumer
+    }
+
+    /// The router has settled it.
+    pub fn is_settled_by_router(&self) -> bool
+        ensures stored { result ≡ self.now.is_settled_by_router }
+        ensures known { (history : Events) → IsEntry history (sent_view self.now) →
+            result ≡ law.is_settled_by_router (sent_view self.now).delivery history }
+    {
+        self.is_settled_by_router
+    }
+
+    /// The router is to settle it with its consumer, given whether its link lives, and whether it carries a delivery of which
+    /// nothing more is to be told.
+    pub fn is_to_settle(&self, is_live: bool, is_closed: bool) -> bool
+        ensures stored { result ≡ kept.to_settle (sent_view self.now) is_live is_closed }
+        ensures known { (history : Events) → IsEntry history (sent_view self.now) →
+            is_live ≡ links.is_live history (sent_view self.now).delivery.link →
+            is_closed ≡ is_some_and (law.noted self.now.note history) (settling.is_closed history) →
+            result ≡ settling.is_to_settle history (sent_view self.now).delivery }
+    {
+        self.may_settle(is_live, is_closed)
+    }
+
+    fn may_settle(&self, is_live: bool, is_closed: bool) -> bool
+        ensures { result ≡ kept.to_settle (sent_view self.now) is_live is_closed }
+    {
+        is_live
+            && self.decision.is_some()
+            && !self.is_settled_by_consumer
+            && !self.is_settled_by_router
+            && is_closed
+    }
+
+    /// With these octets behind what was sent, the payload so far is the first part of this payload, and all of it where no
+    /// more follows: that of the delivery which it carries, in a lawful capture.
+    pub fn is_payload_so_far(&self, more: bool, payload: &[u8], octets: &[u8]) -> bool
+        ensures stored { result ≡ kept.goes_on_with more payload.now self.now.sent_count octets.now }
+        ensures known { (rules : List RuleText) (records : List Record) (d : Incoming) → IsEntry (history rules records) (sent_view self.now) →
+            first_broken rules (history rules records) ≡ None → law.noted self.now.note (history rules records) ≡ Some d →
+            payload.now ≡ received.payload d (history rules records) →
+            result ≡ is_payload_so_far more (received.payload d (history rules records))
+            (law.payload (sent_view self.now).delivery (history rules records) ++ octets.now) }
+    {
+        goes_on_with(more, payload, self.sent_count, octets)
+    }
+
+    /// How many octets of its payload were sent, counted in 64 bits.
+    pub(crate) fn sent_count(&self) -> u64
+        ensures { result ≡ self.now.sent_count }
+    {
+        self.sent_count
+    }
+
+    /// The event follows those of the delivery so far; `is_live` says whether its link lived before the event.
+    ///
+    /// # Errors
+    ///
+    /// Memory was refused, for the octets of a decision; then all stays as it was.
+    pub fn take(&mut self, event: &Event, is_live: bool) -> Result<(), AllocError>
+        ensures next { OnOk result (sent_view self.new ≡ kept.sent_next (event_view event.now) is_live (sent_view self.old)) }
+        ensures known { OnOk result (Follows (event_view event.now) is_live (sent_view self.old) (sent_view self.new)) }
+        ensures unchanged { OnErr result (sent_view self.new ≡ sent_view self.old) }
+    {
+        self.move_on(event, is_live)?;
+        Ok(())
+    }
+
+    /// With the event.
+    fn move_on(&mut self, event: &Event, is_live: bool) -> Result<(), AllocError>
+        ensures next { OnOk result (sent_view self.new ≡ kept.sent_next (event_view event.now) is_live (sent_view self.old)) }
+        ensures unchanged { OnErr result (sent_view self.new ≡ sent_view self.old) }
+    {
+        let sent_count = self.count_after(event);
+        let is_sent = event.ends(&self.delivery()) || self.is_sent;
+        let is_settled_by_consumer = self.is_settled_by_consumer_after(event, is_live);
+        let is_settled_by_router = event.settled == Some(self.number) || self.is_settled_by_router;
+        self.decide(event, is_live)?;
+        self.sent_count = sent_count;
+        self.is_sent = is_sent;
+        self.is_settled_by_consumer = is_settled_by_consumer;
+        self.is_settled_by_router = is_settled_by_router;
+        Ok(())
+    }
+
+    /// The first decision holds.
+    fn decide(&mut self, event: &Event, is_live: bool) -> Result<(), AllocError>
+        ensures decided { OnOk result (sent_view self.new ≡ kept.decided (event_view event.now) is_live (sent_view self.old)) }
+        ensures unchanged { OnErr result (sent_view self.new ≡ sent_view self.old) }
+    {
+        if is_live && self.decision.is_none() {
+            self.decision = self.decided_with(event)?;
+        }
+        Ok(())
+    }
+
+    /// What its consumer decides with the event.
+    fn decided_with(&self, event: &Event) -> Result<Option<Decided>, AllocError>
+        ensures { IfOk result (λ own. option_map decided_view own ≡ kept.decided_with (event_view event.now) (sent_view self.now).delivery) }
+    {
+        if self.link.link().is_pre_settled {
+            return Ok(None);
+        }
+        match event.answering(&self.delivery()) {
+            Some(fields) if is_decisive(&fields) => {
+                let decision = Decision::of_disposition(&fields);
+                Ok(Some(Decided::new(self.alloc, &decision)?))
+            }
+            _ => Ok(None),
+        }
+    }
+
+    fn count_after(&self, event: &Event) -> u64
+        ensures { result ≡ kept.count_next (event_view event.now) (sent_view self.now).delivery self.now.sent_count }
+    {
+        if event.is_outgoing_part(&self.delivery()) {
+            self.sent_count.wrapping_add(payload_of(event).len() as u64)
+        } else {
+            self.sent_count
+        }
+    }
+
+    fn is_settled_by_consumer_after(&self, event: &Event, is_live: bool) -> bool
+        ensures { result ≡ kept.by_consumer_next (event_view event.now) is_live (sent_view self.now).delivery self.now.is_settled_by_consumer }
+    {
+        let settles = match event.answering(&self.delivery()) {
+            Some(fields) => fields.is_settled(),
+            None => false,
+        };
+        is_live && settles || self.is_settled_by_consumer
+    }
+}
+
+/// What stands behind the transfer that the event is.
+fn payload_of<'a>(event: &Event<'a>) -> &'a [u8]
+    ensures { result.now ≡ received.part_payload (out_spoken (event_view event.now)) }
+{
+    match event.out_spoken() {
+        Some(spoken) => spoken.payload,
+        None => &[],
+    }
+}
