@@ -1,5 +1,5 @@
 -- The links that an event ends are those whose deliveries it touches by their end.
-use Rattle.std.proofs.Common.{◌≡◌, refl, sym, ap, ◌∙◌, ◌<◌, ℕ, Bool, true, false, ◌&&◌, ◌||◌, not, List, [], ◌∷◌, length, Option, Some, None, IfSome, bytes_eq, inl, inr, eq-eqb, ◌==◌}
+use Rattle.std.proofs.Common.{subst, ◌≡◌, refl, sym, ap, ◌∙◌, ◌<◌, ℕ, Bool, true, false, ◌&&◌, ◌||◌, not, List, [], ◌∷◌, length, Option, Some, None, IfSome, bytes_eq, inl, inr, eq-eqb, ◌==◌}
 use Rattle.std.specs.Prelude.{Contains}
 use Rattle.std.specs.List.{AllByRecursion, cons_option, list_any}
 use Rattle.capture_form.specs.Rules.{RuleText}
@@ -113,3 +113,11 @@ module _ (rules : List RuleText) (e : Event) (past : List Event) (are : AreJudge
       by : (P : Held → Type 0) (o : Option Held) → ((x : Held) → o ≡ Some x → P x) → IfSome o P
       by P None each = tt
       by P (Some x) each = each x refl
+
+-- of a table that has what the law keeps
+pub ended-of : (rules : List RuleText) (e : Event) (past : List Event) (has : List ℕ → Bool) (ended : List Link) (kept : ℕ → Option Held) → ((n : ℕ) → kept n ≡ held_at rules n past)
+    → AreEnded e has ended (λ n. held_at rules n past) → AreEnded e has ended kept
+ended-of rules e past has ended kept were are = record {
+  producers = λ n. subst (λ (o : Option Held). IfSome o (λ (x : Held). x.is_undecided && ends_link x.delivery.link e ≡ true → list_any (λ (l : Link). l.number == x.delivery.link.number) ended ≡ true)) (sym (were n)) (are.producers n);
+  consumers = λ n. subst (λ (o : Option Held). IfSome o (λ (x : Held). says_waiting x.fate && not (has (address_of x.delivery)) ≡ true → list_any (λ (l : Link). bytes_eq l.address (address_of x.delivery)) ended ≡ true)) (sym (were n)) (are.consumers n);
+}

@@ -1,5 +1,7 @@
 -- The deliveries that an event may touch are moved one after the other, and then the table has what the law keeps behind it.
-use Rattle.std.proofs.Common.{◌≡◌, refl, sym, ap, ◌∙◌, ◌⊎◌, inl, inr, ℕ, Bool, true, false, ◌&&◌, not, List, ◌∷◌, Option, Some, None, IfSome, cond, nat_eq, option_and_then, if◌then◌else◌, ◌==◌, eqb-true}
+use Rattle.std.proofs.Common.{◌≡◌, refl, sym, ap, ◌∙◌, ◌⊎◌, inl, inr, ℕ, Bool, true, false, ◌&&◌, ◌||◌, ◌<◌, not, List, [], ◌∷◌, ◌++◌, length, arith, Option, Some, None, IfSome, cond, nat_eq, option_and_then, if◌then◌else◌, ◌==◌, eqb-true, eq-eqb}
+use Rattle.std.specs.List.{list_any}
+use Rattle.std.proofs.lemmas.List.Folds.{list_any-append}
 use Rattle.capture_form.specs.Rules.{RuleText}
 use Rattle.trace_events.specs.Words.{is_some_and, or_else}
 use Rattle.trace_events.specs.Event.{Event, Incoming}
@@ -8,7 +10,7 @@ use Rattle.trace_events.specs.Address.{has_consumer}
 use Rattle.trace_events.proofs.Judged.{AreJudged}
 use Rattle.trace_events.proofs.Links.{passing}
 use Rattle.trace_clauses.specs.Clauses.{first_broken}
-use Rattle.audit_held.specs.Held.{Held, held_at, held_begun, held_next, held_behind, begins_number, unbegun}
+use Rattle.audit_held.specs.Held.{Held, held_at, held_begun, held_next, held_behind, begins_number, moved, stays, unbegun}
 use Rattle.audit_held.specs.HeldTouched.{is_touched}
 use Rattle.audit_held.proofs.HeldKnown.{unheld}
 use Rattle.audit_held.proofs.HeldSparse.{moved-held}
@@ -144,3 +146,43 @@ module _ (rules : List RuleText) (e : Event) (past : List Event) (are : AreJudge
 
     pub taken : (n : ℕ) → new n ≡ held_at rules n (e ∷ past)
     taken = moved-held rules e past are lawful old new were moves
+
+-- ---- before the first and behind the last
+
+module _ (rules : List RuleText) (e : Event) (has : List ℕ → Bool) (o : Option Held) where
+  pub nothing-moved : (b : Bool) → o ≡ (if b && not b then on rules e has o else o)
+  nothing-moved true = refl
+  nothing-moved false = refl
+
+  pub all-moved : (b left : Bool) (now : Option Held) → left ≡ false → now ≡ (if b && not left then on rules e has o else o) → now ≡ (if b then on rules e has o else o)
+  all-moved true left now none was = was ∙ ap (λ d. if not d then on rules e has o else o) none
+  all-moved false left now none was = was
+
+-- a number that was popped was there, and behind the last none is
+pub popped-in : (keys left : List ℕ) (k : ℕ) → keys ≡ left ++ k ∷ [] → list_any (nat_eq k) keys ≡ true
+popped-in keys left k is = ap (list_any (nat_eq k)) is ∙ (list_any-append (nat_eq k) left (k ∷ []) ∙ (ap (λ b. list_any (nat_eq k) left || (b || false)) (eq-eqb k k refl) ∙ last (list_any (nat_eq k) left)))
+  where
+    last : (b : Bool) → b || true ≡ true
+    last true = refl
+    last false = refl
+
+pub none-left : (keys : List ℕ) (n : ℕ) → (0 < length keys → false ≡ true) → list_any (nat_eq n) keys ≡ false
+none-left [] n empty = refl
+none-left (k ∷ keys) n empty = let never : false ≡ true = empty (omega arith) in absurd cc
+
+-- what an event begins has its number
+pub begun-number : (rules : List RuleText) (e : Event) (has : Bool) (x : Held) → held_begun rules e has ≡ Some x → x.delivery.number ≡ e.number
+begun-number rules e has x is = by (incoming_begun e) refl is
+  where
+    same_some : (a b : Held) → Some a ≡ Some b → a ≡ b
+    same_some a b is = cc
+
+    kept : (d : Incoming) (b : Bool) → (if b then Some (moved rules e has (unbegun d)) else None) ≡ Some x → d ≡ x.delivery
+    kept d true is = ap (λ (y : Held). y.delivery) (same_some (moved rules e has (unbegun d)) x is)
+    kept d false is = absurd cc
+
+    by : (o : Option Incoming) → incoming_begun e ≡ o → option_and_then (λ d. held_next rules e has (unbegun d)) o ≡ Some x → x.delivery.number ≡ e.number
+    by None none is = absurd cc
+    by (Some d) begun is =
+        let one = kept d (stays e (moved rules e has (unbegun d))) is in
+        sym (ap (λ (y : Incoming). y.number) one) ∙ eqb-true d.number e.number (passing (λ (y : Incoming). y.number == e.number) e.incoming d begun).1

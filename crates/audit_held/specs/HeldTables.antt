@@ -1,9 +1,11 @@
 -- What the table of deliveries from clients stands for.
-use Rattle.std.specs.Prelude.{◌≡◌, ℕ, List, Option, option_map, nat_eq, if◌then◌else◌, ◌==◌}
+use Rattle.std.specs.Prelude.{◌≡◌, ℕ, Bool, List, Option, option_and_then, option_map, nat_eq, if◌then◌else◌, ◌==◌}
 use Rattle.indexmap.specs.IndexMap.{get}
 use Rattle.capture_form.specs.Rules.{RuleText}
 use Rattle.trace_events.specs.Event.{Event}
-use Rattle.audit_held.specs.Held.{Held, held_at}
+use Rattle.trace_events.specs.Incoming.{address_of}
+use Rattle.audit_held.specs.Grouped.{AreGrouped}
+use Rattle.audit_held.specs.Held.{Held, held_at, held_next}
 use Rattle.audit_held.specs.HeldViews.{held_view}
 use Rattle.audit_held.specs.declared.deliveries.Deliveries.{Deliveries}
 
@@ -15,10 +17,15 @@ held_in table n = option_map held_view (get nat_eq table.entries n)
 abbrev pub AreHeld : List RuleText → Deliveries → List Event → Type 0
 AreHeld rules table past = (n : ℕ) → held_in table n ≡ held_at rules n past
 
+-- and its groups have just these
+abbrev pub IsTable : List RuleText → Deliveries → List Event → Type 0
+IsTable rules table past = AreHeld rules table past × AreGrouped table.groups (held_in table)
+
 -- this is made of the delivery of this number, and nothing of any other
 abbrev pub MovesAt : ℕ → (Option Held → Option Held) → Deliveries → Deliveries → Type 0
 MovesAt n step earlier later = (m : ℕ) → held_in later m ≡ (if n == m then step (held_in earlier m) else held_in earlier m)
 
--- the tables say the same
-abbrev pub HeldSame : Deliveries → Deliveries → Type 0
-HeldSame earlier later = (m : ℕ) → held_in later m ≡ held_in earlier m
+-- of the numbers that pass, the event moves the deliveries, and no other
+abbrev pub AreMovedBy : (ℕ → Bool) → List RuleText → Event → (List ℕ → Bool) → Deliveries → Deliveries → Type 0
+AreMovedBy passes rules e has earlier later = (n : ℕ) → held_in later n
+    ≡ (if passes n then option_and_then (λ x. held_next rules e (has (address_of x.delivery)) x) (held_in earlier n) else held_in earlier n)

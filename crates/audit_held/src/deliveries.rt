@@ -1,35 +1,47 @@
-//! The deliveries from clients that are kept, by the record that began each.
+//! The deliveries from clients that are kept, by the record that began each, and in groups.
 
-ghost use Rattle.std.specs.Prelude.{◌≡◌, [], List, OnOk, OnErr, option_and_then, option_map};
+ghost use Rattle.std.specs.Prelude.{◌≡◌, ◌∷◌, ℕ, List, [], None, OnOk, map, nat_eq, option_and_then, option_map};
+ghost use Rattle.indexmap.specs.IndexSet.{contains};
 ghost use Rattle.std.specs.Option.{option_copied};
 ghost use Rattle.capture_form.specs.Rules.{RuleText};
-ghost use Rattle.trace_events.specs.Words.{or_else};
+ghost use Rattle.capture_form.specs.declared.records.Record.{Record};
+ghost use Rattle.trace_events.specs.Address.{has_consumer};
+ghost use Rattle.trace_events.specs.History.{history};
+ghost use Rattle.trace_events.specs.Incoming.{address_of, incoming_begun};
+ghost use Rattle.trace_events.specs.Words.{is_some_and, or_else};
+ghost use Rattle.audit_tables.specs.Connections.{IsLawfulNext};
+ghost use Rattle.audit_held.specs.Grouped.{AreGrouped};
 ghost use Rattle.audit_held.specs.Held.{held_begun, held_next};
-ghost use Rattle.audit_held.specs.HeldTables.{AreHeld, HeldSame, MovesAt, held_in};
+ghost use Rattle.audit_held.specs.HeldTables.{AreMovedBy, IsTable, MovesAt, held_in};
+ghost use Rattle.audit_held.specs.HeldTouched.{EndWith};
 ghost use Rattle.audit_held.specs.HeldViews.{held_view};
-ghost use Rattle.trace_law.specs.View.{event_view};
+ghost use Rattle.trace_law.specs.View.{event_view, link_view};
 
+use crate::groups::{HeldGroups, Marks};
 use crate::held::HeldDelivery;
+use crate::touched::Addresses;
 use capture_form::Rule;
-use indexmap::IndexMap;
+use indexmap::{IndexMap, IndexSet};
 use std::alloc::{AllocError, Global};
-use trace_law::Event;
+use trace_law::{Event, Link};
 
 /// The deliveries from clients that are kept.
 #[derive(Drop)]
 pub struct Deliveries {
     alloc: Global,
     entries: IndexMap<u64, HeldDelivery>,
+    groups: HeldGroups,
 }
 
 impl Deliveries {
     /// No records.
     pub fn new(alloc: Global) -> Deliveries
-        ensures { (rules : List RuleText) → AreHeld rules result [] }
+        ensures { (rules : List RuleText) → IsTable rules result [] }
     {
         Deliveries {
             alloc,
             entries: IndexMap::new(alloc),
+            groups: HeldGroups::new(alloc),
         }
     }
 
@@ -40,22 +52,44 @@ impl Deliveries {
         self.entries.get(&number)
     }
 
+    /// The event follows those so far. These links live before it and end with it, and the addresses are those behind it.
+    ///
+    /// # Errors
+    ///
+    /// Memory was refused; then the table may agree with no records any more.
+    pub fn take<A: Addresses>(
+        &mut self,
+        rules: &[Rule],
+        event: &Event,
+        ended: &[Link],
+        addresses: &A,
+    ) -> Result<(), AllocError>
+        ensures { OnOk result ((records : List Record) (r : Record) → IsLawfulNext rules.now records r (event_view event.now) →
+            IsTable rules.now self.old (history rules.now records) →
+            ((address : List ℕ) → A.has_one addresses.now address ≡ has_consumer address (event_view event.now ∷ history rules.now records)) →
+            EndWith (history rules.now records) (event_view event.now) (map link_view ended.now) →
+            IsTable rules.now self.new (event_view event.now ∷ history rules.now records)) }
+    {
+        let touched = self.groups.touched(self.alloc, addresses, ended, event)?;
+        self.touch_all(touched, rules, event, addresses)?;
+        let has_consumer = begins_served(event, addresses);
+        self.begin(rules, event, has_consumer)?;
+        Ok(())
+    }
+
     /// The event begins a delivery, or none; `has_consumer` says whether its address has one behind the event.
     ///
     /// # Errors
     ///
-    /// Memory was refused; then all stays as it was.
-    pub fn begin(
-        &mut self,
-        rules: &[Rule],
-        event: &Event,
-        has_consumer: bool,
-    ) -> Result<(), AllocError>
+    /// Memory was refused; then the groups may not fit the deliveries any more.
+    fn begin(&mut self, rules: &[Rule], event: &Event, has_consumer: bool) -> Result<(), AllocError>
         ensures begun { OnOk result (MovesAt (event_view event.now).number
             (or_else (held_begun rules.now (event_view event.now) has_consumer)) self.old self.new) }
-        ensures unchanged { OnErr result (HeldSame self.old self.new) }
+        ensures grouped { OnOk result (AreGrouped self.old.groups (held_in self.old) → held_in self.old (event_view event.now).number ≡ None →
+            AreGrouped self.new.groups (held_in self.new)) }
     {
         if let Some(held) = HeldDelivery::begin(self.alloc, rules, event, has_consumer)? {
+            self.groups.put(&held.delivery(), Marks::of(&held, true))?;
             self.entries.insert(event.number, held)?;
         }
         Ok(())
@@ -66,8 +100,8 @@ impl Deliveries {
     ///
     /// # Errors
     ///
-    /// Memory was refused, for the payload; then all stays as it was.
-    pub fn touch(
+    /// Memory was refused; then the groups may not fit the deliveries any more.
+    fn touch(
         &mut self,
         number: u64,
         rules: &[Rule],
@@ -76,15 +110,54 @@ impl Deliveries {
     ) -> Result<(), AllocError>
         ensures touched { OnOk result (MovesAt number
             (option_and_then (held_next rules.now (event_view event.now) has_consumer)) self.old self.new) }
-        ensures unchanged { OnErr result (HeldSame self.old self.new) }
+        ensures grouped { OnOk result (AreGrouped self.old.groups (held_in self.old) → AreGrouped self.new.groups (held_in self.new)) }
     {
         let Some(held) = self.entries.get_mut(&number) else {
             return Ok(());
         };
         let stays = held.take(rules, event, has_consumer)?;
+        self.groups.put(&held.delivery(), Marks::of(held, stays))?;
         if !stays {
             self.entries.swap_remove(&number);
         }
         Ok(())
+    }
+
+    /// The event touches each of these.
+    fn touch_all<A: Addresses>(
+        &mut self,
+        mut touched: IndexSet<u64>,
+        rules: &[Rule],
+        event: &Event,
+        addresses: &A,
+    ) -> Result<(), AllocError>
+        ensures touched { OnOk result (AreMovedBy (contains nat_eq touched) rules.now (event_view event.now) (A.has_one addresses.now) self.old self.new) }
+        ensures grouped { OnOk result (AreGrouped self.old.groups (held_in self.old) → AreGrouped self.new.groups (held_in self.new)) }
+    {
+        while let Some(number) = touched.pop() {
+            let has_consumer = self.is_served(number, addresses);
+            self.touch(number, rules, event, has_consumer)?;
+        }
+        Ok(())
+    }
+
+    /// The address of the delivery has a consumer.
+    fn is_served<A: Addresses>(&self, number: u64, addresses: &A) -> bool
+        ensures { result ≡ is_some_and (held_in self.now number) (λ x. A.has_one addresses.now (address_of x.delivery)) }
+    {
+        match self.entries.get(&number) {
+            Some(held) => addresses.has_consumer(held.delivery().link.address),
+            None => false,
+        }
+    }
+}
+
+/// The address of the delivery that the event begins has a consumer.
+fn begins_served<A: Addresses>(event: &Event, addresses: &A) -> bool
+    ensures { result ≡ is_some_and (incoming_begun (event_view event.now)) (λ d. A.has_one addresses.now (address_of d)) }
+{
+    match event.incoming_begun() {
+        Some(delivery) => addresses.has_consumer(delivery.link.address),
+        None => false,
     }
 }

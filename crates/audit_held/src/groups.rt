@@ -23,25 +23,14 @@ pub(crate) struct Marks {
 }
 
 impl Marks {
-    /// Of one that is not kept.
-    pub(crate) fn none() -> Marks
-        ensures { result ≡ unmarked }
+    /// Of one that is kept, or of one of which nothing is left.
+    pub(crate) fn of(held: &HeldDelivery, is_kept: bool) -> Marks
+        ensures { result ≡ (if is_kept then marks_of (held_view held.now) else unmarked) }
     {
         Marks {
-            is_arriving: false,
-            is_undecided: false,
-            is_waiting: false,
-        }
-    }
-
-    /// Of one that is kept.
-    pub(crate) fn of(held: &HeldDelivery) -> Marks
-        ensures { result ≡ marks_of (held_view held.now) }
-    {
-        Marks {
-            is_arriving: !held.is_complete(),
-            is_undecided: held.is_undecided(),
-            is_waiting: held.is_waiting(),
+            is_arriving: is_kept && !held.is_complete(),
+            is_undecided: is_kept && held.is_undecided(),
+            is_waiting: is_kept && held.is_waiting(),
         }
     }
 }

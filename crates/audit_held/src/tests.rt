@@ -1,6 +1,6 @@
 //! A delivery from a client from its first part to its end, with known answers.
 
-use crate::{Deliveries, HeldDelivery};
+use crate::{Addresses, Deliveries, HeldDelivery};
 use amqp_perf::{Detach, Disposition, Performative, Role, Transfer};
 use capture_form::{Distribution, Rule};
 use pairing_cert::Note;
@@ -246,11 +246,30 @@ fn deliveries_in_their_order(rt: HostRuntime) -> Result<(), Fail> {
     Ok(())
 }
 
+/// Each address has a consumer, or none has.
+struct Everywhere {
+    has_consumer: bool,
+}
+
+impl Addresses for Everywhere {
+    ghost has_one = { λ everywhere address. everywhere.has_consumer };
+
+    fn has_consumer(&self, address: &[u8]) -> bool {
+        self.has_consumer
+    }
+}
+
+const SERVED: Everywhere = Everywhere { has_consumer: true };
+
+const UNSERVED: Everywhere = Everywhere {
+    has_consumer: false,
+};
+
 /// In the table an event touches the delivery of its number alone: one of two is told without a consumer, and goes.
 #[test]
 fn a_table_of_deliveries(rt: HostRuntime) -> Result<(), Fail> {
     let mut deliveries = Deliveries::new(rt.alloc());
-    deliveries.begin(&[], &part(15, PART, b"hello"), false)?;
+    deliveries.take(&[], &part(15, PART, b"hello"), &[], &UNSERVED)?;
     let beside = Incoming {
         number: 16,
         id: Some(4),
@@ -260,20 +279,46 @@ fn a_table_of_deliveries(rt: HostRuntime) -> Result<(), Fail> {
         incoming: Some(beside),
         ..part(16, MORE, b"wo")
     };
-    deliveries.begin(&[], &second, true)?;
+    deliveries.take(&[], &second, &[], &SERVED)?;
     assert!(rt; deliveries.get(15).is_some_and(|held| held.is_gone()));
     assert!(rt; deliveries.get(16).is_some_and(|held| !held.is_complete()));
 
-    deliveries.touch(15, &[], &telling(17), false)?;
+    deliveries.take(&[], &telling(17), &[], &SERVED)?;
     assert!(rt; deliveries.get(15).is_none());
     let last = Event {
         number: 18,
         incoming: Some(beside),
         ..part(18, PART, b"rld")
     };
-    deliveries.touch(16, &[], &last, true)?;
+    deliveries.take(&[], &last, &[], &SERVED)?;
     let held = deliveries.get(16).ok_or("a delivery")?;
     assert!(rt; held.is_waiting() && *held.payload() == *b"world".as_slice());
     assert!(rt; deliveries.get(18).is_none());
+    Ok(())
+}
+
+/// A link that ends leaves none of its deliveries undecided, and where it was the last consumer of their address, none waits.
+#[test]
+fn a_table_whose_links_end(rt: HostRuntime) -> Result<(), Fail> {
+    let lost = event(16, Moment::Lost);
+    let mut deliveries = Deliveries::new(rt.alloc());
+    deliveries.take(&[], &part(15, PART, b"hello"), &[], &SERVED)?;
+    deliveries.take(&[], &lost, &[PRODUCER], &SERVED)?;
+    assert!(rt;
+        deliveries
+            .get(15)
+            .is_some_and(|held| held.is_waiting() && held.is_closed())
+    );
+
+    let consumer = Link {
+        number: 13,
+        ..PRODUCER
+    };
+    let consumer_lost = Event {
+        connection: 9,
+        ..event(17, Moment::Lost)
+    };
+    deliveries.take(&[], &consumer_lost, &[consumer], &UNSERVED)?;
+    assert!(rt; deliveries.get(15).is_none());
     Ok(())
 }
