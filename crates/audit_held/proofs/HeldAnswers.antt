@@ -167,3 +167,31 @@ pub is_undecided-held : (rules : List RuleText) (n : ℕ) (past : List Event)
 is_undecided-held rules n past =
     test-kept rules past (λ d. is_undecided rules d past) (λ (x : Held). x.is_undecided)
     (λ d. open-bits (is_complete d past) (is_of_multicast rules d) (is_paired d past) (always_had_consumer d past) (is_settled d past) (is_told d past) (is_live past d.link) (is_aborted d past)) (incoming_at n past)
+
+implied : (u k : Bool) → u ≡ k && u → u ≡ true → k ≡ true
+implied true true same is = refl
+implied true false same is = let never : true ≡ false = same in absurd cc
+implied false k same is = absurd cc
+
+waiting-bits : (c m p a closed : Bool) → (not m && c && not p) && a ≡ true → (if c then not (((not m && c && not p) && not a) && closed) else false) ≡ true
+waiting-bits false true p a closed is = absurd cc
+waiting-bits false false p a closed is = absurd cc
+waiting-bits true true p a closed is = absurd cc
+waiting-bits true false true a closed is = absurd cc
+waiting-bits true false false true closed is = refl
+waiting-bits true false false false closed is = absurd cc
+
+complete-only : (c k other : Bool) → (if c then k else false) ≡ true → (if c then k else other) ≡ true
+complete-only true k other is = is
+complete-only false k other is = absurd cc
+
+module _ (rules : List RuleText) (past : List Event) (d : Incoming) where
+  pub undecided-kept : is_undecided rules d past ≡ true → is_held rules past d ≡ true
+  undecided-kept =
+      implied (is_undecided rules d past) (is_held rules past d)
+      (open-bits (is_complete d past) (is_of_multicast rules d) (is_paired d past) (always_had_consumer d past) (is_settled d past) (is_told d past) (is_live past d.link) (is_aborted d past))
+
+  pub waiting-kept : is_waiting rules d past ≡ true → is_held rules past d ≡ true
+  waiting-kept is =
+      complete-only (is_complete d past) _ (not (is_aborted d past) && is_live past d.link)
+      (waiting-bits (is_complete d past) (is_of_multicast rules d) (is_paired d past) (always_had_consumer d past) (is_closed past d) is)

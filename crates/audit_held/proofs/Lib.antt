@@ -11,3 +11,4 @@ mod GroupLists
 mod TouchedKnown
 mod EndedKnown
 mod TouchedAll
+mod GroupAnswers

@@ -30,7 +30,7 @@ use trace_law::{Event, Link};
 pub struct Deliveries {
     alloc: Global,
     entries: IndexMap<u64, HeldDelivery>,
-    groups: HeldGroups,
+    pub(crate) groups: HeldGroups,
 }
 
 impl Deliveries {

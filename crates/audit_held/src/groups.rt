@@ -38,8 +38,8 @@ impl Marks {
 /// The id of a delivery, on its session.
 #[derive(Clone, Copy, PartialEq, Eq, Hash)]
 pub(crate) struct IdOn {
-    session: u64,
-    id: u32,
+    pub(crate) session: u64,
+    pub(crate) id: u32,
 }
 
 /// The numbers of the deliveries that are kept, in groups.

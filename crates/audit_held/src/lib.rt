@@ -4,10 +4,12 @@
 //! - `held`: a delivery that is kept, and what one event makes of it;
 //! - `groups`: which of those that are kept arrive, are undecided, or wait;
 //! - `touched`: which of them an event may touch;
-//! - `deliveries`: all of them, by number.
+//! - `deliveries`: all of them, by number;
+//! - `group_answers`: what their groups answer to the questions of `trace_law`.
 #![tactic(auto)]
 
 mod deliveries;
+mod group_answers;
 mod groups;
 mod held;
 #[cfg(test)]

@@ -1,0 +1,95 @@
+-- What the groups answer of all the deliveries of a history.
+use Rattle.std.proofs.Common.{◌≡◌, refl, sym, ap, ◌∙◌, ◌↔◌, ℕ, Bool, true, false, IsTrue, ◌&&◌, ◌||◌, not, List, [], ◌∷◌, Option, Some, None, option_map, if◌then◌else◌, ◌==◌}
+use Rattle.std.specs.List.{list_any}
+use Rattle.capture_form.specs.Rules.{RuleText}
+use Rattle.trace_events.specs.Words.{is_some_and, where_passes}
+use Rattle.trace_events.specs.Event.{Event, Incoming}
+use Rattle.trace_events.specs.Incoming.{incoming_at, incoming_deliveries}
+use Rattle.trace_events.proofs.Judged.{AreJudged}
+use Rattle.trace_clauses.proofs.IdsApart.{found_any}
+use Rattle.trace_clauses.proofs.IncomingProgress.{judged-kept}
+use Rattle.trace_clauses.proofs.Parts.{AllOf, IsKept, each_delivery}
+use Rattle.audit_held.specs.Held.{Held, held, is_held, held_at}
+use Rattle.audit_held.proofs.HeldAnswers.{held-of}
+
+and_both : (a b : Bool) → a && b ≡ true → (a ≡ true) × (b ≡ true)
+and_both true b is = (refl, is)
+and_both false b is = absurd cc
+
+both : (a b : Bool) → a ≡ true → b ≡ true → a && b ≡ true
+both true b first second = second
+both false b first second = absurd cc
+
+-- one of a list that passes
+one-of : {A : Type 0} (P : A → Type 0) (test : A → Bool) (xs : List A) → AllOf P xs → list_any test xs ≡ true → (x : A) × P x × (test x ≡ true)
+one-of P test [] all is = absurd cc
+one-of {A = A} P test (x ∷ xs) all is = by (test x) refl is (one-of P test xs all.1)
+  where
+    by : (b : Bool) → test x ≡ b → b || list_any test xs ≡ true → (list_any test xs ≡ true → (y : A) × P y × (test y ≡ true)) → (y : A) × P y × (test y ≡ true)
+    by true here is later = (x, all.0, here)
+    by false here is later = later is
+
+-- the tests of one group: of a delivery's key, of what the law says of it, and of what its entry says
+module _ (rules : List RuleText) (past : List Event) (are : AreJudged rules past) (kept : ℕ → Option Held) (were : (n : ℕ) → kept n ≡ held_at rules n past)
+    (key law : Incoming → Bool) (mark : Held → Bool) (same : (d : Incoming) → law d ≡ mark (held rules past d)) (holds : (d : Incoming) → law d ≡ true → is_held rules past d ≡ true)
+    (member : ℕ → Bool) (grouped : (n : ℕ) → member n ≡ is_some_and (kept n) (λ x. key x.delivery && mark x)) where
+  abbrev test : Incoming → Bool
+  test d = key d && law d
+
+  pub member-of : (d : Incoming) → incoming_at d.number past ≡ Some d → test d ≡ true → member d.number ≡ true
+  member-of d at is =
+      let parts = and_both (key d) (law d) is in
+      let entry : kept d.number ≡ Some (held rules past d) =
+          were d.number
+          ∙ (ap (λ o. option_map (held rules past) (where_passes (is_held rules past) o)) at
+          ∙ ap (λ b. option_map (held rules past) (if b then Some d else None)) (holds d parts.1)) in
+      grouped d.number ∙ (ap (λ o. is_some_and o (λ x. key x.delivery && mark x)) entry ∙ both (key d) (mark (held rules past d)) parts.0 (sym (same d) ∙ parts.1))
+
+  pub record IsMember (n : ℕ) : Type 0 where
+    pub delivery : Incoming
+    pub at : incoming_at n past ≡ Some delivery
+    pub passes : test delivery ≡ true
+    pub entry : kept n ≡ Some (held rules past delivery)
+
+  pub of-member : (n : ℕ) → member n ≡ true → IsMember n
+  of-member n is = by (kept n) refl (sym (grouped n) ∙ is)
+    where
+      by : (o : Option Held) → kept n ≡ o → is_some_and o (λ x. key x.delivery && mark x) ≡ true → IsMember n
+      by None none is = absurd cc
+      by (Some x) some is =
+          let of = held-of rules n past x (sym (were n) ∙ some) in
+          let parts = and_both (key x.delivery) (mark x) is in record {
+            delivery = x.delivery;
+            at = of.at;
+            passes = both (key x.delivery) (law x.delivery) parts.0 (same x.delivery ∙ (ap mark of.is ∙ parts.1));
+            entry = some ∙ ap Some (sym of.is);
+          }
+
+  none-any : ((n : ℕ) → member n ≡ false) → list_any test (incoming_deliveries past) ≡ false
+  none-any none = by (list_any test (incoming_deliveries past)) refl
+    where
+      by : (b : Bool) → list_any test (incoming_deliveries past) ≡ b → list_any test (incoming_deliveries past) ≡ false
+      by false is = is
+      by true is =
+          let one = one-of (IsKept past) test (incoming_deliveries past) (each_delivery (IsKept past) past (judged-kept rules past are).each) is in
+          let never : true ≡ false = sym (member-of one.0 one.1.at one.2) ∙ none one.0.number in
+          absurd cc
+
+  any-none : list_any test (incoming_deliveries past) ≡ false → (n : ℕ) → member n ≡ false
+  any-none off n = by (member n) refl
+    where
+      by : (b : Bool) → member n ≡ b → member n ≡ false
+      by false is = is
+      by true is =
+          let one = of-member n is in
+          let never : true ≡ false = sym (found_any test (λ d. d.number == n) (incoming_deliveries past) one.delivery one.at one.passes) ∙ off in
+          absurd cc
+
+  -- whether a group has any
+  pub any-is : (empty : Bool) → (IsTrue empty ↔ ((n : ℕ) → member n ≡ false)) → not empty ≡ list_any test (incoming_deliveries past)
+  any-is true says = sym (none-any (says.0 refl))
+  any-is false says = by (list_any test (incoming_deliveries past)) refl
+    where
+      by : (b : Bool) → list_any test (incoming_deliveries past) ≡ b → true ≡ list_any test (incoming_deliveries past)
+      by true is = sym is
+      by false is = let never : false ≡ true = says.1 (any-none is) in absurd cc
