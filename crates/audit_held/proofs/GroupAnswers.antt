@@ -1,16 +1,18 @@
 -- What the groups answer of all the deliveries of a history.
-use Rattle.std.proofs.Common.{◌≡◌, refl, sym, ap, ◌∙◌, ◌↔◌, ℕ, Bool, true, false, IsTrue, ◌&&◌, ◌||◌, not, List, [], ◌∷◌, Option, Some, None, option_map, if◌then◌else◌, ◌==◌}
-use Rattle.std.specs.List.{list_any}
+use Rattle.std.proofs.Common.{◌≡◌, refl, sym, ap, ◌∙◌, ◌↔◌, ℕ, Bool, true, false, IsTrue, ◌&&◌, ◌||◌, not, List, [], ◌∷◌, Option, Some, None, option_map, if◌then◌else◌, ◌==◌, find, eqb-true, nat_eq, length, count_by}
+use Rattle.std.specs.List.{list_any, IsDistinct}
 use Rattle.capture_form.specs.Rules.{RuleText}
 use Rattle.trace_events.specs.Words.{is_some_and, where_passes}
 use Rattle.trace_events.specs.Event.{Event, Incoming}
 use Rattle.trace_events.specs.Incoming.{incoming_at, incoming_deliveries}
+use Rattle.trace_events.proofs.Along.{some_passes}
 use Rattle.trace_events.proofs.Judged.{AreJudged}
 use Rattle.trace_clauses.proofs.IdsApart.{found_any}
 use Rattle.trace_clauses.proofs.IncomingProgress.{judged-kept}
 use Rattle.trace_clauses.proofs.Parts.{AllOf, IsKept, each_delivery}
 use Rattle.audit_held.specs.Held.{Held, held, is_held, held_at}
 use Rattle.audit_held.proofs.HeldAnswers.{held-of}
+use Rattle.audit_held.proofs.IncomingNumbers.{length-counted}
 
 and_both : (a b : Bool) → a && b ≡ true → (a ≡ true) × (b ≡ true)
 and_both true b is = (refl, is)
@@ -19,6 +21,14 @@ and_both false b is = absurd cc
 both : (a b : Bool) → a ≡ true → b ≡ true → a && b ≡ true
 both true b first second = second
 both false b first second = absurd cc
+
+found-passes : {A : Type 0} (test : A → Bool) (xs : List A) (x : A) → find test xs ≡ Some x → test x ≡ true
+found-passes test [] x found = absurd cc
+found-passes test (y ∷ ys) x found = by (test y) refl (found-passes test ys x) found
+  where
+    by : (b : Bool) → test y ≡ b → (find test ys ≡ Some x → test x ≡ true) → (if b then Some y else find test ys) ≡ Some x → test x ≡ true
+    by true is later found = let same : y ≡ x = cc in ap test (sym same) ∙ is
+    by false is later found = later found
 
 -- one of a list that passes
 one-of : {A : Type 0} (P : A → Type 0) (test : A → Bool) (xs : List A) → AllOf P xs → list_any test xs ≡ true → (x : A) × P x × (test x ≡ true)
@@ -93,3 +103,20 @@ module _ (rules : List RuleText) (past : List Event) (are : AreJudged rules past
       by : (b : Bool) → list_any test (incoming_deliveries past) ≡ b → true ≡ list_any test (incoming_deliveries past)
       by true is = sym is
       by false is = let never : false ≡ true = says.1 (any-none is) in absurd cc
+
+  -- whether a number is that of one that passes
+  pub member-at : (n : ℕ) → member n ≡ is_some_and (incoming_at n past) test
+  member-at n = by (member n) refl (is_some_and (incoming_at n past) test) refl
+    where
+      by : (b : Bool) → member n ≡ b → (c : Bool) → is_some_and (incoming_at n past) test ≡ c → member n ≡ is_some_and (incoming_at n past) test
+      by true is c other = let one = of-member n is in is ∙ sym (ap (λ o. is_some_and o test) one.at ∙ one.passes)
+      by false is false other = is ∙ sym other
+      by false is true other =
+          let one = some_passes test (incoming_at n past) other in
+          let number : one.0.number ≡ n = eqb-true one.0.number n (found-passes (λ (d : Incoming). d.number == n) (incoming_deliveries past) one.0 one.1) in
+          let never : true ≡ false = sym (member-of one.0 (ap (λ m. incoming_at m past) number ∙ one.1) one.2) ∙ (ap member number ∙ is) in
+          absurd cc
+
+  -- how many a group has
+  pub count-is : (ns : List ℕ) → IsDistinct nat_eq ns → ((n : ℕ) → member n ≡ list_any (nat_eq n) ns) → length ns ≡ count_by test (incoming_deliveries past)
+  count-is ns each same = length-counted rules past are test ns each (λ n. sym (same n) ∙ member-at n)

@@ -11,4 +11,5 @@ mod GroupLists
 mod TouchedKnown
 mod EndedKnown
 mod TouchedAll
+mod IncomingNumbers
 mod GroupAnswers
