@@ -1,6 +1,6 @@
 -- What the groups answer of all the deliveries of a history.
-use Rattle.std.proofs.Common.{◌≡◌, refl, sym, ap, ◌∙◌, ◌↔◌, ℕ, Bool, true, false, IsTrue, ◌&&◌, ◌||◌, not, List, [], ◌∷◌, Option, Some, None, option_map, if◌then◌else◌, ◌==◌, find, eqb-true, nat_eq, length, count_by}
-use Rattle.std.specs.List.{list_any, IsDistinct}
+use Rattle.std.proofs.Common.{◌≡◌, refl, sym, ap, ◌∙◌, ◌↔◌, ℕ, Bool, true, false, IsTrue, ◌&&◌, ◌||◌, not, List, [], ◌∷◌, Option, Some, None, option_map, if◌then◌else◌, ◌==◌, find, eqb-true, nat_eq, length, count_by, option_and_then, eq-eqb}
+use Rattle.std.specs.List.{list_any, slice_get, IsDistinct}
 use Rattle.capture_form.specs.Rules.{RuleText}
 use Rattle.trace_events.specs.Words.{is_some_and, where_passes}
 use Rattle.trace_events.specs.Event.{Event, Incoming}
@@ -9,7 +9,7 @@ use Rattle.trace_events.proofs.Along.{some_passes}
 use Rattle.trace_events.proofs.Judged.{AreJudged}
 use Rattle.trace_clauses.proofs.IdsApart.{found_any}
 use Rattle.trace_clauses.proofs.IncomingProgress.{judged-kept}
-use Rattle.trace_clauses.proofs.Parts.{AllOf, IsKept, each_delivery}
+use Rattle.trace_clauses.proofs.Parts.{AllOf, IsKept, each_delivery, found_holds}
 use Rattle.audit_held.specs.Held.{Held, held, is_held, held_at}
 use Rattle.audit_held.proofs.HeldAnswers.{held-of}
 use Rattle.audit_held.proofs.IncomingNumbers.{length-counted}
@@ -29,6 +29,29 @@ found-passes test (y ∷ ys) x found = by (test y) refl (found-passes test ys x)
     by : (b : Bool) → test y ≡ b → (find test ys ≡ Some x → test x ≡ true) → (if b then Some y else find test ys) ≡ Some x → test x ≡ true
     by true is later found = let same : y ≡ x = cc in ap test (sym same) ∙ is
     by false is later found = later found
+
+find-none : {A : Type 0} (test : A → Bool) (xs : List A) → list_any test xs ≡ false → find test xs ≡ None
+find-none test [] off = refl
+find-none test (x ∷ xs) off = by (test x) refl off (find-none test xs)
+  where
+    by : (b : Bool) → test x ≡ b → b || list_any test xs ≡ false → (list_any test xs ≡ false → find test xs ≡ None) → (if b then Some x else find test xs) ≡ None
+    by true is off later = absurd cc
+    by false is off later = later off
+
+find-none-any : {A : Type 0} (test : A → Bool) (xs : List A) → find test xs ≡ None → list_any test xs ≡ false
+find-none-any test [] none = refl
+find-none-any test (x ∷ xs) none = by (test x) refl none (find-none-any test xs)
+  where
+    by : (b : Bool) → test x ≡ b → (if b then Some x else find test xs) ≡ None → (find test xs ≡ None → list_any test xs ≡ false) → b || list_any test xs ≡ false
+    by true is none later = absurd cc
+    by false is none later = later none
+
+find-some : {A : Type 0} (test : A → Bool) (xs : List A) → list_any test xs ≡ true → (x : A) × (find test xs ≡ Some x)
+find-some {A = A} test xs is = by (find test xs) refl (find-none-any test xs)
+  where
+    by : (o : Option A) → find test xs ≡ o → (find test xs ≡ None → list_any test xs ≡ false) → (x : A) × (find test xs ≡ Some x)
+    by None none off = let never : true ≡ false = sym is ∙ off none in absurd cc
+    by (Some x) some off = (x, some)
 
 -- one of a list that passes
 one-of : {A : Type 0} (P : A → Type 0) (test : A → Bool) (xs : List A) → AllOf P xs → list_any test xs ≡ true → (x : A) × P x × (test x ≡ true)
@@ -120,3 +143,23 @@ module _ (rules : List RuleText) (past : List Event) (are : AreJudged rules past
   -- how many a group has
   pub count-is : (ns : List ℕ) → IsDistinct nat_eq ns → ((n : ℕ) → member n ≡ list_any (nat_eq n) ns) → length ns ≡ count_by test (incoming_deliveries past)
   count-is ns each same = length-counted rules past are test ns each (λ n. sym (same n) ∙ member-at n)
+
+  none-found : (ns : List ℕ) → ((n : ℕ) → member n ≡ list_any (nat_eq n) ns) → None ≡ slice_get ns 0 → find test (incoming_deliveries past) ≡ None
+  none-found [] same none = find-none test (incoming_deliveries past) (none-any (λ n. same n))
+  none-found (n ∷ ns) same none = absurd cc
+
+  -- the first of a group is the one that passes, where no two do
+  pub first-is : (ns : List ℕ) → ((n : ℕ) → member n ≡ list_any (nat_eq n) ns) → ((m n : ℕ) (a b : Incoming) → incoming_at m past ≡ Some a → incoming_at n past ≡ Some b → test a ≡ true → test b ≡ true → a ≡ b)
+      → (o : Option ℕ) → o ≡ slice_get ns 0 → option_and_then (λ n. option_map (λ x. x.delivery) (kept n)) o ≡ find test (incoming_deliveries past)
+  first-is ns same alone None first = sym (none-found ns same first)
+  first-is [] same alone (Some n) first = absurd cc
+  first-is (m ∷ ns) same alone (Some n) first =
+      let number : n ≡ m = cc in
+      let here : member n ≡ true = same n ∙ (ap (λ k. nat_eq n k || list_any (nat_eq n) ns) (sym number) ∙ ap (λ b. b || list_any (nat_eq n) ns) (eq-eqb n n refl)) in
+      let one = of-member n here in
+      let any = found_any test (λ d. d.number == n) (incoming_deliveries past) one.delivery one.at one.passes in
+      let all = each_delivery (IsKept past) past (judged-kept rules past are).each in
+      let found = find-some test (incoming_deliveries past) any in
+      let other : IsKept past found.0 = found_holds (IsKept past) test (incoming_deliveries past) found.0 all found.1 in
+      ap (option_map (λ x. x.delivery)) one.entry
+      ∙ (ap Some (alone n found.0.number one.delivery found.0 one.at other.at one.passes (found-passes test (incoming_deliveries past) found.0 found.1)) ∙ sym found.1)

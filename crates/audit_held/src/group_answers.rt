@@ -1,18 +1,19 @@
 //! What the groups of the table answer, of all the deliveries so far.
 
-ghost use Rattle.std.specs.Prelude.{◌≡◌, List};
+ghost use Rattle.std.specs.Prelude.{◌≡◌, List, option_and_then, option_map};
 ghost use Rattle.capture_form.specs.Rules.{RuleText};
 ghost use Rattle.capture_form.specs.declared.records.Record.{Record};
 ghost use Rattle.trace_events.specs.Fault as faults;
 ghost use Rattle.trace_events.specs.History.{history};
+ghost use Rattle.trace_events.specs.Settling as settling;
 ghost use Rattle.trace_events.specs.Waiting as waiting;
-ghost use Rattle.trace_law.specs.View.{link_view};
-ghost use Rattle.audit_held.specs.HeldTables.{IsTable};
+ghost use Rattle.trace_law.specs.View.{incoming_view, link_view};
+ghost use Rattle.audit_held.specs.HeldTables.{IsTable, held_in};
 
 use crate::deliveries::Deliveries;
 use crate::groups::IdOn;
 use trace_events::Session;
-use trace_law::Link;
+use trace_law::{Incoming, Link};
 
 impl Deliveries {
     /// A delivery waits at the address.
@@ -41,5 +42,27 @@ impl Deliveries {
             result ≡ waiting.undecided_count rules (link_view link.now) (history rules records) }
     {
         self.groups.undecided.count(&link.number) as u64
+    }
+
+    /// The undecided delivery of the id on the session, whose outcome may be told.
+    pub fn to_tell(&self, session: Session, id: u32) -> Option<Incoming<'_>>
+        ensures { (rules : List RuleText) (records : List Record) → IsTable rules self.now (history rules records) →
+            option_map incoming_view result ≡ settling.to_tell rules session id (history rules records) }
+    {
+        let at = IdOn {
+            session: session.number,
+            id,
+        };
+        self.kept(self.groups.in_use.first(&at))
+    }
+
+    /// The delivery of the number, if there is one and it is kept.
+    fn kept(&self, number: Option<u64>) -> Option<Incoming<'_>>
+        ensures { option_map incoming_view result ≡ option_and_then (λ n. option_map (λ x. x.delivery) (held_in self.now n)) number }
+    {
+        match self.get(number?) {
+            Some(held) => Some(held.delivery()),
+            None => None,
+        }
     }
 }
