@@ -73,9 +73,9 @@ module _ (rules : List RuleText) (past : List Event) (are : AreJudged rules past
   member-of d at is =
       let parts = and_both (key d) (law d) is in
       let entry : kept d.number ≡ Some (held rules past d) =
-          were d.number
-          ∙ (ap (λ o. option_map (held rules past) (where_passes (is_held rules past) o)) at
-          ∙ ap (λ b. option_map (held rules past) (if b then Some d else None)) (holds d parts.1)) in
+      were d.number
+      ∙ (ap (λ o. option_map (held rules past) (where_passes (is_held rules past) o)) at
+      ∙ ap (λ b. option_map (held rules past) (if b then Some d else None)) (holds d parts.1)) in
       grouped d.number ∙ (ap (λ o. is_some_and o (λ x. key x.delivery && mark x)) entry ∙ both (key d) (mark (held rules past d)) parts.0 (sym (same d) ∙ parts.1))
 
   pub record IsMember (n : ℕ) : Type 0 where

@@ -282,8 +282,18 @@ fn a_table_of_deliveries(rt: HostRuntime) -> Result<(), Fail> {
     deliveries.take(&[], &second, &[], &SERVED)?;
     assert!(rt; deliveries.get(15).is_some_and(|held| held.is_gone()));
     assert!(rt; deliveries.get(16).is_some_and(|held| !held.is_complete()));
+    assert_eq!(rt; deliveries.undecided_count(&PRODUCER), 2);
+    assert!(rt; deliveries.is_id_in_use(SESSION, 3) && deliveries.is_id_in_use(SESSION, 4));
+    assert!(rt; !deliveries.is_id_in_use(SESSION, 5) && !deliveries.has_waiting(b"q"));
+    assert!(rt;
+        deliveries
+            .to_tell(SESSION, 4)
+            .is_some_and(|delivery| delivery.number == 16)
+    );
+    assert!(rt; deliveries.to_tell(SESSION, 5).is_none());
 
     deliveries.take(&[], &telling(17), &[], &SERVED)?;
+    assert!(rt; !deliveries.is_id_in_use(SESSION, 3) && deliveries.undecided_count(&PRODUCER) == 1);
     assert!(rt; deliveries.get(15).is_none());
     let last = Event {
         number: 18,
@@ -294,6 +304,7 @@ fn a_table_of_deliveries(rt: HostRuntime) -> Result<(), Fail> {
     let held = deliveries.get(16).ok_or("a delivery")?;
     assert!(rt; held.is_waiting() && *held.payload() == *b"world".as_slice());
     assert!(rt; deliveries.get(18).is_none());
+    assert!(rt; deliveries.has_waiting(b"q") && !deliveries.has_waiting(b"p"));
     Ok(())
 }
 
