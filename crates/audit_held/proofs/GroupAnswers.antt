@@ -22,7 +22,7 @@ both : (a b : Bool) → a ≡ true → b ≡ true → a && b ≡ true
 both true b first second = second
 both false b first second = absurd cc
 
-found-passes : {A : Type 0} (test : A → Bool) (xs : List A) (x : A) → find test xs ≡ Some x → test x ≡ true
+pub found-passes : {A : Type 0} (test : A → Bool) (xs : List A) (x : A) → find test xs ≡ Some x → test x ≡ true
 found-passes test [] x found = absurd cc
 found-passes test (y ∷ ys) x found = by (test y) refl (found-passes test ys x) found
   where

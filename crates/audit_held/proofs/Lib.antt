@@ -13,3 +13,4 @@ mod EndedKnown
 mod TouchedAll
 mod IncomingNumbers
 mod GroupAnswers
+mod ArrivingKnown

@@ -5,6 +5,8 @@ ghost use Rattle.capture_form.specs.Rules.{RuleText};
 ghost use Rattle.capture_form.specs.declared.records.Record.{Record};
 ghost use Rattle.trace_events.specs.Fault as faults;
 ghost use Rattle.trace_events.specs.History.{history};
+ghost use Rattle.trace_events.specs.Incoming as received;
+ghost use Rattle.trace_events.specs.Link.{IsLiveLink};
 ghost use Rattle.trace_events.specs.Settling as settling;
 ghost use Rattle.trace_events.specs.Waiting as waiting;
 ghost use Rattle.trace_law.specs.View.{incoming_view, link_view};
@@ -54,6 +56,14 @@ impl Deliveries {
             id,
         };
         self.kept(self.groups.in_use.first(&at))
+    }
+
+    /// The delivery of a producer's live link whose last part hasn't come yet.
+    pub fn incoming_in_progress(&self, link: &Link) -> Option<Incoming<'_>>
+        ensures { (rules : List RuleText) (records : List Record) → IsTable rules self.now (history rules records) → IsLiveLink (link_view link.now) (history rules records) →
+            option_map incoming_view result ≡ received.in_progress (link_view link.now) (history rules records) }
+    {
+        self.kept(self.groups.arriving.first(&link.number))
     }
 
     /// The delivery of the number, if there is one and it is kept.

@@ -283,6 +283,11 @@ fn a_table_of_deliveries(rt: HostRuntime) -> Result<(), Fail> {
     assert!(rt; deliveries.get(15).is_some_and(|held| held.is_gone()));
     assert!(rt; deliveries.get(16).is_some_and(|held| !held.is_complete()));
     assert_eq!(rt; deliveries.undecided_count(&PRODUCER), 2);
+    assert!(rt;
+        deliveries
+            .incoming_in_progress(&PRODUCER)
+            .is_some_and(|delivery| delivery.number == 16)
+    );
     assert!(rt; deliveries.is_id_in_use(SESSION, 3) && deliveries.is_id_in_use(SESSION, 4));
     assert!(rt; !deliveries.is_id_in_use(SESSION, 5) && !deliveries.has_waiting(b"q"));
     assert!(rt;
@@ -305,6 +310,7 @@ fn a_table_of_deliveries(rt: HostRuntime) -> Result<(), Fail> {
     assert!(rt; held.is_waiting() && *held.payload() == *b"world".as_slice());
     assert!(rt; deliveries.get(18).is_none());
     assert!(rt; deliveries.has_waiting(b"q") && !deliveries.has_waiting(b"p"));
+    assert!(rt; deliveries.incoming_in_progress(&PRODUCER).is_none());
     Ok(())
 }
 
