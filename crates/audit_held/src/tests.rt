@@ -1,6 +1,6 @@
 //! A delivery from a client from its first part to its end, with known answers.
 
-use crate::{Addresses, Deliveries, HeldDelivery};
+use crate::HeldDelivery;
 use amqp_perf::{Detach, Disposition, Performative, Role, Transfer};
 use capture_form::{Distribution, Rule};
 use pairing_cert::Note;
@@ -243,99 +243,5 @@ fn deliveries_in_their_order(rt: HostRuntime) -> Result<(), Fail> {
         assert!(rt; first.is_completed_before(second) && !second.is_completed_before(first));
         assert!(rt; !first.is_completed_before(arriving) && !arriving.is_completed_before(first));
     }
-    Ok(())
-}
-
-/// Each address has a consumer, or none has.
-struct Everywhere {
-    has_consumer: bool,
-}
-
-impl Addresses for Everywhere {
-    ghost has_one = { λ everywhere address. everywhere.has_consumer };
-
-    fn has_consumer(&self, address: &[u8]) -> bool {
-        self.has_consumer
-    }
-}
-
-const SERVED: Everywhere = Everywhere { has_consumer: true };
-
-const UNSERVED: Everywhere = Everywhere {
-    has_consumer: false,
-};
-
-/// In the table an event touches the delivery of its number alone: one of two is told without a consumer, and goes.
-#[test]
-fn a_table_of_deliveries(rt: HostRuntime) -> Result<(), Fail> {
-    let mut deliveries = Deliveries::new(rt.alloc());
-    deliveries.take(&[], &part(15, PART, b"hello"), &[], &UNSERVED)?;
-    let beside = Incoming {
-        number: 16,
-        id: Some(4),
-        ..DELIVERY
-    };
-    let second = Event {
-        incoming: Some(beside),
-        ..part(16, MORE, b"wo")
-    };
-    deliveries.take(&[], &second, &[], &SERVED)?;
-    assert!(rt; deliveries.get(15).is_some_and(|held| held.is_gone()));
-    assert!(rt; deliveries.get(16).is_some_and(|held| !held.is_complete()));
-    assert_eq!(rt; deliveries.undecided_count(&PRODUCER), 2);
-    assert!(rt;
-        deliveries
-            .incoming_in_progress(&PRODUCER)
-            .is_some_and(|delivery| delivery.number == 16)
-    );
-    assert!(rt; deliveries.is_id_in_use(SESSION, 3) && deliveries.is_id_in_use(SESSION, 4));
-    assert!(rt; !deliveries.is_id_in_use(SESSION, 5) && !deliveries.has_waiting(b"q"));
-    assert!(rt;
-        deliveries
-            .to_tell(SESSION, 4)
-            .is_some_and(|delivery| delivery.number == 16)
-    );
-    assert!(rt; deliveries.to_tell(SESSION, 5).is_none());
-
-    deliveries.take(&[], &telling(17), &[], &SERVED)?;
-    assert!(rt; !deliveries.is_id_in_use(SESSION, 3) && deliveries.undecided_count(&PRODUCER) == 1);
-    assert!(rt; deliveries.get(15).is_none());
-    let last = Event {
-        number: 18,
-        incoming: Some(beside),
-        ..part(18, PART, b"rld")
-    };
-    deliveries.take(&[], &last, &[], &SERVED)?;
-    let held = deliveries.get(16).ok_or("a delivery")?;
-    assert!(rt; held.is_waiting() && *held.payload() == *b"world".as_slice());
-    assert!(rt; deliveries.get(18).is_none());
-    assert!(rt; deliveries.has_waiting(b"q") && !deliveries.has_waiting(b"p"));
-    assert!(rt; deliveries.incoming_in_progress(&PRODUCER).is_none());
-    Ok(())
-}
-
-/// A link that ends leaves none of its deliveries undecided, and where it was the last consumer of their address, none waits.
-#[test]
-fn a_table_whose_links_end(rt: HostRuntime) -> Result<(), Fail> {
-    let lost = event(16, Moment::Lost);
-    let mut deliveries = Deliveries::new(rt.alloc());
-    deliveries.take(&[], &part(15, PART, b"hello"), &[], &SERVED)?;
-    deliveries.take(&[], &lost, &[PRODUCER], &SERVED)?;
-    assert!(rt;
-        deliveries
-            .get(15)
-            .is_some_and(|held| held.is_waiting() && held.is_closed())
-    );
-
-    let consumer = Link {
-        number: 13,
-        ..PRODUCER
-    };
-    let consumer_lost = Event {
-        connection: 9,
-        ..event(17, Moment::Lost)
-    };
-    deliveries.take(&[], &consumer_lost, &[consumer], &UNSERVED)?;
-    assert!(rt; deliveries.get(15).is_none());
     Ok(())
 }
