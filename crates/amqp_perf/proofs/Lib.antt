@@ -1,6 +1,7 @@
 pub mod Faults
 pub mod Fits
 pub mod Spoken
+pub mod Listed
 pub mod Slots
 pub mod SlotValues
 pub mod Again

@@ -1,5 +1,5 @@
 -- The descriptors of performatives and of what is nested in them (part 2, sections 2.7 and 2.8; part 3; part 4).
-use Rattle.std.specs.Prelude.{ℕ, List, Option, Some, None, option_and_then, codes, ◌==◌, if◌then◌else◌}
+use Rattle.std.specs.Prelude.{ℕ, List, Option, Some, None, option_map, option_and_then, codes, ◌==◌, if◌then◌else◌}
 use Rattle.std.specs.Option.{option_zip}
 use Rattle.std.specs.Str.{bytes_eq}
 use Rattle.amqp_types.specs.Part.{Part, Seen}
@@ -66,3 +66,8 @@ abbrev pub described_list : Part → Option (Descriptor × List Seen)
 described_list part = option_zip
     (option_and_then (λ descriptor. descriptor_named descriptor.part) (descriptor_of part))
     (option_and_then (λ described. list_in described.part) (described_of part))
+
+-- what the descriptor of a list names, with the list's items
+abbrev pub named_list : Option (Seen × List Seen) → Option (Descriptor × List Seen)
+named_list None = None
+named_list (Some list) = option_map (λ descriptor. (descriptor, list.1)) (descriptor_named list.0.part)

@@ -99,7 +99,7 @@ impl Descriptor {
     }
 
     /// What a value names that is a descriptor.
-    fn of(value: Value) -> Option<Descriptor>
+    pub(crate) fn of(value: Value) -> Option<Descriptor>
         ensures { result ≡ descriptor_named (view value.entry).part }
     {
         match value.as_ulong() {

@@ -3,7 +3,7 @@
 use crate::attach::Attach;
 use crate::begin::Begin;
 use crate::checked::CheckedFields;
-use crate::descriptor::{Descriptor, PerformativeKind, described_list};
+use crate::descriptor::{Descriptor, PerformativeKind};
 use crate::detach::Detach;
 use crate::disposition::Disposition;
 use crate::fault::PerfFault;
@@ -12,7 +12,7 @@ use crate::flow::Flow;
 use crate::opening::Open;
 use crate::table::table;
 use crate::transfer::Transfer;
-use amqp_types::Value;
+use amqp_types::{Items, Value, read_described_list};
 
 /// What a frame's body says.
 #[derive(Clone, Copy, Debug, PartialEq, Eq)]
@@ -31,12 +31,13 @@ pub enum Performative<'a> {
 }
 
 impl<'a> Performative<'a> {
-    ghost use Rattle.std.specs.Prelude.{◌≡◌, ◌++◌, List, ℕ, IfOk, Ok};
+    ghost use Rattle.std.specs.Prelude.{◌≡◌, ◌++◌, List, ℕ, IfOk, Ok, option_map};
     ghost use Rattle.amqp_types.specs.View as values;
     ghost use Rattle.std.specs.Option.{option_copied};
     ghost use Rattle.amqp_perf.specs.Meaning.{Meaning, meaning_of, state_told, state_octets};
     ghost use Rattle.flow_counts.specs.Words.{Gives};
-    ghost use Rattle.amqp_perf.specs.Reading.{performative_at, said, before};
+    ghost use Rattle.amqp_perf.specs.Descriptors.{named_list};
+    ghost use Rattle.amqp_perf.specs.Reading.{performative_at, said_of, before};
     ghost use Rattle.amqp_perf.specs.Grammar.{IsFront};
     ghost use Rattle.amqp_perf.specs.Writing.{IfThere, IsWritableState};
     ghost use Rattle.amqp_perf.specs.View.{view};
@@ -67,18 +68,25 @@ impl<'a> Performative<'a> {
     fn read_front(octets: &'a [u8]) -> Result<(Performative<'a>, &'a [u8]), PerfFault>
         ensures { Gives (λ x. (view x.0, x.1.now)) result (performative_at octets.now) }
     {
-        match Value::read(octets) {
+        match read_described_list(octets) {
             Ok((value, rest)) => Performative::of_value(value, rest),
             Err(fault) => Err(PerfFault::Value(fault)),
         }
     }
 
-    /// What a value says as a performative, and the octets behind the value.
+    /// What a value says as a performative that has this descriptor and these items if it is a described list, and the
+    /// octets behind the value.
     #[tactic(auto, using(crate::proofs::Fits::none_at_fault))]
-    fn of_value(value: Value<'a>, rest: &'a [u8]) -> Result<(Performative<'a>, &'a [u8]), PerfFault>
-        ensures { Gives (λ x. (view x.0, x.1.now)) result (before rest.entry.now (said (values.view value.entry).part)) }
+    fn of_value(
+        value: Option<(Value<'a>, Items<'a>)>,
+        rest: &'a [u8],
+    ) -> Result<(Performative<'a>, &'a [u8]), PerfFault>
+        ensures { Gives (λ x. (view x.0, x.1.now)) result (before rest.entry.now (said_of (named_list (option_map (λ x. (values.view x.0, fields_left x.1)) value.entry)))) }
     {
-        let Some((Descriptor::Performative(kind), items)) = described_list(value) else {
+        let Some((descriptor, items)) = value else {
+            return Err(PerfFault::NotPerformative);
+        };
+        let Some(Descriptor::Performative(kind)) = Descriptor::of(descriptor) else {
             return Err(PerfFault::NotPerformative);
         };
         let table = table(kind);

@@ -14,6 +14,7 @@ pub mod PassedOver
 pub mod ReadBefore
 pub mod SimpleValues
 pub mod Front
+pub mod ListedValues
 pub mod Nested
 pub mod Shortest
 pub mod Written

@@ -9,3 +9,4 @@ pub mod Grammar
 pub mod Typed
 pub mod Writing
 pub mod Simple
+pub mod Listed

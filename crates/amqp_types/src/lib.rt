@@ -9,7 +9,7 @@
 //! were read with the value that holds them: to take them out cannot fail.
 //!
 //! Reading order: `fault`, `code`, `value`, `sequence`, `constructor`, `described`, `primitive`,
-//! `reading`, `known`, `simple`, `writing`.
+//! `reading`, `known`, `simple`, `listed`, `writing`.
 #![tactic(auto)]
 
 mod code;
@@ -17,6 +17,7 @@ mod constructor;
 mod described;
 mod fault;
 mod known;
+mod listed;
 mod primitive;
 mod reading;
 mod sequence;
@@ -26,6 +27,7 @@ mod writing;
 
 pub use code::{Code, Kind, Opaque, Scalar, SizeWidth, Text};
 pub use fault::{ValueFault, ValueFaultKind};
+pub use listed::read_described_list;
 pub use sequence::Items;
 pub use simple::Simple;
 pub use value::Value;

@@ -168,7 +168,7 @@ fn read_items<'a>(
 /// The data of a list or a map.
 #[cycle(reader)]
 #[tactic(auto, unfolding(crate::specs::Reading::nested_at))]
-fn read_nested(
+pub(crate) fn read_nested(
     levels: usize,
     kind: Kind,
     width: SizeWidth,

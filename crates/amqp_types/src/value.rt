@@ -46,6 +46,7 @@ impl<'a> Value<'a> {
     ghost use Rattle.amqp_types.specs.Reading.{seen_at};
     ghost use Rattle.amqp_types.specs.Grammar.{IsFront, IsValueOf, IsDescribedOf, AreItemsOf};
     ghost use Rattle.amqp_types.specs.Items.{items_of, descriptor_of, described_of, descriptor_octets};
+    ghost use Rattle.amqp_types.specs.Listed.{listed_in};
     ghost use Rattle.amqp_types.specs.Typed.{says_null, boolean_in, ubyte_in, ushort_in, uint_in, ulong_in, byte_in, short_in, int_in, long_in, opaque_in, binary_in, str_in, symbol_in, list_in, map_in, array_in};
     ghost use Rattle.amqp_types.specs.View.{view, view_of, items_left};
 
@@ -281,5 +282,15 @@ impl<'a> Value<'a> {
             Content::Tagged(element) => Some(whole_element(element.constructor, element.data)),
             _ => None,
         }
+    }
+
+    /// The descriptor and the items, if the value is a described list.
+    #[inline(always)]
+    pub fn as_described_list(&self) -> Option<(Value<'a>, Items<'a>)>
+        ensures { option_map (λ x. (view x.0, items_left x.1)) result ≡ listed_in (view self.now).part }
+    {
+        let descriptor = self.descriptor()?;
+        let items = self.described()?.as_list()?;
+        Some((descriptor, items))
     }
 }

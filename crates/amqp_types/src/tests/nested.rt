@@ -283,3 +283,56 @@ fn kept_octets(rt: HostRuntime) {
         );
     }
 }
+
+/// The descriptor's number, how many items there are, and how many octets are behind, where a described list is read.
+fn listed(octets: &[u8]) -> Option<(Option<u64>, usize, usize)> {
+    let (list, rest) = read_described_list(octets).ok()?;
+    let (descriptor, items) = list?;
+    Some((descriptor.as_ulong(), items.len(), rest.len()))
+}
+
+#[test]
+fn described_lists(rt: HostRuntime) {
+    // a number of one octet, and a list whose size has one octet, four or none; two octets behind
+    let short: &[u8] = b"\x00\x53\x24\xC0\x03\x02\x40\x43\x41\x41";
+    assert_eq!(rt; listed(short), Some((Some(0x24), 2, 2)));
+    let long: &[u8] = b"\x00\x53\x24\xD0\x00\x00\x00\x06\x00\x00\x00\x02\x40\x43\x41\x41";
+    assert_eq!(rt; listed(long), Some((Some(0x24), 2, 2)));
+    assert_eq!(rt; listed(b"\x00\x53\x24\x45\x41"), Some((Some(0x24), 0, 1)));
+    // a number of eight octets, and a symbol
+    let number: &[u8] = b"\x00\x80\x00\x00\x00\x00\x00\x00\x00\x24\xC0\x03\x02\x40\x43";
+    assert_eq!(rt; listed(number), Some((Some(0x24), 2, 0)));
+    assert_eq!(rt; listed(b"\x00\xA3\x01\x61\x45"), Some((None, 0, 0)));
+    // what is described is a map, and a list without a descriptor
+    assert_eq!(rt; listed(b"\x00\x53\x24\xC1\x01\x00"), None);
+    assert_eq!(rt; listed(b"\xC0\x03\x02\x40\x43"), None);
+}
+
+#[test]
+fn faults_of_described_lists(rt: HostRuntime) {
+    // cut short everywhere; an item of no type; a size that the items do not fill
+    let whole: &[u8] = b"\x00\x53\x24\xC0\x03\x02\x40\x43";
+    for length in 0..whole.len() {
+        let cut = &whole[..length];
+        assert_eq!(rt; read_described_list(cut).err(), Value::read(cut).err());
+        assert!(rt; read_described_list(cut).is_err());
+    }
+    let unknown: &[u8] = b"\x00\x53\x24\xC0\x03\x02\x40\x3F";
+    let fault = read_described_list(unknown).err();
+    assert_eq!(rt;
+        fault,
+        Some(ValueFault {
+            kind: ValueFaultKind::UnknownCode,
+            at: 7
+        })
+    );
+    let unfilled: &[u8] = b"\x00\x53\x24\xC0\x03\x01\x40\x43";
+    let fault = read_described_list(unfilled).err();
+    assert_eq!(rt;
+        fault,
+        Some(ValueFault {
+            kind: ValueFaultKind::BadSize,
+            at: 3
+        })
+    );
+}
