@@ -86,13 +86,25 @@ impl<'a> CheckedFields<'a> {
         self.items.next();
     }
 
+    /// Takes the next field, which doesn't fit its place.
+    #[inline(never)]
+    fn skip_wrong(&mut self)
+        ensures left { fields_left self.new.items ≡ others (fields_left self.old.items) }
+        ensures fit { self.new.fit ≡ false }
+    {
+        self.skip();
+        self.fit = false;
+    }
+
     /// Takes a field that may hold anything.
     #[inline(never)]
     pub(crate) fn pass_over(&mut self)
         ensures left { fields_left self.new.items ≡ others (fields_left self.old.items) }
         ensures fit { self.new.fit ≡ (self.old.fit && fits_field (optional types.Any) (first (fields_left self.old.items))) }
     {
-        let _ = self.simple();
+        if self.items.len() != 0 && self.items.next_bool().is_none() {
+            self.skip();
+        }
     }
 
     #[inline(never)]
@@ -101,11 +113,13 @@ impl<'a> CheckedFields<'a> {
         ensures left { fields_left self.new.items ≡ others (fields_left self.old.items) }
         ensures fit { self.new.fit ≡ (self.old.fit && fits_field (optional types.Boolean) (first (fields_left self.old.items))) }
     {
-        match self.simple() {
-            Some(Simple::Boolean(value)) => Some(value),
-            Some(Simple::Null) => None,
-            _ => {
-                self.fit = false;
+        if self.items.len() == 0 {
+            return None;
+        }
+        match self.items.next_bool() {
+            Some(value) => value,
+            None => {
+                self.skip_wrong();
                 None
             }
         }
@@ -117,11 +131,13 @@ impl<'a> CheckedFields<'a> {
         ensures left { fields_left self.new.items ≡ others (fields_left self.old.items) }
         ensures fit { self.new.fit ≡ (self.old.fit && fits_field (optional types.Uint) (first (fields_left self.old.items))) }
     {
-        match self.simple() {
-            Some(Simple::Uint(number)) => Some(number),
-            Some(Simple::Null) => None,
-            _ => {
-                self.fit = false;
+        if self.items.len() == 0 {
+            return None;
+        }
+        match self.items.next_uint() {
+            Some(number) => number,
+            None => {
+                self.skip_wrong();
                 None
             }
         }
@@ -197,10 +213,14 @@ impl<'a> CheckedFields<'a> {
         ensures left { fields_left self.new.items ≡ others (fields_left self.old.items) }
         ensures fit { self.new.fit ≡ (self.old.fit && fits_field (mandatory types.Uint) (first (fields_left self.old.items))) }
     {
-        match self.simple() {
-            Some(Simple::Uint(number)) => number,
-            _ => {
+        match self.items.next_uint() {
+            Some(Some(number)) => number,
+            Some(None) => {
                 self.fit = false;
+                0
+            }
+            None => {
+                self.skip_wrong();
                 0
             }
         }
@@ -225,10 +245,14 @@ impl<'a> CheckedFields<'a> {
         ensures left { fields_left self.new.items ≡ others (fields_left self.old.items) }
         ensures fit { self.new.fit ≡ (self.old.fit && fits_field (mandatory types.Boolean) (first (fields_left self.old.items))) }
     {
-        match self.simple() {
-            Some(Simple::Boolean(is_receiver)) => Role::of(is_receiver),
-            _ => {
+        match self.items.next_bool() {
+            Some(Some(is_receiver)) => Role::of(is_receiver),
+            Some(None) => {
                 self.fit = false;
+                Role::Sender
+            }
+            None => {
+                self.skip_wrong();
                 Role::Sender
             }
         }

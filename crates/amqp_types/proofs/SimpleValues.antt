@@ -1,6 +1,6 @@
 -- Values that are null, a boolean or a number without a sign, by their first octet.
 use Rattle.std.proofs.Common.{◌≡◌, ℕ, zero, suc, ◌+◌, ◌-◌, ◌<◌, Bool, true, false, ◌&&◌, cond, List, [], ◌∷◌, length, Option, Some, None, option_map, Result, Ok, Err, refl, sym, ap, ◌∙◌, arith}
-use Rattle.std.specs.Prelude.{◌==◌}
+use Rattle.std.specs.Prelude.{◌==◌, option_and_then}
 use Rattle.amqp_types.specs.declared.code.Code.{Code}
 use Rattle.amqp_types.specs.declared.code.Code.TheVariants as codes
 use Rattle.amqp_types.specs.declared.code.Kind.{Kind}
@@ -14,7 +14,7 @@ use Rattle.amqp_types.specs.Part.{Part, Sized, Nested, Array, Described, Seen, C
 use Rattle.amqp_types.specs.Reading.{◌>>=◌, Read, fault, is_text, fixed_at, sized_at, text_at, counted_at, is_odd, all_used, items_at, nested_at, described_at, in_array, elements_at, array_at, data_at, data_by, element_by, constructor_at, seen_by, seen_at, value_at, value_by, coded_at, with_octets, item_at}
 use Rattle.amqp_types.specs.Items.{are_items, items_in}
 use Rattle.amqp_types.specs.declared.simple.Simple.{Simple}
-use Rattle.amqp_types.specs.Simple.{simple_in, simple_data, simple_value, simple_first, behind_simple}
+use Rattle.amqp_types.specs.Simple.{simple_in, simple_data, simple_value, simple_first, behind_simple, wanted, first_wanted, behind_wanted}
 use Rattle.amqp_types.proofs.Steps.{some_is}
 use Rattle.amqp_types.proofs.Held.{first_read, first_is}
 use Rattle.flow_counts.specs.declared.profile.TheConstants.{MAX_DEPTH}
@@ -164,3 +164,45 @@ left_there form n octets some filled e =
     let not = nothing_by (simple_in one.0.0.part) one.0.1 (e ∙ ap simple_value one.1.read) in
     let items = first_is form n octets one.0 some one.1.read in
     record { value = rw (items, not) refl; left = rw (items, not) refl }
+
+-- ---- what is wanted of a value
+
+-- a value of fixed width says what is wanted
+pub front_says : {A : Type 0} (says : Simple → Option A) (bytes : List ℕ) (first : ℕ) (scalar : Scalar) (others : List ℕ) (s : Simple) (rest : List ℕ) (a : A) → bytes ≡ first ∷ others → code_of first ≡ Some (codes.Fixed scalar)
+    → ◌≡◌ {A = Given} (Some (s, rest)) (simple_data (fixed_at scalar 0 others)) → says s ≡ Some a → wanted says (simple_value (seen_at MAX_DEPTH 0 bytes)) ≡ Some (a, rest)
+front_says says bytes first scalar others s rest a same known given said =
+    ap (wanted says) (sym (given ∙ fixed_says bytes first scalar others same known)) ∙ rw said refl
+
+wanted_of : {A : Type 0} (says : Simple → Option A) (x : Simple × List ℕ) (o : Option A) (a : A) (rest : List ℕ) → says x.0 ≡ o → ◌≡◌ {A = Option (A × List ℕ)} (Some (a, rest)) (option_map (λ v. (v, x.1)) o)
+    → (says x.0 ≡ Some a) × (x.1 ≡ rest)
+wanted_of says x None a rest is e = absurd cc
+wanted_of {A = A} says x (Some v) a rest is e =
+    let same : ◌≡◌ {A = A × List ℕ} (a, rest) (v, x.1) = some_is e in
+    (is ∙ sym (ap (λ (p : A × List ℕ). Some p.0) same), sym (ap (λ (p : A × List ℕ). p.1) same))
+
+-- what was wanted was said
+wanted_by : {A : Type 0} (says : Simple → Option A) (r : Given) (a : A) (rest : List ℕ) → ◌≡◌ {A = Option (A × List ℕ)} (Some (a, rest)) (wanted says r) → (s : Simple) × (Some (s, rest) ≡ r) × (says s ≡ Some a)
+wanted_by says None a rest e = absurd cc
+wanted_by says (Some x) a rest e =
+    let is = wanted_of says x (says x.0) a rest refl e in
+    (x.0, ap (λ (t : List ℕ). Some (x.0, t)) (sym is.1), is.0)
+
+behind_same : {A : Type 0} (says : Simple → Option A) (items : List Seen) (s : Simple) (a : A) → Some s ≡ simple_first items → says s ≡ Some a → behind_simple items ≡ behind_wanted says items
+behind_same says [] s a e said = refl
+behind_same says (v ∷ others) s a e said = rw (sym e, said) refl
+
+pub record IsWanted {A : Type 0} (says : Simple → Option A) (form : Option Constructor) (n left : ℕ) (octets : List ℕ) (a : A) (rest : List ℕ) : Type 0 where
+  pub others : are_items form left rest ≡ true
+  pub value : Some a ≡ first_wanted says (items_in form n octets)
+  pub behind : items_in form left rest ≡ behind_wanted says (items_in form n octets)
+
+pub taken_wanted : {A : Type 0} (says : Simple → Option A) (form : Option Constructor) (n left : ℕ) (octets : List ℕ) (a : A) (rest : List ℕ) → n ≡ suc left → are_items form n octets ≡ true
+    → ◌≡◌ {A = Option (A × List ℕ)} (Some (a, rest)) (wanted says (simple_value (item_at MAX_DEPTH form 0 octets))) → IsWanted says form n left octets a rest
+taken_wanted says form n left octets a rest count filled e =
+    let said = wanted_by says (simple_value (item_at MAX_DEPTH form 0 octets)) a rest e in
+    let one = taken form n left octets said.0 rest count filled said.1 in
+    record {
+      others = one.others;
+      value = sym (ap (option_and_then says) (sym one.value) ∙ said.2);
+      behind = one.behind ∙ behind_same says (items_in form n octets) said.0 a one.value said.2;
+    }

@@ -1,5 +1,5 @@
 -- What a value says that is null, a boolean or a number without a sign.
-use Rattle.std.specs.Prelude.{ℕ, List, [], ◌∷◌, Option, Some, None, option_map, is_some, Ok, Err, if◌then◌else◌}
+use Rattle.std.specs.Prelude.{ℕ, Bool, List, [], ◌∷◌, Option, Some, None, option_map, option_and_then, is_some, Ok, Err, if◌then◌else◌}
 use Rattle.amqp_types.specs.declared.simple.Simple.{Simple}
 use Rattle.amqp_types.specs.declared.simple.Simple.TheVariants as simples
 use Rattle.amqp_types.specs.Part.{Part, Null, Boolean, Ubyte, Ushort, Uint, Ulong, Seen}
@@ -34,3 +34,29 @@ simple_data (Err fault) = None
 abbrev pub simple_value : Read Seen → Option (Simple × List ℕ)
 simple_value (Ok x) = option_map (λ simple. (simple, x.1)) (simple_in x.0.part)
 simple_value (Err fault) = None
+
+-- the number of a null or an uint: none of null
+abbrev pub uint_said : Simple → Option (Option ℕ)
+uint_said simples.Null = Some None
+uint_said (simples.Uint n) = Some (Some n)
+uint_said other = None
+
+-- the boolean of a null or a boolean: none of null
+abbrev pub boolean_said : Simple → Option (Option Bool)
+boolean_said simples.Null = Some None
+boolean_said (simples.Boolean b) = Some (Some b)
+boolean_said other = None
+
+-- what is wanted of what was read, and what is behind it
+abbrev pub wanted : {A : Type 0} → (Simple → Option A) → Option (Simple × List ℕ) → Option (A × List ℕ)
+wanted says None = None
+wanted says (Some x) = option_map (λ a. (a, x.1)) (says x.0)
+
+-- what is wanted of the first of some values, if it says it
+abbrev pub first_wanted : {A : Type 0} → (Simple → Option A) → List Seen → Option A
+first_wanted says values = option_and_then says (simple_first values)
+
+-- the values behind the first, if it says what is wanted, else all
+abbrev pub behind_wanted : {A : Type 0} → (Simple → Option A) → List Seen → List Seen
+behind_wanted says [] = []
+behind_wanted says (value ∷ others) = if is_some (option_and_then says (simple_in value.part)) then others else value ∷ others

@@ -6,7 +6,9 @@ ghost use Rattle.amqp_types.specs.Form.{kept_form};
 
 use crate::constructor::{Constructor, Form};
 use crate::known::first_of;
-use crate::simple::{Simple, simple_item};
+use crate::simple::{
+    Simple, boolean_in_front, boolean_item, simple_item, uint_in_front, uint_item,
+};
 use crate::value::Value;
 
 /// Values that lie one after the other.
@@ -129,7 +131,7 @@ pub struct Items<'a> {
 
 impl<'a> Items<'a> {
     ghost use Rattle.std.specs.Prelude.{◌≡◌, length};
-    ghost use Rattle.amqp_types.specs.Simple.{simple_first, behind_simple};
+    ghost use Rattle.amqp_types.specs.Simple.{simple_first, behind_simple, uint_said, boolean_said, first_wanted, behind_wanted};
     ghost use Rattle.amqp_types.specs.View.{items_left};
 
     /// How many values are left.
@@ -161,6 +163,82 @@ impl<'a> Items<'a> {
             }
             None => None,
         }
+    }
+
+    /// Takes the next value, where it is null or an uint, and gives its number: none for null. Another is
+    /// left: then, and behind the last, nothing is given.
+    #[tactic(auto, unfolding(crate::specs::Items::items_in))]
+    #[inline(always)]
+    pub fn next_uint(&mut self) -> Option<Option<u32>>
+        ensures value { result ≡ first_wanted uint_said (items_left self.old) }
+        ensures left { items_left self.new ≡ behind_wanted uint_said (items_left self.old) }
+    {
+        if self.left != 0 {
+            if let Some((value, rest)) = uint_in_front(self.form, self.rest) {
+                *self = Items {
+                    form: self.form,
+                    left: self.left - 1,
+                    rest,
+                };
+                return Some(value);
+            }
+        }
+        self.uint_of_any()
+    }
+
+    /// The same, whatever the first octet is.
+    #[tactic(auto, unfolding(crate::specs::Items::items_in))]
+    #[inline(never)]
+    fn uint_of_any(&mut self) -> Option<Option<u32>>
+        ensures value { result ≡ first_wanted uint_said (items_left self.old) }
+        ensures left { items_left self.new ≡ behind_wanted uint_said (items_left self.old) }
+    {
+        let left = self.left.checked_sub(1)?;
+        let (value, rest) = uint_item(self.form, self.rest)?;
+        *self = Items {
+            form: self.form,
+            left,
+            rest,
+        };
+        Some(value)
+    }
+
+    /// Takes the next value, where it is null or a boolean, and gives it: none for null. Another is
+    /// left: then, and behind the last, nothing is given.
+    #[tactic(auto, unfolding(crate::specs::Items::items_in))]
+    #[inline(always)]
+    pub fn next_bool(&mut self) -> Option<Option<bool>>
+        ensures value { result ≡ first_wanted boolean_said (items_left self.old) }
+        ensures left { items_left self.new ≡ behind_wanted boolean_said (items_left self.old) }
+    {
+        if self.left != 0 {
+            if let Some((value, rest)) = boolean_in_front(self.form, self.rest) {
+                *self = Items {
+                    form: self.form,
+                    left: self.left - 1,
+                    rest,
+                };
+                return Some(value);
+            }
+        }
+        self.bool_of_any()
+    }
+
+    /// The same, whatever the first octet is.
+    #[tactic(auto, unfolding(crate::specs::Items::items_in))]
+    #[inline(never)]
+    fn bool_of_any(&mut self) -> Option<Option<bool>>
+        ensures value { result ≡ first_wanted boolean_said (items_left self.old) }
+        ensures left { items_left self.new ≡ behind_wanted boolean_said (items_left self.old) }
+    {
+        let left = self.left.checked_sub(1)?;
+        let (value, rest) = boolean_item(self.form, self.rest)?;
+        *self = Items {
+            form: self.form,
+            left,
+            rest,
+        };
+        Some(value)
     }
 }
 

@@ -1,10 +1,12 @@
 //! Values that are null, a boolean or a number without a sign: what one says is given by itself.
 
-ghost use Rattle.std.specs.Prelude.{◌≡◌, IsTrue, option_map};
+ghost use Rattle.std.specs.Prelude.{◌≡◌, IsTrue, IfSome, Some, option_map};
 ghost use Rattle.amqp_types.specs.Reading.{fixed_at, seen_at, item_at};
 ghost use Rattle.amqp_types.specs.Items.{is_read};
 ghost use Rattle.amqp_types.specs.Form.{kept_form};
-ghost use Rattle.amqp_types.specs.Simple.{simple_in, simple_data, simple_value};
+ghost use Rattle.amqp_types.specs.declared.code.Code.TheVariants.{Fixed};
+ghost use Rattle.amqp_types.specs.Codes.{code_of};
+ghost use Rattle.amqp_types.specs.Simple.{simple_in, simple_data, simple_value, wanted, uint_said, boolean_said};
 ghost use Rattle.amqp_types.specs.View.{part_of};
 
 use crate::code::{Code, Scalar};
@@ -92,5 +94,122 @@ pub(crate) fn simple_item<'a>(form: Option<Form<'a>>, bytes: &'a [u8]) -> Option
     match form {
         None => simple_front(bytes),
         Some(form) => simple_element(form, bytes),
+    }
+}
+
+/// The type that the first octet of a null or an uint names.
+#[tactic(auto, unfolding(crate::specs::Codes::code_of, crate::specs::Codes::scalar_of_code))]
+#[inline(always)]
+fn uint_scalar(first: u8) -> Option<Scalar>
+    ensures { IfSome result (λ scalar. code_of first ≡ Some (Fixed scalar)) }
+{
+    match first {
+        0x40 => Some(Scalar::Null),
+        0x43 => Some(Scalar::UintZero),
+        0x52 => Some(Scalar::UintOctet),
+        0x70 => Some(Scalar::Uint),
+        _ => None,
+    }
+}
+
+/// The type that the first octet of a null or a boolean names.
+#[tactic(auto, unfolding(crate::specs::Codes::code_of, crate::specs::Codes::scalar_of_code))]
+#[inline(always)]
+fn boolean_scalar(first: u8) -> Option<Scalar>
+    ensures { IfSome result (λ scalar. code_of first ≡ Some (Fixed scalar)) }
+{
+    match first {
+        0x40 => Some(Scalar::Null),
+        0x41 => Some(Scalar::True),
+        0x42 => Some(Scalar::False),
+        _ => None,
+    }
+}
+
+/// The number of a null or an uint by its first octet, none of null, and the octets behind it.
+#[inline(always)]
+fn uint_front(bytes: &[u8]) -> Option<(Option<u32>, &[u8])>
+    ensures { IfSome result (λ x. wanted uint_said (simple_value (seen_at MAX_DEPTH 0 bytes.now)) ≡ Some (x.0, x.1.now)) }
+{
+    let (first, data) = bytes.split_first()?;
+    match read_simple(uint_scalar(*first)?, data)? {
+        (Simple::Null, rest) => Some((None, rest)),
+        (Simple::Uint(number), rest) => Some((Some(number), rest)),
+        _ => None,
+    }
+}
+
+/// The boolean of a null or a boolean by its first octet, none of null, and the octets behind it.
+#[inline(always)]
+fn boolean_front(bytes: &[u8]) -> Option<(Option<bool>, &[u8])>
+    ensures { IfSome result (λ x. wanted boolean_said (simple_value (seen_at MAX_DEPTH 0 bytes.now)) ≡ Some (x.0, x.1.now)) }
+{
+    let (first, data) = bytes.split_first()?;
+    match read_simple(boolean_scalar(*first)?, data)? {
+        (Simple::Null, rest) => Some((None, rest)),
+        (Simple::Boolean(value), rest) => Some((Some(value), rest)),
+        _ => None,
+    }
+}
+
+/// The number of an item by its first octet, none of null, and the octets behind it; nothing of an element of an array.
+#[tactic(auto, unfolding(crate::specs::Reading::item_at))]
+#[inline(always)]
+pub(crate) fn uint_in_front<'a>(
+    form: Option<Form<'a>>,
+    bytes: &'a [u8],
+) -> Option<(Option<u32>, &'a [u8])>
+    ensures { IfSome result (λ x. wanted uint_said (simple_value (item_at MAX_DEPTH (kept_form form.entry) 0 bytes.now)) ≡ Some (x.0, x.1.now)) }
+{
+    match form {
+        None => uint_front(bytes),
+        Some(_) => None,
+    }
+}
+
+/// The boolean of an item by its first octet, none of null, and the octets behind it; nothing of an element of an array.
+#[tactic(auto, unfolding(crate::specs::Reading::item_at))]
+#[inline(always)]
+pub(crate) fn boolean_in_front<'a>(
+    form: Option<Form<'a>>,
+    bytes: &'a [u8],
+) -> Option<(Option<bool>, &'a [u8])>
+    ensures { IfSome result (λ x. wanted boolean_said (simple_value (item_at MAX_DEPTH (kept_form form.entry) 0 bytes.now)) ≡ Some (x.0, x.1.now)) }
+{
+    match form {
+        None => boolean_front(bytes),
+        Some(_) => None,
+    }
+}
+
+/// The number of an item that is null or an uint, which was read before, none of null, and the octets behind it.
+#[inline(always)]
+pub(crate) fn uint_item<'a>(
+    form: Option<Form<'a>>,
+    bytes: &'a [u8],
+) -> Option<(Option<u32>, &'a [u8])>
+    requires { IsTrue (is_read (item_at MAX_DEPTH (kept_form form) 0 bytes.now)) }
+    ensures { option_map (λ x. (x.0, x.1.now)) result ≡ wanted uint_said (simple_value (item_at MAX_DEPTH (kept_form form.entry) 0 bytes.now)) }
+{
+    match simple_item(form, bytes)? {
+        (Simple::Null, rest) => Some((None, rest)),
+        (Simple::Uint(number), rest) => Some((Some(number), rest)),
+        _ => None,
+    }
+}
+
+/// The boolean of an item that is null or a boolean, which was read before, none of null, and the octets behind it.
+#[inline(always)]
+pub(crate) fn boolean_item<'a>(
+    form: Option<Form<'a>>,
+    bytes: &'a [u8],
+) -> Option<(Option<bool>, &'a [u8])>
+    requires { IsTrue (is_read (item_at MAX_DEPTH (kept_form form) 0 bytes.now)) }
+    ensures { option_map (λ x. (x.0, x.1.now)) result ≡ wanted boolean_said (simple_value (item_at MAX_DEPTH (kept_form form.entry) 0 bytes.now)) }
+{
+    match simple_item(form, bytes)? {
+        (Simple::Null, rest) => Some((None, rest)),
+        (Simple::Boolean(value), rest) => Some((Some(value), rest)),
+        _ => None,
     }
 }

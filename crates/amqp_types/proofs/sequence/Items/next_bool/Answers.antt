@@ -1,0 +1,13 @@
+use Rattle.std.proofs.Common.{◌-◌, sym, arith}
+use Rattle.amqp_types.specs.Form.{kept_form}
+use Rattle.amqp_types.specs.Simple.{boolean_said}
+use Rattle.amqp_types.proofs.SimpleValues.{taken_wanted}
+use Rattle.amqp_types.proofs.sequence.Items.next_bool.Goals as goal
+
+pub invariant_of-self : goal.invariant_of-self
+invariant_of-self c = record {
+  filled = (taken_wanted boolean_said (kept_form c.args.self.now.form) c.args.self.now.left (c.args.self.now.left - 1) c.args.self.now.rest.now c.in-Some.value c.in-Some.rest.now (omega (arith, c.if-self-ne0.true)) c.args.self.now.filled (sym c.in-Some.ensures)).others;
+}
+
+pub returns-in-Some-clause-left : goal.returns-in-Some-clause-left
+returns-in-Some-clause-left c = (taken_wanted boolean_said (kept_form c.args.self.now.form) c.args.self.now.left (c.args.self.now.left - 1) c.args.self.now.rest.now c.in-Some.value c.in-Some.rest.now (omega (arith, c.if-self-ne0.true)) c.args.self.now.filled (sym c.in-Some.ensures)).behind
