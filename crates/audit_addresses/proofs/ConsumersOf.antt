@@ -6,12 +6,16 @@ use Rattle.std.proofs.lemmas.Cmp.{nat_eq_equiv}
 use Rattle.std.proofs.lemmas.List.{length-map, length-reverse}
 use Rattle.std.proofs.lemmas.Map.Made.{length-le_from_is_member}
 use Rattle.capture_form.specs.Rules.{RuleText}
+use Rattle.number_groups.specs.Numbers.{is_among}
+use Rattle.number_groups.specs.OctetGroups.{numbers}
 use Rattle.trace_events.specs.Words.{is_some_and}
 use Rattle.trace_events.specs.Event.{Event, Link}
 use Rattle.trace_events.specs.Address.{consumers, has_consumer, is_consumer_of}
 use Rattle.trace_events.specs.Link.{link_at, links}
 use Rattle.trace_events.proofs.Judged.{AreJudged}
 use Rattle.trace_events.proofs.LinkNumbers.{AreFalling, any-at, judged-falling}
+use Rattle.audit_addresses.specs.Consumers.{AreConsumers, has_some, is_served}
+use Rattle.audit_addresses.specs.declared.consumers.Consumers.{Consumers}
 
 -- a list in which some pass has one of its own number there
 module _ (test : Link → Bool) where
@@ -53,6 +57,24 @@ module _ (rules : List RuleText) (past : List Event) (are : AreJudged rules past
       by true some =
           let found = some-pass test (links past) some in
           ap not (not_true empty (λ yes. let never : true ≡ false = sym (member-any found.0 ∙ found.1) ∙ is.0 yes found.0 in absurd cc))
+
+first-among : (n : ℕ) (ns : List ℕ) → is_among (n ∷ ns) n ≡ true
+first-among n ns = ap (λ b. b || list_any (nat_eq n) ns) (eq-eqb n n refl)
+
+-- an address is served where a number stands there
+pub some-among : (ns : List ℕ) (empty : Bool) → IsTrue empty ↔ ((n : ℕ) → is_among ns n ≡ false) → not empty ≡ has_some ns
+some-among [] empty is = ap not (is.1 (λ n. refl))
+some-among (m ∷ ms) empty is = ap not (not_true empty (λ yes. let never : true ≡ false = sym (first-among m ms) ∙ is.0 yes m in absurd cc))
+
+-- the table tells of each address whether it has a consumer behind these events
+pub are-served : (rules : List RuleText) (past : List Event) → AreJudged rules past → (table : Consumers) → AreConsumers table past → (address : List ℕ) → is_served table address ≡ has_consumer address past
+are-served rules past are table of address = by (numbers table.groups address) (of address)
+  where
+    by : (ns : List ℕ) → ((n : ℕ) → is_among ns n ≡ is_some_and (link_at n past) (is_consumer_of address past)) → has_some ns ≡ has_consumer address past
+    by [] each = has-consumer rules past are address (λ n. is_among [] n) each true ((λ yes n. refl), (λ none. refl))
+    by (m ∷ ms) each =
+        has-consumer rules past are address (λ n. is_among (m ∷ ms) n) each false
+        ((λ never. absurd cc), (λ none. let never : true ≡ false = sym (first-among m ms) ∙ none m in absurd cc))
 
 -- ---- as many numbers as consumers
 

@@ -1,7 +1,7 @@
 -- What the table of consumers stands for.
-use Rattle.std.specs.Prelude.{◌≡◌, ℕ, Bool, ◌&&◌, List, bytes_eq, ◌==◌}
+use Rattle.std.specs.Prelude.{◌≡◌, ℕ, Bool, true, false, ◌&&◌, List, [], ◌∷◌, bytes_eq, ◌==◌}
 use Rattle.std.specs.List.{list_any}
-use Rattle.number_groups.specs.OctetGroups.{is_member}
+use Rattle.number_groups.specs.OctetGroups.{is_member, numbers}
 use Rattle.trace_events.specs.Words.{is_some_and}
 use Rattle.trace_events.specs.Event.{Event, Link}
 use Rattle.trace_events.specs.Address.{is_consumer_of}
@@ -11,6 +11,15 @@ use Rattle.audit_addresses.specs.declared.consumers.Consumers.{Consumers}
 -- the table has this number at the address
 abbrev pub stands : Consumers → List ℕ → ℕ → Bool
 stands table address n = is_member table.groups address n
+
+-- the list has a number
+abbrev pub has_some : List ℕ → Bool
+has_some [] = false
+has_some (n ∷ ns) = true
+
+-- the table has a number at the address
+abbrev pub is_served : Consumers → List ℕ → Bool
+is_served table address = has_some (numbers table.groups address)
 
 -- just the numbers of the links that are live consumers of the address behind these events
 abbrev pub AreConsumers : Consumers → List Event → Type 0

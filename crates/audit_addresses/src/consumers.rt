@@ -6,11 +6,12 @@ ghost use Rattle.capture_form.specs.declared.records.Record.{Record};
 ghost use Rattle.trace_events.specs.Address as law;
 ghost use Rattle.trace_events.specs.History.{history, judge};
 ghost use Rattle.audit_tables.specs.EndedLinks.{AreEnded, views};
-ghost use Rattle.audit_addresses.specs.Consumers.{AreConsumers, AreSame, is_ended, opens_for, stands};
+ghost use Rattle.audit_addresses.specs.Consumers.{AreConsumers, AreSame, is_ended, is_served, opens_for, stands};
 ghost use Rattle.trace_events.specs.Link.{is_consumer, own_link};
 ghost use Rattle.trace_events.specs.Words.{where_passes};
 ghost use Rattle.trace_law.specs.View.{event_view, link_view};
 
+use crate::addresses::Addresses;
 use amqp_perf::Role;
 use number_groups::OctetGroups;
 use std::alloc::{AllocError, Global};
@@ -80,7 +81,8 @@ impl Consumers {
 
     /// The address has a consumer: a live link.
     pub fn has_consumer(&self, address: &[u8]) -> bool
-        ensures { (rules : List RuleText) (records : List Record) → AreConsumers self.now (history rules records) →
+        ensures stored { result ≡ is_served self.now address.now }
+        ensures known { (rules : List RuleText) (records : List Record) → AreConsumers self.now (history rules records) →
             result ≡ law.has_consumer address.now (history rules records) }
     {
         !self.groups.is_empty(address)
@@ -92,5 +94,15 @@ impl Consumers {
             result ≡ length (law.consumers address.now (history rules records)) }
     {
         self.groups.count(address)
+    }
+}
+
+impl Addresses for Consumers {
+    ghost use Rattle.audit_addresses.specs.Consumers.{is_served};
+
+    ghost has_one = { λ consumers address. is_served consumers address };
+
+    fn has_consumer(&self, address: &[u8]) -> bool {
+        self.has_consumer(address)
     }
 }
