@@ -1,8 +1,8 @@
 -- What the table of consumers stands for.
-use Rattle.std.specs.Prelude.{◌≡◌, ℕ, Bool, true, false, ◌&&◌, List, [], ◌∷◌, bytes_eq, ◌==◌}
+use Rattle.std.specs.Prelude.{◌≡◌, ℕ, Bool, true, false, ◌&&◌, List, [], ◌∷◌, is_some, bytes_eq, ◌==◌}
 use Rattle.std.specs.List.{list_any}
 use Rattle.number_groups.specs.OctetGroups.{is_member, numbers}
-use Rattle.trace_events.specs.Words.{is_some_and}
+use Rattle.trace_events.specs.Words.{is_some_and, where_passes}
 use Rattle.trace_events.specs.Event.{Event, Link}
 use Rattle.trace_events.specs.Address.{is_consumer_of}
 use Rattle.trace_events.specs.Link.{is_consumer, link_at, own_link}
@@ -32,6 +32,10 @@ AreSame earlier later = (address : List ℕ) (n : ℕ) → stands later address 
 -- the event opens a consumer's link of the address, of this number
 abbrev pub opens_for : List ℕ → ℕ → Event → Bool
 opens_for address n e = is_some_and (own_link e) (λ l. is_consumer l && bytes_eq l.address address && (l.number == n))
+
+-- the event opens a consumer's link
+abbrev pub opens_consumer : Event → Bool
+opens_consumer e = is_some (where_passes is_consumer (own_link e))
 
 -- one of these links has the address and the number
 abbrev pub is_ended : List Link → List ℕ → ℕ → Bool

@@ -1,12 +1,12 @@
 //! The live links of each address's consumers.
 
-ghost use Rattle.std.specs.Prelude.{◌≡◌, ◌||◌, ◌&&◌, ◌==◌, ℕ, List, [], ◌∷◌, OnOk, OnErr, length, not, option_map};
+ghost use Rattle.std.specs.Prelude.{◌≡◌, ◌||◌, ◌&&◌, ◌==◌, ℕ, List, [], ◌∷◌, OnOk, OnErr, length, not, option_map, true};
 ghost use Rattle.capture_form.specs.Rules.{RuleText};
 ghost use Rattle.capture_form.specs.declared.records.Record.{Record};
 ghost use Rattle.trace_events.specs.Address as law;
 ghost use Rattle.trace_events.specs.History.{history, judge};
 ghost use Rattle.audit_tables.specs.EndedLinks.{AreEnded, views};
-ghost use Rattle.audit_addresses.specs.Consumers.{AreConsumers, AreSame, is_ended, is_served, opens_for, stands};
+ghost use Rattle.audit_addresses.specs.Consumers.{AreConsumers, AreSame, is_ended, is_served, opens_consumer, opens_for, stands};
 ghost use Rattle.trace_events.specs.Link.{is_consumer, own_link};
 ghost use Rattle.trace_events.specs.Words.{where_passes};
 ghost use Rattle.trace_law.specs.View.{event_view, link_view};
@@ -53,6 +53,7 @@ impl Consumers {
             AreEnded (event_view event.now) (history rules records) (views ended.now) → AreConsumers self.old (history rules records) →
             AreConsumers self.new (event_view event.now ∷ history rules records)) }
         ensures unchanged { OnErr result (AreSame self.old self.new) }
+        ensures refused { OnErr result (opens_consumer (event_view event.now) ≡ true) }
     {
         self.open(event)?;
         self.end(ended);
@@ -63,6 +64,7 @@ impl Consumers {
     fn open(&mut self, event: &Event) -> Result<(), AllocError>
         ensures opened { OnOk result ((address : List ℕ) (n : ℕ) → stands self.new address n ≡ (opens_for address n (event_view event.now) || stands self.old address n)) }
         ensures unchanged { OnErr result (AreSame self.old self.new) }
+        ensures refused { OnErr result (opens_consumer (event_view event.now) ≡ true) }
     {
         if let Some(link) = opened(event) {
             self.groups.insert(link.address, link.number)?;
