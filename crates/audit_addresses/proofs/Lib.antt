@@ -1,3 +1,4 @@
 pub mod ConsumerSteps
 pub mod ConsumersOf
 pub mod EndedOnes
+mod ConsumerExamples
