@@ -1,6 +1,6 @@
 -- What was read before, by examples: constructors that are kept as their octets, values whose first octet gives their
 -- length, and what simple values say.
-use Rattle.std.proofs.Common.{◌≡◌, refl, false, [], ◌∷◌, Some, None, Ok}
+use Rattle.std.proofs.Common.{◌≡◌, refl, false, [], ◌∷◌, Some, None, Ok, inl, inr}
 use Rattle.amqp_types.specs.declared.code.Code.TheVariants.{Fixed}
 use Rattle.amqp_types.specs.declared.code.Scalar.TheVariants as scalars
 use Rattle.amqp_types.specs.Codes.{code_of, scalar_of_code, takes_any}
@@ -39,7 +39,12 @@ no_type = refl
 -- an int has four octets behind it
 int_plain : IsPlain 0x71 4
 unfolding IsPlain code_of scalar_of_code
-int_plain = (scalars.Int, refl, refl, refl)
+int_plain = inr (scalars.Int, refl, refl, refl)
+
+-- a list without items has none
+empty_list_plain : IsPlain 0x45 0
+unfolding IsPlain code_of
+empty_list_plain = inl (refl, refl)
 
 -- a boolean of one octet takes 0 and 1 alone
 boolean_takes_some : takes_any scalars.Boolean ≡ false

@@ -1,5 +1,5 @@
 -- Values that are passed over: what is behind them is what is behind them where they are read.
-use Rattle.std.proofs.Common.{◌≡◌, ℕ, suc, ◌+◌, ◌-◌, ◌≤◌, ◌<◌, true, List, ◌∷◌, length, Option, Some, Ok, Err, refl, sym, ap, subst, ◌∙◌, take, drop, zero, false, ltb, arith}
+use Rattle.std.proofs.Common.{◌≡◌, ℕ, suc, ◌+◌, ◌-◌, ◌≤◌, ◌<◌, true, List, ◌∷◌, length, Option, Some, Ok, Err, refl, sym, ap, subst, ◌∙◌, take, drop, zero, false, ltb, inl, inr, arith}
 use Rattle.std.proofs.lemmas.Bool.{le-ltb}
 use Rattle.std.proofs.lemmas.List.{length-append}
 use Rattle.amqp_types.specs.declared.fault.ValueFault.{ValueFault}
@@ -138,16 +138,30 @@ passed_by : (levels at first : ℕ) (scalar : Scalar) (bytes : List ℕ) → cod
 passed_by levels at first scalar bytes known any long =
     one_level levels at first (codes.Fixed scalar) bytes known ∙ ap behind (fixed_data levels at scalar bytes) ∙ fixed_passed scalar at bytes any long
 
+-- by the code and how many octets are behind the first
+passed_as : (bytes : List ℕ) (first width : ℕ) (behind_first : List ℕ) → bytes ≡ first ∷ behind_first
+    → ((levels at : ℕ) → behind (seen_at (suc levels) at (first ∷ behind_first)) ≡ Ok (drop width behind_first)) → IsPassed bytes (drop width behind_first)
+unfolding IsPassed
+passed_as bytes first width behind_first same passed = λ levels at some.
+    let below : levels ≡ suc (levels - 1) = omega (arith, some) in
+    let here : behind (seen_at levels at (first ∷ behind_first)) ≡ Ok (drop width behind_first) =
+    subst (λ (n : ℕ). behind (seen_at n at (first ∷ behind_first)) ≡ Ok (drop width behind_first)) (sym below) (passed (levels - 1) at) in
+    subst (λ (t : List ℕ). behind (seen_at levels at t) ≡ Ok (drop width behind_first)) (sym same) here
+
+-- a list without items
+empty_passed : (levels at first : ℕ) (bytes : List ℕ) → code_of first ≡ Some codes.EmptyList → behind (seen_at (suc levels) at (first ∷ bytes)) ≡ Ok bytes
+unfolding data_at data_by
+empty_passed levels at first bytes known = one_level levels at first codes.EmptyList bytes known
+
 -- what is behind a value whose first octet says how long it is
 pub plain_passed : (bytes : List ℕ) (first width : ℕ) (behind_first : List ℕ) → bytes ≡ first ∷ behind_first → IsPlain first width → width ≤ length behind_first → IsPassed bytes (drop width behind_first)
-unfolding IsPlain IsPassed
-plain_passed bytes first width behind_first same plain long = λ levels at some.
-    let below : levels ≡ suc (levels - 1) = omega (arith, some) in
+unfolding IsPlain
+plain_passed bytes first width behind_first same (inl empty) long =
+    subst (λ (n : ℕ). IsPassed bytes (drop n behind_first)) (sym empty.1) (passed_as bytes first 0 behind_first same (λ levels at. empty_passed levels at first behind_first empty.0))
+plain_passed bytes first width behind_first same (inr plain) long =
     let wide : width_of plain.0 ≤ length behind_first = subst (λ (n : ℕ). n ≤ length behind_first) (sym plain.3) long in
-    let passed : behind (seen_at (suc (levels - 1)) at (first ∷ behind_first)) ≡ Ok (drop (width_of plain.0) behind_first) = passed_by (levels - 1) at first plain.0 behind_first plain.1 plain.2 wide in
-    let here : behind (seen_at levels at (first ∷ behind_first)) ≡ Ok (drop (width_of plain.0) behind_first) = subst (λ (n : ℕ). behind (seen_at n at (first ∷ behind_first)) ≡ Ok (drop (width_of plain.0) behind_first)) (sym below) passed in
-    let there : behind (seen_at levels at bytes) ≡ Ok (drop (width_of plain.0) behind_first) = subst (λ (t : List ℕ). behind (seen_at levels at t) ≡ Ok (drop (width_of plain.0) behind_first)) (sym same) here in
-    there ∙ ap (λ (n : ℕ). done {A = List ℕ} (drop n behind_first)) plain.3
+    subst (λ (n : ℕ). IsPassed bytes (drop n behind_first)) plain.3
+    (passed_as bytes first (width_of plain.0) behind_first same (λ levels at. passed_by levels at first plain.0 behind_first plain.1 plain.2 wide))
 
 -- behind a value that lies somewhere
 pub passed_here : (levels at : ℕ) (bytes rest : List ℕ) → 0 < levels → IsPassed bytes rest → behind (seen_at levels at bytes) ≡ Ok rest

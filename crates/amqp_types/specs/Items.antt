@@ -1,7 +1,7 @@
 -- The values that are nested in a value that was read.
-use Rattle.std.specs.Prelude.{◌≡◌, ◌<◌, ℕ, zero, suc, Bool, true, false, List, [], ◌∷◌, length, Option, Some, None, Result, Ok, Err, ◌==◌}
+use Rattle.std.specs.Prelude.{◌≡◌, ◌<◌, ℕ, zero, suc, Bool, true, false, List, [], ◌∷◌, length, Option, Some, None, Result, Ok, Err, ◌==◌, ◌⊎◌}
 use Rattle.amqp_types.specs.declared.code.Code.{Code}
-use Rattle.amqp_types.specs.declared.code.Code.TheVariants.{Fixed}
+use Rattle.amqp_types.specs.declared.code.Code.TheVariants.{Fixed, EmptyList}
 use Rattle.amqp_types.specs.declared.code.Scalar.{Scalar}
 use Rattle.amqp_types.specs.Codes.{code_of, takes_any, width_of}
 use Rattle.amqp_types.specs.declared.fault.ValueFault.{ValueFault}
@@ -17,7 +17,9 @@ behind (Err e) = Err e
 
 -- a value with this first octet has so many octets behind it, whatever they are
 unfoldable pub IsPlain : ℕ → ℕ → Type 0
-IsPlain first width = (scalar : Scalar) × (code_of first ≡ Some (Fixed scalar)) × (takes_any scalar ≡ true) × (width_of scalar ≡ width)
+IsPlain first width =
+    ((code_of first ≡ Some EmptyList) × (width ≡ 0))
+    ⊎ ((scalar : Scalar) × (code_of first ≡ Some (Fixed scalar)) × (takes_any scalar ≡ true) × (width_of scalar ≡ width))
 
 -- these octets are behind a value, wherever it lies
 unfoldable pub IsPassed : List ℕ → List ℕ → Type 0

@@ -48,6 +48,7 @@ fn plain_width(first: u8) -> Option<usize>
 {
     match Code::of(first)? {
         Code::Fixed(scalar) if scalar.takes_any() => Some(scalar.width()),
+        Code::EmptyList => Some(0),
         _ => None,
     }
 }
@@ -319,7 +320,7 @@ fn read_described(levels: usize, at: usize, bytes: &[u8]) -> Read<'_, Described<
 {
     let described = pass_front(levels, at + 1, bytes)?;
     let descriptor = &bytes[..bytes.len() - described.len()];
-    let rest = pass_value(levels, at + 1 + descriptor.len(), described)?;
+    let rest = pass_front(levels, at + 1 + descriptor.len(), described)?;
     let value = &described[..described.len() - rest.len()];
     Ok((Described { descriptor, value }, rest))
 }

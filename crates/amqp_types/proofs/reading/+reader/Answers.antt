@@ -90,8 +90,8 @@ read_described-returns-in_err-described t c =
 pub read_described-slice_bounds-descriptor-count : goal.read_described-slice_bounds-descriptor-count
 read_described-slice_bounds-descriptor-count t c = value_shorter c.args.levels (c.args.at + 1) c.args.bytes.now c.in_ok-described.described.now c.in_ok-described.ensures
 
-pub read_described-pass_value-requires : goal.read_described-pass_value-requires
-read_described-pass_value-requires t c =
+pub read_described-pass_front-requires-2 : goal.read_described-pass_front-requires-2
+read_described-pass_front-requires-2 t c =
     let mid = c.in_ok-described in
     let shorter = value_shorter c.args.levels (c.args.at + 1) c.args.bytes.now mid.described.now mid.ensures in
     let front = length-take (length c.args.bytes.now - length mid.described.now) c.args.bytes.now in
