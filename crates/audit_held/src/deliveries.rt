@@ -19,7 +19,7 @@ ghost use Rattle.trace_law.specs.View.{event_view, link_view};
 
 use crate::groups::{HeldGroups, Marks};
 use crate::held::HeldDelivery;
-use crate::touched::Addresses;
+use audit_addresses::Addresses;
 use capture_form::Rule;
 use indexmap::{IndexMap, IndexSet};
 use std::alloc::{AllocError, Global};

@@ -19,4 +19,3 @@ mod touched;
 pub use deliveries::Deliveries;
 pub use groups::HeldGroups;
 pub use held::{Fate, HeldDelivery};
-pub use touched::Addresses;

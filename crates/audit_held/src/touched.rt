@@ -11,23 +11,12 @@ ghost use Rattle.trace_law.specs.View.{event_view, link_view};
 
 use crate::groups::HeldGroups;
 use amqp_perf::Role;
+use audit_addresses::Addresses;
 use indexmap::IndexSet;
 use number_groups::{Groups, OctetGroups};
 use pairing_cert::Note;
 use std::alloc::{AllocError, Global};
 use trace_law::{Event, Link};
-
-/// What is known of the consumers of addresses.
-pub trait Addresses {
-    ghost use Rattle.std.specs.Prelude.{◌≡◌, ℕ, Bool, List};
-
-    /// Which addresses have one.
-    ghost has_one: { Self → List ℕ → Bool };
-
-    /// The address has a consumer.
-    fn has_consumer(&self, address: &[u8]) -> bool
-        ensures { result ≡ Self.has_one self.now address.now };
-}
 
 /// The number comes in, if there is one.
 fn add(touched: &mut IndexSet<u64>, number: Option<u64>) -> Result<(), AllocError>
