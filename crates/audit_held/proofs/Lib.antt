@@ -8,6 +8,7 @@ mod HeldUntouched
 mod HeldSparse
 mod Regrouped
 mod GroupLists
+mod SomeTouched
 mod TouchedKnown
 mod EndedKnown
 mod TouchedAll

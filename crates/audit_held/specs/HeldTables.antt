@@ -1,12 +1,13 @@
 -- What the table of deliveries from clients stands for.
-use Rattle.std.specs.Prelude.{◌≡◌, ℕ, Bool, List, Option, option_and_then, option_map, nat_eq, if◌then◌else◌, ◌==◌}
+use Rattle.std.specs.Prelude.{◌≡◌, ◌⊎◌, ℕ, Bool, true, List, Option, option_and_then, option_map, is_some, nat_eq, if◌then◌else◌, ◌==◌}
 use Rattle.indexmap.specs.IndexMap.{get}
 use Rattle.capture_form.specs.Rules.{RuleText}
-use Rattle.trace_events.specs.Event.{Event}
-use Rattle.trace_events.specs.Incoming.{address_of}
+use Rattle.trace_events.specs.Event.{Event, Link}
+use Rattle.trace_events.specs.Incoming.{address_of, incoming_begun}
 use Rattle.audit_held.specs.Grouped.{AreGrouped}
 use Rattle.audit_held.specs.Held.{Held, held_at, held_next}
 use Rattle.audit_held.specs.HeldViews.{held_view}
+use Rattle.audit_held.specs.Touched.{may_touch}
 use Rattle.audit_held.specs.declared.deliveries.Deliveries.{Deliveries}
 
 -- what the table has of the delivery of this number
@@ -20,6 +21,10 @@ AreHeld rules table past = (n : ℕ) → held_in table n ≡ held_at rules n pas
 -- and its groups have just these
 abbrev pub IsTable : List RuleText → Deliveries → List Event → Type 0
 IsTable rules table past = AreHeld rules table past × AreGrouped table.groups (held_in table)
+
+-- the event begins a delivery, or may touch one that is kept
+abbrev pub BeginsOrTouches : Deliveries → (List ℕ → Bool) → List Link → Event → Type 0
+BeginsOrTouches table has ended e = (is_some (incoming_begun e) ≡ true) ⊎ ((n : ℕ) × (may_touch table.groups has ended e n ≡ true))
 
 -- this is made of the delivery of this number, and nothing of any other
 abbrev pub MovesAt : ℕ → (Option Held → Option Held) → Deliveries → Deliveries → Type 0

@@ -1,6 +1,6 @@
 //! The deliveries from clients that are kept, by the record that began each, and in groups.
 
-ghost use Rattle.std.specs.Prelude.{◌≡◌, ◌∷◌, ℕ, List, [], None, OnOk, map, nat_eq, option_and_then, option_map};
+ghost use Rattle.std.specs.Prelude.{◌≡◌, ◌∷◌, ℕ, List, [], None, OnOk, OnErr, is_some, true, map, nat_eq, option_and_then, option_map};
 ghost use Rattle.indexmap.specs.IndexSet.{contains};
 ghost use Rattle.std.specs.Option.{option_copied};
 ghost use Rattle.capture_form.specs.Rules.{RuleText};
@@ -12,7 +12,7 @@ ghost use Rattle.trace_events.specs.Words.{is_some_and, or_else};
 ghost use Rattle.audit_tables.specs.Connections.{IsLawfulNext};
 ghost use Rattle.audit_held.specs.Grouped.{AreGrouped};
 ghost use Rattle.audit_held.specs.Held.{held_begun, held_next};
-ghost use Rattle.audit_held.specs.HeldTables.{AreMovedBy, IsTable, MovesAt, held_in};
+ghost use Rattle.audit_held.specs.HeldTables.{AreMovedBy, BeginsOrTouches, IsTable, MovesAt, held_in};
 ghost use Rattle.audit_held.specs.HeldTouched.{EndWith};
 ghost use Rattle.audit_held.specs.HeldViews.{held_view};
 ghost use Rattle.trace_law.specs.View.{event_view, link_view};
@@ -56,7 +56,8 @@ impl Deliveries {
     ///
     /// # Errors
     ///
-    /// Memory was refused; then the table may agree with no records any more.
+    /// Memory was refused, for an event that begins a delivery or may touch one that is kept; then the table may agree with
+    /// no records any more.
     pub fn take<A: Addresses>(
         &mut self,
         rules: &[Rule],
@@ -64,11 +65,12 @@ impl Deliveries {
         ended: &[Link],
         addresses: &A,
     ) -> Result<(), AllocError>
-        ensures { OnOk result ((records : List Record) (r : Record) → IsLawfulNext rules.now records r (event_view event.now) →
+        ensures kept { OnOk result ((records : List Record) (r : Record) → IsLawfulNext rules.now records r (event_view event.now) →
             IsTable rules.now self.old (history rules.now records) →
             ((address : List ℕ) → A.has_one addresses.now address ≡ has_consumer address (event_view event.now ∷ history rules.now records)) →
             EndWith (history rules.now records) (event_view event.now) (map link_view ended.now) →
             IsTable rules.now self.new (event_view event.now ∷ history rules.now records)) }
+        ensures refused { OnErr result (BeginsOrTouches self.old (A.has_one addresses.now) (map link_view ended.now) (event_view event.now)) }
     {
         let touched = self.groups.touched(self.alloc, addresses, ended, event)?;
         self.touch_all(touched, rules, event, addresses)?;
@@ -87,6 +89,7 @@ impl Deliveries {
             (or_else (held_begun rules.now (event_view event.now) has_consumer)) self.old self.new) }
         ensures grouped { OnOk result (AreGrouped self.old.groups (held_in self.old) → held_in self.old (event_view event.now).number ≡ None →
             AreGrouped self.new.groups (held_in self.new)) }
+        ensures refused { OnErr result (is_some (incoming_begun (event_view event.now)) ≡ true) }
     {
         if let Some(held) = HeldDelivery::begin(self.alloc, rules, event, has_consumer)? {
             self.groups.put(&held.delivery(), Marks::of(&held, true))?;
@@ -133,6 +136,7 @@ impl Deliveries {
     ) -> Result<(), AllocError>
         ensures touched { OnOk result (AreMovedBy (contains nat_eq touched) rules.now (event_view event.now) (A.has_one addresses.now) self.old self.new) }
         ensures grouped { OnOk result (AreGrouped self.old.groups (held_in self.old) → AreGrouped self.new.groups (held_in self.new)) }
+        ensures refused { OnErr result ((n : ℕ) × (contains nat_eq touched n ≡ true)) }
     {
         while let Some(number) = touched.pop() {
             let has_consumer = self.is_served(number, addresses);

@@ -1,6 +1,6 @@
 //! The deliveries that an event may touch.
 
-ghost use Rattle.std.specs.Prelude.{◌≡◌, ℕ, ◌||◌, IfOk, OnOk, map, nat_eq};
+ghost use Rattle.std.specs.Prelude.{◌≡◌, ℕ, ◌||◌, IfOk, OnOk, OnErr, is_some, true, map, nat_eq};
 ghost use Rattle.std.specs.List.{list_any};
 ghost use Rattle.indexmap.specs.IndexSet.{contains};
 ghost use Rattle.number_groups.specs.Groups.{is_member};
@@ -20,7 +20,8 @@ use trace_law::{Event, Link};
 
 /// The number comes in, if there is one.
 fn add(touched: &mut IndexSet<u64>, number: Option<u64>) -> Result<(), AllocError>
-    ensures { OnOk result ((n : ℕ) → contains nat_eq touched.new n ≡ (contains nat_eq touched.old n || is_number number n)) }
+    ensures added { OnOk result ((n : ℕ) → contains nat_eq touched.new n ≡ (contains nat_eq touched.old n || is_number number n)) }
+    ensures refused { OnErr result (is_some number ≡ true) }
 {
     if let Some(number) = number {
         touched.insert(number)?;
@@ -30,7 +31,8 @@ fn add(touched: &mut IndexSet<u64>, number: Option<u64>) -> Result<(), AllocErro
 
 /// All numbers of the group come in.
 fn add_group(touched: &mut IndexSet<u64>, groups: &Groups<u64>, key: u64) -> Result<(), AllocError>
-    ensures { OnOk result ((n : ℕ) → contains nat_eq touched.new n ≡ (contains nat_eq touched.old n || is_member nat_eq groups.now key n)) }
+    ensures added { OnOk result ((n : ℕ) → contains nat_eq touched.new n ≡ (contains nat_eq touched.old n || is_member nat_eq groups.now key n)) }
+    ensures refused { OnErr result ((n : ℕ) × (is_member nat_eq groups.now key n ≡ true)) }
 {
     for index in 0..groups.count(&key) {
         add(touched, groups.get(&key, index))?;
@@ -44,7 +46,8 @@ fn add_waiting(
     groups: &OctetGroups,
     address: &[u8],
 ) -> Result<(), AllocError>
-    ensures { OnOk result ((n : ℕ) → contains nat_eq touched.new n ≡ (contains nat_eq touched.old n || octets.is_member groups.now address.now n)) }
+    ensures added { OnOk result ((n : ℕ) → contains nat_eq touched.new n ≡ (contains nat_eq touched.old n || octets.is_member groups.now address.now n)) }
+    ensures refused { OnErr result ((n : ℕ) × (octets.is_member groups.now address.now n ≡ true)) }
 {
     for index in 0..groups.count(address) {
         add(touched, groups.get(address, index))?;
@@ -90,8 +93,9 @@ impl HeldGroups {
         addresses: &A,
         link: &Link,
     ) -> Result<(), AllocError>
-        ensures { OnOk result ((n : ℕ) → contains nat_eq touched.new n
+        ensures added { OnOk result ((n : ℕ) → contains nat_eq touched.new n
             ≡ (contains nat_eq touched.old n || law.is_left self.now (A.has_one addresses.now) n (link_view link.now))) }
+        ensures refused { OnErr result ((n : ℕ) × (law.is_left self.now (A.has_one addresses.now) n (link_view link.now) ≡ true)) }
     {
         add_group(touched, &self.undecided, link.number)?;
         if !addresses.has_consumer(link.address) {
@@ -102,8 +106,10 @@ impl HeldGroups {
 
     /// What the producer of a session may settle comes in.
     fn add_settled(&self, touched: &mut IndexSet<u64>, event: &Event) -> Result<(), AllocError>
-        ensures { OnOk result ((n : ℕ) → contains nat_eq touched.new n
+        ensures added { OnOk result ((n : ℕ) → contains nat_eq touched.new n
             ≡ (contains nat_eq touched.old n || is_some_and (law.settled_session (event_view event.now)) (λ session. is_member nat_eq self.now.of_session session n))) }
+        ensures refused { OnErr result ((n : ℕ)
+            × (is_some_and (law.settled_session (event_view event.now)) (λ session. is_member nat_eq self.now.of_session session n) ≡ true)) }
     {
         match settled_session(event) {
             Some(session) => add_group(touched, &self.of_session, session),
@@ -118,8 +124,9 @@ impl HeldGroups {
         addresses: &A,
         ended: &[Link],
     ) -> Result<(), AllocError>
-        ensures { OnOk result ((n : ℕ) → contains nat_eq touched.new n
+        ensures added { OnOk result ((n : ℕ) → contains nat_eq touched.new n
             ≡ (contains nat_eq touched.old n || list_any (λ l. law.is_left self.now (A.has_one addresses.now) n (link_view l)) ended.now)) }
+        ensures refused { OnErr result ((n : ℕ) × (list_any (λ l. law.is_left self.now (A.has_one addresses.now) n (link_view l)) ended.now ≡ true)) }
     {
         for link in ended {
             self.add_left(touched, addresses, link)?;
@@ -131,7 +138,7 @@ impl HeldGroups {
     ///
     /// # Errors
     ///
-    /// Memory was refused.
+    /// Memory was refused, for an event that may touch a delivery.
     pub(crate) fn touched<A: Addresses>(
         &self,
         alloc: Global,
@@ -139,8 +146,10 @@ impl HeldGroups {
         ended: &[Link],
         event: &Event,
     ) -> Result<IndexSet<u64>, AllocError>
-        ensures { IfOk result (λ touched. (n : ℕ) → contains nat_eq touched n
+        ensures found { IfOk result (λ touched. (n : ℕ) → contains nat_eq touched n
             ≡ law.may_touch self.now (A.has_one addresses.now) (map link_view ended.now) (event_view event.now) n) }
+        ensures refused { OnErr result ((n : ℕ)
+            × (law.may_touch self.now (A.has_one addresses.now) (map link_view ended.now) (event_view event.now) n ≡ true)) }
     {
         let mut touched = IndexSet::new(alloc);
         add(&mut touched, part_number(event))?;

@@ -1,4 +1,5 @@
 use Rattle.std.proofs.Common.{◌≡◌, ap, ◌∙◌, ℕ, nat_eq, arith, option_and_then, if◌then◌else◌, ◌==◌}
+use Rattle.std.proofs.lemmas.Result.{err_from_is_err_and}
 use Rattle.indexmap.specs.IndexSet.{contains}
 use Rattle.trace_law.specs.View.{event_view}
 use Rattle.audit_held.specs.Held.{held_next}
@@ -34,3 +35,9 @@ returns-clause-touched g c = λ n.
 
 pub returns-clause-grouped : goal.returns-clause-grouped
 returns-clause-grouped g c = c.loop-number.invariant.2
+
+pub returns-in_err-touch-clause-refused : goal.returns-in_err-touch-clause-refused
+returns-in_err-touch-clause-refused g c =
+    let p = err_from_is_err_and c.from_residual.result c.from_residual.ensures.1 in
+    let left = popped-in c.loop-number.touched.keys c.pop.new.self.keys c.in-Some.number c.in-Some.ensures.keys in
+    rw p.1 (c.in-Some.number, c.loop-number.invariant.0 c.in-Some.number left)

@@ -1,4 +1,6 @@
 use Rattle.std.proofs.Common.{nat_eq}
+use Rattle.std.proofs.lemmas.List.Folds.{list_any_at}
+use Rattle.std.proofs.lemmas.Result.{err_from_is_err_and}
 use Rattle.indexmap.specs.IndexSet.{contains}
 use Rattle.audit_held.specs.Touched as law
 use Rattle.trace_law.specs.View.{link_view}
@@ -11,9 +13,15 @@ loop-link-init g c = λ n. nothing-yet (λ link. law.is_left c.args.self.now (g.
 pub loop-link-preserved : goal.loop-link-preserved
 loop-link-preserved g c = λ n.
     each-more (λ link. law.is_left c.args.self.now (g.A.Addresses.has_one c.args.addresses.now) n (link_view link)) c.args.ended.now c.loop-link.link-index _
-    (contains nat_eq c.args.touched.now n) _ _ c.loop-link-test.true (c.loop-link.invariant n) (c.in_ok-add_left.ensures n)
+    (contains nat_eq c.args.touched.now n) _ _ c.loop-link-test.true (c.loop-link.invariant n) (c.in_ok-add_left.ensures.added n)
 
-pub returns : goal.returns
-returns g c = λ n.
+pub returns-clause-added : goal.returns-clause-added
+returns-clause-added g c = λ n.
     each-in (λ link. law.is_left c.args.self.now (g.A.Addresses.has_one c.args.addresses.now) n (link_view link)) c.args.ended.now c.loop-link.link-index
     (contains nat_eq c.args.touched.now n) _ c.loop-link-test.false (c.loop-link.invariant n)
+
+pub returns-in_err-add_left-clause-refused : goal.returns-in_err-add_left-clause-refused
+returns-in_err-add_left-clause-refused g c =
+    let p = err_from_is_err_and c.from_residual.result c.from_residual.ensures.1 in
+    let m = c.in_err-add_left.ensures.refused in
+    rw p.1 (m.0, list_any_at (λ link. law.is_left c.args.self.now (g.A.Addresses.has_one c.args.addresses.now) m.0 (link_view link)) c.args.ended.now c.loop-link.link-index _ c.loop-link-test.true m.1)
