@@ -7,6 +7,7 @@ mod HeldKnown
 mod HeldUntouched
 mod HeldSparse
 mod Regrouped
+mod GroupExamples
 mod GroupLists
 mod SomeTouched
 mod TouchedKnown
