@@ -1,5 +1,8 @@
 mod SentSteps
+mod SentLinks
 mod SentBegun
+mod SentDecided
+mod SentFollowed
 mod SentKnown
 mod SentUntouched
 mod SentSparse

@@ -13,31 +13,30 @@ use Rattle.capture_form.specs.declared.records.Record.{Record}
 use Rattle.trace_events.specs.Frame.{frame_read}
 use Rattle.trace_events.specs.Words.{is_some_and}
 use Rattle.trace_events.specs.Event.{Outgoing}
-use Rattle.trace_events.specs.Link.{is_live}
 use Rattle.trace_events.specs.History.{history, judge}
 use Rattle.trace_clauses.specs.Written.{spoken_octets}
 use Rattle.trace_clauses.proofs.Made.{from, to, carry, tell, gives, first, next, with_more, as_settled, disposes, accepted, released, detach_of, hi, sent, sent_by}
-use Rattle.audit_sent.specs.Sent.{Sent, sent_at, sent_next, sent_begun, sent_behind, begins_number, ends_delivery, settles_answering, decided_with, to_settle, goes_on_with}
-use Rattle.audit_sent.specs.SentTables.{touches, is_finished}
+use Rattle.audit_sent.specs.Sent.{Sent, sent_at, sent_next, sent_begun, sent_behind, begins_number, ends_delivery, decided_with, takes_state, to_settle, goes_on_with}
+use Rattle.audit_sent.specs.SentTables.{touches}
 
--- how many octets were sent, whether the last part is, the octets of the state that is decided, and who has settled it
+-- how many octets were sent, whether the last part is, the octets of the state that is decided, and whether it is unsettled
 abbrev Shown : Type 0
-Shown = ℕ × Bool × Option (Option (List ℕ)) × Bool × Bool
+Shown = ℕ × Bool × Option (Option (List ℕ)) × Bool
 
 abbrev state_octets : Option StateFields → Option (List ℕ)
 state_octets state = option_map (λ (s : StateFields). s.octets) state
 
 abbrev shown : Sent → Shown
-shown x = (x.sent_count, x.is_sent, option_map state_octets x.decision, x.is_settled_by_consumer, x.is_settled_by_router)
+shown x = (x.sent_count, x.is_sent, option_map state_octets x.decision, x.is_unsettled)
 
 unfoldable sent_in : List Record → ℕ → Option Shown
 unfolding frame_read whole_frame frame_at sized_frame headed_frame read digits spoken_octets frame_octets written
 sent_in records n = option_map shown (sent_at n (history [] records))
 
--- what one more record makes of it, where its link lived or not
-unfoldable next_in : List Record → Record → Bool → ℕ → Option Shown
+-- what one more record makes of it
+unfoldable next_in : List Record → Record → ℕ → Option Shown
 unfolding frame_read whole_frame frame_at sized_frame headed_frame read digits spoken_octets frame_octets written
-next_in records r live n = let past = history [] records in option_map (λ x. shown (sent_next (judge [] past r) live x)) (sent_at n past)
+next_in records r n = let past = history [] records in option_map (λ x. shown (sent_next (judge [] past r) x)) (sent_at n past)
 
 unfoldable begun_in : List Record → Record → Option Shown
 unfolding frame_read whole_frame frame_at sized_frame headed_frame read digits spoken_octets frame_octets written
@@ -45,7 +44,7 @@ begun_in records r = option_map shown (sent_begun (judge [] (history [] records)
 
 unfoldable behind_in : List Record → Record → ℕ → Option Shown
 unfolding frame_read whole_frame frame_at sized_frame headed_frame read digits spoken_octets frame_octets written
-behind_in records r n = let past = history [] records in option_map shown (sent_behind (judge [] past r) (is_live past) n (sent_at n past))
+behind_in records r n = let past = history [] records in option_map shown (sent_behind (judge [] past r) n (sent_at n past))
 
 unfoldable begins_in : List Record → Record → ℕ → Bool
 unfolding frame_read whole_frame frame_at sized_frame headed_frame read digits spoken_octets frame_octets written
@@ -55,9 +54,9 @@ unfoldable ends_in : List Record → Record → ℕ → Bool
 unfolding frame_read whole_frame frame_at sized_frame headed_frame read digits spoken_octets frame_octets written
 ends_in records r n = let past = history [] records in is_some_and (sent_at n past) (λ x. ends_delivery (judge [] past r) x.delivery)
 
-unfoldable settles_in : List Record → Record → ℕ → Bool
+unfoldable takes_in : List Record → Record → ℕ → Bool
 unfolding frame_read whole_frame frame_at sized_frame headed_frame read digits spoken_octets frame_octets written
-settles_in records r n = let past = history [] records in is_some_and (sent_at n past) (λ x. settles_answering (judge [] past r) x.delivery)
+takes_in records r n = let past = history [] records in is_some_and (sent_at n past) (takes_state (judge [] past r))
 
 unfoldable decided_in : List Record → Record → ℕ → Option (Option (Option (List ℕ)))
 unfolding frame_read whole_frame frame_at sized_frame headed_frame read digits spoken_octets frame_octets written
@@ -129,47 +128,55 @@ of_another : sent_in carried 16 ≡ None
 unfolding sent_in
 of_another = refl
 
-half_sent : sent_in begun 17 ≡ Some (1, false, None, false, false)
+half_sent : sent_in begun 17 ≡ Some (1, false, None, true)
 unfolding sent_in
 half_sent = refl
 
-in_two_parts : sent_in (begun ++ (rest ∷ [])) 17 ≡ Some (2, true, None, false, false)
+in_two_parts : sent_in (begun ++ (rest ∷ [])) 17 ≡ Some (2, true, None, true)
 unfolding sent_in
 in_two_parts = refl
 
-in_one_part : sent_in carried 17 ≡ Some (2, true, None, false, false)
+in_one_part : sent_in carried 17 ≡ Some (2, true, None, true)
 unfolding sent_in
 in_one_part = refl
 
-is_accepted : sent_in (carried ++ (accepts ∷ [])) 17 ≡ Some (2, true, Some accepted, false, false)
+is_accepted : sent_in (carried ++ (accepts ∷ [])) 17 ≡ Some (2, true, Some accepted, true)
 unfolding sent_in
 is_accepted = refl
 
 -- settled without an outcome it is decided too
-is_settled : sent_in (carried ++ (settles ∷ [])) 17 ≡ Some (2, true, Some None, true, false)
+is_settled : sent_in (carried ++ (settles ∷ [])) 17 ≡ Some (2, true, Some None, false)
 unfolding sent_in
 is_settled = refl
 
-is_both : sent_in (carried ++ (finishes ∷ [])) 17 ≡ Some (2, true, Some accepted, true, false)
+is_both : sent_in (carried ++ (finishes ∷ [])) 17 ≡ Some (2, true, Some accepted, false)
 unfolding sent_in
 is_both = refl
 
 -- the first decision holds, and what settles it later settles it
-decided_once : sent_in (carried ++ (accepts ∷ releases ∷ settles ∷ [])) 17 ≡ Some (2, true, Some accepted, true, false)
+decided_once : sent_in (carried ++ (accepts ∷ releases ∷ settles ∷ [])) 17 ≡ Some (2, true, Some accepted, false)
 unfolding sent_in
 decided_once = refl
 
--- not once its link is over
-decided_late : sent_in (carried ++ (consumer_leaves ∷ finishes ∷ [])) 17 ≡ Some (2, true, None, false, false)
+-- once its link is over it is neither unsettled nor decided
+is_over : sent_in (carried ++ (consumer_leaves ∷ [])) 17 ≡ Some (2, true, None, false)
+unfolding sent_in
+is_over = refl
+
+decided_late : sent_in (carried ++ (consumer_leaves ∷ finishes ∷ [])) 17 ≡ Some (2, true, None, false)
 unfolding sent_in
 decided_late = refl
 
-router_settled : sent_in (told ++ (router_settles ∷ [])) 17 ≡ Some (2, true, Some accepted, false, true)
+router_settled : sent_in (told ++ (router_settles ∷ [])) 17 ≡ Some (2, true, Some accepted, false)
 unfolding sent_in
 router_settled = refl
 
--- on a pre-settled link nothing is decided
-pre_settled_sent : sent_in (pre_settled ++ (finishes ∷ [])) 17 ≡ Some (2, true, None, true, false)
+-- on a pre-settled link it is never unsettled, and nothing is decided
+sent_settled : sent_in pre_settled 17 ≡ Some (2, true, None, false)
+unfolding sent_in
+sent_settled = refl
+
+pre_settled_sent : sent_in (pre_settled ++ (finishes ∷ [])) 17 ≡ Some (2, true, None, false)
 unfolding sent_in
 pre_settled_sent = refl
 
@@ -191,19 +198,7 @@ part_of_another : ends_in carried (carry 1 16 (first 1) hi) 17 ≡ false
 unfolding ends_in
 part_of_another = refl
 
--- ---- its consumer settles it, and decides it
-
-settles_it : settles_in carried settles 17 ≡ true
-unfolding settles_in
-settles_it = refl
-
-settles_not : settles_in carried accepts 17 ≡ false
-unfolding settles_in
-settles_not = refl
-
-settles_another : settles_in carried accepts_another 17 ≡ false
-unfolding settles_in
-settles_another = refl
+-- ---- its consumer decides it
 
 decides_it : decided_in carried accepts 17 ≡ Some (Some accepted)
 unfolding decided_in
@@ -221,54 +216,76 @@ decides_another : decided_in carried accepts_another 17 ≡ Some None
 unfolding decided_in
 decides_another = refl
 
-decides_pre_settled : decided_in pre_settled accepts 17 ≡ Some None
-unfolding decided_in
-decides_pre_settled = refl
+-- ---- with a terminal state
+
+takes_it : takes_in carried accepts 17 ≡ true
+unfolding takes_in
+takes_it = refl
+
+takes_no_state : takes_in carried settles 17 ≡ false
+unfolding takes_in
+takes_no_state = refl
+
+took_another : takes_in (carried ++ (accepts ∷ [])) releases 17 ≡ false
+unfolding takes_in
+took_another = refl
+
+takes_over : takes_in (carried ++ (consumer_leaves ∷ [])) accepts 17 ≡ false
+unfolding takes_in
+takes_over = refl
 
 -- ---- what one more record makes of it
 
-next_part : next_in begun rest true 17 ≡ Some (2, true, None, false, false)
+next_part : next_in begun rest 17 ≡ Some (2, true, None, true)
 unfolding next_in
 next_part = refl
 
-next_other : next_in begun gives_more true 17 ≡ Some (1, false, None, false, false)
+next_other : next_in begun gives_more 17 ≡ Some (1, false, None, true)
 unfolding next_in
 next_other = refl
 
-next_decision : next_in carried finishes true 17 ≡ Some (2, true, Some accepted, true, false)
+next_decision : next_in carried finishes 17 ≡ Some (2, true, Some accepted, false)
 unfolding next_in
 next_decision = refl
 
 -- where its link is over
-next_over : next_in carried finishes false 17 ≡ Some (2, true, None, false, false)
+next_over : next_in (carried ++ (consumer_leaves ∷ [])) finishes 17 ≡ Some (2, true, None, false)
 unfolding next_in
 next_over = refl
 
-next_decided : next_in (carried ++ (accepts ∷ [])) releases true 17 ≡ Some (2, true, Some accepted, false, false)
+next_pre_settled : next_in pre_settled finishes 17 ≡ Some (2, true, None, false)
+unfolding next_in
+next_pre_settled = refl
+
+next_decided : next_in (carried ++ (accepts ∷ [])) releases 17 ≡ Some (2, true, Some accepted, true)
 unfolding next_in
 next_decided = refl
 
-next_still_settled : next_in (carried ++ (settles ∷ [])) gives_more true 17 ≡ Some (2, true, Some None, true, false)
+next_still_settled : next_in (carried ++ (settles ∷ [])) gives_more 17 ≡ Some (2, true, Some None, false)
 unfolding next_in
 next_still_settled = refl
 
-next_settled : next_in told router_settles true 17 ≡ Some (2, true, Some accepted, false, true)
+next_settled : next_in told router_settles 17 ≡ Some (2, true, Some accepted, false)
 unfolding next_in
 next_settled = refl
 
-next_still_by_router : next_in (told ++ (router_settles ∷ [])) gives_more true 17 ≡ Some (2, true, Some accepted, false, true)
+next_ended : next_in carried consumer_leaves 17 ≡ Some (2, true, None, false)
 unfolding next_in
-next_still_by_router = refl
+next_ended = refl
 
 -- ---- one that begins
 
-begins_half : begun_in sent half ≡ Some (1, false, None, false, false)
+begins_half : begun_in sent half ≡ Some (1, false, None, true)
 unfolding begun_in
 begins_half = refl
 
-begins_whole : begun_in sent whole ≡ Some (2, true, None, false, false)
+begins_whole : begun_in sent whole ≡ Some (2, true, None, true)
 unfolding begun_in
 begins_whole = refl
+
+begins_settled : begun_in (sent_by modes.Settled) (carry 1 16 (as_settled (first 0)) hi) ≡ Some (2, true, None, false)
+unfolding begun_in
+begins_settled = refl
 
 begins_none : begun_in begun rest ≡ None
 unfolding begun_in
@@ -286,17 +303,13 @@ goes_on : begins_in begun rest 17 ≡ false
 unfolding begins_in
 goes_on = refl
 
-behind_first : behind_in sent half 17 ≡ Some (1, false, None, false, false)
+behind_first : behind_in sent half 17 ≡ Some (1, false, None, true)
 unfolding behind_in
 behind_first = refl
 
-behind_next : behind_in carried finishes 17 ≡ Some (2, true, Some accepted, true, false)
+behind_next : behind_in carried finishes 17 ≡ Some (2, true, Some accepted, false)
 unfolding behind_in
 behind_next = refl
-
-behind_over : behind_in (carried ++ (consumer_leaves ∷ [])) finishes 17 ≡ Some (2, true, None, false, false)
-unfolding behind_in
-behind_over = refl
 
 behind_none : behind_in sent half 16 ≡ None
 unfolding behind_in
@@ -312,17 +325,22 @@ touches_decided : touches_in carried accepts 17 ≡ true
 unfolding touches_in
 touches_decided = refl
 
-touches_half_decided : touches_in (carried ++ (accepts ∷ [])) settles 17 ≡ true
+touches_settled : touches_in told router_settles 17 ≡ true
 unfolding touches_in
-touches_half_decided = refl
+touches_settled = refl
 
+touches_ended : touches_in carried consumer_leaves 17 ≡ true
+unfolding touches_in
+touches_ended = refl
+
+-- nothing once it is settled
 touches_finished : touches_in (carried ++ (finishes ∷ [])) releases 17 ≡ false
 unfolding touches_in
 touches_finished = refl
 
-touches_settled : touches_in told router_settles 17 ≡ true
+touches_over : touches_in (carried ++ (consumer_leaves ∷ [])) accepts 17 ≡ false
 unfolding touches_in
-touches_settled = refl
+touches_over = refl
 
 touches_other : touches_in carried gives_more 17 ≡ false
 unfolding touches_in
@@ -335,36 +353,20 @@ touches_another = refl
 -- ---- whether it is to be settled
 
 module _ (j : Outgoing) where
-  abbrev entry : Option (Option StateFields) → Bool → Bool → Sent
-  entry decision by_consumer by_router =
-      record { delivery = j; sent_count = 0; is_sent = true; decision = decision; is_settled_by_consumer = by_consumer; is_settled_by_router = by_router }
+  abbrev entry : Option (Option StateFields) → Bool → Sent
+  entry decision unsettled = record { delivery = j; sent_count = 0; is_sent = true; decision = decision; is_unsettled = unsettled }
 
-  is_to_settle : to_settle (entry (Some None) false false) true true ≡ true
+  is_to_settle : to_settle (entry (Some None) true) true ≡ true
   is_to_settle = refl
 
-  of_no_link : to_settle (entry (Some None) false false) false true ≡ false
-  of_no_link = refl
-
-  not_decided : to_settle (entry None false false) true true ≡ false
+  not_decided : to_settle (entry None true) true ≡ false
   not_decided = refl
 
-  by_its_consumer : to_settle (entry (Some None) true false) true true ≡ false
-  by_its_consumer = refl
+  settled_before : to_settle (entry (Some None) false) true ≡ false
+  settled_before = refl
 
-  by_the_router : to_settle (entry (Some None) false true) true true ≡ false
-  by_the_router = refl
-
-  carries_open : to_settle (entry (Some None) false false) true false ≡ false
+  carries_open : to_settle (entry (Some None) true) false ≡ false
   carries_open = refl
-
-  finished : is_finished (entry (Some None) true false) ≡ true
-  finished = refl
-
-  unfinished : is_finished (entry (Some None) false false) ≡ false
-  unfinished = refl
-
-  undecided : is_finished (entry None true false) ≡ false
-  undecided = refl
 
 -- ---- whether octets go on with a payload
 

@@ -35,7 +35,7 @@ use Rattle.trace_law.specs.Known.{IsCarriedBy}
 use Rattle.trace_law.proofs.Carrying.{by_note}
 use Rattle.audit_sent.specs.Sent.{Sent, sent, outgoing_at, sent_at, IsEntry, IsKnownTo}
 use Rattle.audit_sent.specs.Sent as kept
-use Rattle.audit_sent.proofs.SentBegun.{at-number, found-below, payload-none, unsent-before}
+use Rattle.audit_sent.proofs.SentBegun.{at-number, found-below, payload-none}
 use Rattle.audit_sent.proofs.SentKnown.{sent-of}
 
 known : {A : Type 0} (P : A → Type 0) (o : Option A) (x : A) → o ≡ Some x → IfSome o P → P x
@@ -226,7 +226,7 @@ module _ (rules : List RuleText) (records : List Record) (lawful : first_broken 
   new_count new = by (outgoing_at j.number past) refl
     where
       by : (o : Option Outgoing) → outgoing_at j.number past ≡ o → unwrap_or (option_map (λ (x : Sent). x.sent_count) (option_map (sent past) o)) 0 ≡ length (law.payload j past) % 2 ^ 64
-      by None none = ap (λ (x : Sent). x.sent_count) (sym (unsent-before j rules past judged (omega (arith, new))))
+      by None none = sym (ap (λ (xs : List ℕ). length xs % 2 ^ 64) (payload-none j past (judged-born rules past judged) (omega (arith, new))))
       by (Some k) found =
           let lt = found-below past (judged-born rules past judged) j.number k found in
           let is = at-number past j.number k found in

@@ -2,11 +2,10 @@
 use Rattle.std.proofs.Common.{◌≡◌, refl, sym, ap, ◌∙◌, ◌⊎◌, inl, inr, ℕ, false, List, ◌∷◌, Option, Some, None, IfSome, option_map, if◌then◌else◌}
 use Rattle.capture_form.specs.Rules.{RuleText}
 use Rattle.trace_events.specs.Event.{Event}
-use Rattle.trace_events.specs.Link.{is_live}
 use Rattle.trace_events.proofs.Judged.{AreJudged}
-use Rattle.audit_sent.specs.Sent.{Sent, sent_at, sent_begun, sent_behind, begins_number}
+use Rattle.audit_sent.specs.Sent.{Sent, sent_at, sent_next, sent_begun, sent_behind, begins_number}
 use Rattle.audit_sent.specs.SentTables.{touches}
-use Rattle.audit_sent.proofs.SentBegun.{on, sent-behind}
+use Rattle.audit_sent.proofs.SentFollowed.{sent-behind}
 use Rattle.audit_sent.proofs.SentUntouched.{untouched}
 
 module _ (rules : List RuleText) (e : Event) (past : List Event) (are : AreJudged rules (e ∷ past)) where
@@ -14,18 +13,18 @@ module _ (rules : List RuleText) (e : Event) (past : List Event) (are : AreJudge
   abbrev IsApart : ℕ → Option Sent → Type 0
   IsApart n o = (begins_number e n ≡ false) × IfSome o (λ (x : Sent). touches e x ≡ false)
 
-  apart-stays : (n : ℕ) (o : Option Sent) → IsApart n o → sent_behind e (is_live past) n o ≡ o
-  apart-stays n o off = ap (λ b. if b then sent_begun e else option_map (on rules e past are n) o) off.0 ∙ by o off.1
+  apart-stays : (n : ℕ) (o : Option Sent) → IsApart n o → sent_behind e n o ≡ o
+  apart-stays n o off = ap (λ b. if b then sent_begun e else option_map (sent_next e) o) off.0 ∙ by o off.1
     where
-      by : (p : Option Sent) → IfSome p (λ (x : Sent). touches e x ≡ false) → option_map (on rules e past are n) p ≡ p
+      by : (p : Option Sent) → IfSome p (λ (x : Sent). touches e x ≡ false) → option_map (sent_next e) p ≡ p
       by None none = refl
-      by (Some x) none = ap Some (untouched e (is_live past x.delivery.link) x none)
+      by (Some x) none = ap Some (untouched e x none)
 
   pub moved-sent : (old new : ℕ → Option Sent) → ((n : ℕ) → old n ≡ sent_at n past)
-      → ((n : ℕ) → (new n ≡ sent_behind e (is_live past) n (old n)) ⊎ (IsApart n (old n) × (new n ≡ old n)))
+      → ((n : ℕ) → (new n ≡ sent_behind e n (old n)) ⊎ (IsApart n (old n) × (new n ≡ old n)))
       → (n : ℕ) → new n ≡ sent_at n (e ∷ past)
   moved-sent old new were moved n =
-      let behind = ap (sent_behind e (is_live past) n) (were n) ∙ sym (sent-behind rules e past are n) in
+      let behind = ap (sent_behind e n) (were n) ∙ sym (sent-behind rules e past are n) in
       elim (moved n) [
         | inl here ↦ here ∙ behind
         | inr apart ↦ apart.1 ∙ (sym (apart-stays n (old n) apart.0) ∙ behind)

@@ -1,30 +1,33 @@
 -- What the entry of a delivery to a client stands for, and what one event makes of it (own rules).
-use Rattle.std.specs.Prelude.{◌≡◌, ◌⊎◌, ℕ, ◌+◌, ◌%◌, ◌^◌, Bool, false, ◌&&◌, ◌||◌, not, List, ◌∷◌, length, drop, Option, Some, None, is_some, option_map, find, if◌then◌else◌, ◌==◌}
+use Rattle.std.specs.Prelude.{◌≡◌, ◌⊎◌, ℕ, ◌+◌, ◌%◌, ◌^◌, Bool, false, ◌&&◌, ◌||◌, not, List, ◌∷◌, length, drop, Option, None, Some, is_none, is_some, option_map, find, if◌then◌else◌, ◌==◌}
 use Rattle.amqp_perf.specs.Nested.{StateFields}
 use Rattle.amqp_perf.specs.Meaning.{flag}
 use Rattle.capture_form.specs.Rules.{RuleText}
 use Rattle.capture_form.specs.declared.records.Record.{Record}
-use Rattle.trace_events.specs.Words.{is_some_and, is_number, or_else, where_passes}
-use Rattle.trace_events.specs.Event.{Event, Link, Outgoing}
+use Rattle.trace_events.specs.Words.{is_some_and, or_else, where_passes}
+use Rattle.trace_events.specs.Event.{Event, Outgoing}
 use Rattle.trace_events.specs.Said.{out_spoken, out_transfer}
 use Rattle.trace_events.specs.History.{judge, history}
-use Rattle.trace_events.specs.Link.{is_live}
 use Rattle.trace_events.specs.Disposition.{is_decisive, terminal_state}
 use Rattle.trace_events.specs.Incoming.{part_payload}
 use Rattle.trace_events.specs.Outgoing as law
 use Rattle.trace_events.specs.Outgoing.{is_part, outgoing_begun, outgoing_deliveries, answering}
+use Rattle.trace_events.specs.Work.{stands_unsettled, keeps_unsettled}
 use Rattle.trace_clauses.specs.TransferClause as clause
 
 -- A delivery to a client with what the law says of it: how many octets of its payload were sent, counted in 64 bits;
--- whether its last part is written; the terminal state of its consumer's decision, if there is a decision; whether its
--- consumer has settled it, and whether the router has.
+-- whether its last part is written; the terminal state of its consumer's decision, if there is a decision; whether it is
+-- still unsettled.
 pub record Sent : Type 0 where
   pub delivery : Outgoing
   pub sent_count : ℕ
   pub is_sent : Bool
   pub decision : Option (Option StateFields)
-  pub is_settled_by_consumer : Bool
-  pub is_settled_by_router : Bool
+  pub is_unsettled : Bool
+
+-- it is still unsettled: sent unsettled, on a link that lives, and settled by neither side
+abbrev pub is_left_unsettled : List Event → Outgoing → Bool
+is_left_unsettled past j = not j.link.is_pre_settled && stands_unsettled past j
 
 abbrev pub sent : List Event → Outgoing → Sent
 sent past j = record {
@@ -32,8 +35,7 @@ sent past j = record {
   sent_count = length (law.payload j past) % 2 ^ 64;
   is_sent = law.is_sent j past;
   decision = option_map terminal_state (law.decision j past);
-  is_settled_by_consumer = law.is_settled_by_consumer j past;
-  is_settled_by_router = law.is_settled_by_router j past;
+  is_unsettled = is_left_unsettled past j;
 }
 
 -- the delivery to a client that began in this record
@@ -43,45 +45,38 @@ outgoing_at n past = find (λ j. j.number == n) (outgoing_deliveries past)
 abbrev pub sent_at : ℕ → List Event → Option Sent
 sent_at n past = option_map (sent past) (outgoing_at n past)
 
--- ---- what one event makes of it; whether its link lived before the event is given
+-- ---- what one event makes of it
 
 -- the event is its last part
 abbrev pub ends_delivery : Event → Outgoing → Bool
 ends_delivery e j = is_part j e && is_some_and (out_transfer e) (λ fields. not (flag fields.more))
 
--- its consumer settles it with the event
-abbrev pub settles_answering : Event → Outgoing → Bool
-settles_answering e j = is_some_and (answering j e) (λ fields. flag fields.settled)
-
--- what its consumer decides with the event: nothing on a pre-settled link
+-- what its consumer decides with the event
 abbrev pub decided_with : Event → Outgoing → Option (Option StateFields)
-decided_with e j = if j.link.is_pre_settled then None else option_map terminal_state (where_passes is_decisive (answering j e))
+decided_with e j = option_map terminal_state (where_passes is_decisive (answering j e))
 
 abbrev pub count_next : Event → Outgoing → ℕ → ℕ
 count_next e j count = if is_part j e then (count + length (part_payload (out_spoken e))) % 2 ^ 64 else count
 
--- the first decision holds
-abbrev pub decision_next : Event → Bool → Outgoing → Option (Option StateFields) → Option (Option StateFields)
-decision_next e live j earlier = or_else earlier (if live then decided_with e j else None)
+-- the first decision holds, and there is none once it is settled
+abbrev pub decision_next : Event → Outgoing → Bool → Option (Option StateFields) → Option (Option StateFields)
+decision_next e j unsettled earlier = or_else earlier (if unsettled then decided_with e j else None)
 
-abbrev pub by_consumer_next : Event → Bool → Outgoing → Bool → Bool
-by_consumer_next e live j earlier = live && settles_answering e j || earlier
-
-abbrev pub by_router_next : Event → Outgoing → Bool → Bool
-by_router_next e j earlier = is_number e.settled j.number || earlier
-
-abbrev pub sent_next : Event → Bool → Sent → Sent
-sent_next e live x = record x {
+abbrev pub sent_next : Event → Sent → Sent
+sent_next e x = record x {
   sent_count = count_next e x.delivery x.sent_count;
   is_sent = ends_delivery e x.delivery || x.is_sent;
-  decision = decision_next e live x.delivery x.decision;
-  is_settled_by_consumer = by_consumer_next e live x.delivery x.is_settled_by_consumer;
-  is_settled_by_router = by_router_next e x.delivery x.is_settled_by_router;
+  decision = decision_next e x.delivery x.is_unsettled x.decision;
+  is_unsettled = x.is_unsettled && keeps_unsettled e x.delivery;
 }
 
 -- with its consumer's decision
-abbrev pub decided : Event → Bool → Sent → Sent
-decided e live x = record x { decision = decision_next e live x.delivery x.decision }
+abbrev pub decided : Event → Sent → Sent
+decided e x = record x { decision = decision_next e x.delivery x.is_unsettled x.decision }
+
+-- the event decides it, with a terminal state
+abbrev pub takes_state : Event → Sent → Bool
+takes_state e x = x.is_unsettled && is_none x.decision && is_some_and (decided_with e x.delivery) is_some
 
 -- before its first part
 abbrev pub unsent : Outgoing → Sent
@@ -90,29 +85,26 @@ unsent j = record {
   sent_count = 0;
   is_sent = false;
   decision = None;
-  is_settled_by_consumer = false;
-  is_settled_by_router = false;
+  is_unsettled = not j.link.is_pre_settled;
 }
 
--- the delivery that the event begins, which no disposition answers yet
+-- the delivery that the event begins
 abbrev pub sent_begun : Event → Option Sent
-sent_begun e = option_map (λ j. sent_next e false (unsent j)) (outgoing_begun e)
+sent_begun e = option_map (λ j. sent_next e (unsent j)) (outgoing_begun e)
 
 -- the event begins the delivery of this number
 abbrev pub begins_number : Event → ℕ → Bool
 begins_number e n = is_some_and (outgoing_begun e) (λ j. j.number == n)
 
--- what the event makes of the delivery of this number, where these links lived before it
-abbrev pub sent_behind : Event → (Link → Bool) → ℕ → Option Sent → Option Sent
-sent_behind e live n earlier =
-    if begins_number e n then sent_begun e else option_map (λ x. sent_next e (live x.delivery.link) x) earlier
+-- what the event makes of the delivery of this number
+abbrev pub sent_behind : Event → ℕ → Option Sent → Option Sent
+sent_behind e n earlier = if begins_number e n then sent_begun e else option_map (sent_next e) earlier
 
 -- ---- what is asked of it
 
--- the router is to settle it, where its link lives or not and nothing more is to be told of what it carries or not
-abbrev pub to_settle : Sent → Bool → Bool → Bool
-to_settle x live closed =
-    live && is_some x.decision && not x.is_settled_by_consumer && not x.is_settled_by_router && closed
+-- the router is to settle it, where nothing more is to be told of what it carries or something is
+abbrev pub to_settle : Sent → Bool → Bool
+to_settle x closed = x.is_unsettled && is_some x.decision && closed
 
 -- behind so many octets of a payload these are its next ones, and where no more follows its last ones
 abbrev pub goes_on_with : Bool → List ℕ → ℕ → List ℕ → Bool
@@ -129,11 +121,10 @@ abbrev pub IsKnownTo : List Event → Outgoing → Type 0
 IsKnownTo past j = (outgoing_at j.number past ≡ Some j) ⊎ (j.number ≡ length past)
 
 -- what was the entry before the event of a next record is this behind it
-abbrev pub Follows : Event → Bool → Sent → Sent → Type 0
-Follows e live earlier later =
+abbrev pub Follows : Event → Sent → Sent → Type 0
+Follows e earlier later =
     (rules : List RuleText) (records : List Record) (r : Record) → e ≡ judge rules (history rules records) r
-    → IsEntry (history rules records) earlier → live ≡ is_live (history rules records) earlier.delivery.link
-    → sent_at earlier.delivery.number (e ∷ history rules records) ≡ Some later
+    → IsEntry (history rules records) earlier → sent_at earlier.delivery.number (e ∷ history rules records) ≡ Some later
 
 -- this is the entry of the number of the event of a next record, behind it
 abbrev pub Begins : Event → Option Sent → Type 0

@@ -1,8 +1,9 @@
 -- What the table of deliveries to clients stands for, and which of them an event touches.
-use Rattle.std.specs.Prelude.{◌≡◌, ℕ, Bool, ◌&&◌, ◌||◌, not, List, Option, is_some, option_map, unwrap_or, nat_eq, ◌==◌, if◌then◌else◌}
+use Rattle.std.specs.Prelude.{◌≡◌, ℕ, Bool, ◌&&◌, ◌||◌, List, Option, is_some, option_map, unwrap_or, nat_eq, ◌==◌, if◌then◌else◌}
 use Rattle.indexmap.specs.IndexMap.{get}
 use Rattle.trace_events.specs.Words.{is_number}
 use Rattle.trace_events.specs.Event.{Event}
+use Rattle.trace_events.specs.Ends.{ends_link}
 use Rattle.trace_events.specs.Outgoing.{is_part, answering}
 use Rattle.audit_sent.specs.Sent.{Sent, sent_at}
 use Rattle.audit_sent.specs.SentViews.{sent_view}
@@ -28,11 +29,9 @@ MovesAt n step earlier later = (m : ℕ) → sent_in later m ≡ (if n == m then
 abbrev pub SentSame : SentDeliveries → SentDeliveries → Type 0
 SentSame earlier later = (m : ℕ) → sent_in later m ≡ sent_in earlier m
 
--- the consumer has decided it and settled it
-abbrev pub is_finished : Sent → Bool
-is_finished x = is_some x.decision && x.is_settled_by_consumer
-
--- the event touches a delivery: it is a part of it, a disposition of its consumer that covers its id before it is finished, or
--- the router's settling of it
+-- the event touches a delivery: it is a part of it; or it is still unsettled, and its consumer says something of it, the event
+-- ends its link, or the router settles it
 abbrev pub touches : Event → Sent → Bool
-touches e x = is_part x.delivery e || is_some (answering x.delivery e) && not (is_finished x) || is_number e.settled x.delivery.number
+touches e x =
+    is_part x.delivery e
+    || x.is_unsettled && (is_some (answering x.delivery e) || ends_link x.delivery.link e || is_number e.settled x.delivery.number)

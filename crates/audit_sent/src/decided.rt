@@ -1,6 +1,6 @@
 //! What the consumer of a delivery decided, with octets of its own (part 3 of the standard, section 3.4).
 
-ghost use Rattle.std.specs.Prelude.{◌≡◌, IfOk};
+ghost use Rattle.std.specs.Prelude.{◌≡◌, IfOk, OnErr, is_some, true};
 ghost use Rattle.audit_sent.specs.SentViews.{decided_view};
 ghost use Rattle.trace_law.specs.View.{decision_view};
 
@@ -23,9 +23,10 @@ impl Decided {
     ///
     /// # Errors
     ///
-    /// Memory was refused for the octets.
+    /// Memory was refused, for the octets of a terminal state.
     pub(crate) fn new(alloc: Global, decision: &Decision) -> Result<Decided, AllocError>
-        ensures { IfOk result (λ own. decided_view own ≡ decision_view decision.now) }
+        ensures copied { IfOk result (λ own. decided_view own ≡ decision_view decision.now) }
+        ensures state { OnErr result (is_some (decision_view decision.now) ≡ true) }
     {
         let Decision::Terminal(outcome, raw) = *decision else {
             return Ok(Decided::Settled);

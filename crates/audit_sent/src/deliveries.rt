@@ -75,7 +75,7 @@ impl SentDeliveries {
     ///
     /// # Errors
     ///
-    /// Memory was refused; then all stays as it was.
+    /// Memory was refused, for a delivery that the event begins; then all stays as it was.
     pub fn begin(&mut self, event: &Event) -> Result<(), AllocError>
         ensures begun { OnOk result (MovesAt (event_view event.now).number (or_else (sent_begun (event_view event.now))) self.old self.new) }
         ensures unchanged { OnErr result (SentSame self.old self.new) }
@@ -86,19 +86,19 @@ impl SentDeliveries {
         Ok(())
     }
 
-    /// The event touches the delivery of this number; `is_live` says whether its link lived before the event.
+    /// The event touches the delivery of this number.
     ///
     /// # Errors
     ///
-    /// Memory was refused, for the octets of a decision; then all stays as it was.
-    pub fn touch(&mut self, number: u64, event: &Event, is_live: bool) -> Result<(), AllocError>
-        ensures touched { OnOk result (MovesAt number (option_map (sent_next (event_view event.now) is_live)) self.old self.new) }
+    /// Memory was refused, for the octets of a terminal state that decides it; then all stays as it was.
+    pub fn touch(&mut self, number: u64, event: &Event) -> Result<(), AllocError>
+        ensures touched { OnOk result (MovesAt number (option_map (sent_next (event_view event.now))) self.old self.new) }
         ensures unchanged { OnErr result (SentSame self.old self.new) }
     {
         let Some(own) = self.entries.get_mut(&number) else {
             return Ok(());
         };
-        own.take(event, is_live)?;
+        own.take(event)?;
         Ok(())
     }
 }

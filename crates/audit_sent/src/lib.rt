@@ -1,8 +1,8 @@
 //! The table of deliveries to clients, moved forward by one event after the other: how far each is sent, and how its consumer
 //! decided. Each look-up gives what `trace_events` says of all the events so far.
 //!
-//! - `sent`: a delivery to a client from its first part on, with its link (`sent_link`) and its consumer's decision
-//!   (`decided`), and how it goes on with the payload that it carries (`payload`);
+//! - `sent`: a delivery to a client from its first part on, with its consumer's decision (`decided`), and how it goes on with
+//!   the payload that it carries (`payload`);
 //! - `deliveries`: all of them, by number.
 #![tactic(auto)]
 
@@ -10,11 +10,7 @@ mod decided;
 mod deliveries;
 mod payload;
 mod sent;
-mod sent_link;
-#[cfg(test)]
-mod tests;
 
 pub use decided::Decided;
 pub use deliveries::SentDeliveries;
 pub use sent::SentDelivery;
-pub use sent_link::SentLink;

@@ -1,17 +1,18 @@
-//! A delivery to a client from its first part on: how far it is sent, how its consumer decided, and who has settled it (part 2
-//! of the standard, sections 2.6.12 and 2.6.14).
+//! A delivery to a client from its first part on: how far it is sent, how its consumer decided, and whether it is still
+//! unsettled (part 2 of the standard, sections 2.6.12 and 2.6.14).
 
-ghost use Rattle.std.specs.Prelude.{◌≡◌, ◌++◌, List, None, Some, OnOk, OnErr, IfOk, option_map};
+ghost use Rattle.std.specs.Prelude.{◌≡◌, ◌++◌, List, Some, None, OnOk, OnErr, IfOk, is_some, option_map, true};
+ghost use Rattle.amqp_perf.specs.Meaning.{flag};
 ghost use Rattle.capture_form.specs.Rules.{RuleText};
 ghost use Rattle.capture_form.specs.declared.records.Record.{Record};
 ghost use Rattle.trace_events.specs.Said.{out_spoken};
 ghost use Rattle.trace_events.specs.Words.{is_some_and};
 ghost use Rattle.trace_events.specs.Event.{Incoming};
 ghost use Rattle.trace_events.specs.Disposition.{terminal_state};
-ghost use Rattle.trace_events.specs.Link as links;
 ghost use Rattle.trace_events.specs.Incoming as received;
 ghost use Rattle.trace_events.specs.Outgoing as law;
 ghost use Rattle.trace_events.specs.Settling as settling;
+ghost use Rattle.trace_events.specs.Work as work;
 ghost use Rattle.trace_events.specs.History.{history};
 ghost use Rattle.trace_clauses.specs.Clauses.{first_broken};
 ghost use Rattle.trace_clauses.specs.TransferClause.{is_payload_so_far};
@@ -22,7 +23,7 @@ ghost use Rattle.trace_law.specs.View.{Events, decision_view, event_view, outgoi
 
 use crate::decided::Decided;
 use crate::payload::goes_on_with;
-use crate::sent_link::SentLink;
+use audit_tables::HeldLink;
 use pairing_cert::Note;
 use std::alloc::{AllocError, Global};
 use trace_law::{Decision, Event, Outgoing, is_decisive};
@@ -33,7 +34,7 @@ use trace_law::{Decision, Event, Outgoing, is_decisive};
 pub struct SentDelivery {
     alloc: Global,
     number: u64,
-    link: SentLink,
+    link: HeldLink,
     id: Option<u32>,
     is_settled: bool,
     note: Note,
@@ -41,8 +42,8 @@ pub struct SentDelivery {
     sent_count: u64,
     is_sent: bool,
     decision: Option<Decided>,
-    is_settled_by_consumer: bool,
-    is_settled_by_router: bool,
+    /// It isn't of a pre-settled link, its link lives, and neither side has settled it.
+    is_unsettled: bool,
 }
 
 impl SentDelivery {
@@ -53,15 +54,14 @@ impl SentDelivery {
         Ok(SentDelivery {
             alloc,
             number: delivery.number,
-            link: SentLink::new(alloc, &delivery.link)?,
+            link: HeldLink::new(alloc, &delivery.link)?,
             id: delivery.id,
             is_settled: delivery.is_settled,
             note: delivery.note,
             sent_count: 0,
             is_sent: false,
             decision: None,
-            is_settled_by_consumer: false,
-            is_settled_by_router: false,
+            is_unsettled: !delivery.link.is_pre_settled,
         })
     }
 
@@ -69,10 +69,11 @@ impl SentDelivery {
     ///
     /// # Errors
     ///
-    /// Memory was refused.
+    /// Memory was refused, for a delivery that the event begins.
     pub fn begin(alloc: Global, event: &Event) -> Result<Option<SentDelivery>, AllocError>
         ensures begun { IfOk result (λ own. option_map sent_view own ≡ kept.sent_begun (event_view event.now)) }
         ensures known { IfOk result (λ own. Begins (event_view event.now) (option_map sent_view own)) }
+        ensures first { OnErr result (is_some (law.outgoing_begun (event_view event.now)) ≡ true) }
     {
         let own = SentDelivery::first(alloc, event)?;
         Ok(own)
@@ -80,13 +81,14 @@ impl SentDelivery {
 
     /// The same, by what the event makes of it.
     fn first(alloc: Global, event: &Event) -> Result<Option<SentDelivery>, AllocError>
-        ensures { IfOk result (λ own. option_map sent_view own ≡ kept.sent_begun (event_view event.now)) }
+        ensures begun { IfOk result (λ own. option_map sent_view own ≡ kept.sent_begun (event_view event.now)) }
+        ensures first { OnErr result (is_some (law.outgoing_begun (event_view event.now)) ≡ true) }
     {
         let Some(delivery) = event.outgoing_begun() else {
             return Ok(None);
         };
         let mut own = SentDelivery::unsent(alloc, &delivery)?;
-        own.move_on(event, false)?;
+        own.move_on(event)?;
         Ok(Some(own))
     }
 
@@ -130,44 +132,29 @@ impl SentDelivery {
         }
     }
 
-    /// Its consumer has settled it, whether it decided or not.
-    pub fn is_settled_by_consumer(&self) -> bool
-        ensures stored { result ≡ self.now.is_settled_by_consumer }
+    /// It is still unsettled: sent unsettled, on a link that lives, and settled by neither side.
+    pub fn is_unsettled(&self) -> bool
+        ensures stored { result ≡ self.now.is_unsettled }
         ensures known { (history : Events) → IsEntry history (sent_view self.now) →
-            result ≡ law.is_settled_by_consumer (sent_view self.now).delivery history }
+            result ≡ kept.is_left_unsettled history (sent_view self.now).delivery }
     {
-        self.is_settled_by_consumer
+        self.is_unsettled
     }
 
-    /// The router has settled it.
-    pub fn is_settled_by_router(&self) -> bool
-        ensures stored { result ≡ self.now.is_settled_by_router }
+    /// The router is to settle it with its consumer, given whether it carries a delivery of which nothing more is to be told.
+    pub fn is_to_settle(&self, is_closed: bool) -> bool
+        ensures stored { result ≡ kept.to_settle (sent_view self.now) is_closed }
         ensures known { (history : Events) → IsEntry history (sent_view self.now) →
-            result ≡ law.is_settled_by_router (sent_view self.now).delivery history }
-    {
-        self.is_settled_by_router
-    }
-
-    /// The router is to settle it with its consumer, given whether its link lives, and whether it carries a delivery of which
-    /// nothing more is to be told.
-    pub fn is_to_settle(&self, is_live: bool, is_closed: bool) -> bool
-        ensures stored { result ≡ kept.to_settle (sent_view self.now) is_live is_closed }
-        ensures known { (history : Events) → IsEntry history (sent_view self.now) →
-            is_live ≡ links.is_live history (sent_view self.now).delivery.link →
-            is_closed ≡ is_some_and (law.noted self.now.note history) (settling.is_closed history) →
+            is_closed ≡ work.carries_closed history (sent_view self.now).delivery →
             result ≡ settling.is_to_settle history (sent_view self.now).delivery }
     {
-        self.may_settle(is_live, is_closed)
+        self.may_settle(is_closed)
     }
 
-    fn may_settle(&self, is_live: bool, is_closed: bool) -> bool
-        ensures { result ≡ kept.to_settle (sent_view self.now) is_live is_closed }
+    fn may_settle(&self, is_closed: bool) -> bool
+        ensures { result ≡ kept.to_settle (sent_view self.now) is_closed }
     {
-        is_live
-            && self.decision.is_some()
-            && !self.is_settled_by_consumer
-            && !self.is_settled_by_router
-            && is_closed
+        self.is_unsettled && self.decision.is_some() && is_closed
     }
 
     /// With these octets behind what was sent, the payload so far is the first part of this payload, and all of it where no
@@ -190,43 +177,44 @@ impl SentDelivery {
         self.sent_count
     }
 
-    /// The event follows those of the delivery so far; `is_live` says whether its link lived before the event.
+    /// The event follows those of the delivery so far.
     ///
     /// # Errors
     ///
-    /// Memory was refused, for the octets of a decision; then all stays as it was.
-    pub fn take(&mut self, event: &Event, is_live: bool) -> Result<(), AllocError>
-        ensures next { OnOk result (sent_view self.new ≡ kept.sent_next (event_view event.now) is_live (sent_view self.old)) }
-        ensures known { OnOk result (Follows (event_view event.now) is_live (sent_view self.old) (sent_view self.new)) }
+    /// Memory was refused, for the octets of a terminal state that decides it; then all stays as it was.
+    pub fn take(&mut self, event: &Event) -> Result<(), AllocError>
+        ensures next { OnOk result (sent_view self.new ≡ kept.sent_next (event_view event.now) (sent_view self.old)) }
+        ensures known { OnOk result (Follows (event_view event.now) (sent_view self.old) (sent_view self.new)) }
         ensures unchanged { OnErr result (sent_view self.new ≡ sent_view self.old) }
+        ensures state { OnErr result (kept.takes_state (event_view event.now) (sent_view self.old) ≡ true) }
     {
-        self.move_on(event, is_live)?;
+        self.move_on(event)?;
         Ok(())
     }
 
     /// With the event.
-    fn move_on(&mut self, event: &Event, is_live: bool) -> Result<(), AllocError>
-        ensures next { OnOk result (sent_view self.new ≡ kept.sent_next (event_view event.now) is_live (sent_view self.old)) }
+    fn move_on(&mut self, event: &Event) -> Result<(), AllocError>
+        ensures next { OnOk result (sent_view self.new ≡ kept.sent_next (event_view event.now) (sent_view self.old)) }
         ensures unchanged { OnErr result (sent_view self.new ≡ sent_view self.old) }
+        ensures state { OnErr result (kept.takes_state (event_view event.now) (sent_view self.old) ≡ true) }
     {
         let sent_count = self.count_after(event);
         let is_sent = event.ends(&self.delivery()) || self.is_sent;
-        let is_settled_by_consumer = self.is_settled_by_consumer_after(event, is_live);
-        let is_settled_by_router = event.settled == Some(self.number) || self.is_settled_by_router;
-        self.decide(event, is_live)?;
+        let is_unsettled = self.is_unsettled && self.stays_unsettled(event);
+        self.decide(event)?;
         self.sent_count = sent_count;
         self.is_sent = is_sent;
-        self.is_settled_by_consumer = is_settled_by_consumer;
-        self.is_settled_by_router = is_settled_by_router;
+        self.is_unsettled = is_unsettled;
         Ok(())
     }
 
-    /// The first decision holds.
-    fn decide(&mut self, event: &Event, is_live: bool) -> Result<(), AllocError>
-        ensures decided { OnOk result (sent_view self.new ≡ kept.decided (event_view event.now) is_live (sent_view self.old)) }
+    /// The first decision holds, and there is none once it is settled.
+    fn decide(&mut self, event: &Event) -> Result<(), AllocError>
+        ensures decided { OnOk result (sent_view self.new ≡ kept.decided (event_view event.now) (sent_view self.old)) }
         ensures unchanged { OnErr result (sent_view self.new ≡ sent_view self.old) }
+        ensures state { OnErr result (kept.takes_state (event_view event.now) (sent_view self.old) ≡ true) }
     {
-        if is_live && self.decision.is_none() {
+        if self.is_unsettled && self.decision.is_none() {
             self.decision = self.decided_with(event)?;
         }
         Ok(())
@@ -234,11 +222,9 @@ impl SentDelivery {
 
     /// What its consumer decides with the event.
     fn decided_with(&self, event: &Event) -> Result<Option<Decided>, AllocError>
-        ensures { IfOk result (λ own. option_map decided_view own ≡ kept.decided_with (event_view event.now) (sent_view self.now).delivery) }
+        ensures decided { IfOk result (λ own. option_map decided_view own ≡ kept.decided_with (event_view event.now) (sent_view self.now).delivery) }
+        ensures state { OnErr result (is_some_and (kept.decided_with (event_view event.now) (sent_view self.now).delivery) is_some ≡ true) }
     {
-        if self.link.link().is_pre_settled {
-            return Ok(None);
-        }
         match event.answering(&self.delivery()) {
             Some(fields) if is_decisive(&fields) => {
                 let decision = Decision::of_disposition(&fields);
@@ -258,14 +244,23 @@ impl SentDelivery {
         }
     }
 
-    fn is_settled_by_consumer_after(&self, event: &Event, is_live: bool) -> bool
-        ensures { result ≡ kept.by_consumer_next (event_view event.now) is_live (sent_view self.now).delivery self.now.is_settled_by_consumer }
+    /// The event doesn't end its link, and neither side settles it with the event.
+    fn stays_unsettled(&self, event: &Event) -> bool
+        ensures { result ≡ work.keeps_unsettled (event_view event.now) (sent_view self.now).delivery }
     {
-        let settles = match event.answering(&self.delivery()) {
+        !event.ends_link(&self.link.link())
+            && !self.is_settled_with(event)
+            && event.settled != Some(self.number)
+    }
+
+    /// Its consumer settles it with the event.
+    fn is_settled_with(&self, event: &Event) -> bool
+        ensures { result ≡ is_some_and (law.answering (sent_view self.now).delivery (event_view event.now)) (λ fields. flag fields.settled) }
+    {
+        match event.answering(&self.delivery()) {
             Some(fields) => fields.is_settled(),
             None => false,
-        };
-        is_live && settles || self.is_settled_by_consumer
+        }
     }
 }
 

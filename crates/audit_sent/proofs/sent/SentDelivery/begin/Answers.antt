@@ -5,4 +5,4 @@ use Rattle.audit_sent.proofs.SentKnown.{begins}
 use Rattle.audit_sent.proofs.sent.SentDelivery.begin.Goals as goal
 
 pub returns-clause-known : goal.returns-clause-known
-returns-clause-known c = begins (event_view c.args.event.now) (option_map sent_view c.in_ok-own.own) c.in_ok-own.ensures
+returns-clause-known c = begins (event_view c.args.event.now) (option_map sent_view c.in_ok-own.own) c.in_ok-own.ensures.begun

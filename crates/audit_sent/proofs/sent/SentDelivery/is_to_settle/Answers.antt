@@ -4,4 +4,4 @@ use Rattle.audit_sent.proofs.SentKnown.{entry_to_settle}
 use Rattle.audit_sent.proofs.sent.SentDelivery.is_to_settle.Goals as goal
 
 pub returns-clause-known : goal.returns-clause-known
-returns-clause-known c = λ past entry lives closes. c.may_settle.ensures ∙ entry_to_settle past (sent_view c.args.self.now) entry c.args.is_live c.args.is_closed lives closes
+returns-clause-known c = λ past entry closes. c.may_settle.ensures ∙ entry_to_settle past (sent_view c.args.self.now) entry c.args.is_closed closes

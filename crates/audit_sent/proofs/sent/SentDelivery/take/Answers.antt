@@ -4,4 +4,4 @@ use Rattle.audit_sent.proofs.SentKnown.{follows}
 use Rattle.audit_sent.proofs.sent.SentDelivery.take.Goals as goal
 
 pub returns-clause-known : goal.returns-clause-known
-returns-clause-known c = follows (event_view c.args.event.now) c.args.is_live (sent_view c.args.self.now) _ c.in_ok-move_on.ensures.next
+returns-clause-known c = follows (event_view c.args.event.now) (sent_view c.args.self.now) _ c.in_ok-move_on.ensures.next
