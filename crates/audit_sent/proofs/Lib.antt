@@ -7,4 +7,6 @@ mod SentKnown
 mod SentUntouched
 mod SentSparse
 mod SentPayload
+mod LeastNumbers
 mod SentExamples
+mod EarliestExamples

@@ -1,3 +1,4 @@
 pub mod Sent
 pub mod SentViews
 pub mod SentTables
+pub mod Earliest
