@@ -7,6 +7,9 @@ mod SentKnown
 mod SentUntouched
 mod SentSparse
 mod SentPayload
+mod OutgoingNumbers
+mod LastBegun
 mod LeastNumbers
 mod SentExamples
+mod LastExamples
 mod EarliestExamples

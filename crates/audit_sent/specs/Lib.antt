@@ -2,3 +2,4 @@ pub mod Sent
 pub mod SentViews
 pub mod SentTables
 pub mod Earliest
+pub mod LastBegun

@@ -1,0 +1,29 @@
+-- The last delivery to a client that began on a link, and the last that carries a delivery from a client (own rules).
+use Rattle.std.specs.Prelude.{ℕ, Bool, List, Option, option_map, find, ◌==◌}
+use Rattle.trace_events.specs.Words.{is_some_and}
+use Rattle.trace_events.specs.Event.{Event, Outgoing}
+use Rattle.trace_events.specs.Outgoing.{outgoing_begun, outgoing_deliveries, names}
+
+-- ---- on the link of a number
+
+abbrev pub last_on : ℕ → List Event → Option Outgoing
+last_on link past = find (λ j. j.link.number == link) (outgoing_deliveries past)
+
+abbrev pub last_number : ℕ → List Event → Option ℕ
+last_number link past = option_map (λ j. j.number) (last_on link past)
+
+-- the event begins a delivery on the link
+abbrev pub begins_on : Event → ℕ → Bool
+begins_on e link = is_some_and (outgoing_begun e) (λ j. j.link.number == link)
+
+-- ---- of those that carry the delivery of a number
+
+abbrev pub carrier : ℕ → List Event → Option Outgoing
+carrier n past = find (λ j. names n j.note) (outgoing_deliveries past)
+
+abbrev pub carrier_number : ℕ → List Event → Option ℕ
+carrier_number n past = option_map (λ j. j.number) (carrier n past)
+
+-- the event begins a delivery that carries it
+abbrev pub begins_carrier : Event → ℕ → Bool
+begins_carrier e n = is_some_and (outgoing_begun e) (λ j. names n j.note)
