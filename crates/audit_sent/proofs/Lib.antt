@@ -9,6 +9,7 @@ mod SentSparse
 mod SentPayload
 mod OutgoingNumbers
 mod LastBegun
+mod Carriers
 mod LeastNumbers
 mod SentExamples
 mod LastExamples
