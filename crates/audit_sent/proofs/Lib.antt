@@ -11,6 +11,7 @@ mod OutgoingNumbers
 mod LastBegun
 mod Carriers
 mod LeastNumbers
+mod ToSettle
 mod SentExamples
 mod LastExamples
 mod EarliestExamples
