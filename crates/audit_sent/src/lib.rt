@@ -3,13 +3,17 @@
 //!
 //! - `sent`: a delivery to a client from its first part on, with its consumer's decision (`decided`), and how it goes on with
 //!   the payload that it carries (`payload`);
-//! - `deliveries`: all of them, by number.
+//! - `deliveries`: all of them, by number;
+//! - `earliest`: the earliest of a group that passes a test.
 #![tactic(auto)]
 
 mod decided;
 mod deliveries;
+mod earliest;
 mod payload;
 mod sent;
+#[cfg(test)]
+mod tests;
 
 pub use decided::Decided;
 pub use deliveries::SentDeliveries;

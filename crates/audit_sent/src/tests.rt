@@ -1,0 +1,3 @@
+//! What the crate does, with known answers.
+
+mod earliest;
