@@ -1,0 +1,4 @@
+mod CopyNumbers
+mod CopySteps
+mod CopiesKnown
+mod TableSteps
