@@ -1,4 +1,5 @@
 mod CopyNumbers
 mod CopySteps
 mod CopiesKnown
+mod CopiesExamples
 mod TableSteps
