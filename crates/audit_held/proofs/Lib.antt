@@ -16,3 +16,4 @@ mod TouchedAll
 mod IncomingNumbers
 mod GroupAnswers
 mod ArrivingKnown
+mod KnownEntries
