@@ -1,18 +1,32 @@
 -- What the groups answer of all the deliveries of a history.
-use Rattle.std.proofs.Common.{◌≡◌, refl, sym, ap, ◌∙◌, ◌↔◌, ℕ, Bool, true, false, IsTrue, ◌&&◌, ◌||◌, not, List, [], ◌∷◌, Option, Some, None, option_map, if◌then◌else◌, ◌==◌, find, eqb-true, nat_eq, length, count_by, option_and_then, eq-eqb}
+use Rattle.std.proofs.Common.{◌≡◌, refl, sym, ap, subst, ◌∙◌, ◌↔◌, ℕ, Bool, true, false, IsTrue, ◌&&◌, ◌||◌, not, List, [], ◌∷◌, Option, Some, None, option_map, if◌then◌else◌, ◌==◌, find, eqb-true, nat_eq, length, count_by, option_and_then, eq-eqb}
 use Rattle.std.specs.List.{list_any, slice_get, IsDistinct}
 use Rattle.capture_form.specs.Rules.{RuleText}
 use Rattle.trace_events.specs.Words.{is_some_and, where_passes}
 use Rattle.trace_events.specs.Event.{Event, Incoming}
+use Rattle.trace_events.specs.declared.session.Session.{Session}
+use Rattle.trace_events.specs.Waiting.{is_undecided_of}
 use Rattle.trace_events.specs.Incoming.{incoming_at, incoming_deliveries}
 use Rattle.trace_events.proofs.Along.{some_passes}
-use Rattle.trace_events.proofs.Judged.{AreJudged}
-use Rattle.trace_clauses.proofs.IdsApart.{found_any}
+use Rattle.trace_events.proofs.Judged.{AreJudged, history-judged}
+use Rattle.trace_clauses.proofs.IdsApart.{found_any, undecided_one}
 use Rattle.trace_clauses.proofs.IncomingProgress.{judged-kept}
 use Rattle.trace_clauses.proofs.Parts.{AllOf, IsKept, each_delivery, found_holds}
 use Rattle.audit_held.specs.Held.{Held, held, is_held, held_at}
+use Rattle.audit_held.specs.HeldTables.{IsHistory}
 use Rattle.audit_held.proofs.HeldAnswers.{held-of}
 use Rattle.audit_held.proofs.IncomingNumbers.{length-counted}
+
+-- they are judged
+pub judged-of : (rules : List RuleText) (past : List Event) → IsHistory rules past → AreJudged rules past
+judged-of rules past (records, is) = subst (AreJudged rules) (sym is) (history-judged rules records)
+
+-- two undecided deliveries of one session and one id are one
+pub undecided-one : (rules : List RuleText) (past : List Event) → IsHistory rules past → (s : Session) (id m n : ℕ) (a b : Incoming) → incoming_at m past ≡ Some a → incoming_at n past ≡ Some b
+    → is_undecided_of rules s id past a ≡ true → is_undecided_of rules s id past b ≡ true → a ≡ b
+undecided-one rules past (records, is) s id =
+    subst (λ (xs : List Event). (m n : ℕ) (a b : Incoming) → incoming_at m xs ≡ Some a → incoming_at n xs ≡ Some b
+    → is_undecided_of rules s id xs a ≡ true → is_undecided_of rules s id xs b ≡ true → a ≡ b) (sym is) (undecided_one rules records s id)
 
 and_both : (a b : Bool) → a && b ≡ true → (a ≡ true) × (b ≡ true)
 and_both true b is = (refl, is)

@@ -1,5 +1,5 @@
 -- What the law asks of a delivery that the table can tell of, by its entry.
-use Rattle.std.proofs.Common.{◌≡◌, refl, sym, ap, subst, ◌∙◌, ◌+◌, ℕ, Bool, true, false, not, length, List, Option, Some, None, IfSome, is_some, option_map, eqb-true}
+use Rattle.std.proofs.Common.{◌≡◌, refl, sym, ap, subst, ◌∙◌, ◌+◌, ℕ, if◌then◌else◌, Bool, true, false, not, length, List, Option, Some, None, IfSome, is_some, option_map, option_and_then, eqb-true, ◌==◌}
 use Rattle.std.specs.Prelude.{nat_lt}
 use Rattle.pairing_cert.specs.declared.note.Note.{Note}
 use Rattle.pairing_cert.specs.declared.note.Note.TheVariants as notes
@@ -85,6 +85,10 @@ module _ (rules : List RuleText) (past : List Event) (table : Deliveries) (are :
       by : (o : Option Held) → held_in table n ≡ o → IfSome (option_map (λ (x : Held). x.delivery) o) (Knows table)
       by None is = tt
       by (Some x) is = knows-entry n x is
+
+  pub knows-of : (o : Option ℕ) → IfSome (option_and_then (delivery_in table) o) (Knows table)
+  knows-of None = tt
+  knows-of (Some n) = knows-given n
 
   knows-passing : (n : ℕ) → IfSome (carried (held_in table n)) (Knows table)
   knows-passing n = by (held_in table n) refl

@@ -2,13 +2,19 @@
 use Rattle.std.specs.Prelude.{◌≡◌, ◌⊎◌, ℕ, Bool, true, List, Option, option_and_then, option_map, is_some, nat_eq, if◌then◌else◌, ◌==◌}
 use Rattle.indexmap.specs.IndexMap.{get}
 use Rattle.capture_form.specs.Rules.{RuleText}
+use Rattle.capture_form.specs.declared.records.Record.{Record}
 use Rattle.trace_events.specs.Event.{Event, Link}
 use Rattle.trace_events.specs.Incoming.{address_of, incoming_begun}
+use Rattle.trace_events.specs.History.{history}
 use Rattle.audit_held.specs.Grouped.{AreGrouped}
 use Rattle.audit_held.specs.Held.{Held, held_at, held_next}
 use Rattle.audit_held.specs.HeldViews.{held_view}
 use Rattle.audit_held.specs.Touched.{may_touch}
 use Rattle.audit_held.specs.declared.deliveries.Deliveries.{Deliveries}
+
+-- the events are those of some records
+abbrev pub IsHistory : List RuleText → List Event → Type 0
+IsHistory rules past = (records : List Record) × (past ≡ history rules records)
 
 -- what the table has of the delivery of this number
 abbrev pub held_in : Deliveries → ℕ → Option Held
