@@ -20,7 +20,7 @@ impl<'t> History for Looked<'t> {
     ghost use Rattle.audit_tables.specs.Connections.{AreKept};
     ghost use Rattle.audit_tables.specs.LinkTables.{AreLinked};
 
-    ghost stands_for = { λ looked history. AreKept looked.connections.now history × AreLinked looked.links.now history };
+    ghost stands_for = { λ looked rules history. AreKept looked.connections.now history × AreLinked looked.links.now history };
 
     // No deliveries stand in these tables.
 

@@ -68,7 +68,7 @@ fn broken_by_transfer<'a, P: Counts + Carriage<'a>>(
     payload: &'a [u8],
 ) -> Option<Clause>
     requires few { P.is_short past.now }
-    ensures { (history : Events) → P.stands_for past.now history → StandsLive (event_view event.now) history → NamesLive (event_view event.now) history →
+    ensures { (history : Events) → P.stands_for past.now rules.now history → StandsLive (event_view event.now) history → NamesLive (event_view event.now) history →
         (event_view event.now).number ≡ length history →
         CarriesKnown (λ n. P.knows_number past.now n history) (λ j. P.knows_outgoing past.now j history) (event_view event.now) →
         (result ≡ find (λ clause. not (law.transfer_meets rules.now (event_view event.now) (transfer_fields transfer.now) payload.now history clause)) law.clauses) }
@@ -105,7 +105,7 @@ fn broken_by_disposition<'a, P: Outcomes<'a>>(
     event: &Event,
     disposition: &Disposition,
 ) -> Option<Clause>
-    ensures { (history : Events) → P.stands_for past.now history →
+    ensures { (history : Events) → P.stands_for past.now rules.now history →
         IfSome (event_view event.now).told (λ n. P.knows_number past.now n history) →
         (result ≡ find (λ clause. not (law.disposition_meets rules.now (event_view event.now) (disposition_fields disposition.now) history
         (disposition_fields disposition.now).role clause)) law.clauses) }
@@ -127,7 +127,7 @@ fn broken_by_other<'a, P: Inputs<'a> + Openings<'a> + Counts>(
     spoken: &Spoken,
 ) -> Option<Clause>
     requires few { P.is_short past.now }
-    ensures { (history : Events) → P.stands_for past.now history → StandsLive (event_view event.now) history → NamesLive (event_view event.now) history →
+    ensures { (history : Events) → P.stands_for past.now rules.now history → StandsLive (event_view event.now) history → NamesLive (event_view event.now) history →
         (result ≡ find (λ clause. not (law.other_meets rules.now (event_view event.now) (spoken_view spoken.now).channel history
         (spoken_view spoken.now).meaning clause)) law.clauses) }
 {
@@ -160,7 +160,7 @@ fn answers_live<'a, P: Openings<'a>>(
     event: &Event,
     attach: &Attach,
 ) -> bool
-    ensures { (history : Events) → P.stands_for past.now history → StandsLive (event_view event.now) history →
+    ensures { (history : Events) → P.stands_for past.now rules.now history → StandsLive (event_view event.now) history →
         (result ≡ is_some_and (event_view event.now).session (answers_attach rules.now (attach_fields attach.now) history)) }
 {
     match event.session {
@@ -178,7 +178,7 @@ fn broken_by_spoken<'a, P: Questions<'a>>(
     spoken: &Spoken<'a>,
 ) -> Option<Clause>
     requires few { P.is_short past.now }
-    ensures { (history : Events) → P.stands_for past.now history → StandsLive (event_view event.now) history → NamesLive (event_view event.now) history →
+    ensures { (history : Events) → P.stands_for past.now rules.now history → StandsLive (event_view event.now) history → NamesLive (event_view event.now) history →
         (event_view event.now).number ≡ length history →
         CarriesKnown (λ n. P.knows_number past.now n history) (λ j. P.knows_outgoing past.now j history) (event_view event.now) →
         (result ≡ law.broken_by rules.now (event_view event.now) (frame_view frame.now) history (Some (spoken_view spoken.now))) }
@@ -209,7 +209,7 @@ pub fn broken_clause<'a, P: Questions<'a>>(
     event: &Event<'a>,
 ) -> Option<Clause>
     requires few { P.is_short past.now }
-    ensures { (history : Events) → P.stands_for past.now history → StandsLive (event_view event.now) history → NamesLive (event_view event.now) history →
+    ensures { (history : Events) → P.stands_for past.now rules.now history → StandsLive (event_view event.now) history → NamesLive (event_view event.now) history →
         (event_view event.now).number ≡ length history →
         CarriesKnown (λ n. P.knows_number past.now n history) (λ j. P.knows_outgoing past.now j history) (event_view event.now) →
         (result ≡ law.broken_clause rules.now (event_view event.now) history) }

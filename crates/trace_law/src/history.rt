@@ -1,6 +1,7 @@
 //! A record in its place, by those before it.
 
-ghost use Rattle.std.specs.Prelude.{IfSome, ◌≡◌, option_map, length};
+ghost use Rattle.capture_form.specs.Rules.{RuleText};
+ghost use Rattle.std.specs.Prelude.{List, IfSome, ◌≡◌, option_map, length};
 ghost use Rattle.trace_events.specs.History.{session_of, named_link, link_of};
 ghost use Rattle.trace_events.specs.Session.{IsLiveOn, StandsLive};
 ghost use Rattle.trace_events.specs.Link.{NamesLive};
@@ -32,8 +33,8 @@ impl<'a> Moment<'a> {
     ghost use Rattle.trace_events.specs.History.{moment_of};
     ghost use Rattle.trace_law.specs.View.{moment_view};
 
-    /// What happened, with the octets read.
-    fn of(what: &'a What) -> Moment<'a>
+    /// What happened, with the octets of its frame read.
+    pub fn of(what: &'a What) -> Moment<'a>
         ensures { moment_view result ≡ moment_of what.now }
     {
         match what {
@@ -50,14 +51,14 @@ impl<'a> Moment<'a> {
 
 /// The live session of a frame's channel.
 fn session_of<'a, P: Inputs<'a>>(past: &P, connection: u32, moment: &Moment) -> Option<Session>
-    ensures { (history : Events) → P.stands_for past.now history → (result ≡ session_of connection (moment_view moment.now) history) }
+    ensures { (rules : List RuleText) (history : Events) → P.stands_for past.now rules history → (result ≡ session_of connection (moment_view moment.now) history) }
 {
     past.live_session(connection, moment.spoken()?.channel)
 }
 
 /// The live link of the handle that a flow, transfer or detach names.
 fn named_link<'a, P: Inputs<'a>>(past: &P, session: Session, spoken: &Spoken) -> Option<Link<'a>>
-    ensures { (history : Events) → P.stands_for past.now history → IsLiveOn session history →
+    ensures { (rules : List RuleText) (history : Events) → P.stands_for past.now rules history → IsLiveOn session history →
         (option_map link_view result ≡ named_link session (spoken_view spoken.now).meaning history) }
 {
     past.session_link(session, handle_in(&spoken.performative)?)
@@ -68,7 +69,7 @@ fn link_of<'a, P: Inputs<'a>>(
     moment: &Moment,
     session: Option<Session>,
 ) -> Option<Link<'a>>
-    ensures { (history : Events) → P.stands_for past.now history → IfSome session (λ s. IsLiveOn s history) →
+    ensures { (rules : List RuleText) (history : Events) → P.stands_for past.now rules history → IfSome session (λ s. IsLiveOn s history) →
         (option_map link_view result ≡ link_of (moment_view moment.now) history session) }
 {
     named_link(past, session?, &moment.spoken()?)
@@ -82,7 +83,7 @@ fn incoming_part<'a, P: Inputs<'a>>(
     event: &Event<'a>,
     spoken: &Spoken,
 ) -> Option<Incoming<'a>>
-    ensures { (history : Events) → P.stands_for past.now history → NamesLive (event_view event.now) history →
+    ensures { (rules : List RuleText) (history : Events) → P.stands_for past.now rules history → NamesLive (event_view event.now) history →
         (option_map incoming_view result ≡ law.incoming_part (event_view event.now) (spoken_view spoken.now).meaning history) }
 {
     let Performative::Transfer(transfer) = spoken.performative else {
@@ -100,7 +101,7 @@ fn incoming_part<'a, P: Inputs<'a>>(
 
 /// The delivery of a transfer that is heard and without fault.
 fn incoming_by<'a, P: Inputs<'a>>(past: &P, event: &Event<'a>) -> Option<Incoming<'a>>
-    ensures { (history : Events) → P.stands_for past.now history → NamesLive (event_view event.now) history →
+    ensures { (rules : List RuleText) (history : Events) → P.stands_for past.now rules history → NamesLive (event_view event.now) history →
         (option_map incoming_view result ≡ law.incoming_by (event_view event.now) (event_view event.now).moment history) }
 {
     match event.moment {
@@ -117,7 +118,7 @@ fn outgoing_part<'a, P: Carriage<'a>>(
     event: &Event<'a>,
     spoken: &Spoken,
 ) -> Option<Outgoing<'a>>
-    ensures { (history : Events) → P.stands_for past.now history → NamesLive (event_view event.now) history →
+    ensures { (rules : List RuleText) (history : Events) → P.stands_for past.now rules history → NamesLive (event_view event.now) history →
         (option_map outgoing_view result ≡ law.outgoing_part (event_view event.now) (spoken_view spoken.now).meaning history) }
 {
     let Performative::Transfer(transfer) = spoken.performative else {
@@ -134,7 +135,7 @@ fn outgoing_part<'a, P: Carriage<'a>>(
 }
 
 fn outgoing_by<'a, P: Carriage<'a>>(past: &P, event: &Event<'a>) -> Option<Outgoing<'a>>
-    ensures { (history : Events) → P.stands_for past.now history → NamesLive (event_view event.now) history →
+    ensures { (rules : List RuleText) (history : Events) → P.stands_for past.now rules history → NamesLive (event_view event.now) history →
         (option_map outgoing_view result ≡ law.outgoing_by (event_view event.now) (event_view event.now).moment history) }
 {
     match event.moment {
@@ -150,7 +151,7 @@ fn told_by_role<'a, P: Outcomes<'a>>(
     session: Session,
     disposition: &Disposition,
 ) -> Option<u64>
-    ensures { (history : Events) → P.stands_for past.now history → IsLiveOn session history →
+    ensures { (history : Events) → P.stands_for past.now rules.now history → IsLiveOn session history →
         (result ≡ law.told_by_role rules.now session (disposition_fields disposition.now).first (disposition_fields disposition.now).role history) }
 {
     match disposition.role {
@@ -165,7 +166,7 @@ fn settled_by_role<'a, P: Outcomes<'a>>(
     session: Session,
     disposition: &Disposition,
 ) -> Option<u64>
-    ensures { (history : Events) → P.stands_for past.now history → IsLiveOn session history →
+    ensures { (rules : List RuleText) (history : Events) → P.stands_for past.now rules history → IsLiveOn session history →
         (result ≡ law.settled_by_role session (disposition_fields disposition.now).first (disposition_fields disposition.now).role history) }
 {
     match disposition.role {
@@ -175,7 +176,7 @@ fn settled_by_role<'a, P: Outcomes<'a>>(
 }
 
 fn told_by<'a, P: Outcomes<'a>>(past: &P, rules: &[Rule], event: &Event) -> Option<u64>
-    ensures { (history : Events) → P.stands_for past.now history → StandsLive (event_view event.now) history →
+    ensures { (history : Events) → P.stands_for past.now rules.now history → StandsLive (event_view event.now) history →
         (result ≡ law.told_by rules.now (event_view event.now) (event_view event.now).moment history) }
 {
     match event.out_spoken()?.performative {
@@ -190,7 +191,7 @@ fn told_by<'a, P: Outcomes<'a>>(past: &P, rules: &[Rule], event: &Event) -> Opti
 }
 
 fn settled_by<'a, P: Outcomes<'a>>(past: &P, event: &Event) -> Option<u64>
-    ensures { (history : Events) → P.stands_for past.now history → StandsLive (event_view event.now) history →
+    ensures { (rules : List RuleText) (history : Events) → P.stands_for past.now rules history → StandsLive (event_view event.now) history →
         (result ≡ law.settled_by (event_view event.now) (event_view event.now).moment history) }
 {
     match event.out_spoken()?.performative {
@@ -246,7 +247,7 @@ impl<'a> Outgoing<'a> {
 
 /// The session that an Out begin begins.
 fn opened_session<'a, P: Openings<'a>>(past: &P, event: &Event) -> Option<Session>
-    ensures { (history : Events) → P.stands_for past.now history →
+    ensures { (rules : List RuleText) (history : Events) → P.stands_for past.now rules history →
         OpensKnown (λ c channel. P.knows_begin past.now c channel history) (λ s handle. P.knows_attach past.now s handle history) (event_view event.now) → (result ≡ law.opened_session (event_view event.now) history) }
 {
     let spoken = event.out_spoken()?;
@@ -265,7 +266,7 @@ fn opened_session<'a, P: Openings<'a>>(past: &P, event: &Event) -> Option<Sessio
 
 /// The link that an Out attach with source and target opens on a live session.
 fn opened_link<'a, P: Openings<'a>>(past: &P, event: &Event<'a>) -> Option<Link<'a>>
-    ensures { (history : Events) → P.stands_for past.now history → StandsLive (event_view event.now) history →
+    ensures { (rules : List RuleText) (history : Events) → P.stands_for past.now rules history → StandsLive (event_view event.now) history →
         OpensKnown (λ c channel. P.knows_begin past.now c channel history) (λ s handle. P.knows_attach past.now s handle history) (event_view event.now) →
         (option_map link_view result ≡ law.opened_link (event_view event.now) history) }
 {
@@ -288,7 +289,7 @@ fn placed<'a, P: Inputs<'a>>(
     moment: Moment<'a>,
     note: Note,
 ) -> Event<'a>
-    ensures { (history : Events) → P.stands_for past.now history → number ≡ length history →
+    ensures { (rules : List RuleText) (history : Events) → P.stands_for past.now rules history → number ≡ length history →
         (event_view result ≡ law.placed history connection (moment_view moment.entry) note) }
 {
     let session = session_of(past, connection, &moment);
@@ -309,7 +310,7 @@ fn placed<'a, P: Inputs<'a>>(
 }
 
 fn with_heard<'a, P: Inputs<'a>>(past: &P, event: Event<'a>) -> Event<'a>
-    ensures { (history : Events) → P.stands_for past.now history → StandsLive (event_view event.entry) history →
+    ensures { (rules : List RuleText) (history : Events) → P.stands_for past.now rules history → StandsLive (event_view event.entry) history →
         (event_view result ≡ law.heard history (event_view event.entry)) }
 {
     let is_heard = match event.moment {
@@ -320,7 +321,7 @@ fn with_heard<'a, P: Inputs<'a>>(past: &P, event: Event<'a>) -> Event<'a>
 }
 
 fn fault_by<'a, P: Inputs<'a>>(past: &P, rules: &[Rule], event: &Event) -> Option<Fault>
-    ensures { (history : Events) → P.stands_for past.now history → StandsLive (event_view event.now) history → NamesLive (event_view event.now) history →
+    ensures { (history : Events) → P.stands_for past.now rules.now history → StandsLive (event_view event.now) history → NamesLive (event_view event.now) history →
         (result ≡ law.fault_by rules.now (event_view event.now) (event_view event.now).moment history) }
 {
     match event.moment {
@@ -330,7 +331,7 @@ fn fault_by<'a, P: Inputs<'a>>(past: &P, rules: &[Rule], event: &Event) -> Optio
 }
 
 fn faulted<'a, P: Inputs<'a>>(past: &P, rules: &[Rule], event: Event<'a>) -> Event<'a>
-    ensures { (history : Events) → P.stands_for past.now history → StandsLive (event_view event.entry) history → NamesLive (event_view event.entry) history →
+    ensures { (history : Events) → P.stands_for past.now rules.now history → StandsLive (event_view event.entry) history → NamesLive (event_view event.entry) history →
         (event_view result ≡ law.faulted rules.now history (event_view event.entry)) }
 {
     let fault = fault_by(past, rules, &event);
@@ -342,7 +343,7 @@ fn delivered<'a, P: Inputs<'a> + Outcomes<'a> + Carriage<'a>>(
     rules: &[Rule],
     event: Event<'a>,
 ) -> Event<'a>
-    ensures { (history : Events) → P.stands_for past.now history → StandsLive (event_view event.entry) history → NamesLive (event_view event.entry) history →
+    ensures { (history : Events) → P.stands_for past.now rules.now history → StandsLive (event_view event.entry) history → NamesLive (event_view event.entry) history →
         (event_view result ≡ law.delivered rules.now history (event_view event.entry)) }
 {
     Event {
@@ -356,7 +357,7 @@ fn delivered<'a, P: Inputs<'a> + Outcomes<'a> + Carriage<'a>>(
 
 /// An Out begin stands on its own session, and an Out attach names its own link; any other event stays as it was.
 pub fn opened<'a, P: Openings<'a>>(past: &P, event: Event<'a>) -> Event<'a>
-    ensures { (history : Events) → P.stands_for past.now history → StandsLive (event_view event.entry) history →
+    ensures { (rules : List RuleText) (history : Events) → P.stands_for past.now rules history → StandsLive (event_view event.entry) history →
         OpensKnown (λ c channel. P.knows_begin past.now c channel history) (λ s handle. P.knows_attach past.now s handle history) (event_view event.entry) →
         (event_view result ≡ law.opened history (event_view event.entry)) }
 {
@@ -375,23 +376,34 @@ pub fn opened<'a, P: Openings<'a>>(past: &P, event: Event<'a>) -> Event<'a>
     }
 }
 
-/// What happened, with its note, as the event of this number, but for what it opens: the law can be asked here.
+/// A record, with its note, as the event of this number, but for what it opens: the law can be asked here.
 pub fn judge_unopened<'a, P: Inputs<'a> + Outcomes<'a> + Carriage<'a>>(
     past: &P,
     rules: &[Rule],
     number: u64,
     entry: &'a Record,
 ) -> Event<'a>
-    ensures { (history : Events) → P.stands_for past.now history → number ≡ length history →
+    ensures { (history : Events) → P.stands_for past.now rules.now history → number ≡ length history →
         (event_view result ≡ law.judge_unopened rules.now history entry.now.connection (law.moment_of entry.now.what) entry.now.note) }
 {
-    let event = placed(
-        past,
-        number,
-        entry.connection,
-        Moment::of(&entry.what),
-        entry.note,
-    );
+    let moment = Moment::of(&entry.what);
+    judge_moment(past, rules, number, entry.connection, moment, entry.note)
+}
+
+/// The same of what happened on a connection, with the octets of its frame read, and of its note: whoever keeps what was read
+/// longer than what the past lends reads it once.
+pub fn judge_moment<'a, P: Inputs<'a> + Outcomes<'a> + Carriage<'a>>(
+    past: &P,
+    rules: &[Rule],
+    number: u64,
+    connection: u32,
+    moment: Moment<'a>,
+    note: Note,
+) -> Event<'a>
+    ensures { (history : Events) → P.stands_for past.now rules.now history → number ≡ length history →
+        (event_view result ≡ law.judge_unopened rules.now history connection (moment_view moment.entry) note) }
+{
+    let event = placed(past, number, connection, moment, note);
     let event = faulted(past, rules, with_heard(past, event));
     delivered(past, rules, event)
 }
@@ -403,7 +415,7 @@ pub fn judge<'a, P: Inputs<'a> + Outcomes<'a> + Openings<'a> + Carriage<'a>>(
     number: u64,
     entry: &'a Record,
 ) -> Event<'a>
-    ensures { (history : Events) → P.stands_for past.now history → number ≡ length history →
+    ensures { (history : Events) → P.stands_for past.now rules.now history → number ≡ length history →
         OpensKnown (λ c channel. P.knows_begin past.now c channel history) (λ s handle. P.knows_attach past.now s handle history)
         (law.judge_unopened rules.now history entry.now.connection (law.moment_of entry.now.what) entry.now.note) →
         (event_view result ≡ law.judge rules.now history entry.now) }

@@ -39,7 +39,7 @@ pub use delivery::outcome::{Told, may_be_told, row};
 pub use history::event::{Event, Incoming, Link, Moment, Outgoing};
 pub use history::frame::{Body, Frame, Spoken};
 pub use history::said::handle_in;
-pub use history::{judge, judge_unopened, opened};
+pub use history::{judge, judge_moment, judge_unopened, opened};
 pub use link::credit::{LinkEvent, is_drain_answer};
 pub use questions::{Carriage, Counts, History, Inputs, Openings, Outcomes, Questions};
 pub use trace_clauses::{Clause, Tally, laws_of_captures};

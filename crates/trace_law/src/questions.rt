@@ -24,12 +24,14 @@ pub use self::outcomes::Outcomes;
 /// same of each. It need not know of all that was: what it can tell of deliveries, begins and attaches is its own matter
 /// (`knows_number` and the others), and it is asked of nothing else.
 pub trait History {
-    ghost use Rattle.std.specs.Prelude.{ℕ};
+    ghost use Rattle.std.specs.Prelude.{ℕ, List};
+    ghost use Rattle.capture_form.specs.Rules.{RuleText};
     ghost use Rattle.trace_events.specs.Event.{Incoming, Outgoing};
     ghost use Rattle.trace_events.specs.declared.session.Session.{Session};
     ghost use Rattle.trace_law.specs.View.{Events};
 
-    ghost stands_for: { Self → Events → Type 0 };
+    /// These are the events, judged by these rules of addresses.
+    ghost stands_for: { Self → List RuleText → Events → Type 0 };
 
     /// It can tell of the client's delivery that begins in the record of this number.
     ghost knows_number: { Self → ℕ → Events → Type 0 };

@@ -17,7 +17,7 @@ impl<'p, 'a> History for Past<'p, 'a> {
     ghost use Rattle.std.specs.Prelude.{◌≡◌, ◌<◌, ◌^◌, length};
     ghost use Rattle.trace_law.specs.View.{events};
 
-    ghost stands_for = { λ past history. events past ≡ history };
+    ghost stands_for = { λ past rules history. events past ≡ history };
 
     ghost knows_number = { λ past number history. Unit {0} };
 
@@ -249,12 +249,8 @@ impl<'p, 'a> Carriage<'a> for Past<'p, 'a> {
         self.is_paired(delivery)
     }
 
-    fn is_named_on(&self, delivery: &Incoming, link: &Link) -> bool {
-        self.is_named_on(delivery, link)
-    }
-
-    fn is_due(&self, rules: &[Rule], delivery: &Incoming, link: &Link) -> bool {
-        self.is_due(rules, delivery, link)
+    fn is_unsent(&self, rules: &[Rule], delivery: &Incoming, link: &Link) -> bool {
+        self.is_unsent(rules, delivery, link)
     }
 }
 

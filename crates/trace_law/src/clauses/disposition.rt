@@ -27,7 +27,7 @@ fn tells_by<'a, P: Outcomes<'a>>(
     note: Note,
     disposition: &Disposition,
 ) -> bool
-    ensures { (history : Events) → P.stands_for past.now history → P.knows_incoming past.now (incoming_view delivery.now) history → (result ≡ law.tells_by rules.now (incoming_view delivery.now) note
+    ensures { (history : Events) → P.stands_for past.now rules.now history → P.knows_incoming past.now (incoming_view delivery.now) history → (result ≡ law.tells_by rules.now (incoming_view delivery.now) note
         (option_map (λ s. s.octets) (disposition_fields disposition.now).state) history) }
 {
     let Note::Told(why) = note else {
@@ -47,7 +47,7 @@ pub(crate) fn is_outcome<'a, P: Outcomes<'a>>(
     event: &Event,
     disposition: &Disposition,
 ) -> bool
-    ensures { (history : Events) → P.stands_for past.now history → IfSome (event_view event.now).told (λ n. P.knows_number past.now n history) →
+    ensures { (history : Events) → P.stands_for past.now rules.now history → IfSome (event_view event.now).told (λ n. P.knows_number past.now n history) →
         (result ≡ law.is_outcome rules.now (event_view event.now) (disposition_fields disposition.now) history) }
 {
     if !settles_one(disposition) {

@@ -1,6 +1,7 @@
 //! Flows that the router writes (part 2 of the standard, sections 2.5.6, 2.6.7 and 2.7.4).
 
-ghost use Rattle.std.specs.Prelude.{◌≡◌};
+ghost use Rattle.capture_form.specs.Rules.{RuleText};
+ghost use Rattle.std.specs.Prelude.{List, ◌≡◌};
 ghost use Rattle.trace_events.specs.Session.{IsLiveOn, StandsLive};
 ghost use Rattle.trace_events.specs.Link.{IsLiveLink, NamesLive};
 ghost use Rattle.trace_law.specs.View.{event_view, link_view, Events};
@@ -16,7 +17,7 @@ use trace_events::Session;
 
 /// The flow has the session's ids and windows.
 fn has_session_numbers<P: Counts>(past: &P, flow: &Flow, session: Session) -> bool
-    ensures { (history : Events) → P.stands_for past.now history → IsLiveOn session history →
+    ensures { (rules : List RuleText) (history : Events) → P.stands_for past.now rules history → IsLiveOn session history →
         (result ≡ law.has_session_numbers flow.now history session) }
 {
     flow.incoming_window == INCOMING_WINDOW
@@ -29,7 +30,7 @@ fn has_session_numbers<P: Counts>(past: &P, flow: &Flow, session: Session) -> bo
 /// someone may take its deliveries.
 fn may_be_topped_up<'a, P: Inputs<'a> + Counts>(past: &P, rules: &[Rule], link: &Link) -> bool
     requires few { P.is_short past.now }
-    ensures { (history : Events) → P.stands_for past.now history → IsLiveLink (link_view link.now) history →
+    ensures { (history : Events) → P.stands_for past.now rules.now history → IsLiveLink (link_view link.now) history →
         (result ≡ law.may_be_topped_up rules.now history (link_view link.now)) }
 {
     let given = u64::from(past.given_credit(link));
@@ -40,7 +41,7 @@ fn may_be_topped_up<'a, P: Inputs<'a> + Counts>(past: &P, rules: &[Rule], link: 
 /// The credit that fills a producer's link up.
 fn full_credit<P: Counts>(past: &P, rules: &[Rule], link: &Link) -> u32
     requires few { P.is_short past.now }
-    ensures { (history : Events) → P.stands_for past.now history → IsLiveLink (link_view link.now) history →
+    ensures { (history : Events) → P.stands_for past.now rules.now history → IsLiveLink (link_view link.now) history →
         (result ≡ law.full_credit rules.now history (link_view link.now)) }
 {
     match u32::try_from(past.undecided_count(rules, link)) {
@@ -57,7 +58,7 @@ fn has_producer_numbers<'a, P: Inputs<'a> + Counts>(
     link: &Link,
 ) -> bool
     requires few { P.is_short past.now }
-    ensures { (history : Events) → P.stands_for past.now history → IsLiveLink (link_view link.now) history →
+    ensures { (history : Events) → P.stands_for past.now rules.now history → IsLiveLink (link_view link.now) history →
         (result ≡ law.has_producer_numbers rules.now flow.now history (link_view link.now)) }
 {
     !flow.drains()
@@ -70,7 +71,7 @@ fn has_producer_numbers<'a, P: Inputs<'a> + Counts>(
 /// Nothing waits for a consumer's link: no delivery at its address, and no copy that is due to it.
 fn nothing_waits<P: Counts>(past: &P, rules: &[Rule], link: &Link) -> bool
     requires few { P.is_short past.now }
-    ensures { (history : Events) → P.stands_for past.now history → IsLiveLink (link_view link.now) history →
+    ensures { (history : Events) → P.stands_for past.now rules.now history → IsLiveLink (link_view link.now) history →
         (result ≡ law.nothing_waits rules.now history (link_view link.now)) }
 {
     !past.has_waiting(rules, link.address) && !past.has_unsent(rules, link)
@@ -79,7 +80,7 @@ fn nothing_waits<P: Counts>(past: &P, rules: &[Rule], link: &Link) -> bool
 /// The credit of a consumer's link may be used up: nothing waits, and the client asks for it.
 fn may_be_drained<P: Counts>(past: &P, rules: &[Rule], link: &Link) -> bool
     requires few { P.is_short past.now }
-    ensures { (history : Events) → P.stands_for past.now history → IsLiveLink (link_view link.now) history →
+    ensures { (history : Events) → P.stands_for past.now rules.now history → IsLiveLink (link_view link.now) history →
         (result ≡ law.may_be_drained rules.now history (link_view link.now)) }
 {
     past.is_draining(link) && past.link_credit(link) > 0 && nothing_waits(past, rules, link)
@@ -87,7 +88,7 @@ fn may_be_drained<P: Counts>(past: &P, rules: &[Rule], link: &Link) -> bool
 
 /// The delivery-count to which the credit left would take it.
 fn drained_count<P: Counts>(past: &P, link: &Link) -> u32
-    ensures { (history : Events) → P.stands_for past.now history → IsLiveLink (link_view link.now) history →
+    ensures { (rules : List RuleText) (history : Events) → P.stands_for past.now rules history → IsLiveLink (link_view link.now) history →
         (result ≡ law.drained_count history (link_view link.now)) }
 {
     past.delivery_count(link)
@@ -97,7 +98,7 @@ fn drained_count<P: Counts>(past: &P, link: &Link) -> u32
 /// The flow says that all credit is used up.
 pub(crate) fn is_drain_answer<P: Counts>(past: &P, rules: &[Rule], flow: &Flow, link: &Link) -> bool
     requires few { P.is_short past.now }
-    ensures { (history : Events) → P.stands_for past.now history → IsLiveLink (link_view link.now) history →
+    ensures { (history : Events) → P.stands_for past.now rules.now history → IsLiveLink (link_view link.now) history →
         (result ≡ law.is_drain_answer rules.now flow.now history (link_view link.now)) }
 {
     flow.link_credit == Some(0)
@@ -108,7 +109,7 @@ pub(crate) fn is_drain_answer<P: Counts>(past: &P, rules: &[Rule], flow: &Flow, 
 /// The flow has the numbers of a consumer's link, or says that all its credit is used up.
 fn has_consumer_numbers<P: Counts>(past: &P, rules: &[Rule], flow: &Flow, link: &Link) -> bool
     requires few { P.is_short past.now }
-    ensures { (history : Events) → P.stands_for past.now history → IsLiveLink (link_view link.now) history →
+    ensures { (history : Events) → P.stands_for past.now rules.now history → IsLiveLink (link_view link.now) history →
         (result ≡ law.has_consumer_numbers rules.now flow.now history (link_view link.now)) }
 {
     flow.drains() == past.is_draining(link)
@@ -125,7 +126,7 @@ fn has_link_numbers<'a, P: Inputs<'a> + Counts>(
     link: &Link,
 ) -> bool
     requires few { P.is_short past.now }
-    ensures { (history : Events) → P.stands_for past.now history → IsLiveLink (link_view link.now) history →
+    ensures { (history : Events) → P.stands_for past.now rules.now history → IsLiveLink (link_view link.now) history →
         (result ≡ law.has_link_numbers rules.now flow.now history (link_view link.now)) }
 {
     if link.is_consumer() {
@@ -144,7 +145,7 @@ pub(crate) fn tells_counts<'a, P: Inputs<'a> + Counts>(
     flow: &Flow,
 ) -> bool
     requires few { P.is_short past.now }
-    ensures { (history : Events) → P.stands_for past.now history → StandsLive (event_view event.now) history → NamesLive (event_view event.now) history →
+    ensures { (history : Events) → P.stands_for past.now rules.now history → StandsLive (event_view event.now) history → NamesLive (event_view event.now) history →
         (result ≡ law.tells_counts rules.now (event_view event.now) flow.now history) }
 {
     let Some(session) = event.session else {

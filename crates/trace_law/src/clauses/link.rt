@@ -1,6 +1,7 @@
 //! L3 and L13: attaches and detaches that the router writes.
 
-ghost use Rattle.std.specs.Prelude.{◌≡◌, decimal, codes, ◌++◌, bytes_eq};
+ghost use Rattle.capture_form.specs.Rules.{RuleText};
+ghost use Rattle.std.specs.Prelude.{List, ◌≡◌, decimal, codes, ◌++◌, bytes_eq};
 ghost use Rattle.amqp_perf.specs.View.{attach_fields, detach_fields};
 ghost use Rattle.trace_events.specs.Session.{IsLiveOn, StandsLive};
 ghost use Rattle.trace_law.specs.View.{event_view, Events};
@@ -210,7 +211,7 @@ pub(crate) fn answers_attach<'a, P: Openings<'a>>(
     ours: &Attach,
     session: Session,
 ) -> bool
-    ensures { (history : Events) → P.stands_for past.now history → IsLiveOn session history →
+    ensures { (history : Events) → P.stands_for past.now rules.now history → IsLiveOn session history →
         (result ≡ law.answers_attach rules.now (attach_fields ours.now) history session) }
 {
     match past.asking(session, ours.handle) {
@@ -221,7 +222,7 @@ pub(crate) fn answers_attach<'a, P: Openings<'a>>(
 
 /// L13: the link lives, or the client's detach of it, or a refused attach, is to be answered.
 pub(crate) fn may_detach<'a, P: Openings<'a>>(past: &P, event: &Event, detach: &Detach) -> bool
-    ensures { (history : Events) → P.stands_for past.now history → StandsLive (event_view event.now) history →
+    ensures { (rules : List RuleText) (history : Events) → P.stands_for past.now rules history → StandsLive (event_view event.now) history →
         (result ≡ law.may_detach (event_view event.now) (detach_fields detach.now) history) }
 {
     match event.session {

@@ -63,7 +63,7 @@ pub(crate) fn is_alike(event: &Event, link: &Link, fields: &Transfer, delivery: 
 
 /// L4: on a consumer's live link, within the session's window (part 2, section 2.5.6).
 pub(crate) fn may_be_sent<P: Counts>(past: &P, event: &Event, fields: &Transfer) -> bool
-    ensures { (history : Events) → P.stands_for past.now history → StandsLive (event_view event.now) history →
+    ensures { (rules : List RuleText) (history : Events) → P.stands_for past.now rules history → StandsLive (event_view event.now) history →
         (result ≡ law.may_be_sent (event_view event.now) (transfer_fields fields.now) history) }
 {
     match (&event.link, event.session) {
@@ -79,7 +79,7 @@ pub(crate) fn may_be_sent<P: Counts>(past: &P, event: &Event, fields: &Transfer)
 
 /// L5: a delivery that begins has credit (part 2, section 2.6.7) and the next delivery-id.
 pub(crate) fn may_begin<P: Counts>(past: &P, link: &Link, fields: &Transfer) -> bool
-    ensures { (history : Events) → P.stands_for past.now history → IsLiveLink (link_view link.now) history →
+    ensures { (rules : List RuleText) (history : Events) → P.stands_for past.now rules history → IsLiveLink (link_view link.now) history →
         (result ≡ law.may_begin (link_view link.now) (transfer_fields fields.now) history) }
 {
     fields.delivery_id.is_some()
@@ -95,7 +95,7 @@ pub(crate) fn carries<'a, P: Carriage<'a>>(
     octets: &'a [u8],
     delivery: &Incoming,
 ) -> bool
-    ensures { (rules : List RuleText) (history : Events) → P.stands_for past.now history → P.knows_incoming past.now (incoming_view delivery.now) history →
+    ensures { (rules : List RuleText) (history : Events) → P.stands_for past.now rules history → P.knows_incoming past.now (incoming_view delivery.now) history →
         IfSome (event_view event.now).outgoing (λ j. P.knows_outgoing past.now j history) → (event_view event.now).number ≡ length history →
         Some (incoming_view delivery.now) ≡ law.to_carry rules event.now.note history →
         (begins_outgoing (event_view event.now)
@@ -115,18 +115,18 @@ fn is_first_to<'a, P: Carriage<'a>>(
     delivery: &Incoming,
 ) -> bool
     requires few { P.is_short past.now }
-    ensures { (history : Events) → P.stands_for past.now history → IsLiveLink (link_view link.now) history → P.knows_incoming past.now (incoming_view delivery.now) history →
+    ensures { (history : Events) → P.stands_for past.now rules.now history → IsLiveLink (link_view link.now) history → P.knows_incoming past.now (incoming_view delivery.now) history →
         (result ≡ law.is_first_to rules.now (link_view link.now) history (incoming_view delivery.now)) }
 {
     if is_of_multicast(rules, delivery) {
-        !past.is_named_on(delivery, link) && past.is_due(rules, delivery, link)
+        past.is_unsent(rules, delivery, link)
     } else {
         !past.is_paired(delivery)
     }
 }
 
 fn is_in_order<'a, P: Carriage<'a>>(past: &P, link: &Link, delivery: &Incoming) -> bool
-    ensures { (history : Events) → P.stands_for past.now history → IsLiveLink (link_view link.now) history → P.knows_incoming past.now (incoming_view delivery.now) history →
+    ensures { (rules : List RuleText) (history : Events) → P.stands_for past.now rules history → IsLiveLink (link_view link.now) history → P.knows_incoming past.now (incoming_view delivery.now) history →
         (result ≡ law.is_in_order (link_view link.now) history (incoming_view delivery.now)) }
 {
     match past.carried_before(link) {
@@ -144,7 +144,7 @@ pub(crate) fn may_go_to<'a, P: Carriage<'a>>(
     delivery: &Incoming,
 ) -> bool
     requires few { P.is_short past.now }
-    ensures { (history : Events) → P.stands_for past.now history → IsLiveLink (link_view link.now) history → P.knows_incoming past.now (incoming_view delivery.now) history →
+    ensures { (history : Events) → P.stands_for past.now rules.now history → IsLiveLink (link_view link.now) history → P.knows_incoming past.now (incoming_view delivery.now) history →
         (result ≡ (law.is_first_to rules.now (link_view link.now) history (incoming_view delivery.now) && law.is_in_order (link_view link.now) history (incoming_view delivery.now))) }
 {
     is_first_to(past, rules, link, delivery) && is_in_order(past, link, delivery)

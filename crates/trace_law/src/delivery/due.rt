@@ -52,7 +52,7 @@ impl<'p, 'a> Past<'p, 'a> {
     }
 
     /// A copy of the delivery is due to the link.
-    pub(crate) fn is_due(&self, rules: &[Rule], delivery: &Incoming, link: &Link) -> bool
+    fn is_due(&self, rules: &[Rule], delivery: &Incoming, link: &Link) -> bool
         requires few { length (events self.now) < 2 ^ 64 }
         ensures { result ≡ law.is_due rules.now (incoming_view delivery.now) (link_view link.now) (events self.now) }
     {
@@ -68,7 +68,7 @@ impl<'p, 'a> Past<'p, 'a> {
     }
 
     /// And no transfer on the link has named the delivery.
-    fn is_unsent(&self, rules: &[Rule], delivery: &Incoming, link: &Link) -> bool
+    pub(crate) fn is_unsent(&self, rules: &[Rule], delivery: &Incoming, link: &Link) -> bool
         requires few { length (events self.now) < 2 ^ 64 }
         ensures { result ≡ law.is_unsent rules.now (incoming_view delivery.now) (link_view link.now) (events self.now) }
     {

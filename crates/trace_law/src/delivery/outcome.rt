@@ -1,7 +1,8 @@
 //! What is told of an incoming delivery, and why (states: part 3 of the standard, section 3.4; the rows are a choice of
 //! this router).
 
-ghost use Rattle.std.specs.Prelude.{◌≡◌, ◌≤◌, ◌^◌, option_map};
+ghost use Rattle.capture_form.specs.Rules.{RuleText};
+ghost use Rattle.std.specs.Prelude.{List, ◌≡◌, ◌≤◌, ◌^◌, option_map};
 ghost use Rattle.trace_clauses.specs.Outcome.{outcome_octets, bare_outcome};
 ghost use Rattle.std.specs.Option.{option_copied};
 ghost use Rattle.trace_events.specs.Outgoing.{pairing};
@@ -112,7 +113,7 @@ impl<'a> Told<'a> {
 /// The producer takes the frame that tells this state.
 #[tactic(auto, using(crate::proofs::OutcomeSizes::outcome_long))]
 fn fits_producer<'a, P: Outcomes<'a>>(past: &P, delivery: &Incoming, state: Option<&[u8]>) -> bool
-    ensures { (history : Events) → P.stands_for past.now history →
+    ensures { (rules : List RuleText) (history : Events) → P.stands_for past.now rules history →
         (result ≡ rows.fits_producer (incoming_view delivery.now) (option_copied state.entry) history) }
 {
     let limit = u64::from(past.frame_limit(delivery.link.session.connection));
@@ -125,7 +126,7 @@ fn fits_producer<'a, P: Outcomes<'a>>(past: &P, delivery: &Incoming, state: Opti
 
 /// The producer takes the frame that tells the decision's outcome.
 fn takes_decided<'a, P: Outcomes<'a>>(past: &P, delivery: &Incoming, decision: &Decision) -> bool
-    ensures { (history : Events) → P.stands_for past.now history →
+    ensures { (rules : List RuleText) (history : Events) → P.stands_for past.now rules history →
         (result ≡ rows.fits_producer (incoming_view delivery.now) (rows.outcome_octets (decided_view decision.now)) history) }
 {
     match *decision {
@@ -136,7 +137,7 @@ fn takes_decided<'a, P: Outcomes<'a>>(past: &P, delivery: &Incoming, decision: &
 
 /// The last transfer to a pre-settled link is written.
 fn is_sent_settled<'a, P: Outcomes<'a>>(past: &P, outgoing: &Outgoing) -> bool
-    ensures { (history : Events) → P.stands_for past.now history → P.knows_outgoing past.now (outgoing_view outgoing.now) history →
+    ensures { (rules : List RuleText) (history : Events) → P.stands_for past.now rules history → P.knows_outgoing past.now (outgoing_view outgoing.now) history →
         (result ≡ rows.is_sent_settled (outgoing_view outgoing.now) history) }
 {
     outgoing.link.is_pre_settled && past.is_sent(outgoing)
@@ -150,7 +151,7 @@ fn paired_row<'a, P: Outcomes<'a>>(
     decision: &Option<Decision<'a>>,
     why: Why,
 ) -> Option<Told<'a>>
-    ensures { (history : Events) → P.stands_for past.now history → P.knows_outgoing past.now (outgoing_view outgoing.now) history → (option_map told_view result
+    ensures { (rules : List RuleText) (history : Events) → P.stands_for past.now rules history → P.knows_outgoing past.now (outgoing_view outgoing.now) history → (option_map told_view result
         ≡ rows.paired_row (incoming_view delivery.now) (outgoing_view outgoing.now) history (option_map decided_view decision.now) why) }
 {
     match (decision, why) {
@@ -166,7 +167,7 @@ fn paired_row<'a, P: Outcomes<'a>>(
 
 #[tactic(auto, using(crate::proofs::DecidedRows::row_decided))]
 fn anycast_row<'a, P: Outcomes<'a>>(past: &P, delivery: &Incoming, why: Why) -> Option<Told<'a>>
-    ensures { (history : Events) → P.stands_for past.now history → P.knows_incoming past.now (incoming_view delivery.now) history → (option_map told_view result
+    ensures { (rules : List RuleText) (history : Events) → P.stands_for past.now rules history → P.knows_incoming past.now (incoming_view delivery.now) history → (option_map told_view result
         ≡ rows.anycast_row (incoming_view delivery.now) history why (pairing (incoming_view delivery.now) history)) }
 {
     let outgoing = past.pairing(delivery)?;
@@ -181,7 +182,7 @@ pub fn row<'a, P: Outcomes<'a>>(
     delivery: &Incoming,
     why: Why,
 ) -> Option<Told<'a>>
-    ensures { (history : Events) → P.stands_for past.now history → P.knows_incoming past.now (incoming_view delivery.now) history →
+    ensures { (history : Events) → P.stands_for past.now rules.now history → P.knows_incoming past.now (incoming_view delivery.now) history →
         (option_map told_view result ≡ rows.row rules.now (incoming_view delivery.now) history why) }
 {
     match why {
@@ -196,7 +197,7 @@ pub fn row<'a, P: Outcomes<'a>>(
 
 /// It may be told: complete, of a live link, neither settled nor told.
 pub fn may_be_told<'a, P: Outcomes<'a>>(past: &P, delivery: &Incoming) -> bool
-    ensures { (history : Events) → P.stands_for past.now history → P.knows_incoming past.now (incoming_view delivery.now) history →
+    ensures { (rules : List RuleText) (history : Events) → P.stands_for past.now rules history → P.knows_incoming past.now (incoming_view delivery.now) history →
         (result ≡ rows.may_be_told (incoming_view delivery.now) history) }
 {
     past.is_complete(delivery) && !past.is_closed(delivery)

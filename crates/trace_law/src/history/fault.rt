@@ -1,7 +1,8 @@
 //! The faults of a client's frames, in the order in which they are tested: the first that fits counts. The names of the
 //! conditions are the standard's (part 2, sections 2.8.15 to 2.8.18); which fault gets which is a choice of this router.
 
-ghost use Rattle.std.specs.Prelude.{◌≡◌, option_map, not, ◌&&◌, if◌then◌else◌};
+ghost use Rattle.capture_form.specs.Rules.{RuleText};
+ghost use Rattle.std.specs.Prelude.{List, ◌≡◌, option_map, not, ◌&&◌, if◌then◌else◌};
 ghost use Rattle.amqp_perf.specs.declared.condition.ErrorCondition.TheVariants.{MessageSizeExceeded};
 ghost use Rattle.trace_events.specs.declared.fault.Fault.TheVariants.{Detach};
 ghost use Rattle.amqp_perf.specs.Meaning.{flag};
@@ -144,14 +145,14 @@ fn open_fault(fields: &Open) -> Option<Fault>
 }
 
 fn is_handle_in_use<'a, P: Inputs<'a>>(past: &P, session: Session, handle: u32) -> bool
-    ensures { (history : Events) → P.stands_for past.now history → IsLiveOn session history →
+    ensures { (rules : List RuleText) (history : Events) → P.stands_for past.now rules history → IsLiveOn session history →
         (result ≡ law.is_handle_in_use session handle history) }
 {
     past.session_link(session, handle).is_some() || past.awaits_detach(session, handle)
 }
 
 fn attach_fault<'a, P: Inputs<'a>>(past: &P, session: Session, attach: &Attach) -> Option<Fault>
-    ensures { (history : Events) → P.stands_for past.now history → IsLiveOn session history →
+    ensures { (rules : List RuleText) (history : Events) → P.stands_for past.now rules history → IsLiveOn session history →
         (result ≡ law.attach_fault session (attach_fields attach.now) history) }
 {
     if attach.handle > HANDLE_MAX {
@@ -173,7 +174,7 @@ fn first_part_fault<'a, P: Inputs<'a>>(
     link: &Link,
     fields: &Transfer,
 ) -> Option<Fault>
-    ensures { (history : Events) → P.stands_for past.now history → IsLiveLink (link_view link.now) history →
+    ensures { (history : Events) → P.stands_for past.now rules.now history → IsLiveLink (link_view link.now) history →
         (result ≡ law.first_part_fault rules.now (link_view link.now) (transfer_fields fields.now) history) }
 {
     let Some(id) = fields.delivery_id else {
@@ -196,7 +197,7 @@ fn part_fault<'a, P: Inputs<'a>>(
     fields: &Transfer,
     octets: &[u8],
 ) -> Option<Fault>
-    ensures { (history : Events) → P.stands_for past.now history → IsLiveLink (link_view link.now) history →
+    ensures { (history : Events) → P.stands_for past.now rules.now history → IsLiveLink (link_view link.now) history →
         (result ≡ law.part_fault rules.now (link_view link.now) (transfer_fields fields.now) octets.now history
         (in_progress (link_view link.now) history)) }
 {
@@ -219,7 +220,7 @@ fn link_transfer_fault<'a, P: Inputs<'a>>(
     fields: &Transfer,
     octets: &[u8],
 ) -> Option<Fault>
-    ensures { (history : Events) → P.stands_for past.now history → IsLiveLink (link_view link.now) history →
+    ensures { (history : Events) → P.stands_for past.now rules.now history → IsLiveLink (link_view link.now) history →
         (result ≡ law.link_transfer_fault rules.now (link_view link.now) (transfer_fields fields.now) octets.now history) }
 {
     if link.is_consumer() {
@@ -244,7 +245,7 @@ fn transfer_fault<'a, P: Inputs<'a>>(
     fields: &Transfer,
     octets: &[u8],
 ) -> Option<Fault>
-    ensures { (history : Events) → P.stands_for past.now history → IsLiveOn session history → NamesLive (event_view event.now) history →
+    ensures { (history : Events) → P.stands_for past.now rules.now history → IsLiveOn session history → NamesLive (event_view event.now) history →
         (result ≡ law.transfer_fault rules.now session (event_view event.now) (transfer_fields fields.now) octets.now history) }
 {
     if past.given_window(session) == 0 {
@@ -264,7 +265,7 @@ fn session_fault<'a, P: Inputs<'a>>(
     event: &Event,
     spoken: &Spoken,
 ) -> Option<Fault>
-    ensures { (history : Events) → P.stands_for past.now history → IsLiveOn session history → NamesLive (event_view event.now) history →
+    ensures { (history : Events) → P.stands_for past.now rules.now history → IsLiveOn session history → NamesLive (event_view event.now) history →
         (result ≡ law.session_fault rules.now session (event_view event.now) (spoken_view spoken.now) (view spoken.now.performative) history) }
 {
     match &spoken.performative {
@@ -290,7 +291,7 @@ fn channel_fault<'a, P: Inputs<'a>>(
     event: &Event,
     spoken: &Spoken,
 ) -> Option<Fault>
-    ensures { (history : Events) → P.stands_for past.now history → StandsLive (event_view event.now) history → NamesLive (event_view event.now) history →
+    ensures { (history : Events) → P.stands_for past.now rules.now history → StandsLive (event_view event.now) history → NamesLive (event_view event.now) history →
         (result ≡ law.channel_fault rules.now (event_view event.now) (spoken_view spoken.now) (view spoken.now.performative) history) }
 {
     match (&spoken.performative, event.session) {
@@ -307,7 +308,7 @@ fn opened_fault<'a, P: Inputs<'a>>(
     event: &Event,
     spoken: &Spoken,
 ) -> Option<Fault>
-    ensures { (history : Events) → P.stands_for past.now history → StandsLive (event_view event.now) history → NamesLive (event_view event.now) history →
+    ensures { (history : Events) → P.stands_for past.now rules.now history → StandsLive (event_view event.now) history → NamesLive (event_view event.now) history →
         (result ≡ law.opened_fault rules.now (event_view event.now) (spoken_view spoken.now) history) }
 {
     if !past.has_in_open(event.connection) {
@@ -325,7 +326,7 @@ fn spoken_fault<'a, P: Inputs<'a>>(
     event: &Event,
     spoken: &Spoken,
 ) -> Option<Fault>
-    ensures { (history : Events) → P.stands_for past.now history → StandsLive (event_view event.now) history → NamesLive (event_view event.now) history →
+    ensures { (history : Events) → P.stands_for past.now rules.now history → StandsLive (event_view event.now) history → NamesLive (event_view event.now) history →
         (result ≡ law.spoken_fault rules.now (event_view event.now) (spoken_view spoken.now) (view spoken.now.performative) history) }
 {
     match &spoken.performative {
@@ -345,7 +346,7 @@ pub(crate) fn body_fault<'a, P: Inputs<'a>>(
     event: &Event,
     body: &Body,
 ) -> Option<Fault>
-    ensures { (history : Events) → P.stands_for past.now history → StandsLive (event_view event.now) history → NamesLive (event_view event.now) history →
+    ensures { (history : Events) → P.stands_for past.now rules.now history → StandsLive (event_view event.now) history → NamesLive (event_view event.now) history →
         (result ≡ law.body_fault rules.now (event_view event.now) (body_view body.now) history) }
 {
     match body {

@@ -9,7 +9,8 @@ use pairing_cert::Note;
 ///
 /// What takes a link is asked of a live one alone, and what takes a delivery of one that is known.
 pub trait Carriage<'a>: History {
-    ghost use Rattle.std.specs.Prelude.{◌≡◌, ◌++◌, IfSome, option_map};
+    ghost use Rattle.capture_form.specs.Rules.{RuleText};
+    ghost use Rattle.std.specs.Prelude.{List, ◌≡◌, ◌++◌, IfSome, option_map};
     ghost use Rattle.trace_events.specs.Due as due;
     ghost use Rattle.trace_events.specs.Incoming as received;
     ghost use Rattle.trace_events.specs.Outgoing as sent;
@@ -20,26 +21,26 @@ pub trait Carriage<'a>: History {
 
     /// The delivery of a consumer's link whose last part isn't written yet.
     fn outgoing_in_progress(&self, link: &Link) -> Option<Outgoing<'a>>
-        ensures { (history : Events) → Self.stands_for self.now history → IsLiveLink (link_view link.now) history →
+        ensures { (rules : List RuleText) (history : Events) → Self.stands_for self.now rules history → IsLiveLink (link_view link.now) history →
             (option_map outgoing_view result ≡ sent.in_progress (link_view link.now) history) };
 
     /// The incoming delivery that a note names, where it may go to consumers: it is complete, and not gone.
     fn to_carry(&self, rules: &[Rule], note: Note) -> Option<Incoming<'a>>
-        ensures value { (history : Events) → Self.stands_for self.now history →
+        ensures value { (history : Events) → Self.stands_for self.now rules.now history →
             (option_map incoming_view result ≡ transfers.to_carry rules.now note history) }
-        ensures known { (history : Events) → Self.stands_for self.now history →
+        ensures known { (history : Events) → Self.stands_for self.now rules.now history →
             IfSome (option_map incoming_view result) (λ d. Self.knows_incoming self.now d history) };
 
     /// The incoming delivery that the last one begun on the link carries.
     fn carried_before(&self, link: &Link) -> Option<Incoming<'a>>
-        ensures value { (history : Events) → Self.stands_for self.now history → IsLiveLink (link_view link.now) history →
+        ensures value { (rules : List RuleText) (history : Events) → Self.stands_for self.now rules history → IsLiveLink (link_view link.now) history →
             (option_map incoming_view result ≡ transfers.carried_before (link_view link.now) history) }
-        ensures known { (history : Events) → Self.stands_for self.now history → IsLiveLink (link_view link.now) history →
+        ensures known { (rules : List RuleText) (history : Events) → Self.stands_for self.now rules history → IsLiveLink (link_view link.now) history →
             IfSome (option_map incoming_view result) (λ d. Self.knows_incoming self.now d history) };
 
     /// The one was completed before the other.
     fn completed_before(&self, a: &Incoming, b: &Incoming) -> bool
-        ensures { (history : Events) → Self.stands_for self.now history → Self.knows_incoming self.now (incoming_view a.now) history →
+        ensures { (rules : List RuleText) (history : Events) → Self.stands_for self.now rules history → Self.knows_incoming self.now (incoming_view a.now) history →
             Self.knows_incoming self.now (incoming_view b.now) history → (result ≡ received.completed_before (incoming_view a.now) (incoming_view b.now) history) };
 
     /// The payload of the outgoing delivery with these octets behind it is the first part of the incoming one's, and all of
@@ -51,24 +52,19 @@ pub trait Carriage<'a>: History {
         outgoing: &Outgoing,
         octets: &'a [u8],
     ) -> bool
-        ensures { (history : Events) → Self.stands_for self.now history → Self.knows_incoming self.now (incoming_view delivery.now) history →
+        ensures { (rules : List RuleText) (history : Events) → Self.stands_for self.now rules history → Self.knows_incoming self.now (incoming_view delivery.now) history →
             Self.knows_outgoing self.now (outgoing_view outgoing.now) history → IsCarriedBy (incoming_view delivery.now) history (outgoing_view outgoing.now) →
             (result ≡ transfers.is_payload_so_far more (received.payload (incoming_view delivery.now) history)
             (sent.payload (outgoing_view outgoing.now) history ++ octets.now)) };
 
     /// It went to a consumer, or began to.
     fn is_paired(&self, delivery: &Incoming) -> bool
-        ensures { (history : Events) → Self.stands_for self.now history → Self.knows_incoming self.now (incoming_view delivery.now) history →
+        ensures { (rules : List RuleText) (history : Events) → Self.stands_for self.now rules history → Self.knows_incoming self.now (incoming_view delivery.now) history →
             (result ≡ sent.is_paired (incoming_view delivery.now) history) };
 
-    /// A transfer on the link names it.
-    fn is_named_on(&self, delivery: &Incoming, link: &Link) -> bool
-        ensures { (history : Events) → Self.stands_for self.now history → IsLiveLink (link_view link.now) history →
-            Self.knows_incoming self.now (incoming_view delivery.now) history → (result ≡ sent.is_named_on (incoming_view delivery.now) (link_view link.now) history) };
-
-    /// A copy of it is due to the link.
-    fn is_due(&self, rules: &[Rule], delivery: &Incoming, link: &Link) -> bool
+    /// A copy of it is due to the link, and no transfer there names it.
+    fn is_unsent(&self, rules: &[Rule], delivery: &Incoming, link: &Link) -> bool
         requires few { Self.is_short self.now }
-        ensures { (history : Events) → Self.stands_for self.now history → IsLiveLink (link_view link.now) history →
-            Self.knows_incoming self.now (incoming_view delivery.now) history → (result ≡ due.is_due rules.now (incoming_view delivery.now) (link_view link.now) history) };
+        ensures { (history : Events) → Self.stands_for self.now rules.now history → IsLiveLink (link_view link.now) history →
+            Self.knows_incoming self.now (incoming_view delivery.now) history → (result ≡ due.is_unsent rules.now (incoming_view delivery.now) (link_view link.now) history) };
 }

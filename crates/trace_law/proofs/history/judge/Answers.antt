@@ -13,4 +13,4 @@ returns g c = λ past stands numbered known.
     let live = placed-stands past entry.connection (law.moment_of entry.what) entry.note in
     let Stands : Event → Type 0 = λ e. StandsLive e past in
     let Opens : Event → Type 0 = λ e. OpensKnown (λ n channel. g.P.History.knows_begin c.args.past.now n channel past) (λ s handle. g.P.History.knows_attach c.args.past.now s handle past) e in
-    c.opened.ensures past stands (subst Stands (sym judged) live) (subst Opens (sym judged) known) ∙ ap (law.opened past) judged
+    c.opened.ensures c.args.rules.now past stands (subst Stands (sym judged) live) (subst Opens (sym judged) known) ∙ ap (law.opened past) judged
