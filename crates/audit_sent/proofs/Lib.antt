@@ -12,6 +12,10 @@ mod LastBegun
 mod Carriers
 mod LeastNumbers
 mod ToSettle
+mod GroupLists
+mod SentRegrouped
+mod SentFound
+mod SentTaken
 mod SentExamples
 mod LastExamples
 mod EarliestExamples

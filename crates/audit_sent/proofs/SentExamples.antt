@@ -17,7 +17,10 @@ use Rattle.trace_events.specs.History.{history, judge}
 use Rattle.trace_clauses.specs.Written.{spoken_octets}
 use Rattle.trace_clauses.proofs.Made.{from, to, carry, tell, gives, first, next, with_more, as_settled, disposes, accepted, released, detach_of, hi, sent, sent_by}
 use Rattle.audit_sent.specs.Sent.{Sent, sent_at, sent_next, sent_begun, sent_behind, begins_number, ends_delivery, decided_with, takes_state, to_settle, goes_on_with}
-use Rattle.audit_sent.specs.SentTables.{touches}
+use Rattle.audit_sent.specs.Ids.{same_id}
+use Rattle.audit_sent.specs.SentGrouped.{is_of_link, is_of_session, has_id}
+use Rattle.audit_sent.specs.SentTouched.{touches, part_number, answered_id, answered_session}
+use Rattle.audit_sent.specs.declared.groups.IdOn.{IdOn}
 
 -- how many octets were sent, whether the last part is, the octets of the state that is decided, and whether it is unsettled
 abbrev Shown : Type 0
@@ -66,6 +69,22 @@ unfoldable touches_in : List Record → Record → ℕ → Bool
 unfolding frame_read whole_frame frame_at sized_frame headed_frame read digits spoken_octets frame_octets written
 touches_in records r n = let past = history [] records in is_some_and (sent_at n past) (touches (judge [] past r))
 
+-- what one more record is found by: the delivery that it is a part of, the id that its consumer names, whether that is on the
+-- session of a delivery, and whether more are named there
+unfoldable part_in : List Record → Record → Option ℕ
+unfolding frame_read whole_frame frame_at sized_frame headed_frame read digits spoken_octets frame_octets written
+part_in records r = part_number (judge [] (history [] records) r)
+
+unfoldable id_in : List Record → Record → ℕ → Option (ℕ × Bool)
+unfolding frame_read whole_frame frame_at sized_frame headed_frame read digits spoken_octets frame_octets written
+id_in records r n =
+    let past = history [] records in option_map (λ at. (at.id, is_some_and (sent_at n past) (λ x. is_of_session at.session x.delivery))) (answered_id (judge [] past r))
+
+unfoldable session_in : List Record → Record → ℕ → Option Bool
+unfolding frame_read whole_frame frame_at sized_frame headed_frame read digits spoken_octets frame_octets written
+session_in records r n =
+    let past = history [] records in option_map (λ session. is_some_and (sent_at n past) (λ x. is_of_session session x.delivery)) (answered_session (judge [] past r))
+
 -- ---- captures: delivery 17 goes to the consumer, in one part or in two
 
 abbrev half : Record
@@ -98,6 +117,20 @@ finishes = from 1 (ADisposition (disposes Receiver 0 true accepted))
 
 abbrev releases : Record
 releases = from 1 (ADisposition (disposes Receiver 0 false released))
+
+-- it names more than one id, or one as the last too
+abbrev accepts_two : Record
+accepts_two = from 1 (ADisposition (record (disposes Receiver 0 true accepted) { last = Some 1 }))
+
+abbrev accepts_last : Record
+accepts_last = from 1 (ADisposition (record (disposes Receiver 0 true accepted) { last = Some 0 }))
+
+-- a disposition of a sender
+abbrev settles_as_sender : Record
+settles_as_sender = from 1 (ADisposition (disposes Sender 0 true None))
+
+abbrev settles_two_as_sender : Record
+settles_two_as_sender = from 1 (ADisposition (record (disposes Sender 0 true None) { last = Some 1 }))
 
 -- it says something of another id, or no outcome
 abbrev accepts_another : Record
@@ -349,6 +382,91 @@ touches_other = refl
 touches_another : touches_in carried accepts_another 17 ≡ false
 unfolding touches_in
 touches_another = refl
+
+-- ---- what finds those that an event touches
+
+part_of_it : part_in begun rest ≡ Some 17
+unfolding part_in
+part_of_it = refl
+
+part_of_none : part_in carried accepts ≡ None
+unfolding part_in
+part_of_none = refl
+
+names_its_id : id_in carried accepts 17 ≡ Some (0, true)
+unfolding id_in
+names_its_id = refl
+
+names_it_twice : id_in carried accepts_last 17 ≡ Some (0, true)
+unfolding id_in
+names_it_twice = refl
+
+names_two : id_in carried accepts_two 17 ≡ None
+unfolding id_in
+names_two = refl
+
+names_as_sender : id_in carried settles_as_sender 17 ≡ None
+unfolding id_in
+names_as_sender = refl
+
+names_no_id : id_in carried gives_more 17 ≡ None
+unfolding id_in
+names_no_id = refl
+
+names_a_range : session_in carried accepts_two 17 ≡ Some true
+unfolding session_in
+names_a_range = refl
+
+names_no_range : session_in carried accepts 17 ≡ None
+unfolding session_in
+names_no_range = refl
+
+range_as_sender : session_in carried settles_two_as_sender 17 ≡ None
+unfolding session_in
+range_as_sender = refl
+
+names_no_session : session_in carried gives_more 17 ≡ None
+unfolding session_in
+names_no_session = refl
+
+-- ---- the keys of the groups
+
+abbrev key : ℕ → ℕ → IdOn
+key session id = record { session = session; id = id }
+
+same_key : same_id (key 1 2) (key 1 2) ≡ true
+same_key = refl
+
+other_session : same_id (key 1 2) (key 3 2) ≡ false
+other_session = refl
+
+other_id : same_id (key 1 2) (key 1 3) ≡ false
+other_id = refl
+
+module _ (x : Outgoing) where
+  abbrev on : ℕ → ℕ → ℕ → Outgoing
+  on link session id = record x { link = record x.link { number = link; session = record x.link.session { number = session } }; id = Some id }
+
+  its_link : is_of_link 6 (on 6 4 3) ≡ true
+  its_link = refl
+
+  other_link : is_of_link 7 (on 6 4 3) ≡ false
+  other_link = refl
+
+  its_session : is_of_session 4 (on 6 4 3) ≡ true
+  its_session = refl
+
+  no_session : is_of_session 5 (on 6 4 3) ≡ false
+  no_session = refl
+
+  its_id : has_id 4 3 (on 6 4 3) ≡ true
+  its_id = refl
+
+  id_of_another : has_id 4 2 (on 6 4 3) ≡ false
+  id_of_another = refl
+
+  id_elsewhere : has_id 5 3 (on 6 4 3) ≡ false
+  id_elsewhere = refl
 
 -- ---- whether it is to be settled
 

@@ -4,7 +4,7 @@ use Rattle.capture_form.specs.Rules.{RuleText}
 use Rattle.trace_events.specs.Event.{Event}
 use Rattle.trace_events.proofs.Judged.{AreJudged}
 use Rattle.audit_sent.specs.Sent.{Sent, sent_at, sent_next, sent_begun, sent_behind, begins_number}
-use Rattle.audit_sent.specs.SentTables.{touches}
+use Rattle.audit_sent.specs.SentTouched.{touches}
 use Rattle.audit_sent.proofs.SentFollowed.{sent-behind}
 use Rattle.audit_sent.proofs.SentUntouched.{untouched}
 

@@ -10,7 +10,7 @@ use Rattle.trace_events.specs.Disposition.{is_decisive, terminal_state}
 use Rattle.trace_events.specs.Incoming.{part_payload}
 use Rattle.trace_events.specs.Outgoing.{is_part, answering}
 use Rattle.audit_sent.specs.Sent.{Sent, sent_next}
-use Rattle.audit_sent.specs.SentTables.{touches}
+use Rattle.audit_sent.specs.SentTouched.{touches}
 use Rattle.audit_sent.proofs.SentSteps.{made-same}
 
 or_none : (a b : Bool) → a || b ≡ false → (a ≡ false) × (b ≡ false)

@@ -1,5 +1,8 @@
 pub mod Sent
 pub mod SentViews
-pub mod SentTables
+pub mod Ids
+pub mod SentGrouped
+pub mod SentTouched
 pub mod Earliest
 pub mod LastBegun
+pub mod SentTables

@@ -1,44 +1,54 @@
-//! The deliveries to clients, by the record that began each.
+//! The deliveries to clients, by the record that began each, and in groups.
 
-ghost use Rattle.std.specs.Prelude.{◌≡◌, ◌++◌, List, [], None, OnOk, OnErr, option_map};
+ghost use Rattle.std.specs.Prelude.{◌≡◌, ◌∷◌, ◌++◌, List, [], None, OnOk, map, nat_eq, option_map};
 ghost use Rattle.std.specs.Option.{option_copied};
+ghost use Rattle.indexmap.specs.IndexSet.{contains};
 ghost use Rattle.capture_form.specs.Rules.{RuleText};
 ghost use Rattle.capture_form.specs.declared.records.Record.{Record};
 ghost use Rattle.trace_events.specs.Words.{or_else};
 ghost use Rattle.trace_events.specs.Event.{Incoming, Outgoing};
 ghost use Rattle.trace_events.specs.Incoming as received;
 ghost use Rattle.trace_events.specs.Outgoing as law;
-ghost use Rattle.trace_events.specs.History.{history};
+ghost use Rattle.trace_events.specs.History.{judge, history};
 ghost use Rattle.trace_clauses.specs.Clauses.{first_broken};
 ghost use Rattle.trace_clauses.specs.TransferClause.{is_payload_so_far};
+ghost use Rattle.audit_tables.specs.EndedLinks.{AreEnded};
+ghost use Rattle.audit_sent.specs.LastBegun.{last_number, carrier_number};
 ghost use Rattle.audit_sent.specs.Sent as kept;
 ghost use Rattle.audit_sent.specs.Sent.{IsKnownTo, sent_begun, sent_next};
-ghost use Rattle.audit_sent.specs.SentTables.{AreSent, SentSame, MovesAt, sent_in, sent_count_in};
+ghost use Rattle.audit_sent.specs.SentGrouped.{AreGrouped};
+ghost use Rattle.audit_sent.specs.SentTables.{AreMovedBy, AreSent, IsTable, MovesAt, sent_in, sent_count_in};
 ghost use Rattle.audit_sent.specs.SentViews.{sent_view};
 ghost use Rattle.trace_law.specs.Known.{IsCarriedBy};
-ghost use Rattle.trace_law.specs.View.{event_view};
+ghost use Rattle.trace_law.specs.View.{Events, event_view, link_view};
 
+use crate::begun::LastNumbers;
+use crate::groups::SentGroups;
 use crate::payload::goes_on_with;
 use crate::sent::SentDelivery;
-use indexmap::IndexMap;
+use indexmap::{IndexMap, IndexSet};
 use std::alloc::{AllocError, Global};
-use trace_law::Event;
+use trace_law::{Event, Link};
 
 /// The deliveries to clients.
 #[derive(Drop)]
 pub struct SentDeliveries {
     alloc: Global,
     entries: IndexMap<u64, SentDelivery>,
+    groups: SentGroups,
+    begun: LastNumbers,
 }
 
 impl SentDeliveries {
     /// No records.
     pub fn new(alloc: Global) -> SentDeliveries
-        ensures { AreSent result [] }
+        ensures { IsTable result [] }
     {
         SentDeliveries {
             alloc,
             entries: IndexMap::new(alloc),
+            groups: SentGroups::new(alloc),
+            begun: LastNumbers::new(alloc),
         }
     }
 
@@ -71,16 +81,50 @@ impl SentDeliveries {
         }
     }
 
+    /// The number of the last delivery that began on the link of this number.
+    pub fn last_begun_on(&self, link: u64) -> Option<u64>
+        ensures { (history : Events) → IsTable self.now history → result ≡ last_number link history }
+    {
+        self.begun.on_link.get(&link).copied()
+    }
+
+    /// That of the last delivery whose note names the delivery from a client of this number.
+    pub fn carrier_of(&self, number: u64) -> Option<u64>
+        ensures { (history : Events) → IsTable self.now history → result ≡ carrier_number number history }
+    {
+        self.begun.carriers.get(&number).copied()
+    }
+
+    /// The event follows those so far. These links live before it and end with it.
+    ///
+    /// # Errors
+    ///
+    /// Memory was refused; then the table may agree with no records any more.
+    pub fn take(&mut self, event: &Event, ended: &[Link]) -> Result<(), AllocError>
+        ensures { OnOk result ((rules : List RuleText) (records : List Record) (r : Record) → event_view event.now ≡ judge rules (history rules records) r →
+            IsTable self.old (history rules records) → AreEnded (event_view event.now) (history rules records) (map link_view ended.now) →
+            IsTable self.new (event_view event.now ∷ history rules records)) }
+    {
+        let touched = self.groups.touched(self.alloc, ended, event)?;
+        self.touch_all(touched, event)?;
+        self.begin(event)?;
+        self.begun.take(event)?;
+        Ok(())
+    }
+
     /// The event begins a delivery, or none.
     ///
     /// # Errors
     ///
-    /// Memory was refused, for a delivery that the event begins; then all stays as it was.
-    pub fn begin(&mut self, event: &Event) -> Result<(), AllocError>
+    /// Memory was refused, for a delivery that the event begins; then the groups may not fit the deliveries any more.
+    fn begin(&mut self, event: &Event) -> Result<(), AllocError>
         ensures begun { OnOk result (MovesAt (event_view event.now).number (or_else (sent_begun (event_view event.now))) self.old self.new) }
-        ensures unchanged { OnErr result (SentSame self.old self.new) }
+        ensures grouped { OnOk result (AreGrouped self.old.groups (sent_in self.old) → sent_in self.old (event_view event.now).number ≡ None →
+            AreGrouped self.new.groups (sent_in self.new)) }
+        ensures same { OnOk result (self.new.begun ≡ self.old.begun) }
     {
         if let Some(own) = SentDelivery::begin(self.alloc, event)? {
+            self.groups.put(&own.delivery(), own.is_unsettled())?;
             self.entries.insert(event.number, own)?;
         }
         Ok(())
@@ -90,15 +134,29 @@ impl SentDeliveries {
     ///
     /// # Errors
     ///
-    /// Memory was refused, for the octets of a terminal state that decides it; then all stays as it was.
-    pub fn touch(&mut self, number: u64, event: &Event) -> Result<(), AllocError>
+    /// Memory was refused; then the groups may not fit the deliveries any more.
+    fn touch(&mut self, number: u64, event: &Event) -> Result<(), AllocError>
         ensures touched { OnOk result (MovesAt number (option_map (sent_next (event_view event.now))) self.old self.new) }
-        ensures unchanged { OnErr result (SentSame self.old self.new) }
+        ensures grouped { OnOk result (AreGrouped self.old.groups (sent_in self.old) → AreGrouped self.new.groups (sent_in self.new)) }
+        ensures same { OnOk result (self.new.begun ≡ self.old.begun) }
     {
         let Some(own) = self.entries.get_mut(&number) else {
             return Ok(());
         };
         own.take(event)?;
+        self.groups.put(&own.delivery(), own.is_unsettled())?;
+        Ok(())
+    }
+
+    /// The event touches each of these.
+    fn touch_all(&mut self, mut touched: IndexSet<u64>, event: &Event) -> Result<(), AllocError>
+        ensures touched { OnOk result (AreMovedBy (contains nat_eq touched) (event_view event.now) self.old self.new) }
+        ensures grouped { OnOk result (AreGrouped self.old.groups (sent_in self.old) → AreGrouped self.new.groups (sent_in self.new)) }
+        ensures same { OnOk result (self.new.begun ≡ self.old.begun) }
+    {
+        while let Some(number) = touched.pop() {
+            self.touch(number, event)?;
+        }
         Ok(())
     }
 }

@@ -3,18 +3,26 @@
 //!
 //! - `sent`: a delivery to a client from its first part on, with its consumer's decision (`decided`), and how it goes on with
 //!   the payload that it carries (`payload`);
-//! - `deliveries`: all of them, by number;
-//! - `earliest`: the earliest of a group that passes a test.
+//! - `groups`: which of them are still unsettled;
+//! - `earliest`: the earliest of a group that passes a test;
+//! - `touched`: which of them an event may touch;
+//! - `begun`: which of them began last on each link, and of those that carry the same delivery;
+//! - `deliveries`: all of them, by number.
 #![tactic(auto)]
 
+mod begun;
 mod decided;
 mod deliveries;
 mod earliest;
+mod groups;
 mod payload;
 mod sent;
 #[cfg(test)]
 mod tests;
+mod touched;
 
+pub use begun::LastNumbers;
 pub use decided::Decided;
 pub use deliveries::SentDeliveries;
+pub use groups::SentGroups;
 pub use sent::SentDelivery;
