@@ -9,7 +9,7 @@
 //! - `handle`: a handle of a live session, with its link (`counted_link`) and the client's attach (`held_attach`); `handles`:
 //!   those of a session; `channels`: those of a connection; `links`: all of them; `ended_links`: those that an event ends;
 //! - `held_link`: the link of a delivery that is kept;
-//! - `answers`, `link_answers`: what they answer to the questions of `trace_law`; `looked`: all tables, lent to be asked.
+//! - `answers`, `link_answers`: what they answer to the questions of `trace_law`.
 #![tactic(auto)]
 
 mod answers;
@@ -25,7 +25,6 @@ mod held_link;
 mod link_answers;
 mod link_counts;
 mod links;
-mod looked;
 mod sessions;
 #[cfg(test)]
 mod tests;
@@ -41,6 +40,5 @@ pub use held_attach::{HeldAddress, HeldAttach};
 pub use held_link::HeldLink;
 pub use link_counts::LinkCounts;
 pub use links::Links;
-pub use looked::Looked;
 pub use sessions::Counted;
 pub use unanswered::Unanswered;

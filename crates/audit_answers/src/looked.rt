@@ -1,0 +1,131 @@
+//! The tables, lent to whoever asks them the questions of `trace_law`.
+
+use amqp_perf::Begin;
+use audit_addresses::Consumers;
+use audit_held::Deliveries;
+use audit_tables::{Connections, Links};
+use capture_form::Rule;
+use trace_events::Session;
+use trace_law::{Asking, History, Incoming, Inputs, Link, Openings};
+
+/// The tables, lent.
+#[derive(Clone, Copy)]
+pub struct Looked<'t> {
+    pub connections: &'t Connections,
+    pub links: &'t Links,
+    pub consumers: &'t Consumers,
+    pub deliveries: &'t Deliveries,
+}
+
+impl<'t> History for Looked<'t> {
+    ghost use Rattle.std.specs.Prelude.{◌≡◌, is_some, true};
+    ghost use Rattle.trace_clauses.specs.LinkClause.{asking};
+    ghost use Rattle.trace_events.specs.Session.{has_unanswered_begin};
+    ghost use Rattle.audit_answers.specs.Tables.{StandFor};
+    ghost use Rattle.audit_held.specs.EntryAnswers.{Knows, has_number};
+
+    ghost stands_for = { λ looked rules history.
+        StandFor rules looked.connections.now looked.links.now looked.consumers.now looked.deliveries.now history };
+
+    ghost knows_number = { λ looked number history. has_number looked.deliveries.now number ≡ true };
+
+    ghost knows_incoming = { λ looked delivery history. Knows looked.deliveries.now delivery };
+
+    // No deliveries to clients stand in these tables.
+
+    ghost knows_outgoing = { λ looked delivery history. ⊥ };
+
+    ghost knows_begin = { λ looked connection channel history. has_unanswered_begin connection channel history ≡ true };
+
+    ghost knows_attach = { λ looked session handle history. is_some (asking session handle history) ≡ true };
+
+    ghost is_short = { λ looked. Unit {0} };
+}
+
+impl<'t> Inputs<'t> for Looked<'t> {
+    fn is_over(&self, connection: u32) -> bool {
+        self.connections.is_over(connection)
+    }
+
+    fn has_in_open(&self, connection: u32) -> bool {
+        self.connections.has_in_open(connection)
+    }
+
+    fn live_session(&self, connection: u32, channel: u16) -> Option<Session> {
+        self.connections.live_session(connection, channel)
+    }
+
+    fn awaits_end(&self, connection: u32, channel: u16) -> bool {
+        self.connections.awaits_end(connection, channel)
+    }
+
+    fn session_link(&self, session: Session, handle: u32) -> Option<Link<'t>> {
+        self.links.session_link(session, handle)
+    }
+
+    fn awaits_detach(&self, session: Session, handle: u32) -> bool {
+        self.links.awaits_detach(session, handle)
+    }
+
+    fn given_window(&self, session: Session) -> u32 {
+        self.connections.given_window(session)
+    }
+
+    fn given_credit(&self, link: &Link) -> u32 {
+        self.links.given_credit(link)
+    }
+
+    fn incoming_in_progress(&self, link: &Link) -> Option<Incoming<'t>> {
+        self.deliveries.incoming_in_progress(link)
+    }
+
+    fn is_longer(&self, limit: u64, delivery: &Incoming, octets: &[u8]) -> bool {
+        self.deliveries.is_longer(limit, delivery, octets)
+    }
+
+    fn is_id_in_use(&self, _rules: &[Rule], session: Session, id: u32) -> bool {
+        self.deliveries.is_id_in_use(session, id)
+    }
+}
+
+impl<'t> Openings<'t> for Looked<'t> {
+    fn was_opened(&self, connection: u32) -> bool {
+        self.connections.seen(connection).was_opened
+    }
+
+    fn was_finished(&self, connection: u32) -> bool {
+        self.connections.seen(connection).was_finished
+    }
+
+    fn was_stopped(&self, connection: u32) -> bool {
+        self.connections.seen(connection).was_stopped
+    }
+
+    fn has_out_frame(&self, connection: u32) -> bool {
+        self.connections.seen(connection).has_out_frame
+    }
+
+    fn has_unanswered_begin(&self, connection: u32, channel: u16) -> bool {
+        self.connections.has_unanswered_begin(connection, channel)
+    }
+
+    fn last_in_begin(&self, connection: u32, channel: u16) -> Option<Begin> {
+        self.connections.last_in_begin(connection, channel)
+    }
+
+    fn owes_end(&self, connection: u32, channel: u16) -> bool {
+        self.connections.owes_end(connection, channel)
+    }
+
+    fn last_first_count(&self, session: Session, handle: u32) -> u32 {
+        self.links.last_first_count(session, handle)
+    }
+
+    fn asking(&self, session: Session, handle: u32) -> Option<Asking<'t>> {
+        self.links.asking(session, handle)
+    }
+
+    fn owes_detach(&self, session: Session, handle: u32) -> bool {
+        self.links.owes_detach(session, handle)
+    }
+}

@@ -1,0 +1,74 @@
+//! All tables of the auditor, moved forward by one event after the other.
+
+ghost use Rattle.std.specs.Prelude.{◌≡◌, ◌∷◌, List, [], OnOk};
+ghost use Rattle.capture_form.specs.Rules.{RuleText};
+ghost use Rattle.capture_form.specs.declared.records.Record.{Record};
+ghost use Rattle.trace_events.specs.History.{history};
+ghost use Rattle.audit_tables.specs.Connections.{IsLawfulNext};
+ghost use Rattle.audit_answers.specs.Tables.{AreTables, StandFor};
+ghost use Rattle.trace_law.specs.View.{Events, event_view};
+
+use crate::looked::Looked;
+use audit_addresses::Consumers;
+use audit_held::Deliveries;
+use audit_tables::{Connections, Links};
+use capture_form::Rule;
+use std::alloc::{AllocError, Global};
+use trace_law::Event;
+
+/// What the records so far have come to.
+#[derive(Drop)]
+pub struct Tables {
+    alloc: Global,
+    connections: Connections,
+    links: Links,
+    consumers: Consumers,
+    deliveries: Deliveries,
+}
+
+impl Tables {
+    /// No records.
+    pub fn new(alloc: Global) -> Tables
+        ensures { (rules : List RuleText) → AreTables rules result [] }
+    {
+        Tables {
+            alloc,
+            connections: Connections::new(alloc),
+            links: Links::new(alloc),
+            consumers: Consumers::new(alloc),
+            deliveries: Deliveries::new(alloc),
+        }
+    }
+
+    /// The tables, lent to be asked.
+    pub fn looked(&self) -> Looked<'_>
+        ensures { (rules : List RuleText) (history : Events) → AreTables rules self.now history →
+            StandFor rules result.connections.now result.links.now result.consumers.now result.deliveries.now history }
+    {
+        Looked {
+            connections: &self.connections,
+            links: &self.links,
+            consumers: &self.consumers,
+            deliveries: &self.deliveries,
+        }
+    }
+
+    /// The event follows those so far.
+    ///
+    /// # Errors
+    ///
+    /// Memory was refused; then the tables may agree with no records any more.
+    pub fn take(&mut self, rules: &[Rule], event: &Event) -> Result<(), AllocError>
+        ensures { OnOk result ((records : List Record) (r : Record) → IsLawfulNext rules.now records r (event_view event.now) →
+            AreTables rules.now self.old (history rules.now records) →
+            AreTables rules.now self.new (event_view event.now ∷ history rules.now records)) }
+    {
+        let ended = self.links.ended(self.alloc, event)?;
+        self.consumers.take(event, &ended)?;
+        self.deliveries.take(rules, event, &ended, &self.consumers)?;
+        drop(ended);
+        self.links.take(event)?;
+        self.connections.take(event)?;
+        Ok(())
+    }
+}
