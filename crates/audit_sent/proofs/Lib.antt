@@ -12,6 +12,7 @@ mod LastBegun
 mod Carriers
 mod LeastNumbers
 mod ToSettle
+pub mod AnswersKnown
 mod GroupLists
 mod SentRegrouped
 mod SentFound

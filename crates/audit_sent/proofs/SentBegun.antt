@@ -207,7 +207,7 @@ module _ (j : Outgoing) where
   payload-none (e ∷ past) are le =
       payload-same e past j (born-before (length past) e.note e.outgoing j.number are.0 (omega (arith, le))) ∙ payload-none past are.1 (omega (arith, le))
 
-  sent-none : (past : List Event) → AreBorn past → length past ≤ j.number → law.is_sent j past ≡ false
+  pub sent-none : (past : List Event) → AreBorn past → length past ≤ j.number → law.is_sent j past ≡ false
   sent-none [] are le = refl
   sent-none (e ∷ past) are le =
       is_sent-no_part e past j (born-before (length past) e.note e.outgoing j.number are.0 (omega (arith, le))) ∙ sent-none past are.1 (omega (arith, le))

@@ -6,3 +6,4 @@ pub mod SentTouched
 pub mod Earliest
 pub mod LastBegun
 pub mod SentTables
+pub mod SentAnswers

@@ -23,10 +23,11 @@ ghost use Rattle.trace_law.specs.Known.{IsCarriedBy};
 ghost use Rattle.trace_law.specs.View.{Events, event_view, link_view};
 
 use crate::begun::LastNumbers;
-use crate::groups::SentGroups;
+use crate::groups::{IdOn, SentGroups};
 use crate::payload::goes_on_with;
 use crate::sent::SentDelivery;
 use indexmap::{IndexMap, IndexSet};
+use number_groups::Groups;
 use std::alloc::{AllocError, Global};
 use trace_law::{Event, Link};
 
@@ -93,6 +94,13 @@ impl SentDeliveries {
         ensures { (history : Events) → IsTable self.now history → result ≡ carrier_number number history }
     {
         self.begun.carriers.get(&number).copied()
+    }
+
+    /// The unsettled deliveries by their id on their session.
+    pub(crate) fn of_id(&self) -> &Groups<IdOn>
+        ensures { result.now ≡ self.now.groups.of_id }
+    {
+        &self.groups.of_id
     }
 
     /// The event follows those so far. These links live before it and end with it.

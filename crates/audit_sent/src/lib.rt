@@ -7,10 +7,13 @@
 //! - `earliest`: the earliest of a group that passes a test;
 //! - `touched`: which of them an event may touch;
 //! - `begun`: which of them began last on each link, and of those that carry the same delivery;
-//! - `deliveries`: all of them, by number.
+//! - `deliveries`: all of them, by number;
+//! - `answers`: what the table answers of them, with `closings`, of which deliveries from clients nothing more is to be told.
 #![tactic(auto)]
 
+mod answers;
 mod begun;
+mod closings;
 mod decided;
 mod deliveries;
 mod earliest;
@@ -22,6 +25,7 @@ mod tests;
 mod touched;
 
 pub use begun::LastNumbers;
+pub use closings::Closings;
 pub use decided::Decided;
 pub use deliveries::SentDeliveries;
 pub use groups::SentGroups;

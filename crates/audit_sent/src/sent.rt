@@ -105,6 +105,13 @@ impl SentDelivery {
         }
     }
 
+    /// Its note, which names the delivery that it carries.
+    pub(crate) fn note(&self) -> Note
+        ensures { result ≡ (sent_view self.now).delivery.note }
+    {
+        self.note
+    }
+
     /// Its last part is written.
     pub fn is_sent(&self) -> bool
         ensures stored { result ≡ self.now.is_sent }
