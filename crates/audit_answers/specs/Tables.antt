@@ -1,7 +1,8 @@
 -- What the tables of the auditor stand for, all of them.
-use Rattle.std.specs.Prelude.{List}
+use Rattle.std.specs.Prelude.{◌≡◌, List, None}
 use Rattle.capture_form.specs.Rules.{RuleText}
 use Rattle.trace_events.specs.Event.{Event}
+use Rattle.trace_clauses.specs.Clauses.{first_broken}
 use Rattle.audit_tables.specs.Connections.{AreKept}
 use Rattle.audit_tables.specs.LinkTables.{AreLinked}
 use Rattle.audit_tables.specs.declared.connections.Connections.{Connections}
@@ -10,12 +11,17 @@ use Rattle.audit_addresses.specs.Consumers.{AreConsumers}
 use Rattle.audit_addresses.specs.declared.consumers.Consumers.{Consumers}
 use Rattle.audit_held.specs.HeldTables.{IsHistory, IsTable}
 use Rattle.audit_held.specs.declared.deliveries.Deliveries.{Deliveries}
+use Rattle.audit_sent.specs.SentTables as sent_tables
+use Rattle.audit_sent.specs.declared.deliveries.SentDeliveries.{SentDeliveries}
 use Rattle.audit_answers.specs.declared.tables.Tables.{Tables}
 
--- each has what the law says of these events, which are those of some records judged by these rules
-abbrev pub StandFor : List RuleText → Connections → Links → Consumers → Deliveries → List Event → Type 0
-StandFor rules connections links consumers deliveries past =
-    IsHistory rules past × (AreKept connections past × (AreLinked links past × (AreConsumers consumers past × IsTable rules deliveries past)))
+-- each has what the law says of these events, which are those of some records judged by these rules, each of which meets the
+-- clauses
+abbrev pub StandFor : List RuleText → Connections → Links → Consumers → Deliveries → SentDeliveries → List Event → Type 0
+StandFor rules connections links consumers deliveries sent past =
+    IsHistory rules past
+    × (AreKept connections past
+    × (AreLinked links past × (AreConsumers consumers past × (IsTable rules deliveries past × ((first_broken rules past ≡ None) × sent_tables.IsTable sent past)))))
 
 abbrev pub AreTables : List RuleText → Tables → List Event → Type 0
-AreTables rules tables past = StandFor rules tables.connections tables.links tables.consumers tables.deliveries past
+AreTables rules tables past = StandFor rules tables.connections tables.links tables.consumers tables.deliveries tables.sent past

@@ -1,9 +1,11 @@
 //! The tables of the auditor, as the one who answers the questions of `trace_law`.
 //!
 //! - `tables`: all tables, moved forward by one event after the other;
-//! - `looked`: the same, lent to be asked.
+//! - `looked`: the same, lent to be asked, with `outcomes`;
+//! - `closings`: what the table of deliveries from clients tells that of deliveries to clients.
 #![tactic(auto)]
 
+mod closings;
 mod looked;
 mod tables;
 

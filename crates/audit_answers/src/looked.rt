@@ -1,8 +1,11 @@
 //! The tables, lent to whoever asks them the questions of `trace_law`.
 
+mod outcomes;
+
 use amqp_perf::Begin;
 use audit_addresses::Consumers;
 use audit_held::Deliveries;
+use audit_sent::SentDeliveries;
 use audit_tables::{Connections, Links};
 use capture_form::Rule;
 use trace_events::Session;
@@ -15,6 +18,7 @@ pub struct Looked<'t> {
     pub links: &'t Links,
     pub consumers: &'t Consumers,
     pub deliveries: &'t Deliveries,
+    pub sent: &'t SentDeliveries,
 }
 
 impl<'t> History for Looked<'t> {
@@ -23,17 +27,16 @@ impl<'t> History for Looked<'t> {
     ghost use Rattle.trace_events.specs.Session.{has_unanswered_begin};
     ghost use Rattle.audit_answers.specs.Tables.{StandFor};
     ghost use Rattle.audit_held.specs.EntryAnswers.{Knows, has_number};
+    ghost use Rattle.audit_sent.specs.SentAnswers.{KnowsOrBegins};
 
     ghost stands_for = { λ looked rules history.
-        StandFor rules looked.connections.now looked.links.now looked.consumers.now looked.deliveries.now history };
+        StandFor rules looked.connections.now looked.links.now looked.consumers.now looked.deliveries.now looked.sent.now history };
 
     ghost knows_number = { λ looked number history. has_number looked.deliveries.now number ≡ true };
 
     ghost knows_incoming = { λ looked delivery history. Knows looked.deliveries.now delivery };
 
-    // No deliveries to clients stand in these tables.
-
-    ghost knows_outgoing = { λ looked delivery history. ⊥ };
+    ghost knows_outgoing = { λ looked delivery history. KnowsOrBegins looked.sent.now history delivery };
 
     ghost knows_begin = { λ looked connection channel history. has_unanswered_begin connection channel history ≡ true };
 

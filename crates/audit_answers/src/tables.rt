@@ -11,6 +11,7 @@ ghost use Rattle.trace_law.specs.View.{Events, event_view};
 use crate::looked::Looked;
 use audit_addresses::Consumers;
 use audit_held::Deliveries;
+use audit_sent::SentDeliveries;
 use audit_tables::{Connections, Links};
 use capture_form::Rule;
 use std::alloc::{AllocError, Global};
@@ -24,6 +25,7 @@ pub struct Tables {
     links: Links,
     consumers: Consumers,
     deliveries: Deliveries,
+    sent: SentDeliveries,
 }
 
 impl Tables {
@@ -37,19 +39,21 @@ impl Tables {
             links: Links::new(alloc),
             consumers: Consumers::new(alloc),
             deliveries: Deliveries::new(alloc),
+            sent: SentDeliveries::new(alloc),
         }
     }
 
     /// The tables, lent to be asked.
     pub fn looked(&self) -> Looked<'_>
         ensures { (rules : List RuleText) (history : Events) → AreTables rules self.now history →
-            StandFor rules result.connections.now result.links.now result.consumers.now result.deliveries.now history }
+            StandFor rules result.connections.now result.links.now result.consumers.now result.deliveries.now result.sent.now history }
     {
         Looked {
             connections: &self.connections,
             links: &self.links,
             consumers: &self.consumers,
             deliveries: &self.deliveries,
+            sent: &self.sent,
         }
     }
 
@@ -66,6 +70,7 @@ impl Tables {
         let ended = self.links.ended(self.alloc, event)?;
         self.consumers.take(event, &ended)?;
         self.deliveries.take(rules, event, &ended, &self.consumers)?;
+        self.sent.take(event, &ended)?;
         drop(ended);
         self.links.take(event)?;
         self.connections.take(event)?;

@@ -60,7 +60,7 @@ find-none-any test (x ∷ xs) none = by (test x) refl none (find-none-any test x
     by true is none later = absurd cc
     by false is none later = later none
 
-find-some : {A : Type 0} (test : A → Bool) (xs : List A) → list_any test xs ≡ true → (x : A) × (find test xs ≡ Some x)
+pub find-some : {A : Type 0} (test : A → Bool) (xs : List A) → list_any test xs ≡ true → (x : A) × (find test xs ≡ Some x)
 find-some {A = A} test xs is = by (find test xs) refl (find-none-any test xs)
   where
     by : (o : Option A) → find test xs ≡ o → (find test xs ≡ None → list_any test xs ≡ false) → (x : A) × (find test xs ≡ Some x)

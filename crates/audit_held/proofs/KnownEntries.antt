@@ -1,16 +1,14 @@
 -- What the law asks of a delivery that the table can tell of, by its entry.
-use Rattle.std.proofs.Common.{◌≡◌, refl, sym, ap, subst, ◌∙◌, ◌+◌, ℕ, if◌then◌else◌, Bool, true, false, not, length, List, Option, Some, None, IfSome, is_some, option_map, option_and_then, eqb-true, ◌==◌}
-use Rattle.std.specs.Prelude.{nat_lt}
+use Rattle.std.proofs.Common.{◌≡◌, refl, sym, ap, ◌∙◌, ℕ, if◌then◌else◌, Bool, true, false, List, Option, Some, None, IfSome, is_some, option_map, option_and_then, eqb-true, ◌==◌}
 use Rattle.pairing_cert.specs.declared.note.Note.{Note}
 use Rattle.pairing_cert.specs.declared.note.Note.TheVariants as notes
 use Rattle.capture_form.specs.Rules.{RuleText}
-use Rattle.trace_events.specs.Words.{is_some_and, where_passes}
 use Rattle.trace_events.specs.Event.{Event, Incoming}
 use Rattle.trace_events.specs.Incoming.{payload, completed_before, is_complete, incoming_at, incoming_deliveries}
 use Rattle.trace_events.specs.Settling.{is_closed}
 use Rattle.trace_events.specs.Waiting.{is_gone}
 use Rattle.trace_clauses.specs.TransferClause.{to_carry}
-use Rattle.audit_held.specs.Held.{Held, says_arriving, says_gone, may_go, comes_before}
+use Rattle.audit_held.specs.Held.{Held, may_go}
 use Rattle.audit_held.specs.HeldTables.{AreHeld, held_in}
 use Rattle.audit_held.specs.EntryAnswers.{Knows, delivery_in, has_number, says_complete, says_closed, has_gone, payload_of, is_before, carried, carried_by}
 use Rattle.audit_held.specs.declared.deliveries.Deliveries.{Deliveries}

@@ -105,7 +105,8 @@ impl Deliveries {
         }
     }
 
-    fn says_closed(&self, number: u64) -> bool
+    /// Nothing more is to be told of the delivery that began in the record of this number, if it is kept.
+    pub fn says_closed(&self, number: u64) -> bool
         ensures { result ≡ entries.says_closed (held_in self.now number) }
     {
         match self.get(number) {

@@ -67,8 +67,8 @@ impl Deliveries {
         self.kept(self.groups.arriving.first(&link.number))
     }
 
-    /// The delivery of the number, if there is one and it is kept.
-    fn kept(&self, number: Option<u64>) -> Option<Incoming<'_>>
+    /// The delivery that began in the record of the number, if there is a number and it is kept.
+    pub fn kept(&self, number: Option<u64>) -> Option<Incoming<'_>>
         ensures { option_map incoming_view result ≡ option_and_then (λ n. option_map (λ x. x.delivery) (held_in self.now n)) number }
     {
         match self.get(number?) {

@@ -1,0 +1,56 @@
+//! What is asked when an outcome is told or a delivery is settled.
+
+use crate::closings::HeldClosings;
+use crate::looked::Looked;
+use capture_form::Rule;
+use trace_events::Session;
+use trace_law::{Decision, Incoming, Link, Outcomes, Outgoing};
+
+impl<'t> Outcomes<'t> for Looked<'t> {
+    fn to_tell(&self, _rules: &[Rule], session: Session, id: u32) -> Option<Incoming<'t>> {
+        self.deliveries.to_tell(session, id)
+    }
+
+    fn to_settle(&self, session: Session, id: u32) -> Option<Outgoing<'t>> {
+        let closings = HeldClosings {
+            deliveries: self.deliveries,
+        };
+        self.sent.to_settle(session, id, &closings)
+    }
+
+    fn incoming_at(&self, number: u64) -> Option<Incoming<'t>> {
+        self.deliveries.incoming_at(number)
+    }
+
+    fn is_complete(&self, delivery: &Incoming) -> bool {
+        self.deliveries.is_complete(delivery)
+    }
+
+    fn is_closed(&self, delivery: &Incoming) -> bool {
+        self.deliveries.is_closed(delivery)
+    }
+
+    fn is_gone(&self, _rules: &[Rule], delivery: &Incoming) -> bool {
+        self.deliveries.is_gone(delivery)
+    }
+
+    fn is_live(&self, link: &Link) -> bool {
+        self.links.is_live(link)
+    }
+
+    fn pairing(&self, delivery: &Incoming) -> Option<Outgoing<'t>> {
+        self.sent.pairing(delivery)
+    }
+
+    fn decision(&self, delivery: &Outgoing) -> Option<Decision<'t>> {
+        self.sent.decision(delivery)
+    }
+
+    fn is_sent(&self, delivery: &Outgoing) -> bool {
+        self.sent.is_sent(delivery)
+    }
+
+    fn frame_limit(&self, connection: u32) -> u32 {
+        self.connections.seen(connection).frame_limit
+    }
+}
