@@ -226,38 +226,50 @@ fn simple_values(rt: HostRuntime) {
 }
 
 #[test]
-fn uints_and_booleans(rt: HostRuntime) {
-    // null, three uints, null, three booleans, an ubyte
-    let list: &[u8] =
-        b"\xC0\x11\x09\x40\x43\x52\x09\x70\x01\x02\x03\x04\x40\x41\x42\x56\x01\x50\x07";
+fn uints(rt: HostRuntime) {
+    // null, three uints, a boolean
+    let list: &[u8] = b"\xC0\x0B\x05\x40\x43\x52\x09\x70\x01\x02\x03\x04\x41";
     let mut items = value(&rt, list).items();
     assert_eq!(rt; items.next_uint(), Some(None));
-    // an uint is left by who wants a boolean
-    assert_eq!(rt; items.next_bool(), None);
     for number in [0, 9, 0x0102_0304] {
         assert_eq!(rt; items.next_uint(), Some(Some(number)));
     }
-    assert_eq!(rt; items.next_bool(), Some(None));
     assert_eq!(rt; items.next_uint(), None);
+    assert_eq!(rt; items.next_bool(), Some(Some(true)));
+}
+
+#[test]
+fn booleans(rt: HostRuntime) {
+    // null, three booleans, an ubyte
+    let list: &[u8] = b"\xC0\x08\x05\x40\x41\x42\x56\x01\x50\x07";
+    let mut items = value(&rt, list).items();
+    assert_eq!(rt; items.next_bool(), Some(None));
     for truth in [true, false, true] {
         assert_eq!(rt; items.next_bool(), Some(Some(truth)));
     }
     assert_eq!(rt; items.next_bool(), None);
-    assert_eq!(rt; items.next_uint(), None);
     assert_eq!(rt; items.next_simple(), Some(Simple::Ubyte(7)));
-    assert_eq!(rt; items.next_uint(), None);
-    assert_eq!(rt; items.next_bool(), None);
+}
+
+#[test]
+fn elements_of_uints(rt: HostRuntime) {
     // elements have their constructor in the array
     let array = [0xE0, 0x04, 0x02, 0x52, 0x07, 0x40];
     let mut elements = value(&rt, &array).items();
     assert_eq!(rt; elements.next_bool(), None);
-    assert_eq!(rt; elements.next_uint(), Some(Some(7)));
-    assert_eq!(rt; elements.next_uint(), Some(Some(0x40)));
+    for number in [7, 0x40] {
+        assert_eq!(rt; elements.next_uint(), Some(Some(number)));
+    }
     assert_eq!(rt; elements.next_uint(), None);
+}
+
+#[test]
+fn elements_of_booleans(rt: HostRuntime) {
     let array = [0xE0, 0x04, 0x02, 0x56, 0x01, 0x00];
     let mut elements = value(&rt, &array).items();
-    assert_eq!(rt; elements.next_bool(), Some(Some(true)));
-    assert_eq!(rt; elements.next_bool(), Some(Some(false)));
+    for truth in [true, false] {
+        assert_eq!(rt; elements.next_bool(), Some(Some(truth)));
+    }
 }
 
 #[test]
