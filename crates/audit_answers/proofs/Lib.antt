@@ -1,0 +1,3 @@
+pub mod ToldKnown
+pub mod OutgoingKnown
+pub mod CarriedKnown

@@ -2,7 +2,7 @@ mod FateSteps
 mod UndecidedSteps
 mod HeldSteps
 mod HeldExamples
-mod HeldAnswers
+pub mod HeldAnswers
 mod HeldKnown
 mod HeldUntouched
 mod HeldSparse
@@ -14,6 +14,6 @@ mod TouchedKnown
 mod EndedKnown
 mod TouchedAll
 mod IncomingNumbers
-mod GroupAnswers
+pub mod GroupAnswers
 mod ArrivingKnown
 mod KnownEntries
