@@ -1,1 +1,2 @@
 mod UnopenedRecords
+mod EventExamples
