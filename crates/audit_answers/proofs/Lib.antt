@@ -1,1 +1,5 @@
-pub mod KnownCarried
+mod ClosingsKnown
+mod ToldKnown
+mod OutgoingKnown
+mod CarriedKnown
+pub mod NextKnown

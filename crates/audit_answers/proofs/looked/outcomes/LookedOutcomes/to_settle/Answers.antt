@@ -7,7 +7,7 @@ use Rattle.audit_held.specs.HeldTables.{held_in}
 use Rattle.audit_held.proofs.GroupAnswers.{judged-of}
 use Rattle.audit_sent.specs.SentAnswers.{AreClosings}
 use Rattle.audit_sent.specs.SentTables.{IsTable}
-use Rattle.audit_answers.proofs.KnownCarried.{closings}
+use Rattle.audit_answers.proofs.ClosingsKnown.{closings}
 use Rattle.audit_answers.proofs.looked.outcomes.LookedOutcomes.to_settle.Goals as goal
 
 pub returns : goal.returns

@@ -1,0 +1,37 @@
+-- What a next record carries and opens is known to the tables of a lawful capture.
+use Rattle.std.proofs.Common.{◌≡◌, inl, inr, true, List, None, is_some}
+use Rattle.capture_form.specs.Rules.{RuleText}
+use Rattle.capture_form.specs.declared.records.Record.{Record}
+use Rattle.trace_clauses.specs.Clauses.{broken_clause}
+use Rattle.trace_clauses.specs.LinkClause.{asking}
+use Rattle.trace_events.specs.Event.{Event, Outgoing}
+use Rattle.trace_events.specs.History.{judge_unopened, moment_of}
+use Rattle.trace_events.specs.Session.{has_unanswered_begin}
+use Rattle.trace_law.specs.Known.{CarriesKnown, OpensKnown}
+use Rattle.audit_tables.proofs.OpenedKnown.{opens-known}
+use Rattle.audit_held.specs.EntryAnswers.{has_number}
+use Rattle.audit_held.proofs.GroupAnswers.{judged-of}
+use Rattle.audit_sent.specs.SentAnswers.{KnowsOrBegins}
+use Rattle.audit_sent.specs.declared.deliveries.SentDeliveries.{SentDeliveries}
+use Rattle.audit_sent.specs.SentTables.{AreSent}
+use Rattle.audit_sent.proofs.AnswersKnown.{progress-knows}
+use Rattle.audit_answers.specs.Tables.{AreTables}
+use Rattle.audit_answers.specs.declared.tables.Tables.{Tables}
+use Rattle.audit_answers.proofs.CarriedKnown.{carries-known}
+use Rattle.audit_answers.proofs.OutgoingKnown.{BeginsOrGoesOn}
+
+-- a record before what it opens is filled in
+abbrev unopened : List RuleText → List Event → Record → Event
+unopened rules past r = judge_unopened rules past r.connection (moment_of r.what) r.note
+
+module _ (rules : List RuleText) (past : List Event) (tables : Tables) (are : AreTables rules tables past) (r : Record) where
+  begun-or-going : (j : Outgoing) → BeginsOrGoesOn past j → KnowsOrBegins tables.sent past j
+  begun-or-going j (inl begins) = inr begins
+  begun-or-going j (inr (l, live, going)) = inl (progress-knows rules past (judged-of rules past are.0) tables.sent are.1.1.1.1.1.1.entries l j going)
+
+  pub next-carries : CarriesKnown (λ n. has_number tables.deliveries n ≡ true) (λ j. KnowsOrBegins tables.sent past j) (unopened rules past r)
+  next-carries = carries-known rules past tables.deliveries (KnowsOrBegins tables.sent past) are.0 are.1.1.1.1.0 begun-or-going r.connection (moment_of r.what) r.note
+
+  pub next-opens : broken_clause rules (unopened rules past r) past ≡ None
+      → OpensKnown (λ c channel. has_unanswered_begin c channel past ≡ true) (λ s handle. is_some (asking s handle past) ≡ true) (unopened rules past r)
+  next-opens unbroken = opens-known rules (unopened rules past r) past are.1.1.1.1.1.0 unbroken

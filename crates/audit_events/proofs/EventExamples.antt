@@ -1,0 +1,70 @@
+-- What is kept of an event, and what judging a next record answers.
+use Rattle.std.proofs.Common.{◌≡◌, refl, sym, ap, ◌∙◌, ℕ, true, false, [], Some, None, Ok, Err}
+use Rattle.amqp_frames.specs.Writing.{frame_octets}
+use Rattle.amqp_frames.specs.Reading.{whole_frame, frame_at, sized_frame, headed_frame}
+use Rattle.amqp_perf.proofs.Opened.{read, written}
+use Rattle.pairing_cert.specs.declared.note.Note.TheVariants as notes
+use Rattle.trace_events.specs.Frame.{frame_read}
+use Rattle.trace_events.specs.Event.{Event, Link, Incoming, Outgoing, Opened, Lost}
+use Rattle.trace_events.specs.History.{judge}
+use Rattle.trace_clauses.specs.declared.clause.Clause.TheVariants.{L1, L2}
+use Rattle.trace_clauses.specs.Written.{spoken_octets, written_open}
+use Rattle.trace_clauses.proofs.Captures.{opened}
+use Rattle.trace_clauses.proofs.Made.{write}
+use Rattle.audit_events.specs.HeldEvents.{no_parts, has_parts, facts_of, parts_of, event_of}
+use Rattle.audit_events.specs.NextEvents.{IsRead, IsAnswer}
+
+-- ---- memory is asked for the link alone, for either delivery alone, and for nothing else
+
+module _ (l : Link) (d : Incoming) (j : Outgoing) where
+  link_alone : has_parts (record { link = Some l; incoming = None; outgoing = None }) ≡ true
+  link_alone = refl
+
+  incoming_alone : has_parts (record { link = None; incoming = Some d; outgoing = None }) ≡ true
+  incoming_alone = refl
+
+  outgoing_alone : has_parts (record { link = None; incoming = None; outgoing = Some j }) ≡ true
+  outgoing_alone = refl
+
+no_part : has_parts no_parts ≡ false
+no_part = refl
+
+-- an event is its facts, its parts and its moment
+whole_again : (e : Event) → event_of (facts_of e) (parts_of e) e.moment ≡ e
+whole_again e = refl
+
+-- ---- a record that was read
+
+as_read : IsRead (opened 3) 3 Opened notes.None
+as_read = (refl, refl, refl)
+
+on_another_connection : IsRead (opened 3) 4 Opened notes.None → ⊥
+on_another_connection h = let never : ◌≡◌ {A = ℕ} 4 3 = h.0 in absurd cc
+
+at_another_moment : IsRead (opened 3) 3 Lost notes.None → ⊥
+at_another_moment h = let never : Lost ≡ Opened = h.1 in absurd cc
+
+with_another_note : IsRead (opened 3) 3 Opened (notes.Pair 0) → ⊥
+with_another_note h = let never : notes.Pair 0 ≡ notes.None = h.2 in absurd cc
+
+-- ---- the answer to a first record
+
+unbroken : IsAnswer [] [] (opened 0) (Ok (judge [] [] (opened 0)))
+unbroken = (refl, refl)
+
+refused_unbroken : IsAnswer [] [] (opened 0) (Err L1) → ⊥
+refused_unbroken h = let never : None ≡ Some L1 = h in absurd cc
+
+under_another_number : IsAnswer [] [] (opened 0) (Ok (record (judge [] [] (opened 0)) { number = 1 })) → ⊥
+under_another_number h = let never : ◌≡◌ {A = ℕ} 1 0 = ap (λ (e : Event). e.number) h.0 in absurd cc
+
+-- a frame on a connection that was not opened
+broken_first : IsAnswer [] [] (write 0 written_open) (Err L1)
+unfolding frame_read whole_frame frame_at sized_frame headed_frame read spoken_octets frame_octets written
+broken_first = refl
+
+broken_otherwise : IsAnswer [] [] (write 0 written_open) (Err L2) → ⊥
+broken_otherwise h = let never : Some L1 ≡ Some L2 = sym broken_first ∙ h in absurd cc
+
+broken_and_taken : IsAnswer [] [] (write 0 written_open) (Ok (judge [] [] (write 0 written_open))) → ⊥
+broken_and_taken h = let never : Some L1 ≡ None = sym broken_first ∙ h.1 in absurd cc

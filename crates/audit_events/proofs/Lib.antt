@@ -1,0 +1,2 @@
+mod UnopenedRecords
+mod EventExamples

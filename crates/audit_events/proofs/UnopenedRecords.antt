@@ -1,0 +1,36 @@
+-- The event of a record, before what it opens is filled in: the law is asked of it there.
+use Rattle.std.proofs.Common.{◌≡◌, sym, ap, subst, ◌∙◌, ℕ, List, length}
+use Rattle.pairing_cert.specs.declared.note.Note.{Note}
+use Rattle.capture_form.specs.declared.records.Record.{Record}
+use Rattle.capture_form.specs.Rules.{RuleText}
+use Rattle.trace_events.specs.Event.{Event, Moment}
+use Rattle.trace_events.specs.Session.{StandsLive}
+use Rattle.trace_events.specs.Link.{NamesLive}
+use Rattle.trace_events.specs.History.{moment_of, opened, judge, judge_unopened}
+use Rattle.trace_events.proofs.Standing.{placed-stands}
+use Rattle.trace_clauses.specs.Clauses.{broken_clause}
+use Rattle.trace_clauses.proofs.LiveLinks.{placed-names}
+use Rattle.trace_clauses.proofs.Unopened.{broken-unopened}
+use Rattle.audit_events.specs.NextEvents.{IsRead, unopened}
+
+-- what is judged of a connection, a moment and a note is judged of the record that has them
+pub read-unopened : (rules : List RuleText) (past : List Event) (r : Record) (c : ℕ) (m : Moment) (note : Note) → IsRead r c m note → judge_unopened rules past c m note ≡ unopened rules past r
+read-unopened rules past r c m note read =
+    ap (λ n. judge_unopened rules past n m note) read.0
+    ∙ (ap (λ (x : Moment). judge_unopened rules past r.connection x note) read.1 ∙ ap (λ (x : Note). judge_unopened rules past r.connection (moment_of r.what) x) read.2)
+
+module _ (rules : List RuleText) (past : List Event) (r : Record) (e : Event) (is : e ≡ unopened rules past r) where
+  pub stands-live : StandsLive e past
+  stands-live = subst (λ (x : Event). StandsLive x past) (sym is) (placed-stands past r.connection (moment_of r.what) r.note)
+
+  pub names-live : NamesLive e past
+  names-live = subst (λ (x : Event). NamesLive x past) (sym is) (placed-names past r.connection (moment_of r.what) r.note)
+
+  pub number-is : e.number ≡ length past
+  number-is = ap (λ (x : Event). x.number) is
+
+  pub broken-is : broken_clause rules e past ≡ broken_clause rules (judge rules past r) past
+  broken-is = ap (λ (x : Event). broken_clause rules x past) is ∙ sym (broken-unopened rules past r)
+
+  pub opened-is : opened past e ≡ judge rules past r
+  opened-is = ap (opened past) is

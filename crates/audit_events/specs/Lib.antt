@@ -1,0 +1,2 @@
+pub mod HeldEvents
+pub mod NextEvents

@@ -1,0 +1,99 @@
+//! An event that is kept, but for its moment, with addresses of its own: what it borrowed them from may then be moved by it.
+
+ghost use Rattle.std.specs.Prelude.{◌≡◌, IfOk, OnErr, true};
+ghost use Rattle.audit_events.specs.HeldEvents.{event_of, facts_of, parts_of, no_parts, has_parts, held_event_view};
+ghost use Rattle.trace_events.specs.Event as law;
+ghost use Rattle.trace_law.specs.View.{event_view, moment_view};
+
+use crate::held_parts::HeldParts;
+use pairing_cert::Note;
+use std::alloc::{AllocError, Global};
+use trace_events::{Fault, Session};
+use trace_law::{Event, Moment};
+
+/// What of an event borrows nothing.
+#[doc(hidden)]
+#[derive(Clone, Copy)]
+pub struct HeldFacts {
+    number: u64,
+    connection: u32,
+    note: Note,
+    session: Option<Session>,
+    told: Option<u64>,
+    settled: Option<u64>,
+    is_heard: bool,
+    fault: Option<Fault>,
+}
+
+impl HeldFacts {
+    fn new(event: &Event) -> HeldFacts
+        ensures { result ≡ facts_of (event_view event.now) }
+    {
+        HeldFacts {
+            number: event.number,
+            connection: event.connection,
+            note: event.note,
+            session: event.session,
+            told: event.told,
+            settled: event.settled,
+            is_heard: event.is_heard,
+            fault: event.fault,
+        }
+    }
+
+    /// The event of them, with this moment, and without link and deliveries.
+    fn event<'e>(&self, moment: Moment<'e>) -> Event<'e>
+        ensures { event_view result ≡ event_of self.now no_parts (moment_view moment.entry) }
+    {
+        Event {
+            number: self.number,
+            connection: self.connection,
+            moment,
+            note: self.note,
+            session: self.session,
+            link: None,
+            incoming: None,
+            outgoing: None,
+            told: self.told,
+            settled: self.settled,
+            is_heard: self.is_heard,
+            fault: self.fault,
+        }
+    }
+}
+
+/// An event but for its moment. The octets of its frame stand with whoever read them, and are handed back with the moment.
+#[derive(Drop)]
+pub struct HeldEvent {
+    facts: HeldFacts,
+    parts: HeldParts,
+}
+
+impl HeldEvent {
+    /// A copy of it.
+    ///
+    /// # Errors
+    ///
+    /// Memory was refused, for the address of a link; the event has one, or a delivery.
+    pub fn new(alloc: Global, event: &Event) -> Result<HeldEvent, AllocError>
+        ensures copied { IfOk result (λ own. (moment : law.Moment) → held_event_view own moment ≡ record (event_view event.now) { moment = moment }) }
+        ensures refused { OnErr result (has_parts (parts_of (event_view event.now)) ≡ true) }
+    {
+        Ok(HeldEvent {
+            facts: HeldFacts::new(event),
+            parts: HeldParts::new(alloc, event)?,
+        })
+    }
+
+    /// The event, with this moment, and with the addresses lent.
+    pub fn event<'e>(&'e self, moment: Moment<'e>) -> Event<'e>
+        ensures { event_view result ≡ held_event_view self.now (moment_view moment.entry) }
+    {
+        Event {
+            link: self.parts.link(),
+            incoming: self.parts.incoming(),
+            outgoing: self.parts.outgoing(),
+            ..self.facts.event(moment)
+        }
+    }
+}

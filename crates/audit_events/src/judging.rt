@@ -1,0 +1,41 @@
+//! The next record of a capture, judged by whoever can tell of those before it.
+
+ghost use Rattle.std.specs.Prelude.{◌≡◌, None, length};
+ghost use Rattle.capture_form.specs.declared.records.Record.{Record};
+ghost use Rattle.trace_clauses.specs.Clauses as law;
+ghost use Rattle.audit_events.specs.NextEvents.{IsRead, IsAnswer, unopened, viewed};
+ghost use Rattle.trace_law.specs.Known.{CarriesKnown, OpensKnown};
+ghost use Rattle.trace_law.specs.View.{Events, moment_view};
+
+use capture_form::Rule;
+use pairing_cert::Note;
+use trace_law::{Clause, Event, Moment, Questions, broken_clause, judge_moment, opened};
+
+/// The event of the next record, of this number, connection, moment and note. The past must be able to tell of what the event
+/// carries and, where it breaks no clause, of what it opens.
+///
+/// # Errors
+///
+/// The first clause that the record breaks.
+pub fn next_event<'a, P: Questions<'a>>(
+    past: &P,
+    rules: &[Rule],
+    number: u64,
+    connection: u32,
+    moment: Moment<'a>,
+    note: Note,
+) -> Result<Event<'a>, Clause>
+    requires few { P.is_short past.now }
+    ensures { (history : Events) (r : Record) → P.stands_for past.now rules.now history → number ≡ length history →
+        IsRead r connection (moment_view moment.entry) note →
+        CarriesKnown (λ n. P.knows_number past.now n history) (λ j. P.knows_outgoing past.now j history) (unopened rules.now history r) →
+        (law.broken_clause rules.now (unopened rules.now history r) history ≡ None →
+        OpensKnown (λ c channel. P.knows_begin past.now c channel history) (λ s handle. P.knows_attach past.now s handle history) (unopened rules.now history r)) →
+        IsAnswer rules.now history r (viewed result) }
+{
+    let event = judge_moment(past, rules, number, connection, moment, note);
+    match broken_clause(past, rules, &event) {
+        Some(clause) => Err(clause),
+        None => Ok(opened(past, event)),
+    }
+}

@@ -1,0 +1,31 @@
+//! What a capture holds, counted record by record.
+
+ghost use Rattle.std.specs.Prelude.{◌≡◌, ◌∷◌, ◌<◌, ◌^◌, length, cond};
+ghost use Rattle.trace_clauses.specs.Verdict.{tally_of, tells_outcome};
+ghost use Rattle.trace_law.specs.View.{Events, event_view};
+
+use amqp_perf::Role;
+use trace_law::{Event, Tally};
+
+/// The event tells an outcome.
+fn is_outcome(event: &Event) -> bool
+    ensures { result ≡ tells_outcome (event_view event.now) }
+{
+    match event.out_disposition() {
+        Some(disposition) => disposition.role == Role::Receiver,
+        None => false,
+    }
+}
+
+/// The tally of the events with this one more; right where they are fewer than 2^63.
+pub fn counted(tally: Tally, event: &Event) -> Tally
+    ensures { (past : Events) → tally ≡ tally_of past → length past < 2 ^ 63 → result ≡ tally_of (event_view event.now ∷ past) }
+{
+    Tally {
+        records: tally.records.saturating_add(1),
+        deliveries: tally
+            .deliveries
+            .saturating_add(u64::from(event.begins_outgoing())),
+        outcomes: tally.outcomes.saturating_add(u64::from(is_outcome(event))),
+    }
+}
