@@ -6,6 +6,8 @@
 
 mod looked;
 mod tables;
+#[cfg(test)]
+mod tests;
 
 pub use looked::Looked;
 pub use tables::Tables;
