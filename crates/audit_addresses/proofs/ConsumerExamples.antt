@@ -1,5 +1,5 @@
--- Which links are the consumers of an address: behind a producer's link of `q` in record 6 and a consumer's in record 13.
-use Rattle.std.specs.Prelude.{◌≡◌, ℕ, Bool, true, false, List, [], ◌∷◌, ◌++◌, codes, take, refl}
+-- Which links are consumers', and of which address: behind a producer's link of `q` in record 6 and a consumer's in record 13.
+use Rattle.std.specs.Prelude.{◌≡◌, ℕ, Bool, true, false, List, [], ◌∷◌, ◌++◌, Some, None, bytes_eq, codes, is_some, take, refl}
 use Rattle.std.specs.Fmt.{digits}
 use Rattle.amqp_frames.specs.Writing.{frame_octets}
 use Rattle.amqp_frames.specs.Reading.{whole_frame, frame_at, sized_frame, headed_frame}
@@ -16,6 +16,7 @@ use Rattle.trace_events.specs.Link.{link_at}
 use Rattle.trace_events.specs.History.{history, judge}
 use Rattle.trace_clauses.specs.Written.{spoken_octets}
 use Rattle.trace_clauses.proofs.Made.{from, write, consumer, detach_of, pair, producer, q, written_to_consumer, written_to_producer}
+use Rattle.audit_addresses.specs.ConsumerLinks.{consumer_at, opened_at, with_opened, without}
 use Rattle.audit_addresses.specs.Consumers.{has_some, is_ended, opens_consumer, opens_for}
 
 abbrev other : List ℕ
@@ -128,3 +129,59 @@ has_one = refl
 
 has_none : has_some [] ≡ false
 has_none = refl
+
+-- ---- the live link of a consumer that has a number
+
+unfoldable finds : List Record → ℕ → Bool
+unfolding frame_read whole_frame frame_at sized_frame headed_frame read digits spoken_octets frame_octets written
+finds records n = is_some_and (consumer_at n (history [] records)) (λ l. bytes_eq l.address q)
+
+finds_consumer : finds pair 13 ≡ true
+unfolding finds
+finds_consumer = refl
+
+finds_no_producer : finds pair 6 ≡ false
+unfolding finds
+finds_no_producer = refl
+
+finds_no_other : finds pair 12 ≡ false
+unfolding finds
+finds_no_other = refl
+
+finds_none_that_left : finds (pair ++ (from 1 (detach_of true) ∷ [])) 13 ≡ false
+unfolding finds
+finds_none_that_left = refl
+
+-- ---- the link of a number that a record opens
+
+opens_of_number : opens (λ e. is_some (opened_at 6 e)) asked_by_consumer answers_consumer ≡ true
+unfolding opens
+opens_of_number = refl
+
+opens_of_another : opens (λ e. is_some (opened_at 5 e)) asked_by_consumer answers_consumer ≡ false
+unfolding opens
+opens_of_another = refl
+
+opens_of_producer : opens (λ e. is_some (opened_at 6 e)) asked_by_producer answers_producer ≡ false
+unfolding opens
+opens_of_producer = refl
+
+opens_of_named : opens (λ e. is_some (opened_at 6 e)) (consumer 0 Mixed q) (from 0 (detach_of true)) ≡ false
+unfolding opens
+opens_of_named = refl
+
+opens_in_place : opens (λ e. is_some_and (with_opened 6 e (Some (link other 6))) (λ l. bytes_eq l.address q)) asked_by_consumer answers_consumer ≡ true
+unfolding opens
+opens_in_place = refl
+
+opens_beside : opens (λ e. is_some_and (with_opened 5 e (Some (link other 5))) (λ l. bytes_eq l.address other)) asked_by_consumer answers_consumer ≡ true
+unfolding opens
+opens_beside = refl
+
+-- ---- what stands but for links that ended
+
+ends_its_own : without (link other 5 ∷ link q 6 ∷ []) 6 (Some (link q 6)) ≡ None
+ends_its_own = refl
+
+ends_others : without (link q 5 ∷ []) 6 (Some (link q 6)) ≡ Some (link q 6)
+ends_others = refl

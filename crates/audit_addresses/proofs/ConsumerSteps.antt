@@ -29,7 +29,7 @@ only : {X : Type 0} (x y : X) → Contains (x ∷ []) y → x ≡ y
 only x y in_it = elim (Contains-push_cases [] x y in_it) [ inl none ↦ none_in y none | inr is ↦ is ]
 
 module _ {X : Type 0} (test : X → Bool) where
-  any-gives : (xs : List X) (x : X) → Contains xs x → test x ≡ true → list_any test xs ≡ true
+  pub any-gives : (xs : List X) (x : X) → Contains xs x → test x ≡ true → list_any test xs ≡ true
   any-gives [] x in_it is = none_in x in_it
   any-gives (z ∷ xs) x in_it is = elim (Contains-append_cases (z ∷ []) xs x in_it) [
     | inl first ↦ ap (λ b. b || list_any test xs) (ap test (only z x first) ∙ is)
@@ -40,7 +40,7 @@ module _ {X : Type 0} (test : X → Bool) where
       either true b is = refl
       either false b is = is
 
-  any-from : (xs : List X) → list_any test xs ≡ true → (x : X) × (Contains xs x × (test x ≡ true))
+  pub any-from : (xs : List X) → list_any test xs ≡ true → (x : X) × (Contains xs x × (test x ≡ true))
   any-from [] is = absurd cc
   any-from (z ∷ xs) is = by (test z) refl is (any-from xs)
     where
@@ -62,13 +62,13 @@ last_of : (over : Bool) (last : Option Session) (s : Session) → (if over then 
 last_of true last s is = absurd cc
 last_of false last s is = is
 
-same_some : {A : Type 0} (a b : A) → Some a ≡ Some b → a ≡ b
+pub same_some : {A : Type 0} (a b : A) → Some a ≡ Some b → a ≡ b
 same_some a b is = cc
 
 module _ (rules : List RuleText) (e : Event) (past : List Event) (are : AreJudged rules (e ∷ past)) (ended : List Link)
     (all : (l : Link) → Contains ended l ↔ IsLiveLink l past × (ends_link l e ≡ true)) where
   -- a live link is found by its number, which is one of the history
-  known : (l : Link) → IsLiveLink l past → IsKnown past l
+  pub known : (l : Link) → IsLiveLink l past → IsKnown past l
   known l live =
       let s = l.session in
       let session = last_session-known rules past are.1 s.connection s.channel s (last_of (is_over s.connection past) (last_session s.connection s.channel past) s live.0) in

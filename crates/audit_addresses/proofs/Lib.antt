@@ -1,4 +1,5 @@
 pub mod ConsumerSteps
 pub mod ConsumersOf
+pub mod ConsumerLinkSteps
 pub mod EndedOnes
 mod ConsumerExamples

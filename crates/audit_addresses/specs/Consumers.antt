@@ -1,16 +1,21 @@
 -- What the table of consumers stands for.
 use Rattle.std.specs.Prelude.{◌≡◌, ℕ, Bool, true, false, ◌&&◌, List, [], ◌∷◌, is_some, bytes_eq, ◌==◌}
 use Rattle.std.specs.List.{list_any}
-use Rattle.number_groups.specs.OctetGroups.{is_member, numbers}
+use Rattle.number_groups.specs.Numbers.{is_among}
+use Rattle.number_groups.specs.OctetGroups.{numbers}
 use Rattle.trace_events.specs.Words.{is_some_and, where_passes}
 use Rattle.trace_events.specs.Event.{Event, Link}
 use Rattle.trace_events.specs.Address.{is_consumer_of}
 use Rattle.trace_events.specs.Link.{is_consumer, link_at, own_link}
 use Rattle.audit_addresses.specs.declared.consumers.Consumers.{Consumers}
 
+-- the numbers that the table has at the address, in their order
+abbrev pub numbers_at : Consumers → List ℕ → List ℕ
+numbers_at table address = numbers table.groups address
+
 -- the table has this number at the address
 abbrev pub stands : Consumers → List ℕ → ℕ → Bool
-stands table address n = is_member table.groups address n
+stands table address n = is_among (numbers_at table address) n
 
 -- the list has a number
 abbrev pub has_some : List ℕ → Bool
@@ -19,7 +24,7 @@ has_some (n ∷ ns) = true
 
 -- the table has a number at the address
 abbrev pub is_served : Consumers → List ℕ → Bool
-is_served table address = has_some (numbers table.groups address)
+is_served table address = has_some (numbers_at table address)
 
 -- just the numbers of the links that are live consumers of the address behind these events
 abbrev pub AreConsumers : Consumers → List Event → Type 0

@@ -1,12 +1,12 @@
 //! The live links of each address's consumers.
 
-ghost use Rattle.std.specs.Prelude.{◌≡◌, ◌||◌, ◌&&◌, ◌==◌, ℕ, List, [], ◌∷◌, OnOk, OnErr, length, not, option_map, true};
+ghost use Rattle.std.specs.Prelude.{◌≡◌, ◌||◌, ◌&&◌, ◌==◌, ℕ, List, [], ◌∷◌, OnOk, OnErr, length, not, option_map, slice_get, true};
 ghost use Rattle.capture_form.specs.Rules.{RuleText};
 ghost use Rattle.capture_form.specs.declared.records.Record.{Record};
 ghost use Rattle.trace_events.specs.Address as law;
 ghost use Rattle.trace_events.specs.History.{history, judge};
 ghost use Rattle.audit_tables.specs.EndedLinks.{AreEnded, views};
-ghost use Rattle.audit_addresses.specs.Consumers.{AreConsumers, AreSame, is_ended, is_served, opens_consumer, opens_for, stands};
+ghost use Rattle.audit_addresses.specs.Consumers.{AreConsumers, AreSame, is_ended, is_served, numbers_at, opens_consumer, opens_for, stands};
 ghost use Rattle.trace_events.specs.Link.{is_consumer, own_link};
 ghost use Rattle.trace_events.specs.Words.{where_passes};
 ghost use Rattle.trace_law.specs.View.{event_view, link_view};
@@ -24,7 +24,7 @@ pub struct Consumers {
 }
 
 /// The consumer's link that the event opens.
-fn opened<'a>(event: &Event<'a>) -> Option<Link<'a>>
+pub(crate) fn opened<'a>(event: &Event<'a>) -> Option<Link<'a>>
     ensures { option_map link_view result ≡ where_passes is_consumer (own_link (event_view event.now)) }
 {
     match event.link {
@@ -92,10 +92,18 @@ impl Consumers {
 
     /// How many consumers' links live at the address.
     pub fn count(&self, address: &[u8]) -> usize
-        ensures { (rules : List RuleText) (records : List Record) → AreConsumers self.now (history rules records) →
+        ensures stored { result ≡ length (numbers_at self.now address.now) }
+        ensures known { (rules : List RuleText) (records : List Record) → AreConsumers self.now (history rules records) →
             result ≡ length (law.consumers address.now (history rules records)) }
     {
         self.groups.count(address)
+    }
+
+    /// The number at the index of those of the address, in an order that stays until one of them ends.
+    pub fn get(&self, address: &[u8], index: usize) -> Option<u64>
+        ensures { result ≡ slice_get (numbers_at self.now address.now) index }
+    {
+        self.groups.get(address, index)
     }
 }
 

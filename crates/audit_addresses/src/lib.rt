@@ -1,13 +1,16 @@
 //! What the records of a capture have come to at the addresses, moved forward by one event after the other.
 //!
 //! - `addresses`: what is asked of the consumers of addresses;
-//! - `consumers`: by address the live links of its consumers.
+//! - `consumers`: by address the numbers of the live links of its consumers;
+//! - `consumer_links`: by number these links themselves.
 #![tactic(auto)]
 
 mod addresses;
+mod consumer_links;
 mod consumers;
 #[cfg(test)]
 mod tests;
 
 pub use addresses::Addresses;
+pub use consumer_links::ConsumerLinks;
 pub use consumers::Consumers;

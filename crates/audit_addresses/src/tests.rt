@@ -1,6 +1,6 @@
 //! Consumers that come and go at two addresses, with known answers.
 
-use crate::Consumers;
+use crate::{ConsumerLinks, Consumers};
 use amqp_perf::Role;
 use pairing_cert::Note;
 use std::test::Fail;
@@ -103,5 +103,39 @@ fn a_link_in_the_place_of_another(rt: HostRuntime) -> Result<(), Fail> {
     assert_eq!(rt; consumers.count(b"q"), 1);
     consumers.take(&names(30, None), &[FIRST])?;
     assert!(rt; consumers.has_consumer(b"q"));
+    Ok(())
+}
+
+/// What is known of a link by its number: its handle and its address.
+fn known<'a>(links: &'a ConsumerLinks, number: u64) -> Option<(u32, &'a [u8])> {
+    let link = links.get(number)?;
+    Some((link.handle, link.address))
+}
+
+#[test]
+fn consumers_links_come_and_go(rt: HostRuntime) -> Result<(), Fail> {
+    let mut links = ConsumerLinks::new(rt.alloc());
+    assert_eq!(rt; known(&links, 21), None);
+    for link in [FIRST, SECOND, OTHER, PRODUCER] {
+        links.take(&opens(link), &[])?;
+    }
+    assert_eq!(rt; known(&links, 21), Some((4, b"q" as &[u8])));
+    assert_eq!(rt; known(&links, 23), Some((6, b"other" as &[u8])));
+    assert_eq!(rt; known(&links, 24), None);
+    links.take(&names(26, Some(FIRST)), &[FIRST, PRODUCER])?;
+    assert_eq!(rt; known(&links, 21), None);
+    assert_eq!(rt; known(&links, 22), Some((5, b"q" as &[u8])));
+    Ok(())
+}
+
+#[test]
+fn numbers_of_an_address(rt: HostRuntime) -> Result<(), Fail> {
+    let mut consumers = Consumers::new(rt.alloc());
+    consumers.take(&opens(FIRST), &[])?;
+    consumers.take(&opens(SECOND), &[])?;
+    assert_eq!(rt; consumers.get(b"q", 0), Some(21));
+    assert_eq!(rt; consumers.get(b"q", 1), Some(22));
+    assert_eq!(rt; consumers.get(b"q", 2), None);
+    assert_eq!(rt; consumers.get(b"other", 0), None);
     Ok(())
 }

@@ -27,11 +27,11 @@ unopened rules past r = judge_unopened rules past r.connection (moment_of r.what
 module _ (rules : List RuleText) (past : List Event) (tables : Tables) (are : AreTables rules tables past) (r : Record) where
   begun-or-going : (j : Outgoing) → BeginsOrGoesOn past j → KnowsOrBegins tables.sent past j
   begun-or-going j (inl begins) = inr begins
-  begun-or-going j (inr (l, live, going)) = inl (progress-knows rules past (judged-of rules past are.0) tables.sent are.1.1.1.1.1.1.entries l j going)
+  begun-or-going j (inr (l, live, going)) = inl (progress-knows rules past (judged-of rules past are.0) tables.sent are.1.1.1.1.1.1.1.1.entries l j going)
 
   pub next-carries : CarriesKnown (λ n. has_number tables.deliveries n ≡ true) (λ j. KnowsOrBegins tables.sent past j) (unopened rules past r)
   next-carries = carries-known rules past tables.deliveries (KnowsOrBegins tables.sent past) are.0 are.1.1.1.1.0 begun-or-going r.connection (moment_of r.what) r.note
 
   pub next-opens : broken_clause rules (unopened rules past r) past ≡ None
       → OpensKnown (λ c channel. has_unanswered_begin c channel past ≡ true) (λ s handle. is_some (asking s handle past) ≡ true) (unopened rules past r)
-  next-opens unbroken = opens-known rules (unopened rules past r) past are.1.1.1.1.1.0 unbroken
+  next-opens unbroken = opens-known rules (unopened rules past r) past are.1.1.1.1.1.1.1.0 unbroken

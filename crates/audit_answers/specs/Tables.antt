@@ -9,19 +9,23 @@ use Rattle.audit_tables.specs.declared.connections.Connections.{Connections}
 use Rattle.audit_tables.specs.declared.links.Links.{Links}
 use Rattle.audit_addresses.specs.Consumers.{AreConsumers}
 use Rattle.audit_addresses.specs.declared.consumers.Consumers.{Consumers}
+use Rattle.audit_addresses.specs.ConsumerLinks.{AreConsumerLinks}
+use Rattle.audit_addresses.specs.declared.consumer_links.ConsumerLinks.{ConsumerLinks}
 use Rattle.audit_held.specs.HeldTables.{IsHistory, IsTable}
 use Rattle.audit_held.specs.declared.deliveries.Deliveries.{Deliveries}
+use Rattle.audit_copies.specs.Copies.{AreCopies}
+use Rattle.audit_copies.specs.declared.copies.Copies.{Copies}
 use Rattle.audit_sent.specs.SentTables as sent_tables
 use Rattle.audit_sent.specs.declared.deliveries.SentDeliveries.{SentDeliveries}
 use Rattle.audit_answers.specs.declared.tables.Tables.{Tables}
 
 -- each has what the law says of these events, which are those of some records judged by these rules, each of which meets the
 -- clauses
-abbrev pub StandFor : List RuleText → Connections → Links → Consumers → Deliveries → SentDeliveries → List Event → Type 0
-StandFor rules connections links consumers deliveries sent past =
-    IsHistory rules past
-    × (AreKept connections past
-    × (AreLinked links past × (AreConsumers consumers past × (IsTable rules deliveries past × ((first_broken rules past ≡ None) × sent_tables.IsTable sent past)))))
+abbrev pub StandFor : List RuleText → Connections → Links → Consumers → Deliveries → ConsumerLinks → Copies → SentDeliveries → List Event → Type 0
+StandFor rules connections links consumers deliveries receivers copies sent past =
+    IsHistory rules past × (AreKept connections past × (AreLinked links past × (AreConsumers consumers past × (IsTable rules deliveries past
+    × (AreConsumerLinks receivers past × (AreCopies rules copies past × ((first_broken rules past ≡ None) × sent_tables.IsTable sent past)))))))
 
 abbrev pub AreTables : List RuleText → Tables → List Event → Type 0
-AreTables rules tables past = StandFor rules tables.connections tables.links tables.consumers tables.deliveries tables.sent past
+AreTables rules tables past =
+    StandFor rules tables.connections tables.links tables.consumers tables.deliveries tables.receivers tables.copies tables.sent past

@@ -1,13 +1,15 @@
 //! The tables of the auditor, as the one who answers the questions of `trace_law`.
 //!
 //! - `tables`: all tables, moved forward by one event after the other;
-//! - `looked`: the same, lent to be asked, with `outcomes`;
+//! - `looked`: the same, lent to be asked, with `outcomes` and `carriage`;
 //! - `closings`: what the table of deliveries from clients tells that of deliveries to clients.
 #![tactic(auto)]
 
 mod closings;
 mod looked;
 mod tables;
+#[cfg(test)]
+mod tests;
 
 pub use looked::Looked;
 pub use tables::Tables;

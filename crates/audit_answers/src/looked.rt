@@ -1,15 +1,17 @@
 //! The tables, lent to whoever asks them the questions of `trace_law`.
 
+mod carriage;
 mod outcomes;
 
 use amqp_perf::Begin;
-use audit_addresses::Consumers;
+use audit_addresses::{ConsumerLinks, Consumers};
+use audit_copies::Copies;
 use audit_held::Deliveries;
 use audit_sent::SentDeliveries;
 use audit_tables::{Connections, Links};
 use capture_form::Rule;
 use trace_events::Session;
-use trace_law::{Asking, History, Incoming, Inputs, Link, Openings};
+use trace_law::{Asking, Counts, History, Incoming, Inputs, Link, Openings, Questions};
 
 /// The tables, lent.
 #[derive(Clone, Copy)]
@@ -18,6 +20,8 @@ pub struct Looked<'t> {
     pub links: &'t Links,
     pub consumers: &'t Consumers,
     pub deliveries: &'t Deliveries,
+    pub receivers: &'t ConsumerLinks,
+    pub copies: &'t Copies,
     pub sent: &'t SentDeliveries,
 }
 
@@ -30,7 +34,8 @@ impl<'t> History for Looked<'t> {
     ghost use Rattle.audit_sent.specs.SentAnswers.{KnowsOrBegins};
 
     ghost stands_for = { λ looked rules history.
-        StandFor rules looked.connections.now looked.links.now looked.consumers.now looked.deliveries.now looked.sent.now history };
+        StandFor rules looked.connections.now looked.links.now looked.consumers.now looked.deliveries.now
+        looked.receivers.now looked.copies.now looked.sent.now history };
 
     ghost knows_number = { λ looked number history. has_number looked.deliveries.now number ≡ true };
 
@@ -132,3 +137,55 @@ impl<'t> Openings<'t> for Looked<'t> {
         self.links.owes_detach(session, handle)
     }
 }
+
+impl<'t> Counts for Looked<'t> {
+    fn session_window(&self, session: Session) -> u32 {
+        self.connections.session_window(session)
+    }
+
+    fn next_outgoing_id(&self, session: Session) -> u32 {
+        self.connections.next_outgoing_id(session)
+    }
+
+    fn next_incoming_id(&self, session: Session) -> u32 {
+        self.connections.next_incoming_id(session)
+    }
+
+    fn next_delivery_id(&self, session: Session) -> u32 {
+        self.connections.next_delivery_id(session)
+    }
+
+    fn link_credit(&self, link: &Link) -> u32 {
+        self.links.link_credit(link)
+    }
+
+    fn delivery_count(&self, link: &Link) -> u32 {
+        self.links.delivery_count(link)
+    }
+
+    fn is_draining(&self, link: &Link) -> bool {
+        self.links.is_draining(link)
+    }
+
+    fn received_count(&self, link: &Link) -> u32 {
+        self.links.received_count(link)
+    }
+
+    fn undecided_count(&self, _rules: &[Rule], link: &Link) -> u64 {
+        self.deliveries.undecided_count(link)
+    }
+
+    fn has_consumer(&self, address: &[u8]) -> bool {
+        self.consumers.has_consumer(address)
+    }
+
+    fn has_waiting(&self, _rules: &[Rule], address: &[u8]) -> bool {
+        self.deliveries.has_waiting(address)
+    }
+
+    fn has_unsent(&self, _rules: &[Rule], link: &Link) -> bool {
+        self.copies.has_unsent(link)
+    }
+}
+
+impl<'t> Questions<'t> for Looked<'t> {}

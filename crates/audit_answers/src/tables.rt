@@ -9,7 +9,8 @@ ghost use Rattle.audit_answers.specs.Tables.{AreTables, StandFor};
 ghost use Rattle.trace_law.specs.View.{Events, event_view};
 
 use crate::looked::Looked;
-use audit_addresses::Consumers;
+use audit_addresses::{ConsumerLinks, Consumers};
+use audit_copies::{Copies, receivers_of};
 use audit_held::Deliveries;
 use audit_sent::SentDeliveries;
 use audit_tables::{Connections, Links};
@@ -25,6 +26,8 @@ pub struct Tables {
     links: Links,
     consumers: Consumers,
     deliveries: Deliveries,
+    receivers: ConsumerLinks,
+    copies: Copies,
     sent: SentDeliveries,
 }
 
@@ -39,6 +42,8 @@ impl Tables {
             links: Links::new(alloc),
             consumers: Consumers::new(alloc),
             deliveries: Deliveries::new(alloc),
+            receivers: ConsumerLinks::new(alloc),
+            copies: Copies::new(alloc),
             sent: SentDeliveries::new(alloc),
         }
     }
@@ -46,13 +51,16 @@ impl Tables {
     /// The tables, lent to be asked.
     pub fn looked(&self) -> Looked<'_>
         ensures { (rules : List RuleText) (history : Events) → AreTables rules self.now history →
-            StandFor rules result.connections.now result.links.now result.consumers.now result.deliveries.now result.sent.now history }
+            StandFor rules result.connections.now result.links.now result.consumers.now result.deliveries.now
+            result.receivers.now result.copies.now result.sent.now history }
     {
         Looked {
             connections: &self.connections,
             links: &self.links,
             consumers: &self.consumers,
             deliveries: &self.deliveries,
+            receivers: &self.receivers,
+            copies: &self.copies,
             sent: &self.sent,
         }
     }
@@ -68,8 +76,18 @@ impl Tables {
             AreTables rules.now self.new (event_view event.now ∷ history rules.now records)) }
     {
         let ended = self.links.ended(self.alloc, event)?;
+        let receivers = receivers_of(
+            self.alloc,
+            rules,
+            event,
+            &self.consumers,
+            &self.receivers,
+            &self.links,
+        )?;
         self.consumers.take(event, &ended)?;
         self.deliveries.take(rules, event, &ended, &self.consumers)?;
+        self.receivers.take(event, &ended)?;
+        self.copies.take(rules, event, &ended, &receivers)?;
         self.sent.take(event, &ended)?;
         drop(ended);
         self.links.take(event)?;

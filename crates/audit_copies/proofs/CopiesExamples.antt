@@ -10,6 +10,7 @@ use Rattle.trace_events.specs.Outgoing.{names}
 use Rattle.trace_events.specs.Said.{out_transfer}
 use Rattle.trace_events.specs.Words.{is_some_and}
 use Rattle.audit_copies.specs.Copies.{has_number, has_room, is_ended, names_at}
+use Rattle.audit_copies.specs.Receivers.{receiver_on}
 use Rattle.audit_copies.specs.declared.copies.Receiver.{Receiver}
 
 -- ---- receivers: the links 6 and 8, which have credit for one copy and for two
@@ -48,6 +49,11 @@ ended = refl
 
 another_ended : is_ended (link_six ∷ []) 8 ≡ false
 another_ended = refl
+
+-- before its first flow a link has no credit (part 2 of the standard, section 2.6.7)
+
+receives : receiver_on [] link_six ≡ record { link = 6; credit = 0 }
+receives = refl
 
 -- ---- an event of the link 6 whose note names the delivery 20
 

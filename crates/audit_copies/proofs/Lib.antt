@@ -3,3 +3,4 @@ mod CopySteps
 mod CopiesKnown
 mod CopiesExamples
 mod TableSteps
+mod ReceiversOf

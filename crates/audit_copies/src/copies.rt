@@ -67,7 +67,7 @@ fn has_multicast(rules: &[Rule], address: &[u8]) -> bool
 }
 
 /// The delivery of multicast that the event completes.
-fn copied<'a>(rules: &[Rule], event: &Event<'a>) -> Option<Incoming<'a>>
+pub(crate) fn copied<'a>(rules: &[Rule], event: &Event<'a>) -> Option<Incoming<'a>>
     ensures { option_map incoming_view result ≡ copied_by rules.now (event_view event.now) }
 {
     match completed(event) {

@@ -30,6 +30,10 @@ module _ (rules : List RuleText) (past : List Event) (table : Deliveries) (are :
       by None is knows = absurd cc
       by (Some x) is knows = record { entry = x; is = is; same = cc; of = held-of rules d.number past x (sym (are d.number) ∙ is) }
 
+  -- it is one of the capture
+  pub knows-at : (d : Incoming) → Knows table d → incoming_at d.number past ≡ Some d
+  knows-at d knows = let k = known-as d knows in k.of.at ∙ ap Some k.same
+
   pub known-complete : (d : Incoming) → Knows table d → says_complete (held_in table d.number) ≡ is_complete d past
   known-complete d knows =
       let k = known-as d knows in

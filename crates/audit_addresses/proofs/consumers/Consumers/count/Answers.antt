@@ -5,7 +5,7 @@ use Rattle.trace_events.proofs.Judged.{history-judged}
 use Rattle.audit_addresses.proofs.ConsumersOf.{consumers-count}
 use Rattle.audit_addresses.proofs.consumers.Consumers.count.Goals as goal
 
-pub returns : goal.returns
-returns c = λ rules records are.
+pub returns-clause-known : goal.returns-clause-known
+returns-clause-known c = λ rules records are.
     c.count.ensures.count
     ∙ consumers-count rules (history rules records) (history-judged rules records) c.args.address.now (numbers c.args.self.now.groups c.args.address.now) c.count.ensures.distinct (are c.args.address.now)

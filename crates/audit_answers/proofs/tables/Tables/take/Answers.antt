@@ -6,6 +6,8 @@ use Rattle.trace_law.specs.View.{event_view}
 use Rattle.trace_law.specs.declared.history.event.Link.{Link}
 use Rattle.audit_tables.specs.EndedLinks.{AreEnded, views}
 use Rattle.audit_addresses.proofs.ConsumersOf.{are-served}
+use Rattle.audit_copies.specs.Copies.{AreReceivers}
+use Rattle.audit_copies.specs.declared.copies.Receiver.{Receiver}
 use Rattle.audit_answers.proofs.tables.Tables.take.Goals as goal
 
 pub returns : goal.returns
@@ -15,14 +17,23 @@ returns c = λ records r next tables.
     let past = history rules records in
     let are : AreJudged rules (e ∷ past) = ((r, next.0), history-judged rules records) in
     let linked = tables.1.1.0 in
+    let consumed = tables.1.1.1.0 in
+    let receiving = tables.1.1.1.1.1.0 in
     let ended = c.in_ok-ended.ensures rules records r next.0 linked in
     let Ended : List Link → Type 0 = λ links. AreEnded e past (views links) in
-    let lent = subst Ended (sym c.deref.ensures.value) ended in
-    let again = subst Ended (sym c.deref-2.ensures.value) ended in
-    let third = subst Ended (sym c.deref-3.ensures.value) ended in
-    let consuming = c.in_ok-take.ensures.kept rules records r next.0 lent tables.1.1.1.0 in
-    let held = c.in_ok-take-2.ensures.kept records r next tables.1.1.1.1.0 (are-served rules (e ∷ past) are c.take.new.self consuming) (λ l live ends. (again l).1 (live, ends)) in
-    let sent = c.in_ok-take-3.ensures rules records r next.0 tables.1.1.1.1.1.1 third in (
+    let Received : List Receiver → Type 0 = λ receivers. AreReceivers rules e past receivers in
+    let to_consumers = subst Ended (sym c.deref.ensures.value) ended in
+    let to_deliveries = subst Ended (sym c.deref-2.ensures.value) ended in
+    let to_receivers = subst Ended (sym c.deref-3.ensures.value) ended in
+    let to_copies = subst Ended (sym c.deref-4.ensures.value) ended in
+    let received = subst Received (sym c.deref-5.ensures.value) (c.in_ok-receivers.ensures.known records consumed receiving linked) in
+    let consuming = c.in_ok-take.ensures.kept rules records r next.0 to_consumers consumed in
+    let held = c.in_ok-take-2.ensures.kept records r next tables.1.1.1.1.0 (are-served rules (e ∷ past) are c.take.new.self consuming) (λ l live ends. (to_deliveries l).1 (live, ends)) in
+    let links = c.in_ok-take-3.ensures.kept rules records r next.0 to_receivers receiving in
+    let copies = c.in_ok-take-4.ensures.kept records r next tables.1.1.1.1.1.1.0 to_copies received in
+    let to_sent = subst Ended (sym c.deref-6.ensures.value) ended in
+    let sent = c.in_ok-take-5.ensures rules records r next.0 tables.1.1.1.1.1.1.1.1 to_sent in
+    (
       judged-history rules (e ∷ past) are,
-      (c.in_ok-take-5.ensures.kept rules records r next tables.1.0, (c.in_ok-take-4.ensures.kept rules records r next.0 linked, (consuming, (held, (next.1, sent))))),
+      (c.in_ok-take-7.ensures.kept rules records r next tables.1.0, (c.in_ok-take-6.ensures.kept rules records r next.0 linked, (consuming, (held, (links, (copies, (next.1, sent))))))),
     )
