@@ -12,8 +12,6 @@ use Rattle.audit_tables.proofs.OpenedKnown.{opens-known}
 use Rattle.audit_held.specs.EntryAnswers.{has_number}
 use Rattle.audit_held.proofs.GroupAnswers.{judged-of}
 use Rattle.audit_sent.specs.SentAnswers.{KnowsOrBegins}
-use Rattle.audit_sent.specs.declared.deliveries.SentDeliveries.{SentDeliveries}
-use Rattle.audit_sent.specs.SentTables.{AreSent}
 use Rattle.audit_sent.proofs.AnswersKnown.{progress-knows}
 use Rattle.audit_answers.specs.Tables.{AreTables}
 use Rattle.audit_answers.specs.declared.tables.Tables.{Tables}

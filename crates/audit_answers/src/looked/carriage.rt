@@ -30,7 +30,8 @@ impl<'t> Carriage<'t> for Looked<'t> {
         octets: &'t [u8],
     ) -> bool {
         let payload = self.deliveries.payload(delivery);
-        self.sent.is_payload_so_far(outgoing.number, more, payload, octets)
+        self.sent
+            .is_payload_so_far(outgoing.number, more, payload, octets)
     }
 
     fn is_paired(&self, delivery: &Incoming) -> bool {

@@ -32,8 +32,7 @@ returns c = λ records r next tables.
     let links = c.in_ok-take-3.ensures.kept rules records r next.0 to_receivers receiving in
     let copies = c.in_ok-take-4.ensures.kept records r next tables.1.1.1.1.1.1.0 to_copies received in
     let to_sent = subst Ended (sym c.deref-6.ensures.value) ended in
-    let sent = c.in_ok-take-5.ensures rules records r next.0 tables.1.1.1.1.1.1.1.1 to_sent in
-    (
+    let sent = c.in_ok-take-5.ensures rules records r next.0 tables.1.1.1.1.1.1.1.1 to_sent in (
       judged-history rules (e ∷ past) are,
       (c.in_ok-take-7.ensures.kept rules records r next tables.1.0, (c.in_ok-take-6.ensures.kept rules records r next.0 linked, (consuming, (held, (links, (copies, (next.1, sent))))))),
     )
