@@ -10,7 +10,7 @@ mod HandlesOfChannels
 mod HandleTables
 mod LinksTaken
 mod LiveHandles
-mod OpenedKnown
+pub mod OpenedKnown
 pub mod EndedMembers
 pub mod EndedSteps
 pub mod EndedTables
