@@ -1,2 +1,3 @@
 mod UnopenedRecords
+pub mod NextAnswers
 mod EventExamples
