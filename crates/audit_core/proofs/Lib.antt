@@ -1,3 +1,4 @@
+mod Taken
 pub mod Verdicts
 pub mod Recorded
 pub mod Answered

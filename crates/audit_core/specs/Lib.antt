@@ -1,2 +1,3 @@
+pub mod Auditor
 pub mod Verdict
 pub mod Report

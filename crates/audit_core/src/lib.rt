@@ -9,10 +9,12 @@
 //! - `laws`: that of any octets exactly one verdict holds.
 #![tactic(auto)]
 
+mod auditor;
 mod judging;
 mod laws;
 mod verdict;
 
+pub use auditor::{Auditor, MOST_RECORDS};
 pub use capture_form::FormKind;
 pub use judging::{audit, audit_bytes};
 pub use laws::one_verdict;
