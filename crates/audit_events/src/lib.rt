@@ -5,6 +5,9 @@
 //! - `judging`: a record's event, or the first clause that it breaks;
 //! - `held_event`: an event that is kept, but for its moment, with `held_parts`: its link and its deliveries;
 //! - `tallied`: what the records up to this one hold.
+//!
+//! In `proofs/`, `NextAnswers` says what the answer is worth: with the event the capture is lawful, or the record is its first
+//! that breaks a clause.
 #![tactic(auto)]
 
 mod held_event;

@@ -1,6 +1,6 @@
 //! What a capture holds, counted record by record.
 
-ghost use Rattle.std.specs.Prelude.{◌≡◌, ◌∷◌, ◌<◌, ◌^◌, length, cond};
+ghost use Rattle.std.specs.Prelude.{◌≡◌, ◌∷◌, ◌<◌, ◌^◌, length};
 ghost use Rattle.trace_clauses.specs.Verdict.{tally_of, tells_outcome};
 ghost use Rattle.trace_law.specs.View.{Events, event_view};
 
@@ -17,7 +17,8 @@ fn is_outcome(event: &Event) -> bool
     }
 }
 
-/// The tally of the events with this one more; right where they are fewer than 2^63.
+/// The tally of some events and this one more, from theirs, where they are fewer than 2^63; beyond that a count stays at the
+/// greatest number of 64 bits.
 pub fn counted(tally: Tally, event: &Event) -> Tally
     ensures { (past : Events) → tally ≡ tally_of past → length past < 2 ^ 63 → result ≡ tally_of (event_view event.now ∷ past) }
 {
