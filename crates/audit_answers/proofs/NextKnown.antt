@@ -12,9 +12,15 @@ use Rattle.audit_tables.proofs.OpenedKnown.{opens-known}
 use Rattle.audit_held.specs.EntryAnswers.{has_number}
 use Rattle.audit_held.proofs.GroupAnswers.{judged-of}
 use Rattle.audit_sent.specs.SentAnswers.{KnowsOrBegins}
+use Rattle.audit_sent.specs.declared.deliveries.SentDeliveries.{SentDeliveries}
 use Rattle.audit_sent.proofs.AnswersKnown.{progress-knows}
-use Rattle.audit_answers.specs.Tables.{AreTables}
-use Rattle.audit_answers.specs.declared.tables.Tables.{Tables}
+use Rattle.audit_tables.specs.declared.connections.Connections.{Connections}
+use Rattle.audit_tables.specs.declared.links.Links.{Links}
+use Rattle.audit_addresses.specs.declared.consumers.Consumers.{Consumers}
+use Rattle.audit_addresses.specs.declared.consumer_links.ConsumerLinks.{ConsumerLinks}
+use Rattle.audit_held.specs.declared.deliveries.Deliveries.{Deliveries}
+use Rattle.audit_copies.specs.declared.copies.Copies.{Copies}
+use Rattle.audit_answers.specs.Tables.{StandFor}
 use Rattle.audit_answers.proofs.CarriedKnown.{carries-known}
 use Rattle.audit_answers.proofs.OutgoingKnown.{BeginsOrGoesOn}
 
@@ -22,13 +28,14 @@ use Rattle.audit_answers.proofs.OutgoingKnown.{BeginsOrGoesOn}
 abbrev unopened : List RuleText → List Event → Record → Event
 unopened rules past r = judge_unopened rules past r.connection (moment_of r.what) r.note
 
-module _ (rules : List RuleText) (past : List Event) (tables : Tables) (are : AreTables rules tables past) (r : Record) where
-  begun-or-going : (j : Outgoing) → BeginsOrGoesOn past j → KnowsOrBegins tables.sent past j
+module _ (rules : List RuleText) (past : List Event) (connections : Connections) (links : Links) (consumers : Consumers) (deliveries : Deliveries) (receivers : ConsumerLinks) (copies : Copies)
+    (sent : SentDeliveries) (are : StandFor rules connections links consumers deliveries receivers copies sent past) (r : Record) where
+  begun-or-going : (j : Outgoing) → BeginsOrGoesOn past j → KnowsOrBegins sent past j
   begun-or-going j (inl begins) = inr begins
-  begun-or-going j (inr (l, live, going)) = inl (progress-knows rules past (judged-of rules past are.0) tables.sent are.1.1.1.1.1.1.1.1.entries l j going)
+  begun-or-going j (inr (l, live, going)) = inl (progress-knows rules past (judged-of rules past are.0) sent are.1.1.1.1.1.1.1.1.entries l j going)
 
-  pub next-carries : CarriesKnown (λ n. has_number tables.deliveries n ≡ true) (λ j. KnowsOrBegins tables.sent past j) (unopened rules past r)
-  next-carries = carries-known rules past tables.deliveries (KnowsOrBegins tables.sent past) are.0 are.1.1.1.1.0 begun-or-going r.connection (moment_of r.what) r.note
+  pub next-carries : CarriesKnown (λ n. has_number deliveries n ≡ true) (λ j. KnowsOrBegins sent past j) (unopened rules past r)
+  next-carries = carries-known rules past deliveries (KnowsOrBegins sent past) are.0 are.1.1.1.1.0 begun-or-going r.connection (moment_of r.what) r.note
 
   pub next-opens : broken_clause rules (unopened rules past r) past ≡ None
       → OpensKnown (λ c channel. has_unanswered_begin c channel past ≡ true) (λ s handle. is_some (asking s handle past) ≡ true) (unopened rules past r)
