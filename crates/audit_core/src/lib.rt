@@ -10,13 +10,17 @@
 #![tactic(auto)]
 
 mod auditor;
+mod copying;
 mod judging;
 mod laws;
+mod lengths;
+mod streaming;
 mod verdict;
 
 pub use auditor::{Auditor, MOST_RECORDS};
 pub use capture_form::FormKind;
 pub use judging::{audit, audit_bytes};
 pub use laws::one_verdict;
+pub use streaming::audit_stream;
 pub use trace_law::{Clause, Tally};
 pub use verdict::{Refusal, Verdict};

@@ -19,6 +19,7 @@ mod worked;
 use audit_core::{Refusal, Verdict, audit, audit_bytes, one_verdict};
 use capture_form::{Capture, read_capture, write_capture};
 use conversation::Conversation;
+use std::alloc::Global;
 use std::{fs, io};
 use trace_law::{tally_capture, waiting_at};
 use worked::Worked;
@@ -46,7 +47,7 @@ fn tell(rt: &HostRuntime, name: &str, octets: &[u8]) -> io::Result<String> {
         if write_capture(rt.alloc(), &capture)?.as_slice() != octets {
             println!(rt; "  another text of the capture that was read")?;
         }
-        if !is_audited(&capture, verdict) {
+        if !is_audited(rt.alloc(), &capture, verdict) {
             println!(rt; "  another verdict of the capture than of its text")?;
         }
         seen::tell_capture(rt, &capture)?;
@@ -78,8 +79,8 @@ fn compare(rt: &HostRuntime, name: &str, octets: &[u8], line: &str) -> io::Resul
 }
 
 /// Whether this is the verdict of the capture, with the tally of all its records.
-fn is_audited(capture: &Capture, verdict: Verdict) -> bool {
-    match audit(capture) {
+fn is_audited(alloc: Global, capture: &Capture, verdict: Verdict) -> bool {
+    match audit(alloc, capture) {
         Ok(tally) => verdict == Verdict::Accepted(tally) && tally == tally_capture(capture),
         Err(Refusal::Broken(i, clause)) => verdict == Verdict::Refused(i, clause),
         Err(Refusal::Memory) => false,
