@@ -67,7 +67,7 @@ pub fn tell_unread_words<O: Write, E: Write>(error: io::Error, out: &mut O, err:
     }
 }
 
-/// The verdict on what is read from the source, which is not kept.
+/// The verdict on what is read from the source, record by record.
 fn verdict_on<F: Files, R: Read>(
     files: &F,
     alloc: Global,

@@ -1,3 +1,4 @@
+mod AuditorExamples
 mod ReadSteps
 mod FrontText
 mod Streams

@@ -14,8 +14,8 @@ use capture_form::{FormFault, FormKind, Reader, Rule};
 use std::alloc::Global;
 use std::io::Read;
 
-/// The verdict of the octets that the reader gives, as the text of a capture. It reads them once, and keeps of them no
-/// more than a record at a time. What `Accepted` is worth is said by `kept`.
+/// The verdict of the octets that the reader gives, as the text of a capture. It reads them once, record by record, and
+/// hands each record to an auditor. What `Accepted` is worth is said by `kept`.
 pub fn audit_stream<R: Read>(alloc: Global, reader: R) -> Verdict
 where
     R: Drop,
