@@ -11,11 +11,11 @@ use Rattle.amqp_audit.specs.declared.input.InputFault.TheVariants.{NoMemory, Unr
 abbrev pub IsRefusedGrowth : Error → Type 0
 IsRefusedGrowth error = (error_kind error ≡ OutOfMemory) × (raw_os_error error ≡ None)
 
--- a failed read or opening is a want of memory just where a growth was refused (own rule)
+-- what the system fails to open or to give is a want of memory just where a growth was refused (own rule)
 abbrev pub IsFaultOf : Error → InputFault → Type 0
 IsFaultOf error fault = (fault ≡ NoMemory) ↔ IsRefusedGrowth error
 
--- the verdict where the input was not read to its end (own rule)
+-- the verdict where there is no input to read (own rule)
 abbrev pub verdict_of : InputFault → Verdict
 verdict_of NoMemory = V.NoMemory 0
 verdict_of Unreadable = V.Unreadable 0

@@ -1,8 +1,7 @@
 use Rattle.std.specs.Prelude.{◌≡◌, ◌≢◌, ◌⊎◌, ◌≤◌, ℕ, false, List, [], ◌∷◌, ◌++◌, Option, IfSome}
 use Rattle.std.specs.Io.KnownBytes.{Appends}
-use Rattle.audit_core.specs.Verdict.{Answers}
+use Rattle.audit_core.specs.Verdict.{AnswersRead}
 use Rattle.audit_core.specs.declared.verdict.Verdict.{Verdict}
-use Rattle.audit_core.specs.declared.verdict.Verdict.TheVariants.{NoMemory, Unreadable}
 use Rattle.audit_core.specs.Report.{line_of, status_of}
 use Rattle.amqp_audit.specs.Words.{is_option}
 
@@ -19,9 +18,10 @@ TellsSome before after status = (verdict : Verdict) × Tells before after status
 abbrev pub IsStatus : ℕ → Type 0
 IsStatus status = (status ≤ 4) ⊎ (status ≡ 64) ⊎ (status ≡ 74)
 
--- the verdict is on all the octets that the reader is known to give, unless a read failed or memory was refused (own rule)
+-- the verdict is on all the octets that the reader is known to give; `NoMemory 0` is told too where memory for the
+-- word parser was refused (own rule)
 abbrev pub IsVerdictOnInput : Option (List ℕ) → Verdict → Type 0
-IsVerdictOnInput held verdict = (verdict ≡ Unreadable 0) ⊎ (verdict ≡ NoMemory 0) ⊎ IfSome held (λ octets. Answers octets verdict)
+IsVerdictOnInput held verdict = IfSome held (λ octets. AnswersRead octets verdict)
 
 -- without words the verdict on standard input is told; with one word the line of a verdict; two words are a
 -- mistake, unless memory for the parser was refused; all this where standard output could be written (own format)

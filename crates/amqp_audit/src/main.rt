@@ -5,7 +5,7 @@
 //! standard error, nothing on standard output, and status 64. The modules, in reading order:
 //!
 //! - `words`: what the words of the command line ask for
-//! - `input`: the octets of a reader, as a whole
+//! - `input`: why there is no input to read
 //! - `run`: a run over any words, reader and writers
 #![tactic(auto)]
 

@@ -7,15 +7,15 @@ ghost use Rattle.audit_core.specs.Report.{status_of};
 ghost use Rattle.amqp_audit.specs.Run.{IsRunOn, IsStatus, IsVerdictOnInput, Tells, TellsSome};
 ghost use Rattle.amqp_audit.specs.Words.{path_of};
 
-use crate::input::{InputFault, read_file, read_whole};
+use crate::input::InputFault;
 use crate::words::Source;
-use audit_core::{Verdict, audit_bytes};
+use audit_core::{Verdict, audit_stream};
 use clap::error::ErrorKind;
 use std::alloc::Global;
 use std::convert::AsStr;
-use std::io;
 use std::io::{Read, Write};
 use std::rt::Files;
+use std::{fs, io};
 
 /// The exit status after a fault of the words.
 pub const WORDS_FAULT: u8 = 64;
@@ -67,6 +67,7 @@ pub fn tell_unread_words<O: Write, E: Write>(error: io::Error, out: &mut O, err:
     }
 }
 
+/// The verdict on what is read from the source, record by record.
 fn verdict_on<F: Files, R: Read>(
     files: &F,
     alloc: Global,
@@ -75,13 +76,12 @@ fn verdict_on<F: Files, R: Read>(
 ) -> Verdict
     ensures { path_of source.entry ≡ None → IsVerdictOnInput (R.remaining input.old) result }
 {
-    let octets = match source {
-        Source::StandardInput => read_whole(alloc, input),
-        Source::File(path) => read_file(files, alloc, path),
-    };
-    match octets {
-        Ok(octets) => audit_bytes(alloc, octets.as_slice()),
-        Err(fault) => fault.into(),
+    match source {
+        Source::StandardInput => audit_stream(alloc, input),
+        Source::File(path) => match fs::open(files, path) {
+            Ok(file) => audit_stream(alloc, file),
+            Err(error) => InputFault::from(error).into(),
+        },
     }
 }
 

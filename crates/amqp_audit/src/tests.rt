@@ -33,7 +33,7 @@ fn run<R: Read>(rt: &HostRuntime, words: &[&str], input: &mut R) -> Result<Left,
     Ok((status, String::from_utf8(out)?, String::from_utf8(err)?))
 }
 
-/// A reader whose octets are followed by a fault.
+/// A reader whose octets are followed by a fault. It gives them as fast as they are asked for.
 #[derive(Debug, Drop)]
 struct Failing {
     octets: &'static [u8],
@@ -46,6 +46,24 @@ impl Read for Failing {
             return Err(io::Error::from(self.fault));
         }
         self.octets.read(buf)
+    }
+}
+
+/// A reader that gives an octet at a time. Each second call is interrupted.
+#[derive(Debug, Drop)]
+struct Dripping {
+    octets: &'static [u8],
+    is_interrupted: bool,
+}
+
+impl Read for Dripping {
+    fn read(&mut self, buf: &mut [u8]) -> io::Result<usize> {
+        self.is_interrupted = !self.is_interrupted;
+        if self.is_interrupted {
+            return Err(io::Error::from(ErrorKind::Interrupted));
+        }
+        let len = buf.len().min(1);
+        self.octets.read(&mut buf[..len])
     }
 }
 
@@ -138,29 +156,74 @@ fn helps_on_standard_output(rt: HostRuntime) -> Result<(), Fail> {
 }
 
 #[test]
-fn tells_what_can_not_be_read(rt: HostRuntime) -> Result<(), Fail> {
-    let unreadable = "unreadable offset=0\n";
+fn tells_what_can_not_be_opened(rt: HostRuntime) -> Result<(), Fail> {
     let (status, out, _) = run(&rt, &["missing.cap"], &mut io::empty())?;
-    assert_eq!(rt; (status, out.as_str()), (4, unreadable));
+    assert_eq!(rt; (status, out.as_str()), (4, "unreadable offset=0\n"));
+    Ok(())
+}
 
-    let mut input = Failing {
-        octets: EMPTY_CAPTURE,
-        fault: ErrorKind::TimedOut,
-    };
-    let (status, out, _) = run(&rt, &[], &mut input)?;
-    assert_eq!(rt; (status, out.as_str()), (4, unreadable));
+#[test]
+fn tells_where_a_read_fails(rt: HostRuntime) -> Result<(), Fail> {
+    for (length, line) in [
+        (0, "unreadable offset=0\n"),
+        (7, "unreadable offset=0\n"),
+        (8, "unreadable offset=8\n"),
+        (10, "unreadable offset=10\n"),
+        (27, "unreadable offset=10\n"),
+        (28, "unreadable offset=28\n"),
+        (40, "unreadable offset=28\n"),
+        (62, "unreadable offset=28\n"),
+        (63, "unreadable offset=63\n"),
+    ] {
+        for fault in [ErrorKind::TimedOut, ErrorKind::OutOfMemory] {
+            let octets = OPENED.get(..length).unwrap_or(&[]);
+            let (status, out, _) = run(&rt, &[], &mut Failing { octets, fault })?;
+            assert_eq!(rt; (status, out.as_str()), (4, line), "behind {length}");
+        }
+    }
+    Ok(())
+}
+
+#[test]
+fn tells_what_stands_in_front_of_a_read_that_fails(rt: HostRuntime) -> Result<(), Fail> {
+    for (octets, wanted, line) in [
+        (INDEX_NOT_USED, 2, "malformed offset=10\n"),
+        (CLOSED_UNASKED, 1, "refused record=0 clause=L1\n"),
+    ] {
+        let fault = ErrorKind::ConnectionReset;
+        let (status, out, _) = run(&rt, &[], &mut Failing { octets, fault })?;
+        assert_eq!(rt; (status, out.as_str()), (wanted, line));
+    }
+    Ok(())
+}
+
+#[test]
+fn tells_the_same_of_octets_that_drip(rt: HostRuntime) -> Result<(), Fail> {
+    let told = [
+        (
+            EMPTY_CAPTURE,
+            0,
+            "accepted records=0 deliveries=0 outcomes=0\n",
+        ),
+        (OPENED, 0, "accepted records=2 deliveries=0 outcomes=0\n"),
+        (OPENED.get(..29).unwrap_or(&[]), 2, "malformed offset=28\n"),
+        (INDEX_NOT_USED, 2, "malformed offset=10\n"),
+        (CLOSED_UNASKED, 1, "refused record=0 clause=L1\n"),
+    ];
+    for (octets, wanted, line) in told {
+        let is_interrupted = false;
+        let mut input = Dripping {
+            octets,
+            is_interrupted,
+        };
+        let (status, out, _) = run(&rt, &[], &mut input)?;
+        assert_eq!(rt; (status, out.as_str()), (wanted, line));
+    }
     Ok(())
 }
 
 #[test]
 fn tells_refused_memory(rt: HostRuntime) -> Result<(), Fail> {
-    let mut input = Failing {
-        octets: EMPTY_CAPTURE,
-        fault: ErrorKind::OutOfMemory,
-    };
-    let (status, out, _) = run(&rt, &[], &mut input)?;
-    assert_eq!(rt; (status, out.as_str()), (3, "no memory\n"));
-
     let (mut out, mut err) = (Vec::new(rt.alloc()), Vec::new(rt.alloc()));
     let status = tell_unread_words(io::Error::from(AllocError), &mut out, &mut err);
     assert_eq!(rt; (status, out.as_slice()), (3, b"no memory\n".as_slice()));

@@ -1,3 +1,9 @@
+mod AuditorExamples
+mod ReadSteps
+mod FrontText
+mod Streams
+mod ReadSoFar
+mod TextLengths
 mod Taken
 pub mod Verdicts
 pub mod Recorded

@@ -1,33 +1,50 @@
--- Judging one record after the other.
-use Rattle.std.proofs.Common.{◌≡◌, refl, sym, ap, ◌∙◌, ℕ, ◌+◌, ◌<◌, length, take, Option, Some, None, Result, Ok, Err}
+-- Taking the records of a capture, one after the other.
+use Rattle.std.proofs.Common.{◌≡◌, refl, sym, ap, ◌∙◌, ℕ, ◌+◌, ◌<◌, List, [], ◌∷◌, ◌++◌, length, take, drop, get_or, Some, arith, add-one}
+use Rattle.std.proofs.Math.Seq.{take-suc}
+use Rattle.std.proofs.lemmas.List.{length-take-le, take-append-drop}
+use Rattle.capture_form.specs.declared.records.Record.{Record}
+use Rattle.capture_form.specs.Rules.{RuleText}
 use Rattle.capture_form.specs.Text.{Trace}
 use Rattle.trace_clauses.specs.declared.clause.Clause.{Clause}
 use Rattle.trace_clauses.specs.declared.tally.Tally.{Tally}
-use Rattle.trace_law.specs.Check.{as_checked, clause_broken_by}
 use Rattle.trace_clauses.specs.Clauses.{first_broken}
-use Rattle.trace_events.specs.History.{history}
 use Rattle.trace_clauses.specs.Verdict.{tallied_or}
-use Rattle.trace_law.proofs.Broken.{lawful-next, broken-first}
+use Rattle.trace_clauses.proofs.Lawful.{broken-stays}
+use Rattle.trace_events.specs.History.{history}
+use Rattle.trace_law.proofs.Broken.{length-history}
+use Rattle.audit_core.specs.declared.auditor.Auditor.{Auditor}
 use Rattle.audit_core.specs.declared.verdict.Refusal.{Refusal}
-use Rattle.audit_core.specs.declared.verdict.Refusal.TheVariants.{Broken}
-use Rattle.audit_core.specs.Verdict.{tally_in, as_answer, answer_of}
+use Rattle.audit_core.specs.declared.verdict.Refusal.TheVariants.{Broken, Memory}
+use Rattle.audit_core.specs.Auditor.{Agrees, IsRefusalBehind, broken_behind, tally_by}
+use Rattle.audit_core.specs.Verdict.{tally_in, as_answer}
+use Rattle.audit_core.specs.Stops.{StopsAudit, stop_of}
+use Rattle.audit_core.proofs.Taken.{broken_first}
 
-clause-of : (o : Option Clause) (clause : Clause) → as_checked o ≡ Err clause → o ≡ Some clause
-clause-of None clause e = absurd cc
-clause-of (Some c) clause e = cc
+-- the first records and one more
+pushed : (rs : List Record) (i : ℕ) (entry d : Record) → i < length rs → entry ≡ get_or rs i d → take i rs ++ entry ∷ [] ≡ take (i + 1) rs
+pushed rs i entry d lt is =
+    let at : take (i + 1) rs ≡ take i rs ++ get_or rs i d ∷ [] = rw (add-one, take-suc rs i d lt) refl in
+    ap (λ (e : Record). take i rs ++ e ∷ []) is ∙ sym at
 
-none-of : (o : Option Clause) (u : Unit {0}) → as_checked o ≡ Ok u → o ≡ None
-none-of None u e = refl
-none-of (Some c) u e = absurd cc
+module _ (capture : Trace) (i : ℕ) (auditor : Auditor) (entry d : Record) (lt : i < length capture.records) (is : entry ≡ get_or capture.records i d)
+    (agrees : Agrees auditor capture.rules (take i capture.records)) where
+  found : (clause : Clause) → broken_behind capture.rules (take i capture.records) entry ≡ Some clause → first_broken capture.rules (history capture.rules capture.records) ≡ Some (length (take i capture.records), clause)
+  found clause broken =
+      let first : first_broken capture.rules (history capture.rules (take (i + 1) capture.records)) ≡ Some (length (take i capture.records), clause) =
+      ap (λ es. first_broken capture.rules (history capture.rules es)) (sym (pushed capture.records i entry d lt is)) ∙ broken_first capture.rules (take i capture.records) entry clause agrees.lawful broken in
+      ap (λ es. first_broken capture.rules (history capture.rules es)) (sym (take-append-drop (i + 1) capture.records))
+      ∙ broken-stays capture.rules (take (i + 1) capture.records) (drop (i + 1) capture.records) (length (take i capture.records), clause) first
 
-module _ (capture : Trace) (i : ℕ) (checked : Result (Unit {0}) Clause) (lt : i < length capture.records)
-    (lawful : first_broken capture.rules (history capture.rules (take i capture.records)) ≡ None) (is : checked ≡ as_checked (clause_broken_by i capture)) where
-  -- a record that breaks a clause
-  pub refused : (clause : Clause) → checked ≡ Err clause → ◌≡◌ {A = Result Tally Refusal} (Err (Broken i clause)) (answer_of capture)
-  refused clause e =
-      let here : clause_broken_by i capture ≡ Some clause = clause-of (clause_broken_by i capture) clause (sym is ∙ e) in
-      ap (λ o. as_answer (tallied_or (tally_in capture) o)) (sym (broken-first capture.rules capture.records i clause lt lawful here))
+  stops_at : (refusal : Refusal) → IsRefusalBehind capture.rules (take i capture.records) entry refusal → StopsAudit capture (stop_of i refusal)
+  stops_at (Broken number clause) why =
+      ap (λ o. as_answer (tallied_or (tally_in capture) o)) (found clause why.1 ∙ ap (λ n. Some (n, clause)) (sym why.0))
+  stops_at Memory why = (lt, agrees.lawful)
 
-  -- and one that breaks none
-  pub met : (u : Unit {0}) → checked ≡ Ok u → first_broken capture.rules (history capture.rules (take (i + 1) capture.records)) ≡ None
-  met u e = lawful-next capture.rules capture.records i lt lawful (none-of (clause_broken_by i capture) u (sym is ∙ e))
+  -- a record that is refused
+  pub refused : (refusal : Refusal) → ((rs : List RuleText) (es : List Record) → Agrees auditor rs es → IsRefusalBehind rs es entry refusal) → StopsAudit capture (stop_of i refusal)
+  refused refusal why = stops_at refusal (why capture.rules (take i capture.records) agrees)
+
+-- so many were taken
+pub so_many : (capture : Trace) (i : ℕ) (auditor : Auditor) → i < length capture.records → Agrees auditor capture.rules (take i capture.records) → (tally_by auditor).records ≡ i
+so_many capture i auditor lt agrees =
+    ap (λ (t : Tally). t.records) agrees.counted ∙ length-history capture.rules (take i capture.records) ∙ length-take-le i capture.records (omega (arith, lt))

@@ -1,18 +1,17 @@
 -- One record more, taken behind those with which an auditor agrees.
-use Rattle.std.proofs.Common.{◌≡◌, refl, sym, ap, ◌∙◌, ℕ, List, [], ◌∷◌, ◌++◌, length, take, drop, Option, Some, None, Result, Ok, Err}
+use Rattle.std.proofs.Common.{◌≡◌, refl, sym, ap, ◌∙◌, ℕ, List, [], ◌∷◌, ◌++◌, length, drop, Option, Some, None, Result, Ok, Err}
 use Rattle.std.proofs.Math.Seq.{take-append_seam, drop-append_seam}
 use Rattle.capture_form.specs.declared.records.Record.{Record}
 use Rattle.capture_form.specs.Rules.{RuleText}
 use Rattle.capture_form.specs.Text.{Trace}
 use Rattle.trace_clauses.specs.declared.clause.Clause.{Clause}
 use Rattle.trace_clauses.proofs.Lawful.{history-push, lawful-push}
-use Rattle.trace_events.specs.History.{judge, history}
-use Rattle.trace_clauses.specs.Clauses.{first_broken, broken_clause}
+use Rattle.trace_events.specs.History.{history}
+use Rattle.trace_clauses.specs.Clauses.{first_broken}
 use Rattle.trace_clauses.specs.Verdict.{tally_of}
 use Rattle.trace_law.specs.Check.{as_checked, broken_by_first, clause_broken_by}
 use Rattle.trace_law.proofs.Broken.{length-history}
 use Rattle.audit_core.specs.declared.auditor.Auditor.{Auditor}
-use Rattle.audit_core.specs.declared.verdict.Refusal.{Refusal}
 use Rattle.audit_core.specs.declared.verdict.Refusal.TheVariants.{Broken}
 use Rattle.audit_core.specs.Auditor.{Agrees, IsRefusalBehind, broken_behind}
 

@@ -1,3 +1,4 @@
 pub mod Auditor
 pub mod Verdict
+pub mod Stops
 pub mod Report

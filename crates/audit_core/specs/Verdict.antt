@@ -1,10 +1,12 @@
 -- What an auditor may say of octets.
-use Rattle.std.specs.Prelude.{◌≡◌, ℕ, ◌+◌, List, ◌++◌, length, Option, Some, None, Result, Ok, Err, ◌⊎◌}
+use Rattle.std.specs.Prelude.{◌≡◌, ℕ, ◌+◌, ◌<◌, List, ◌++◌, length, take, Option, Some, None, Result, Ok, Err, ◌⊎◌}
 use Rattle.capture_form.specs.declared.fault.FormKind.{FormKind}
+use Rattle.capture_form.specs.declared.fault.FormKind.TheVariants as kinds
 use Rattle.capture_form.specs.Text.{Trace, IsCapture, text}
 use Rattle.capture_form.specs.Reading.{reading}
-use Rattle.capture_form.specs.Laws.{trace_of}
+use Rattle.capture_form.specs.Laws.{BeginsWith, trace_of}
 use Rattle.capture_form.specs.Gives.{IsRefusedRule, IsRefusedRecord}
+use Rattle.capture_form.specs.Reader.{IsPartStart}
 use Rattle.trace_clauses.specs.declared.clause.Clause.{Clause}
 use Rattle.trace_clauses.specs.declared.tally.Tally.{Tally}
 use Rattle.trace_events.specs.History.{history}
@@ -35,10 +37,35 @@ as_answer (Err broken) = Err (Broken broken.0 broken.1)
 abbrev pub answer_of : Trace → Result Tally Refusal
 answer_of capture = as_answer (verdict capture.rules capture.records)
 
--- a refusal as a verdict
-abbrev pub verdict_on : Refusal → Verdict
-verdict_on (Broken number clause) = Refused number clause
-verdict_on Memory = NoMemory 0
+-- its rules and so many of its records, the first ones
+abbrev pub first_of : ℕ → Trace → Trace
+first_of n capture = record { rules = capture.rules; records = take n capture.records }
+
+-- memory was refused for the rules, or for a record behind those that meet the clauses
+abbrev pub WantsMemory : Trace → Type 0
+WantsMemory capture = (0 < length capture.rules) ⊎ ((number : ℕ) × (number < length capture.records) × (broken_in (first_of number capture) ≡ None))
+
+-- an answer is the one that is to be given, unless memory was refused
+abbrev pub AnswersCapture : Trace → Result Tally Refusal → Type 0
+AnswersCapture capture (Ok tally) = answer_of capture ≡ Ok tally
+AnswersCapture capture (Err (Broken number clause)) = answer_of capture ≡ Err (Broken number clause)
+AnswersCapture capture (Err Memory) = WantsMemory capture
+
+-- a refusal of the record that stands at an offset, as a verdict
+abbrev pub verdict_of_refusal : ℕ → Refusal → Verdict
+verdict_of_refusal offset (Broken number clause) = Refused number clause
+verdict_of_refusal offset Memory = NoMemory offset
+
+-- what stops the reading of a text, as a verdict
+abbrev pub verdict_of_fault : FormKind → ℕ → Verdict
+verdict_of_fault kinds.Magic offset = Malformed offset kinds.Magic
+verdict_of_fault kinds.Rules offset = Malformed offset kinds.Rules
+verdict_of_fault kinds.Kind offset = Malformed offset kinds.Kind
+verdict_of_fault kinds.Note offset = Malformed offset kinds.Note
+verdict_of_fault kinds.Length offset = Malformed offset kinds.Length
+verdict_of_fault kinds.Truncated offset = Malformed offset kinds.Truncated
+verdict_of_fault kinds.Memory offset = NoMemory offset
+verdict_of_fault kinds.Read offset = Unreadable offset
 
 -- ---- octets
 
@@ -86,6 +113,29 @@ Answers octets (Refused number clause) = Refuses octets number clause
 Answers octets (Malformed offset form_kind) = IsMalformed octets offset form_kind
 Answers octets (NoMemory offset) = IsRefusedAt octets offset
 Answers octets (Unreadable offset) = ⊥
+
+-- ---- octets that a reader gives
+
+-- no more was read from the start of a record on, behind those that meet the clauses
+pub record IsUnreadRecord (octets : List ℕ) (offset : ℕ) : Type 0 where
+  pub trace : Trace
+  pub bounds : IsCapture trace
+  pub front : BeginsWith octets (text trace)
+  pub place : offset ≡ length (text trace)
+  pub lawful : broken_in trace ≡ None
+
+-- no more was read from there on: the start of the magic, the number of rules, a rule, or such a record
+abbrev pub IsUnreadAt : List ℕ → ℕ → Type 0
+IsUnreadAt octets offset = IsPartStart octets offset ⊎ IsUnreadRecord octets offset
+
+-- an answer on octets that a reader gives: as on octets that are there, but that memory may be refused for the room into
+-- which is read, at 0, and a read may fail
+abbrev pub AnswersRead : List ℕ → Verdict → Type 0
+AnswersRead octets (Accepted tally) = Accepts octets tally
+AnswersRead octets (Refused number clause) = Refuses octets number clause
+AnswersRead octets (Malformed offset form_kind) = IsMalformed octets offset form_kind
+AnswersRead octets (NoMemory offset) = (offset ≡ 0) ⊎ IsRefusedAt octets offset
+AnswersRead octets (Unreadable offset) = IsUnreadAt octets offset
 
 -- ---- what acceptance is worth
 

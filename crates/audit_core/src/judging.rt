@@ -1,31 +1,35 @@
-//! Judging a capture, and a capture's text.
+//! Judging a capture that is there whole, and a text that is.
 
-ghost use Rattle.std.specs.Prelude.{◌≡◌, if◌then◌else◌};
+ghost use Rattle.std.specs.Prelude.{◌≡◌, ◌^◌, ◌<◌, length, IfOk, IfErr, if◌then◌else◌};
 ghost use Rattle.capture_form.specs.Gives.{is_refusal};
+ghost use Rattle.capture_form.specs.Text.{text};
 ghost use Rattle.trace_clauses.specs.declared.tally.Tally.{Tally};
+ghost use Rattle.audit_core.specs.declared.verdict.Verdict.{Verdict};
 ghost use Rattle.audit_core.specs.declared.verdict.Verdict.TheVariants.{Accepted};
-ghost use Rattle.audit_core.specs.Verdict.{Answers, IsKept, answer_of, verdict_on};
+ghost use Rattle.audit_core.specs.Verdict.{Answers, AnswersCapture, IsKept, answer_of};
+ghost use Rattle.audit_core.specs.Stops.{StopsAudit, stop_of, stops_within, refusal_on, verdict_on};
 
+use crate::auditor::Auditor;
+use crate::copying::{copy_of_record, copy_of_rules};
+use crate::lengths::{HEAD, offset_of_record};
 use crate::verdict::{Refusal, Verdict};
 use capture_form::{Capture, FormFault, FormKind, Reading, read_whole_records};
 use std::alloc::Global;
-use trace_law::{Tally, slow_check, tally_capture};
+use trace_law::{Clause, Tally};
 
-/// Judges each record of a capture in order, by all those below it, and gives what the capture holds. The time grows
-/// with the third power of the number of records, the depth of the stack with that number.
+/// Judges the records of a capture one after the other, and gives what the capture holds.
 ///
 /// # Errors
 ///
-/// The first record that breaks a clause, and the first clause that it breaks.
-pub fn audit(capture: &Capture) -> Result<Tally, Refusal>
-    ensures { result ≡ answer_of capture.now }
+/// The first record that breaks a clause, and the first clause that it breaks; or `Memory`, which says nothing of the
+/// record for which it was refused.
+pub fn audit(alloc: Global, capture: &Capture) -> Result<Tally, Refusal>
+    ensures { AnswersCapture capture.now result }
 {
-    for i in 0..capture.records().len() {
-        if let Err(clause) = slow_check(capture, i) {
-            return Err(Refusal::Broken(i as u64, clause));
-        }
+    match audit_records(alloc, capture) {
+        Ok(tally) => Ok(tally),
+        Err(stop) => Err(stop.refusal()),
     }
-    Ok(tally_capture(capture))
 }
 
 /// The verdict of the octets, as the text of a capture. It reads them once, and then judges each whole record. What
@@ -35,8 +39,8 @@ pub fn audit_bytes(alloc: Global, octets: &[u8]) -> Verdict
     ensures kept { (tally : Tally) → result ≡ Accepted tally → IsKept octets.now }
 {
     let Reading { capture, fault } = read_whole_records(alloc, octets);
-    match audit(&capture) {
-        Err(refusal) => refusal_verdict(refusal),
+    match audit_records(alloc, &capture) {
+        Err(stop) => stop.verdict(&capture),
         Ok(tally) => match fault {
             None => Verdict::Accepted(tally),
             Some(fault) => fault_verdict(fault),
@@ -44,14 +48,70 @@ pub fn audit_bytes(alloc: Global, octets: &[u8]) -> Verdict
     }
 }
 
-/// The verdict of a text whose records are not accepted.
-fn refusal_verdict(refusal: Refusal) -> Verdict
-    ensures { result ≡ verdict_on refusal }
-{
-    match refusal {
-        Refusal::Broken(number, clause) => Verdict::Refused(number, clause),
-        Refusal::Memory => Verdict::NoMemory(0),
+/// Where and why an audit of a capture stops.
+#[derive(Clone, Copy, Debug)]
+enum Stop {
+    /// The record of this number breaks this clause.
+    Broken(u64, Clause),
+    /// Memory was refused for the rules.
+    AtRules,
+    /// Memory was refused for the record of this number.
+    AtRecord(usize),
+}
+
+impl Stop {
+    /// Where a refusal of the record of this number stops an audit.
+    fn of_refusal(number: usize, refusal: Refusal) -> Stop
+        ensures { result ≡ stop_of number refusal }
+    {
+        match refusal {
+            Refusal::Broken(number, clause) => Stop::Broken(number, clause),
+            Refusal::Memory => Stop::AtRecord(number),
+        }
     }
+
+    /// Why the capture is not accepted.
+    fn refusal(self) -> Refusal
+        ensures { result ≡ refusal_on self }
+    {
+        match self {
+            Stop::Broken(number, clause) => Refusal::Broken(number, clause),
+            Stop::AtRules | Stop::AtRecord(_) => Refusal::Memory,
+        }
+    }
+
+    /// The verdict of the text of this capture.
+    fn verdict(self, capture: &Capture) -> Verdict
+        requires within { stops_within self capture.now }
+        requires short { length (text capture.now) < 2 ^ 64 }
+        ensures { result ≡ verdict_on capture.now self }
+    {
+        match self {
+            Stop::Broken(number, clause) => Verdict::Refused(number, clause),
+            Stop::AtRules => Verdict::NoMemory(HEAD),
+            Stop::AtRecord(number) => Verdict::NoMemory(offset_of_record(capture, number)),
+        }
+    }
+}
+
+/// Judges the records of a capture one after the other.
+fn audit_records(alloc: Global, capture: &Capture) -> Result<Tally, Stop>
+    ensures accepted { IfOk result (λ tally. answer_of capture.now ≡ Ok tally) }
+    ensures stopped { IfErr result (StopsAudit capture.now) }
+{
+    let Ok(rules) = copy_of_rules(alloc, capture.rules()) else {
+        return Err(Stop::AtRules);
+    };
+    let mut auditor = Auditor::new(alloc, rules);
+    for (number, entry) in capture.records().iter().enumerate() {
+        let Ok(entry) = copy_of_record(alloc, entry) else {
+            return Err(Stop::AtRecord(number));
+        };
+        if let Err(refusal) = auditor.take(entry) {
+            return Err(Stop::of_refusal(number, refusal));
+        }
+    }
+    Ok(auditor.tally())
 }
 
 /// The verdict of a text with this fault, where the records before it meet the clauses.

@@ -1,22 +1,30 @@
-//! The offline auditor: what a capture is worth, and what its text is. `audit` judges each record of a capture by the law
-//! of `trace_law`, in order, and names the first that breaks a clause, or counts what the capture holds. `audit_bytes`
-//! answers, for any octets, the one verdict that holds of them, unless memory was refused: that they are the text of a
-//! capture each of whose records meets the law, or which record is the first that does not, or at which offset they stop
-//! being such a text. It trusts nothing of the router that wrote the capture.
+//! The offline auditor: what a capture is worth, and what its text is. An `Auditor` takes the records of a capture one after
+//! the other, and refuses the first that breaks a clause of the law of `trace_law`. `audit` hands it those of a capture, and
+//! tells what that holds. `audit_bytes` answers, for any octets, the one verdict that holds of them, unless memory was
+//! refused: that they are the text of a capture each of whose records meets the law, or which record is the first that does
+//! not, or at which offset they stop being such a text. `audit_stream` answers it for the octets that a reader gives, which
+//! it reads record by record, or at which offset no more could be read. It trusts nothing of the router
+//! that wrote the capture.
 //!
 //! - `verdict`: what is answered;
-//! - `judging`: a capture, and its text;
+//! - `auditor`: records, taken one after the other;
+//! - `judging`: a capture, and its text, with `copying` and `lengths`;
+//! - `streaming`: a text that a reader gives;
 //! - `laws`: that of any octets exactly one verdict holds.
 #![tactic(auto)]
 
 mod auditor;
+mod copying;
 mod judging;
 mod laws;
+mod lengths;
+mod streaming;
 mod verdict;
 
 pub use auditor::{Auditor, MOST_RECORDS};
 pub use capture_form::FormKind;
 pub use judging::{audit, audit_bytes};
 pub use laws::one_verdict;
+pub use streaming::audit_stream;
 pub use trace_law::{Clause, Tally};
 pub use verdict::{Refusal, Verdict};

@@ -10,7 +10,7 @@ pub enum Refusal {
     /// The record of this number is the first that does not meet the clauses, and this is the first that it does not
     /// meet.
     Broken(u64, Clause),
-    /// The system had no memory left. The plain scans take none, so they never answer it.
+    /// The system had no memory left for a record, of which this says nothing, or for the rules.
     Memory,
 }
 

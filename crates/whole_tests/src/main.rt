@@ -7,20 +7,23 @@
 //! - `conversation`: captures, said as a conversation;
 //! - `rows`: the worked captures;
 //! - `worked`: their names and octets;
-//! - `seen`: what the plain checker says from record to record.
+//! - `seen`: what the plain checker says from record to record;
+//! - `taken`: what the auditor says of them, asked in other ways.
 #![tactic(auto)]
 
 mod conversation;
 mod frames;
 mod rows;
 mod seen;
+mod taken;
 mod worked;
 
-use audit_core::{Refusal, Verdict, audit, audit_bytes, one_verdict};
-use capture_form::{Capture, read_capture, write_capture};
+use audit_core::{Verdict, audit_bytes, one_verdict};
+use capture_form::{read_capture, write_capture};
 use conversation::Conversation;
 use std::{fs, io};
-use trace_law::{tally_capture, waiting_at};
+use taken::{is_audited, is_read, is_taken};
+use trace_law::waiting_at;
 use worked::Worked;
 
 fn main(rt: HostRuntime) -> io::Result<()> {
@@ -42,16 +45,28 @@ fn main(rt: HostRuntime) -> io::Result<()> {
 fn tell(rt: &HostRuntime, name: &str, octets: &[u8]) -> io::Result<String> {
     let verdict = audit_bytes(rt.alloc(), octets);
     let line = tell_verdict(rt, name, verdict)?;
+    tell_other_verdicts(rt, octets, verdict)?;
     if let Ok(capture) = read_capture(rt.alloc(), octets) {
         if write_capture(rt.alloc(), &capture)?.as_slice() != octets {
             println!(rt; "  another text of the capture that was read")?;
         }
-        if !is_audited(&capture, verdict) {
+        if !is_audited(rt.alloc(), &capture, verdict) {
             println!(rt; "  another verdict of the capture than of its text")?;
         }
         seen::tell_capture(rt, &capture)?;
     }
     Ok(line)
+}
+
+/// Says where the octets, read or taken record by record, get another verdict.
+fn tell_other_verdicts(rt: &HostRuntime, octets: &[u8], verdict: Verdict) -> io::Result<()> {
+    if !is_read(rt.alloc(), octets, verdict) {
+        println!(rt; "  another verdict of a reader than of its octets")?;
+    }
+    if !is_taken(rt.alloc(), octets, verdict) {
+        println!(rt; "  another verdict of its records than of the text")?;
+    }
+    Ok(())
 }
 
 /// Writes the line of a verdict, and what is wrong with a text that is malformed.
@@ -77,21 +92,13 @@ fn compare(rt: &HostRuntime, name: &str, octets: &[u8], line: &str) -> io::Resul
     Ok(())
 }
 
-/// Whether this is the verdict of the capture, with the tally of all its records.
-fn is_audited(capture: &Capture, verdict: Verdict) -> bool {
-    match audit(capture) {
-        Ok(tally) => verdict == Verdict::Accepted(tally) && tally == tally_capture(capture),
-        Err(Refusal::Broken(i, clause)) => verdict == Verdict::Refused(i, clause),
-        Err(Refusal::Memory) => false,
-    }
-}
-
 /// Writes the verdicts of the capture `open`, cut to each length behind its head, where they change.
 fn tell_cuts(rt: &HostRuntime) -> io::Result<()> {
     let octets = Worked::Open.octets(rt.alloc())?;
     let mut last = Verdict::NoMemory(0);
     for length in 10..=octets.len() {
         let verdict = audit_bytes(rt.alloc(), octets.get(..length).unwrap_or(&[]));
+        tell_other_verdicts(rt, octets.get(..length).unwrap_or(&[]), verdict)?;
         if verdict != last {
             let name = format!(in rt.alloc(); "open, cut to {length}")?;
             tell_verdict(rt, name.as_str(), verdict)?;

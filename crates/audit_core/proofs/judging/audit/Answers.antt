@@ -1,13 +1,8 @@
-use Rattle.std.proofs.Common.{subst, length, ◌<◌}
-use Rattle.audit_core.proofs.Recorded.{refused, met}
+use Rattle.std.proofs.Common.{Err, sym, subst}
+use Rattle.audit_core.specs.Verdict.{AnswersCapture}
+use Rattle.audit_core.proofs.Answered.{answers_stop}
 use Rattle.audit_core.proofs.judging.audit.Goals as goal
 
 pub returns-in-Err : goal.returns-in-Err
 returns-in-Err c =
-    refused c.args.capture.now c.loop-i.i c.slow_check.result (subst (λ rs. c.loop-i.i < length rs) c.records-i-end.ensures.value c.loop-i-test.true) c.loop-i.invariant
-    c.slow_check.ensures c.in-Err.clause c.in-Err.is
-
-pub loop-i-preserved : goal.loop-i-preserved
-loop-i-preserved c =
-    met c.args.capture.now c.loop-i.i c.slow_check.result (subst (λ rs. c.loop-i.i < length rs) c.records-i-end.ensures.value c.loop-i-test.true) c.loop-i.invariant
-    c.slow_check.ensures c.in_default.field-0 c.in_default.is
+    subst (λ r. AnswersCapture c.args.capture.now (Err r)) (sym c.refusal.ensures) (answers_stop c.args.capture.now c.in-Err.stop c.in-Err.ensures.stopped)

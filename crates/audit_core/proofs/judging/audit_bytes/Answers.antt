@@ -1,20 +1,29 @@
-use Rattle.std.proofs.Common.{arith, sym, subst, ◌∙◌}
+use Rattle.std.proofs.Common.{rules, arith, sym, subst, ◌<◌, ◌^◌, length}
 use Rattle.audit_core.specs.declared.verdict.Verdict.TheVariants.{Accepted}
 use Rattle.audit_core.specs.Verdict.{Answers}
-use Rattle.audit_core.proofs.Answered.{refused_so, accepted, kept}
+use Rattle.audit_core.proofs.Answered.{stopped_so, short, accepted, kept}
 use Rattle.audit_core.proofs.judging.audit_bytes.Goals as goal
 
-pub returns-in-Err : goal.returns-in-Err
-returns-in-Err c =
+pub verdict-requires-clause-short : goal.verdict-requires-clause-short
+verdict-requires-clause-short c =
     let read = c.read_whole_records-capture in
-    let given : Answers c.args.octets.now c.refusal_verdict.result = subst (λ v. Answers c.args.octets.now v) (sym c.refusal_verdict.ensures)
-    (refused_so c.args.octets.now read.result.capture read.result.fault (λ i. omega (arith, c.type_inv.octets i)) read.ensures.exact
-    c.in-Err.refusal (sym c.audit.ensures ∙ c.in-Err.is) read.ensures.refused) in
-    record { answers = given; kept = kept c.args.octets.now c.refusal_verdict.result given }
+    let few : length c.args.octets.now < 2 ^ 64 = search rules in
+    short c.args.octets.now read.result.capture read.result.fault (λ i. omega (arith, c.type_inv.octets i)) read.ensures.exact read.ensures.found read.ensures.refused few
 
-pub returns-in-None : goal.returns-in-None
-returns-in-None c =
+pub returns-in-Err-clause-answers : goal.returns-in-Err-clause-answers
+returns-in-Err-clause-answers c =
     let read = c.read_whole_records-capture in
-    let given : Answers c.args.octets.now (Accepted c.in-Ok.tally) = accepted c.args.octets.now read.result.capture read.result.fault (λ i. omega (arith, c.type_inv.octets i)) read.ensures.exact
-    c.in-Ok.tally (sym c.audit.ensures ∙ c.in-Ok.is) c.in-None.is in
-    record { answers = given; kept = kept c.args.octets.now (Accepted c.in-Ok.tally) given }
+    subst (λ v. Answers c.args.octets.now v) (sym c.verdict.ensures)
+    (stopped_so c.args.octets.now read.result.capture read.result.fault (λ i. omega (arith, c.type_inv.octets i)) read.ensures.exact
+    c.in-Err.stop read.ensures.capture read.ensures.found read.ensures.refused c.in-Err.ensures.stopped)
+
+pub returns-in-None-clause-answers : goal.returns-in-None-clause-answers
+returns-in-None-clause-answers c =
+    let read = c.read_whole_records-capture in
+    accepted c.args.octets.now read.result.capture read.result.fault (λ i. omega (arith, c.type_inv.octets i)) read.ensures.exact c.in-Ok.tally c.in-Ok.ensures.accepted c.in-None.is
+
+pub returns-in-None-clause-kept : goal.returns-in-None-clause-kept
+returns-in-None-clause-kept c =
+    let read = c.read_whole_records-capture in
+    kept c.args.octets.now (Accepted c.in-Ok.tally)
+    (accepted c.args.octets.now read.result.capture read.result.fault (λ i. omega (arith, c.type_inv.octets i)) read.ensures.exact c.in-Ok.tally c.in-Ok.ensures.accepted c.in-None.is)

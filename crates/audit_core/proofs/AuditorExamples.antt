@@ -1,0 +1,87 @@
+-- What the words for an auditor say, at small captures.
+use Rattle.std.proofs.Common.{◌≡◌, ℕ, List, [], ◌∷◌, Option, Some, None, Err, refl, sym, ap, ◌∙◌, inl, inr, arith}
+use Rattle.capture_form.specs.declared.records.Record.{Record}
+use Rattle.capture_form.specs.Text.{Trace}
+use Rattle.trace_clauses.specs.declared.clause.Clause.{Clause}
+use Rattle.trace_clauses.specs.declared.clause.Clause.TheVariants.{L1, L2}
+use Rattle.trace_clauses.specs.declared.tally.Tally.{Tally}
+use Rattle.trace_clauses.specs.Clauses.{first_broken}
+use Rattle.trace_clauses.specs.Written.{written_open}
+use Rattle.trace_clauses.proofs.Captures.{opened, lost, broken_of}
+use Rattle.trace_clauses.proofs.Made.{write}
+use Rattle.trace_events.specs.History.{history}
+use Rattle.audit_core.specs.declared.auditor.Auditor.{Auditor}
+use Rattle.audit_core.specs.declared.verdict.Refusal.{Refusal}
+use Rattle.audit_core.specs.declared.verdict.Refusal.TheVariants.{Broken, Memory}
+use Rattle.audit_core.specs.Auditor.{Agrees, Stopped, IsRefusalBehind, broken_behind}
+use Rattle.audit_core.specs.Verdict.{WantsMemory, AnswersCapture}
+
+-- the router's open on a connection that nobody opened
+abbrev unasked : Record
+unasked = write 0 written_open
+
+broken_unasked : broken_behind [] [] unasked ≡ Some L1
+unfolding broken_of
+broken_unasked = refl
+
+first_unasked : first_broken [] (history [] (unasked ∷ [])) ≡ Some (0, L1)
+unfolding broken_of
+first_unasked = refl
+
+some_is_none : (x : ℕ × Clause) → ◌≡◌ {A = Option (ℕ × Clause)} (Some x) None → ⊥
+some_is_none x e = cc
+
+-- ---- agreeing
+
+module _ (auditor : Auditor) where
+  -- an auditor that kept these records, and stopped at this refusal
+  abbrev at : List Record → Option Refusal → Auditor
+  at records refusal = record auditor { capture = record { rules = []; records = records }; refusal = refusal }
+
+  agrees : Agrees (at (opened 0 ∷ []) None) [] (opened 0 ∷ [])
+  agrees = record { stands = refl; counted = refl; lawful = refl; runs = refl }
+
+  -- it kept another record, of the same tally
+  other_record : Agrees (at (lost 0 ∷ []) None) [] (opened 0 ∷ []) → ⊥
+  other_record a = let same : lost 0 ∷ [] ≡ opened 0 ∷ [] = ap (λ (t : Trace). t.records) a.stands in absurd cc
+
+  -- it kept fewer
+  fewer : Agrees (at [] None) [] (opened 0 ∷ []) → ⊥
+  fewer a = absurd (omega (arith, ap (λ (t : Tally). t.records) a.counted))
+
+  -- one of them breaks a clause
+  broken : Agrees (at (unasked ∷ []) None) [] (unasked ∷ []) → ⊥
+  broken a = some_is_none (0, L1) (sym first_unasked ∙ a.lawful)
+
+  -- it has stopped
+  ended : Agrees (at (opened 0 ∷ []) (Some Memory)) [] (opened 0 ∷ []) → ⊥
+  ended a = let runs : Some Memory ≡ None = a.runs in absurd cc
+
+  stopped : Stopped (at [] (Some Memory)) Memory
+  stopped = refl
+
+-- ---- refusing
+
+refused : IsRefusalBehind [] [] unasked (Broken 0 L1)
+refused = (refl, broken_unasked)
+
+-- another number, another clause, and a record that breaks none
+other_number : IsRefusalBehind [] [] unasked (Broken 1 L1) → ⊥
+other_number why = absurd (omega (arith, why.0))
+
+other_clause : IsRefusalBehind [] [] unasked (Broken 0 L2) → ⊥
+other_clause why = let same : Some L1 ≡ Some L2 = sym broken_unasked ∙ why.1 in absurd cc
+
+not_broken : IsRefusalBehind [] [] (opened 0) (Broken 0 L1) → ⊥
+not_broken why = let never : ◌≡◌ {A = Option Clause} None (Some L1) = why.1 in absurd cc
+
+-- ---- wanting memory
+
+-- for the second record, behind one that meets the clauses
+second : WantsMemory (record { rules = []; records = opened 0 ∷ unasked ∷ [] })
+second = inr (1, omega arith, refl)
+
+-- a capture without rules and records is never refused for want of memory
+never_of_nothing : AnswersCapture (record { rules = []; records = [] }) (Err Memory) → ⊥
+never_of_nothing (inl rules) = absurd (omega (arith, rules))
+never_of_nothing (inr place) = absurd (omega (arith, place.1))
