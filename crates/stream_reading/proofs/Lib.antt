@@ -1,0 +1,4 @@
+mod Fronts
+mod Said
+mod Following
+mod Examples
