@@ -11,3 +11,4 @@ pub mod Lengths
 pub mod Writable
 pub mod Within
 pub mod Opened
+pub mod NumberedStates

@@ -42,6 +42,11 @@ pub record StateFields : Type 0 where
   pub octets : List ℕ
   pub outcome : Option Outcome
 
+-- the outcome that a descriptor names
+abbrev pub outcome_named : Option Descriptor → Option Outcome
+outcome_named (Some (descriptors.Outcome outcome)) = Some outcome
+outcome_named other = None
+
 -- the outcome that a described list is
 abbrev pub outcome_of : Option (Descriptor × List Seen) → Option Outcome
 outcome_of (Some (descriptors.Outcome outcome, fields)) = Some outcome

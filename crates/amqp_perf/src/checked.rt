@@ -102,7 +102,10 @@ impl<'a> CheckedFields<'a> {
         ensures left { fields_left self.new.items ≡ others (fields_left self.old.items) }
         ensures fit { self.new.fit ≡ (self.old.fit && fits_field (optional types.Any) (first (fields_left self.old.items))) }
     {
-        if self.items.len() != 0 && self.items.next_bool().is_none() {
+        if self.items.len() != 0
+            && self.items.next_bool().is_none()
+            && self.items.next_uint().is_none()
+        {
             self.skip();
         }
     }

@@ -4,6 +4,7 @@ ghost use Rattle.std.specs.Prelude.{◌≡◌, option_map};
 ghost use Rattle.amqp_types.specs.View.{view};
 ghost use Rattle.amqp_perf.specs.Descriptors.{descriptor_of_code, descriptor_of_name, descriptor_named, described_list};
 ghost use Rattle.amqp_perf.specs.FieldsLeft.{fields_left};
+ghost use Rattle.amqp_perf.specs.Nested.{outcome_named};
 
 use amqp_types::{Items, Value};
 
@@ -39,6 +40,19 @@ pub(crate) enum Descriptor {
     Source,
     Target,
     Coordinator,
+}
+
+impl Outcome {
+    /// The outcome that a descriptor names which is a number.
+    #[inline(always)]
+    pub(crate) fn of_code(code: u64) -> Option<Outcome>
+        ensures { result ≡ outcome_named (descriptor_of_code code) }
+    {
+        match Descriptor::of_code(code) {
+            Some(Descriptor::Outcome(outcome)) => Some(outcome),
+            _ => None,
+        }
+    }
 }
 
 impl Descriptor {

@@ -104,6 +104,7 @@ impl<'a> Performative<'a> {
 
     /// From the fields of a performative of this kind, as far as they fit its table.
     #[tactic(auto, unfolding(crate::specs::Fields::all_fit))]
+    #[inline(always)]
     fn of_fields(kind: PerformativeKind, fields: &mut CheckedFields<'a>) -> Performative<'a>
         ensures says { view result ≡ meaning_of kind (fields_left fields.old.items) }
         ensures fit { fields.new.fit ≡ all_fit fields.old.fit (table_of kind) (fields_left fields.old.items) }

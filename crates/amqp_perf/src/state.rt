@@ -16,8 +16,24 @@ impl<'a> State<'a> {
     ghost use Rattle.amqp_perf.specs.Nested.{state_in};
     ghost use Rattle.amqp_perf.specs.NestedViews.{state_view};
 
-    /// The state that a value is, if it is described.
+    /// The state that a value is, if it is described. A list that a number of one octet describes is not gone into.
+    #[tactic(auto, using(crate::proofs::NumberedStates::state_numbered))]
+    #[inline(always)]
     pub(crate) fn of_value(value: Value<'a>) -> Option<State<'a>>
+        ensures { option_map state_view result ≡ state_in (view value.entry) }
+    {
+        match value.list_number() {
+            Some(number) => Some(State {
+                raw: value.raw(),
+                outcome: Outcome::of_code(number),
+            }),
+            None => State::of_any(value),
+        }
+    }
+
+    /// The state that a value is, if it is described.
+    #[inline(never)]
+    fn of_any(value: Value<'a>) -> Option<State<'a>>
         ensures { option_map state_view result ≡ state_in (view value.entry) }
     {
         let outcome = match described_list(value) {

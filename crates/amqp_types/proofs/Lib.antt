@@ -15,6 +15,7 @@ pub mod ReadBefore
 pub mod SimpleValues
 pub mod Front
 pub mod ListedValues
+pub mod ListNumbers
 pub mod Nested
 pub mod Shortest
 pub mod Written

@@ -17,7 +17,7 @@ use Rattle.amqp_types.proofs.Deeper.{value_deeper}
 use Rattle.amqp_types.proofs.Nested.{value_is}
 
 -- an ulong of one octet is a value
-number_is : (levels n : ℕ) → IsValue (suc levels) (0x53 ∷ n ∷ []) (Ulong n)
+pub number_is : (levels n : ℕ) → IsValue (suc levels) (0x53 ∷ n ∷ []) (Ulong n)
 unfolding IsValue IsData code_of scalar_of_code
 number_is levels n = (codes.Fixed scalars.UlongOctet, refl, (n, record { len = refl; says = omega arith }, refl))
 

@@ -1,5 +1,5 @@
 -- Values that are passed over: what is behind them is what is behind them where they are read.
-use Rattle.std.proofs.Common.{◌≡◌, ℕ, suc, ◌+◌, ◌-◌, ◌≤◌, ◌<◌, true, List, ◌∷◌, length, Option, Some, Ok, Err, refl, sym, ap, subst, ◌∙◌, take, drop, zero, false, ltb, inl, inr, arith}
+use Rattle.std.proofs.Common.{◌≡◌, rules, ℕ, suc, ◌+◌, ◌-◌, ◌≤◌, ◌<◌, true, List, [], ◌∷◌, length, Option, Some, Ok, Err, refl, sym, ap, subst, ◌∙◌, take, drop, zero, false, ltb, inl, inr, arith}
 use Rattle.std.proofs.lemmas.Bool.{le-ltb}
 use Rattle.std.proofs.lemmas.List.{length-append}
 use Rattle.amqp_types.specs.declared.fault.ValueFault.{ValueFault}
@@ -7,10 +7,13 @@ use Rattle.amqp_types.specs.declared.code.Code.{Code}
 use Rattle.amqp_types.specs.declared.code.Code.TheVariants as codes
 use Rattle.amqp_types.specs.declared.code.Scalar.{Scalar}
 use Rattle.amqp_types.specs.declared.code.Scalar.TheVariants as scalars
+use Rattle.byteorder.specs.Endian.{big_number}
+use Rattle.amqp_types.specs.declared.code.Text.TheVariants as texts
+use Rattle.amqp_types.specs.declared.code.SizeWidth.TheVariants as widths
 use Rattle.amqp_types.specs.Codes.{code_of, takes_any, width_of}
 use Rattle.amqp_types.specs.Part.{Part, Described, Seen, Tag, Constructor}
 use Rattle.flow_counts.specs.declared.profile.TheConstants.{MAX_DEPTH}
-use Rattle.amqp_types.specs.Reading.{Read, data_at, value_at, value_by, coded_at, in_front, with_octets, with_tag, seen_at, element_by, element_at, described_at, scalar_of, octets_at, fixed_at, data_by}
+use Rattle.amqp_types.specs.Reading.{Read, data_at, value_at, value_by, coded_at, in_front, with_octets, with_tag, seen_at, element_by, element_at, described_at, scalar_of, octets_at, fixed_at, data_by, text_at, sized_at, is_text}
 use Rattle.amqp_types.specs.Items.{behind, is_value, IsPlain, IsPassed}
 use Rattle.amqp_types.proofs.Steps.{done}
 use Rattle.amqp_types.proofs.Pieces.{in_front_is}
@@ -167,3 +170,22 @@ plain_passed bytes first width behind_first same (inr plain) long =
 pub passed_here : (levels at : ℕ) (bytes rest : List ℕ) → 0 < levels → IsPassed bytes rest → behind (seen_at levels at bytes) ≡ Ok rest
 unfolding IsPassed
 passed_here levels at bytes rest some passed = passed levels at some
+
+octet_alone : (n : ℕ) → big_number 1 (n ∷ []) ≡ n
+octet_alone n = search rules
+
+binary_by : (levels at n : ℕ) (more : List ℕ) → n ≤ length more → behind (seen_at (suc levels) at (0xA0 ∷ n ∷ more)) ≡ Ok (drop n more)
+unfolding data_at data_by text_at sized_at is_text code_of
+binary_by levels at n more long =
+    one_level levels at 0xA0 (codes.Sized texts.Binary widths.One) (n ∷ more) refl
+    ∙ rw (octets_there 1 at (n ∷ more) (omega arith), octet_alone n, octets_there n at more long) refl
+
+-- what is behind a binary whose size has one octet
+pub binary_passed : (bytes sized : List ℕ) (first n : ℕ) (more : List ℕ) → bytes ≡ first ∷ sized → sized ≡ n ∷ more → first ≡ 0xA0 → n ≤ length more → IsPassed bytes (drop n more)
+unfolding IsPassed
+binary_passed bytes sized first n more whole behind_first code long = λ levels at some.
+    let below : levels ≡ suc (levels - 1) = omega (arith, some) in
+    let same : bytes ≡ 0xA0 ∷ n ∷ more = whole ∙ ap (λ (b : ℕ). b ∷ sized) code ∙ ap (λ (t : List ℕ). 0xA0 ∷ t) behind_first in
+    let here : behind (seen_at levels at (0xA0 ∷ n ∷ more)) ≡ Ok (drop n more) =
+    subst (λ (l : ℕ). behind (seen_at l at (0xA0 ∷ n ∷ more)) ≡ Ok (drop n more)) (sym below) (binary_by (levels - 1) at n more long) in
+    subst (λ (t : List ℕ). behind (seen_at levels at t) ≡ Ok (drop n more)) (sym same) here

@@ -1,5 +1,5 @@
 -- The values that are nested in a value that was read.
-use Rattle.std.specs.Prelude.{◌≡◌, ◌<◌, ℕ, zero, suc, Bool, true, false, List, [], ◌∷◌, length, Option, Some, None, Result, Ok, Err, ◌==◌, ◌⊎◌}
+use Rattle.std.specs.Prelude.{◌≡◌, ◌<◌, ◌≤◌, ◌+◌, ◌-◌, ℕ, zero, suc, Bool, true, false, List, [], ◌∷◌, length, Option, Some, None, Result, Ok, Err, ◌==◌, ◌⊎◌}
 use Rattle.amqp_types.specs.declared.code.Code.{Code}
 use Rattle.amqp_types.specs.declared.code.Code.TheVariants.{Fixed, EmptyList}
 use Rattle.amqp_types.specs.declared.code.Scalar.{Scalar}
@@ -24,6 +24,12 @@ IsPlain first width =
 -- these octets are behind a value, wherever it lies
 unfoldable pub IsPassed : List ℕ → List ℕ → Type 0
 IsPassed bytes rest = (levels at : ℕ) → 0 < levels → behind (seen_at levels at bytes) ≡ Ok rest
+
+-- so many values begin as the octets do, wherever they lie, and these are left of them, with their octets
+unfoldable pub ArePassed : ℕ → List ℕ → ℕ → List ℕ → Type 0
+ArePassed count bytes left rest =
+    (length rest ≤ length bytes) × ((levels at : ℕ) → 0 < levels
+    → items_at (item_at levels None) count at bytes ≡ items_at (item_at levels None) left (at + (length bytes - length rest)) rest)
 
 -- whether something was read
 abbrev pub is_read : {A : Type 0} → Read A → Bool

@@ -1,13 +1,14 @@
 //! Values of octets that were read before. Nothing of them is tested again, and what a list, a map or an array
 //! holds is not gone over.
 
-ghost use Rattle.std.specs.Prelude.{◌≡◌, ◌-◌, ◌<◌, ◌∷◌, IsTrue, Ok, Some, None};
+ghost use Rattle.std.specs.Prelude.{◌≡◌, ◌-◌, ◌<◌, ◌∷◌, IfSome, IsTrue, Ok, Some, None, true};
 ghost use Rattle.std.specs.Result.{is_ok};
 ghost use Rattle.amqp_types.specs.Part as parts;
 ghost use Rattle.amqp_types.specs.Reading.{data_at, nested_at, described_at, item_at, seen_at};
 ghost use Rattle.amqp_types.specs.Items.{is_read, behind, are_items, items_in, is_value, is_element, element_of, seen_of, constructor_in};
 ghost use Rattle.amqp_types.specs.Grammar.{IsValue, IsConstructor, IsElement};
 ghost use Rattle.amqp_types.specs.Form.{kept_form, constructor_of};
+ghost use Rattle.amqp_types.specs.Listed.{BeginsList, IsNumbered};
 ghost use Rattle.amqp_types.specs.View.{view, part_of};
 
 use crate::code::{Code, Kind, SizeWidth};
@@ -198,4 +199,29 @@ pub(crate) fn first_of<'a>(
     ensures others { IsTrue (are_items (kept_form form.entry) (count - 1) result.1.now) }
 {
     known_item(form, octets)
+}
+
+/// Whether this is the first octet of a list.
+#[tactic(auto, unfolding(crate::specs::Codes::code_of, crate::specs::Listed::BeginsList))]
+#[inline(always)]
+fn begins_list(first: u8) -> bool
+    ensures { result ≡ true → BeginsList first }
+{
+    first == 0x45 || first == 0xC0 || first == 0xD0
+}
+
+/// The number of one octet that describes a list, by the octets of a descriptor and of a value that were read before, if they
+/// show it.
+#[inline(always)]
+pub(crate) fn number_of_list(descriptor: &[u8], value: &[u8]) -> Option<u64>
+    requires { IsTrue (is_value value.now) }
+    ensures { IfSome result (IsNumbered (parts.Described descriptor.now value.now)) }
+{
+    if descriptor.len() != 2 || descriptor[0] != 0x53 || value.len() == 0 {
+        return None;
+    }
+    if !begins_list(value[0]) {
+        return None;
+    }
+    Some(u64::from(descriptor[1]))
 }

@@ -8,7 +8,7 @@ ghost use Rattle.std.specs.Prelude.{◌≡◌, ◌+◌, ◌-◌, ◌<◌, ◌≤
 ghost use Rattle.amqp_types.specs.Part as parts;
 ghost use Rattle.flow_counts.specs.Words.{Gives};
 ghost use Rattle.amqp_types.specs.Reading.{items_at, nested_at, described_at, tagged_at, array_at, elements_at, constructor_at, element_at, item_at, data_at, seen_at};
-ghost use Rattle.amqp_types.specs.Items.{behind, IsPlain, IsPassed};
+ghost use Rattle.amqp_types.specs.Items.{behind, ArePassed, IsPlain, IsPassed};
 ghost use Rattle.amqp_types.specs.Form.{constructor_of, form};
 ghost use Rattle.amqp_types.specs.View.{view, part_of, array_part};
 
@@ -66,6 +66,48 @@ pub(crate) fn pass_plain(bytes: &[u8]) -> Option<&[u8]>
     }
     let (_, rest) = data.split_at(width);
     Some(rest)
+}
+
+/// The octets behind a binary whose size has one octet.
+#[tactic(auto, using(crate::proofs::PassedOver::binary_passed))]
+#[inline(always)]
+fn pass_binary(bytes: &[u8]) -> Option<&[u8]>
+    ensures { IfSome result (λ rest. IsPassed bytes.now rest.now) }
+{
+    let (first, sized) = bytes.split_first()?;
+    let (size, data) = sized.split_first()?;
+    if *first != 0xA0 || data.len() < *size as usize {
+        return None;
+    }
+    let (_, rest) = data.split_at(*size as usize);
+    Some(rest)
+}
+
+/// The octets behind a value, where its first octets say how long it is, and any octets may stand behind these.
+#[inline(always)]
+fn pass_simple(bytes: &[u8]) -> Option<&[u8]>
+    ensures { IfSome result (λ rest. IsPassed bytes.now rest.now) }
+{
+    match pass_plain(bytes) {
+        Some(rest) => Some(rest),
+        None => pass_binary(bytes),
+    }
+}
+
+/// Goes over those of so many values, at the front, whose first octets say how long they are; gives how many others are left,
+/// and their octets.
+#[inline(always)]
+fn pass_plains(count: u32, bytes: &[u8]) -> (u32, &[u8])
+    ensures { ArePassed count bytes.now result.0 result.1.now }
+{
+    let mut rest = bytes;
+    for passed in 0..count {
+        match pass_simple(rest) {
+            Some(after) => rest = after,
+            None => return (count - passed, rest),
+        }
+    }
+    (0, rest)
 }
 
 /// The octets behind a value, which is passed over.
@@ -166,6 +208,23 @@ fn read_items<'a>(
     Ok(rest)
 }
 
+/// Goes over so many values, and gives the octets behind them.
+#[cycle(reader)]
+fn read_values(levels: usize, count: u32, at: usize, bytes: &[u8]) -> Result<&[u8], ValueFault>
+    requires levels { levels ≤ MAX_DEPTH }
+    requires room { at + length bytes.now < 2 ^ 64 }
+    ensures { Gives (λ x. x.now) result (items_at (item_at levels None) count at bytes.now) }
+{
+    if levels == 0 {
+        return read_items(levels, None, count, at, bytes);
+    }
+    let (left, rest) = pass_plains(count, bytes);
+    if left == 0 {
+        return Ok(rest);
+    }
+    read_items(levels, None, left, at + (bytes.len() - rest.len()), rest)
+}
+
 /// The data of a list or a map.
 #[cycle(reader)]
 #[tactic(auto, unfolding(crate::specs::Reading::nested_at))]
@@ -185,7 +244,7 @@ pub(crate) fn read_nested(
         return Err(ValueFaultKind::OddMap.of(at));
     }
     let first = at + 1 + width.octets() + width.octets();
-    match read_items(levels, None, count, first, body) {
+    match read_values(levels, count, first, body) {
         Ok([]) => Ok((Sequence { count, body }, rest)),
         Ok(_) => Err(ValueFaultKind::BadSize.of(at)),
         Err(fault) => Err(fault.within(at)),

@@ -3,7 +3,7 @@
 use crate::code::{Kind, Opaque};
 use crate::described::{Described, Tagged};
 use crate::fault::ValueFault;
-use crate::known::{whole, whole_element};
+use crate::known::{number_of_list, whole, whole_element};
 use crate::reading::read_value;
 use crate::sequence::{Array, Items, Sequence};
 use flow_counts::MAX_DEPTH;
@@ -39,14 +39,14 @@ pub(crate) enum Content<'a> {
 }
 
 impl<'a> Value<'a> {
-    ghost use Rattle.std.specs.Prelude.{◌≡◌, option_map, ◌<◌, ◌^◌, List, ℕ, length, IfOk, Ok};
+    ghost use Rattle.std.specs.Prelude.{◌≡◌, option_map, ◌<◌, ◌^◌, List, ℕ, length, IfOk, IfSome, Ok};
     ghost use Rattle.std.specs.Option.{option_copied};
     ghost use Rattle.amqp_types.specs.Part.{Seen};
     ghost use Rattle.flow_counts.specs.Words.{Gives};
     ghost use Rattle.amqp_types.specs.Reading.{seen_at};
     ghost use Rattle.amqp_types.specs.Grammar.{IsFront, IsValueOf, IsDescribedOf, AreItemsOf};
     ghost use Rattle.amqp_types.specs.Items.{items_of, descriptor_of, described_of, descriptor_octets};
-    ghost use Rattle.amqp_types.specs.Listed.{listed_in};
+    ghost use Rattle.amqp_types.specs.Listed.{IsNumbered, listed_in};
     ghost use Rattle.amqp_types.specs.Typed.{says_null, boolean_in, ubyte_in, ushort_in, uint_in, ulong_in, byte_in, short_in, int_in, long_in, opaque_in, binary_in, str_in, symbol_in, list_in, map_in, array_in};
     ghost use Rattle.amqp_types.specs.View.{view, view_of, items_left};
 
@@ -280,6 +280,18 @@ impl<'a> Value<'a> {
         match self.content {
             Content::Described(pair) => Some(whole(pair.value)),
             Content::Tagged(element) => Some(whole_element(element.constructor, element.data)),
+            _ => None,
+        }
+    }
+
+    /// The number that describes the value, if this shows a list that a number of one octet describes; of others it may give
+    /// nothing, and they have to be asked for their descriptor.
+    #[inline(always)]
+    pub fn list_number(&self) -> Option<u64>
+        ensures { IfSome result (IsNumbered (view self.now).part) }
+    {
+        match self.content {
+            Content::Described(pair) => number_of_list(pair.descriptor, pair.value),
             _ => None,
         }
     }

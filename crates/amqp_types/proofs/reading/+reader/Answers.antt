@@ -19,7 +19,7 @@ use Rattle.amqp_types.specs.Part.{Part}
 use Rattle.flow_counts.specs.Words.{Gives}
 use Rattle.amqp_types.specs.Items.{behind}
 use Rattle.amqp_types.proofs.PassedOver.{passes_element, value_shorter, front_held, descriptor_fault, described_fault, described_passed}
-use Rattle.amqp_types.proofs.Loop.{seen_lengths, behind_shorter, goes_past, stops, is_done}
+use Rattle.amqp_types.proofs.Loop.{seen_lengths, behind_shorter, goes_past, stops, is_done, plains_shorter, plains_read, plains_all}
 use Rattle.amqp_types.proofs.reading.+reader.Goals as goal
 
 pub pass_data-returns-in-Ok-read_nested : goal.pass_data-returns-in-Ok-read_nested
@@ -149,10 +149,10 @@ read_nested-overflow_add-first-3 t c =
     let counted = c.in_ok-count in
     omega (arith, c.requires.room, c.octets.ensures, c.octets-2.ensures, counted_lengths c.args.width c.args.at c.args.bytes.now ((counted.count, counted.body.now), counted.rest.now) counted.ensures)
 
-pub read_nested-read_items-requires : goal.read_nested-read_items-requires
-read_nested-read_items-requires t c =
+pub read_nested-read_values-requires : goal.read_nested-read_values-requires
+read_nested-read_values-requires t c =
     let counted = c.in_ok-count in
-    (search rules, (c.requires.levels, (omega (arith, c.requires.room, c.octets.ensures, c.octets-2.ensures, counted_lengths c.args.width c.args.at c.args.bytes.now ((counted.count, counted.body.now), counted.rest.now) counted.ensures), tt)))
+    (search rules, (c.requires.levels, (omega (arith, c.requires.room, c.octets.ensures, c.octets-2.ensures, counted_lengths c.args.width c.args.at c.args.bytes.now ((counted.count, counted.body.now), counted.rest.now) counted.ensures))))
 
 pub read_nested-invariant_of-result : goal.read_nested-invariant_of-result
 read_nested-invariant_of-result t c =
@@ -231,3 +231,20 @@ read_value-slice_bounds-raw-count t c =
     let content = c.in_ok-content in
     let shorter = data_shorter c.args.levels c.in-Some-of.code c.args.at c.in-Some.behind.now (part_of content.content, content.rest.now) content.ensures in
     omega (arith, shorter, c.in-Some.ensures.cases.1)
+
+pub read_values-returns-then-left-eq0 : goal.read_values-returns-then-left-eq0
+read_values-returns-then-left-eq0 t c =
+    plains_all c.args.levels c.args.at c.args.count c.args.bytes.now c.pass_plains-left.result.0 c.pass_plains-left.result.1.now (omega (arith, c.if-levels-eq0.false)) c.if-left-eq0.true c.pass_plains-left.ensures
+
+pub read_values-overflow_sub-bytes : goal.read_values-overflow_sub-bytes
+read_values-overflow_sub-bytes t c = plains_shorter c.args.count c.args.bytes.now c.pass_plains-left.result.0 c.pass_plains-left.result.1.now c.pass_plains-left.ensures
+
+pub read_values-read_items-requires-2 : goal.read_values-read_items-requires-2
+read_values-read_items-requires-2 t c =
+    let shorter = plains_shorter c.args.count c.args.bytes.now c.pass_plains-left.result.0 c.pass_plains-left.result.1.now c.pass_plains-left.ensures in
+    (search rules, (c.requires.levels, (omega (arith, c.requires.room, shorter), tt)))
+
+pub read_values-returns : goal.read_values-returns
+read_values-returns t c =
+    subst (Gives (λ (x : Bor (List ℕ)). x.now) c.read_items-2.result)
+    (plains_read c.args.levels c.args.at c.args.count c.args.bytes.now c.pass_plains-left.result.0 c.pass_plains-left.result.1.now (omega (arith, c.if-levels-eq0.false)) c.pass_plains-left.ensures) c.read_items-2.ensures

@@ -37,7 +37,10 @@ abbrev pub decreases-read_items : goal.decreases-read_items
 decreases-read_items l = 8 * l.levels + 5
 
 abbrev pub decreases-read_nested : goal.decreases-read_nested
-decreases-read_nested l = 8 * l.levels + 6
+decreases-read_nested l = 8 * l.levels + 7
+
+abbrev pub decreases-read_values : goal.decreases-read_values
+decreases-read_values l = 8 * l.levels + 6
 
 abbrev pub decreases-read_elements : goal.decreases-read_elements
 decreases-read_elements l = 8 * l.levels + 6
