@@ -1,0 +1,5 @@
+mod Telling
+mod Going
+mod FedOn
+mod GivenOn
+mod FramesOn
