@@ -3,3 +3,4 @@ mod Going
 mod FedOn
 mod GivenOn
 mod FramesOn
+mod Examples
