@@ -1,0 +1,6 @@
+mod Telling
+mod Going
+mod FedOn
+mod GivenOn
+mod FramesOn
+mod Examples

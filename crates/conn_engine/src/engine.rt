@@ -1,0 +1,250 @@
+//! The engine of one connection.
+
+ghost use Rattle.std.specs.Prelude.{◌≡◌, ◌≤◌, ◌++◌, ℕ, List, [], length, take, drop, None};
+ghost use Rattle.stream_reading.specs.declared.step.Phase.TheVariants.{FirstHeader};
+ghost use Rattle.conn_engine.specs.declared.place.Place.TheVariants.{Reading};
+ghost use Rattle.conn_engine.specs.Closing.{close_left, is_over, place_given};
+ghost use Rattle.conn_engine.specs.Serving.{Extent, HasFed, HasGiven};
+ghost use Rattle.conn_engine.specs.Feeding.{FedAt, and_fed, extent_after, place_after};
+ghost use Rattle.conn_engine.specs.Taking.{AfterLoss, Refilled, is_loss_due, loss_of};
+
+use crate::fault::EngineFault;
+use crate::feeding::{submit, take_piece};
+use crate::output::Output;
+use crate::place::{Loss, Place};
+use crate::port::Port;
+use crate::taking::take_frames;
+use route_items::Item;
+use std::alloc::{AllocError, Global};
+use std::marker::Model;
+use stream_reading::{Phase, StreamReader};
+
+/// What lies between a device and a router on one connection: it is fed the octets that the device delivers, in whatever
+/// pieces, hands the router its items, and gives the octets that the device is to take.
+///
+/// It reads the client's header, perhaps behind a SASL exchange, and then its frames. Where these stop, because octets
+/// are no frame, it is closing until the router's close is given. It is over once a close was given, once the device is
+/// gone, and behind every other fault.
+///
+/// It keeps what was fed and is no whole frame yet, and what waits to be given.
+#[derive(Drop)]
+pub struct Engine<P: Port> {
+    connection: u32,
+    port: P,
+    reader: StreamReader,
+    output: Output,
+    /// The number of the record from which on the router is asked for its next frame.
+    next: u64,
+    /// How many of the octets that wait are up to the end of the first close, if a close was taken.
+    close: Option<usize>,
+    place: Place,
+}
+
+impl<P: Port> Model for Engine<P> {
+    ghost use Rattle.std.specs.Prelude.{◌≡◌};
+    ghost use Rattle.conn_engine.specs.Serving.{Connection};
+
+    ghost Value = { Connection };
+
+    ghost view = { λ e. record { number = P.connection e.port; items = P.items e.port; frames = P.frames e.port; ahead = e.reader; waiting = e.output; close = e.close; place = e.place } };
+
+    ghost invariant = { λ e. e.connection ≡ P.connection e.port };
+}
+
+impl<P: Port> Engine<P> {
+    /// The engine of the connection of this number, of which no octet has come yet. The port is of the same connection.
+    pub fn new(alloc: Global, connection: u32, port: P) -> Engine<P>
+        requires { connection ≡ P.connection port }
+        ensures value { result ≡ record { number = connection; items = P.items port; frames = P.frames port; ahead = record { phase = FirstHeader; octets = [] }; waiting = []; close = None; place = Reading } }
+        ensures fed { P.items port ≡ [] → HasFed result [] }
+        ensures given { (extent : Extent) → P.frames port ≡ [] → HasGiven extent result [] [] }
+    {
+        Engine {
+            connection,
+            port,
+            reader: StreamReader::new(alloc),
+            output: Output::new(alloc),
+            next: 0,
+            close: None,
+            place: Place::Reading,
+        }
+    }
+
+    /// Takes the octets that the device delivered next.
+    ///
+    /// # Errors
+    ///
+    /// As `EngineFault` says. The items before the fault were taken by the router.
+    pub fn feed(&mut self, piece: &[u8]) -> Result<(), EngineFault>
+        ensures did { FedAt self.old.place self.old self.new piece.now result }
+        ensures number { self.new.number ≡ self.old.number }
+        ensures frames { self.new.frames ≡ self.old.frames }
+        ensures close { self.new.close ≡ self.old.close }
+        // Whatever was fed before, now this piece was fed too.
+        ensures fed { (fed : List ℕ) → HasFed self.old fed → HasFed self.new (and_fed result fed piece.now) }
+        ensures given { (extent : Extent) (fed given : List ℕ) → HasGiven extent self.old fed given
+            → HasGiven (extent_after extent result) self.new (and_fed result fed piece.now) given }
+    {
+        match self.place {
+            Place::Reading => self.read_piece(piece),
+            Place::Closing => Err(EngineFault::Frame),
+            Place::Over(_) => Err(EngineFault::Over),
+        }
+    }
+
+    /// Reads a piece of the stream.
+    fn read_piece(&mut self, piece: &[u8]) -> Result<(), EngineFault>
+        requires { self.old.place ≡ Reading }
+        ensures did { FedAt Reading self.old self.new piece.now result }
+        ensures number { self.new.number ≡ self.old.number }
+        ensures frames { self.new.frames ≡ self.old.frames }
+        ensures close { self.new.close ≡ self.old.close }
+    {
+        let taken = take_piece(
+            self.connection,
+            &mut self.port,
+            &mut self.reader,
+            &mut self.output,
+            piece,
+        );
+        self.place = place_after(taken, self.reader.phase());
+        taken
+    }
+
+    /// Takes frames of the router until it has none or 65536 octets wait.
+    ///
+    /// # Errors
+    ///
+    /// Where the memory for a frame is refused. Those before it were taken, and a later call goes on with it.
+    #[tactic(auto, using(crate::proofs::FedOn::fed_refilled))]
+    pub fn refill(&mut self) -> Result<(), AllocError>
+        ensures took { Refilled self.old self.new }
+        ensures same { self.new ≡ record self.old { frames = self.new.frames; waiting = self.new.waiting; close = self.new.close } }
+        // Whatever was fed and given before, is so still.
+        ensures fed { (fed : List ℕ) → HasFed self.old fed → HasFed self.new fed }
+        ensures given { (extent : Extent) (fed given : List ℕ) → HasGiven extent self.old fed given → HasGiven extent self.new fed given }
+    {
+        self.take_due_frames()
+    }
+
+    /// Takes frames of the router, if it was told that the connection is open.
+    fn take_due_frames(&mut self) -> Result<(), AllocError>
+        ensures took { Refilled self.old self.new }
+        ensures same { self.new ≡ record self.old { frames = self.new.frames; waiting = self.new.waiting; close = self.new.close } }
+    {
+        if self.reader.phase() != Phase::Open {
+            return Ok(());
+        }
+        take_frames(
+            &mut self.port,
+            &mut self.output,
+            &mut self.next,
+            &mut self.close,
+        )
+    }
+
+    /// What is to be given next, lent.
+    pub fn give(&self) -> &[u8]
+        ensures { result.now ≡ self.now.waiting }
+    {
+        self.output.waiting()
+    }
+
+    /// The first `n` octets of what is to be given were given. Where a close is among them, the engine is over.
+    #[tactic(auto, using(crate::proofs::FedOn::fed_first, crate::proofs::GivenOn::given_first))]
+    pub fn gave(&mut self, n: usize)
+        requires { n ≤ length self.old.waiting }
+        ensures value { self.new ≡ record self.old { waiting = drop n self.old.waiting; close = close_left self.old.close n; place = place_given self.old.place self.old.close n } }
+        // Whatever was fed and given before, now these octets were given too.
+        ensures fed { (fed : List ℕ) → HasFed self.old fed → HasFed self.new fed }
+        ensures given { (extent : Extent) (fed given : List ℕ) → HasGiven extent self.old fed given
+            → HasGiven extent self.new fed (given ++ take n self.old.waiting) }
+    {
+        self.output.gave(n);
+        self.place = place_given(self.place, self.close, n);
+        self.close = close_left(self.close, n);
+    }
+
+    /// The device is gone. The router is told so at the first call, if it was told that the connection is open; the
+    /// engine is over.
+    ///
+    /// # Errors
+    ///
+    /// `Port` or `Memory`, where the router did not take it. It is told once at most.
+    #[tactic(auto, using(crate::proofs::FedOn::fed_gone, crate::proofs::GivenOn::given_gone))]
+    pub fn gone(&mut self) -> Result<(), EngineFault>
+        ensures did { AfterLoss (is_loss_due self.old.ahead.phase self.old.place) self.old self.new result }
+        // Whatever was fed and given before, is so still.
+        ensures fed { (fed : List ℕ) → HasFed self.old fed → HasFed self.new fed }
+        ensures given { (extent : Extent) (fed given : List ℕ) → HasGiven extent self.old fed given → HasGiven extent self.new fed given }
+    {
+        if !self.place.is_loss_due(self.reader.phase()) {
+            self.place = self.place.over();
+            return Ok(());
+        }
+        let told = submit(&mut self.port, Item::Lost(self.connection));
+        self.place = Place::Over(loss_of(told));
+        told
+    }
+
+    /// Whether it takes no more octets and nothing is awaited but that the device takes what is to be given.
+    pub fn is_over(&self) -> bool
+        ensures { result ≡ is_over self.now.place }
+    {
+        self.place.is_over()
+    }
+
+    /// Gives the port back.
+    pub fn into_port(self) -> P
+        ensures connection { P.connection result ≡ self.number }
+        ensures items { P.items result ≡ self.items }
+        ensures frames { P.frames result ≡ self.frames }
+    {
+        let Engine { port, .. } = self;
+        port
+    }
+}
+
+/// Where an engine is that read a piece.
+fn place_after(taken: Result<(), EngineFault>, phase: Phase) -> Place
+    ensures { result ≡ place_after taken phase }
+{
+    match taken {
+        Ok(()) => Place::Reading,
+        Err(EngineFault::Frame) => match phase {
+            Phase::Open => Place::Closing,
+            Phase::FirstHeader | Phase::Exchange | Phase::SecondHeader => Place::Over(Loss::Untold),
+        },
+        Err(_) => Place::Over(Loss::Untold),
+    }
+}
+
+/// Where an engine is when the first `n` octets that waited were given, of which so many are up to the end of a close.
+fn place_given(place: Place, close: Option<usize>, n: usize) -> Place
+    ensures { result ≡ place_given place close n }
+{
+    match close {
+        Some(end) => { if end <= n { place.over() } else { place } }
+        None => place,
+    }
+}
+
+/// How many of the octets that still wait are up to the end of the first close.
+fn close_left(close: Option<usize>, n: usize) -> Option<usize>
+    ensures { result ≡ close_left close n }
+{
+    match close {
+        Some(end) => Some(end.saturating_sub(n)),
+        None => None,
+    }
+}
+
+/// Whether the router was told of a loss.
+fn loss_of(told: Result<(), EngineFault>) -> Loss
+    ensures { result ≡ loss_of told }
+{
+    match told {
+        Ok(()) => Loss::Told,
+        Err(_) => Loss::Refused,
+    }
+}
