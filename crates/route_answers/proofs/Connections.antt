@@ -122,3 +122,23 @@ module _ (c : ℕ) (past : List Event) where
 
   pub close_written : was_opened c past ≡ true → was_finished c past ≡ false → has_out_frame c past ≡ true → (error : Option (List ℕ)) → may_be_written c (AClose error) past ≡ true
   close_written opened running framed error = rw (opened, running, framed) refl
+
+-- in a lawful history it has written a frame just where it has written an open
+pub framed_opened : (rules : List RuleText) (c : ℕ) (past : List Event) → first_broken rules past ≡ None → has_out_frame c past ≡ has_out_open c past
+framed_opened rules c past lawful = by (has_out_open c past) refl
+  where
+    by : (b : Bool) → has_out_open c past ≡ b → has_out_frame c past ≡ b
+    by true is = open_framed c past is
+    by false is = unopened_unframed rules c past lawful is
+
+-- a connection that is not lost is finished just where the router has closed it
+finished_by : (lost closed own rest more last : Bool) → lost && own || last ≡ false → (last ≡ false → rest ≡ more) → (lost || closed) && own || rest ≡ closed && own || more
+finished_by true closed true rest more last none same = absurd cc
+finished_by true true false rest more last none same = same none
+finished_by true false false rest more last none same = same none
+finished_by false closed own rest more last none same = ap (λ b. closed && own || b) (same (neither (false && own) last none).1)
+
+pub finished_closed : (c : ℕ) (past : List Event) → was_lost c past ≡ false → was_finished c past ≡ has_out_close c past
+finished_closed c [] none = refl
+finished_closed c (e ∷ past) none =
+    finished_by (is_lost e.moment) (is_out_close e) (e.connection == c) (was_finished c past) (has_out_close c past) (was_lost c past) none (finished_closed c past)

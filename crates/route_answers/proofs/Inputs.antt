@@ -24,7 +24,7 @@ module _ (rules : List RuleText) (c : ℕ) (past : List Event) (ready : IsReady 
   at m = judge_moment rules past c m notes.None
 
   -- an input breaks no clause
-  lawful_at : (m : Moment) → is_out m ≡ false → first_broken rules (at m ∷ past) ≡ None
+  pub lawful_at : (m : Moment) → is_out m ≡ false → first_broken rules (at m ∷ past) ≡ None
   lawful_at (Out frame) input = absurd cc
   lawful_at (In frame) input = rw ready.lawful refl
   lawful_at Opened input = rw ready.lawful refl
@@ -61,7 +61,7 @@ module _ (rules : List RuleText) (c : ℕ) (past : List Event) (ready : IsReady 
     broken_by lost true is = goes_none rules c (at Broken ∷ past) (λ over. let never : true ≡ false = sym (or_left (c == c) (is_over c past) (eq-eqb c c refl)) ∙ over in absurd cc)
     broken_by lost false is = goes_closing rules c (at Broken ∷ past) opened (unfinished c past lost is) (lawful_at Broken refl) (Some FramingError)
 
-  allowed : (a b : Bool) → a && not b ≡ true → (a ≡ true) × (b ≡ false)
+  pub allowed : (a b : Bool) → a && not b ≡ true → (a ≡ true) × (b ≡ false)
   allowed true false is = (refl, refl)
   allowed true true is = absurd cc
   allowed false b is = absurd cc

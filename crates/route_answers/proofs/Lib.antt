@@ -12,3 +12,4 @@ pub mod Goes
 pub mod Spoken
 pub mod Order
 pub mod Inputs
+pub mod Answerable
