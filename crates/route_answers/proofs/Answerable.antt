@@ -1,20 +1,17 @@
 -- What a client may do can be answered: a flow names what lives, and the texts of attaches are short.
-use Rattle.std.proofs.Common.{◌≡◌, refl, sym, ap, ◌∙◌, subst, ℕ, ◌≤◌, Bool, true, false, not, List, [], ◌∷◌, length, Option, Some, None, IsTrue, nat_lt, if◌then◌else◌}
-use Rattle.flow_counts.specs.declared.profile.TheConstants.{CHANNEL_MAX, MAX_LINK_NAME, MAX_ADDRESS}
-use Rattle.amqp_perf.specs.declared.condition.ErrorCondition.{ErrorCondition}
+use Rattle.std.proofs.Common.{◌≡◌, refl, ℕ, Bool, true, false, List, ◌∷◌, length, Option, Some, None, IsTrue}
 use Rattle.amqp_perf.specs.Meaning.{Meaning, AnOpen, ABegin, AnAttach, AFlow, ATransfer, ADisposition, ADetach, AnEnd, AClose, AttachFields}
 use Rattle.pairing_cert.specs.declared.note.Note.TheVariants as notes
 use Rattle.capture_form.specs.Rules.{RuleText}
 use Rattle.trace_events.specs.declared.fault.Fault.{Fault}
 use Rattle.trace_events.specs.declared.fault.Fault.TheVariants.{Close, End, Refuse, Detach}
-use Rattle.trace_events.specs.Frame.{Body, NoFrame, Empty, NoPerformative, Says, Spoken}
+use Rattle.trace_events.specs.Frame.{Body, NoFrame, Empty, NoPerformative, Says}
 use Rattle.trace_events.specs.Event.{Event, Moment, Opened, In, Out, Lost, Broken, is_out}
 use Rattle.trace_events.specs.Connection.{was_opened}
 use Rattle.trace_events.specs.Said.{as_attach}
 use Rattle.trace_events.specs.History.{judge_moment}
 use Rattle.trace_events.proofs.Standing.{placed-stands}
 use Rattle.trace_clauses.proofs.LiveLinks.{placed-names}
-use Rattle.trace_clauses.specs.LinkClause.{asked_address}
 use Rattle.route_answers.specs.Answering.{IsReady, may_happen, was_lost}
 use Rattle.route_answers.specs.Replies.{EchoesLive, AreShortTexts, IsHeardShort, IsAnswerableBody, IsAnswerableAt, IsAnswerable}
 use Rattle.route_answers.proofs.Connections.{finished_closed}

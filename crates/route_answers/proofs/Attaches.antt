@@ -191,7 +191,7 @@ module _ (channel : ℕ) (theirs : AttachFields) (named : length theirs.name ≤
   name_long = omega (arith, text_long texts.Str theirs.name, named)
 
   module _ (address : List ℕ) (short : length address ≤ MAX_ADDRESS) where
-    producer_fits : length (spoken_octets (says channel (AnAttach (attach_to_producer theirs address)))) ≤ 512
+    pub producer_fits : length (spoken_octets (says channel (AnAttach (attach_to_producer theirs address)))) ≤ 512
     producer_fits =
         slots_fit channel (AnAttach (attach_to_producer theirs address)) (260 ∷ 5 ∷ 1 ∷ 2 ∷ 2 ∷ 17 ∷ 181 ∷ 1 ∷ 1 ∷ 5 ∷ 9 ∷ []) (
           name_long,
@@ -217,7 +217,7 @@ module _ (channel : ℕ) (theirs : AttachFields) (named : length theirs.name ≤
         )
         (omega arith)
 
-    consumer_fits : (dynamic : Bool) (mode : SenderSettleMode) → length (spoken_octets (says channel (AnAttach (attach_to_consumer theirs address dynamic mode)))) ≤ 512
+    pub consumer_fits : (dynamic : Bool) (mode : SenderSettleMode) → length (spoken_octets (says channel (AnAttach (attach_to_consumer theirs address dynamic mode)))) ≤ 512
     consumer_fits dynamic mode =
         slots_fit channel (AnAttach (attach_to_consumer theirs address dynamic mode)) (260 ∷ 5 ∷ 1 ∷ 2 ∷ 2 ∷ 181 ∷ 17 ∷ 1 ∷ 1 ∷ 5 ∷ 9 ∷ []) (
           name_long,

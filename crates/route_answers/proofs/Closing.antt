@@ -12,7 +12,7 @@ use Rattle.capture_form.specs.Rules.{RuleText}
 use Rattle.trace_events.specs.Event.{Event}
 use Rattle.trace_events.specs.Connection.{is_over, was_opened, was_finished, has_out_frame, has_out_open}
 use Rattle.trace_clauses.specs.Clauses.{first_broken}
-use Rattle.trace_clauses.specs.Written.{spoken_octets, error_of, written_open, written_close, written_end, written_detach}
+use Rattle.trace_clauses.specs.Written.{spoken_octets, says, error_of, written_open, written_close, written_end, written_detach}
 use Rattle.trace_duties.specs.Answer.{closing}
 use Rattle.route_answers.specs.Writing.{writing, behind}
 use Rattle.route_answers.proofs.Words.{or_left}
@@ -44,8 +44,8 @@ ending_long : (condition : Option ErrorCondition) → IsWithin 57 (option_map er
 ending_long None = omega arith
 ending_long (Some condition) = error_long condition
 
-pub close_fits : (condition : Option ErrorCondition) → length (spoken_octets (written_close condition)) ≤ 512
-close_fits condition = slots_fit 0 (AClose (error_of condition)) (57 ∷ []) (ending_long condition, tt) (omega arith)
+pub close_fits : (channel : ℕ) (condition : Option ErrorCondition) → length (spoken_octets (says channel (AClose (error_of condition)))) ≤ 512
+close_fits channel condition = slots_fit channel (AClose (error_of condition)) (57 ∷ []) (ending_long condition, tt) (omega arith)
 
 pub end_fits : (channel : ℕ) (condition : Option ErrorCondition) → length (spoken_octets (written_end channel condition)) ≤ 512
 end_fits channel condition = slots_fit channel (AnEnd (error_of condition)) (57 ∷ []) (ending_long condition, tt) (omega arith)
@@ -58,9 +58,9 @@ pub detach_fits : (channel handle : ℕ) (closed : Bool) (condition : Option Err
 detach_fits channel handle closed condition =
     slots_fit channel (ADetach (detach_with handle closed condition)) (5 ∷ 1 ∷ 57 ∷ []) (uint_long handle, (boolean_long closed, (detach_long condition, tt))) (omega arith)
 
-pub open_fits : length (spoken_octets written_open) ≤ 512
-open_fits =
-    slots_fit 0 (AnOpen router_open) (16 ∷ 1 ∷ 5 ∷ 3 ∷ 1 ∷ [])
+pub open_fits : (channel : ℕ) → length (spoken_octets (says channel (AnOpen router_open))) ≤ 512
+open_fits channel =
+    slots_fit channel (AnOpen router_open) (16 ∷ 1 ∷ 5 ∷ 3 ∷ 1 ∷ [])
     (omega (arith, text_long texts.Str router_open.container_id), (omega arith, (uint_long 16384, (ushort_long 255, (omega arith, tt)))))
     (omega arith)
 
@@ -69,7 +69,7 @@ open_fits =
 module _ (rules : List RuleText) (c : ℕ) (past : List Event) (opened : was_opened c past ≡ true) (running : was_finished c past ≡ false) where
   -- where it has written no frame, the router's open
   pub first_fine : has_out_frame c past ≡ false → IsFine rules c past written_open
-  first_fine none = open_fine rules c 0 past opened running none (fits_all c past (spoken_octets written_open) open_fits)
+  first_fine none = open_fine rules c 0 past opened running none (fits_all c past (spoken_octets written_open) (open_fits 0))
 
   abbrev begun : List Event
   begun = writing rules c past written_open ∷ past
@@ -79,10 +79,10 @@ module _ (rules : List RuleText) (c : ℕ) (past : List Event) (opened : was_ope
 
   module _ (lawful : first_broken rules past ≡ None) (condition : Option ErrorCondition) where
     closing_by : (b : Bool) → has_out_open c past ≡ b → AreFine rules c (if b then written_close condition ∷ [] else written_open ∷ written_close condition ∷ []) past
-    closing_by true is = (close_fine rules c 0 past opened running (open_framed c past is) (error_of condition) (fits_all c past (spoken_octets (written_close condition)) (close_fits condition)), tt)
+    closing_by true is = (close_fine rules c 0 past opened running (open_framed c past is) (error_of condition) (fits_all c past (spoken_octets (written_close condition)) (close_fits 0 condition)), tt)
     closing_by false is = (
       first_fine (unopened_unframed rules c past lawful is),
-      (close_fine rules c 0 begun opened running framed (error_of condition) (fits_all c begun (spoken_octets (written_close condition)) (close_fits condition)), tt),
+      (close_fine rules c 0 begun opened running framed (error_of condition) (fits_all c begun (spoken_octets (written_close condition)) (close_fits 0 condition)), tt),
     )
 
     pub closing_fine : AreFine rules c (closing c condition past) past

@@ -13,3 +13,5 @@ pub mod Spoken
 pub mod Order
 pub mod Inputs
 pub mod Answerable
+pub mod Again
+pub mod Short

@@ -1,15 +1,14 @@
 -- What the code's replies say.
 use Rattle.std.specs.Prelude.{◌≡◌, ◌≤◌, ℕ, Bool, true, false, List, [], ◌∷◌, ◌++◌, length, Option, Some, None, IfSome, codes, decimal, if◌then◌else◌}
 use Rattle.flow_counts.specs.declared.profile.TheConstants.{MAX_LINK_NAME, MAX_ADDRESS}
-use Rattle.amqp_perf.specs.Meaning.{Meaning, AnOpen, ABegin, AnAttach, AFlow, ATransfer, ADisposition, ADetach, AnEnd, AClose}
+use Rattle.amqp_perf.specs.Meaning.{Meaning, AnOpen, ABegin, AnAttach, AFlow, ADetach, AnEnd, AClose}
 use Rattle.amqp_perf.specs.Router.{router_open, begin_answer, attach_to_producer, attach_to_consumer, attach_refused, detach_with}
 use Rattle.amqp_perf.specs.View.{attach_fields}
 use Rattle.capture_form.specs.Rules.{RuleText}
 use Rattle.trace_events.specs.declared.fault.Fault.{Fault}
-use Rattle.trace_events.specs.declared.fault.Fault.TheVariants.{Close, End, Refuse, Detach}
-use Rattle.trace_events.specs.declared.session.Session.{Session}
-use Rattle.trace_events.specs.Frame.{Body, NoFrame, Empty, NoPerformative, Says, Spoken}
-use Rattle.trace_events.specs.Event.{Event, Link, Moment, Opened, In, Out, Lost, Broken}
+use Rattle.trace_events.specs.declared.fault.Fault.TheVariants.{Refuse}
+use Rattle.trace_events.specs.Frame.{Body, Says, Spoken}
+use Rattle.trace_events.specs.Event.{Event, Moment, In, Broken}
 use Rattle.trace_events.specs.Connection.{was_finished, has_out_close}
 use Rattle.trace_events.specs.Session.{IsLiveOn}
 use Rattle.trace_events.specs.Link.{IsLiveLink}

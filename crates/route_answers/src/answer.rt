@@ -252,7 +252,14 @@ fn body_answer<'a, P: Inputs<'a> + Openings<'a> + Counts>(
 {
     match body {
         Body::Says(spoken) => {
-            spoken_answer(alloc, past, rules, event, spoken.channel, &spoken.performative)
+            spoken_answer(
+                alloc,
+                past,
+                rules,
+                event,
+                spoken.channel,
+                &spoken.performative,
+            )
         }
         _ => Ok(unread_answer(past, event)),
     }

@@ -11,6 +11,9 @@ mod answer;
 mod attach;
 mod laws;
 mod reply;
+#[cfg(test)]
+mod tests;
+mod writing;
 
 pub use answer::answer_to;
 pub use laws::laws_of_answers;
