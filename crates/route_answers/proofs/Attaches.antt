@@ -1,0 +1,279 @@
+-- The answers to an attach say what the law asks of them, and are short.
+use Rattle.std.proofs.Common.{◌≡◌, refl, sym, ap, ◌∙◌, ℕ, ◌≤◌, ◌<◌, ◌^◌, Bool, true, false, ◌&&◌, List, [], ◌∷◌, ◌++◌, length, Option, Some, None, option_map, option_and_then, nat_lt, codes, decimal, arith, if◌then◌else◌, subst}
+use Rattle.std.specs.Prelude.{is_none}
+use Rattle.std.proofs.lemmas.Bool.{ltb-false}
+use Rattle.std.proofs.lemmas.List.{length-append}
+use Rattle.std.proofs.lemmas.Fmt.{length-decimal-le}
+use Rattle.flow_counts.specs.declared.profile.TheConstants.{MAX_LINK_NAME, MAX_ADDRESS, MAX_MESSAGE_SIZE}
+use Rattle.amqp_types.specs.declared.code.Text.TheVariants as texts
+use Rattle.amqp_types.proofs.Shortest.{uint_long, ulong_long, text_long}
+use Rattle.amqp_perf.specs.declared.attach.Role.{Role}
+use Rattle.amqp_perf.specs.declared.attach.Role.TheVariants.{Sender, Receiver}
+use Rattle.amqp_perf.specs.declared.attach.SenderSettleMode.{SenderSettleMode}
+use Rattle.amqp_perf.specs.declared.attach.SenderSettleMode.TheVariants.{Unsettled, Settled, Mixed}
+use Rattle.amqp_perf.specs.declared.attach.ReceiverSettleMode.{ReceiverSettleMode}
+use Rattle.amqp_perf.specs.declared.attach.ReceiverSettleMode.TheVariants.{First, Second}
+use Rattle.amqp_perf.specs.declared.condition.ErrorCondition.{ErrorCondition}
+use Rattle.amqp_perf.specs.declared.condition.ErrorCondition.TheVariants.{InvalidField, NotImplemented, ResourceLimitExceeded}
+use Rattle.amqp_perf.specs.Nested.{TerminusFields, TargetFields, ATerminus, ACoordinator, AddressFields, AText, AnOther}
+use Rattle.amqp_perf.specs.Meaning.{AnAttach, AttachFields, sender_mode, receiver_mode, flag}
+use Rattle.amqp_perf.specs.Router.{attach_to_producer, attach_to_consumer, attach_refused, source_at, bare_terminus, other_role, count_of_sender}
+use Rattle.amqp_perf.specs.Slots.{fields_octets, uint_value}
+use Rattle.amqp_types.specs.Writing.{text_octets}
+use Rattle.trace_events.specs.Words.{is_some_and}
+use Rattle.amqp_perf.specs.Writing.{sender_mode_value, receiver_mode_value, role_value, source_octets, terminus_slots}
+use Rattle.capture_form.specs.Rules.{RuleText}
+use Rattle.trace_events.specs.declared.fault.Fault.{Fault}
+use Rattle.trace_events.specs.declared.fault.Fault.TheVariants.{Close, End, Refuse, Detach}
+use Rattle.trace_events.specs.declared.session.Session.{Session}
+use Rattle.trace_events.specs.Event.{Event}
+use Rattle.trace_events.specs.Said.{in_attach}
+use Rattle.trace_events.specs.Link.{attaches_in, attaches_out, address_at, is_receiver, address_text, source_address, target_address}
+use Rattle.trace_events.specs.Fault.{terminus_fault, address_fault, target_fault, target_address_fault, source_fault, source_address_fault}
+use Rattle.trace_events.proofs.LinkSteps.{unanswered_attach-asked}
+use Rattle.trace_clauses.specs.LinkClause.{Asking, asked_by, asking, asked_address, has_dynamic_source, answering_sender_mode, answers_one, answers_attach, opposite, is_same_sender_mode, is_same_receiver_mode}
+use Rattle.trace_clauses.specs.Written.{spoken_octets, says}
+use Rattle.trace_duties.specs.Answer.{attach_answer}
+use Rattle.route_answers.proofs.Words.{same_octets}
+use Rattle.route_answers.proofs.Lengths.{IsWithin, slots_long, nested_long, slots_fit, boolean_long, ubyte_long, flag_within}
+
+-- ---- what was asked for is answered
+
+same_sender_mode : (m : SenderSettleMode) → is_same_sender_mode m m ≡ true
+same_sender_mode Unsettled = refl
+same_sender_mode Settled = refl
+same_sender_mode Mixed = refl
+
+same_receiver_mode : (m : ReceiverSettleMode) → is_same_receiver_mode m m ≡ true
+same_receiver_mode First = refl
+same_receiver_mode Second = refl
+
+-- a client's attach of this role, asking for this address, with this fault
+abbrev pub asked : AttachFields → List ℕ → Role → Option Fault → Asking
+asked theirs address role fault = record {
+  name = theirs.name;
+  role = role;
+  sender_mode = sender_mode theirs;
+  receiver_mode = receiver_mode theirs;
+  address = address;
+  fault = fault;
+}
+
+module _ (rules : List RuleText) (theirs : AttachFields) (address : List ℕ) where
+  producer_by : (role : Role) (fault : Option Fault) → role ≡ Sender → fault ≡ None → answers_one rules (attach_to_producer theirs address) (asked theirs address role fault) ≡ true
+  producer_by Sender None is none = rw (same_octets theirs.name, same_octets address, same_sender_mode (sender_mode theirs)) refl
+  producer_by Sender (Some fault) is none = absurd cc
+  producer_by Receiver fault is none = absurd cc
+
+  consumer_by : (role : Role) (fault : Option Fault) (dynamic : Bool) → role ≡ Receiver → fault ≡ None
+      → answers_one rules (attach_to_consumer theirs address dynamic (answering_sender_mode rules address (sender_mode theirs) Receiver)) (asked theirs address role fault) ≡ true
+  consumer_by Receiver None true is none =
+      rw (same_octets theirs.name, same_octets address, same_sender_mode (answering_sender_mode rules address (sender_mode theirs) Receiver), same_receiver_mode (receiver_mode theirs)) refl
+  consumer_by Receiver None false is none =
+      rw (same_octets theirs.name, same_octets address, same_sender_mode (answering_sender_mode rules address (sender_mode theirs) Receiver), same_receiver_mode (receiver_mode theirs)) refl
+  consumer_by Receiver (Some fault) dynamic is none = absurd cc
+  consumer_by Sender fault dynamic is none = absurd cc
+
+  refused_by : (role : Role) (fault : Option Fault) (condition : ErrorCondition) → theirs.role ≡ role → fault ≡ Some (Refuse condition)
+      → answers_one rules (attach_refused theirs) (asked theirs address role fault) ≡ true
+  refused_by Sender (Some (Refuse given)) condition same is = rw (same_octets theirs.name, same) refl
+  refused_by Receiver (Some (Refuse given)) condition same is = rw (same_octets theirs.name, same) refl
+  refused_by role None condition same is = absurd cc
+  refused_by role (Some (Close given)) condition same is = absurd cc
+  refused_by role (Some (End given)) condition same is = absurd cc
+  refused_by role (Some (Detach given)) condition same is = absurd cc
+
+-- the client's attach is what is to be answered
+module _ (s : Session) (e : Event) (past : List Event) (theirs : AttachFields) (says_so : in_attach e ≡ Some theirs) (apart : attaches_out s theirs.handle e ≡ false)
+    (here : attaches_in s theirs.handle e ≡ true) (heard : e.is_heard ≡ true) where
+  pub asked_here : asking s theirs.handle (e ∷ past) ≡ Some (asked_by e theirs)
+  asked_here =
+      ap (option_and_then (λ (x : Event). option_map (asked_by x) (in_attach x))) (unanswered_attach-asked s theirs.handle e past apart here heard)
+      ∙ ap (option_map (asked_by e)) says_so
+
+  answers_by : (rules : List RuleText) (ours : AttachFields) → ours.handle ≡ theirs.handle → answers_one rules ours (asked_by e theirs) ≡ true → answers_attach rules ours (e ∷ past) s ≡ true
+  answers_by rules ours same one =
+      ap (λ h. is_some_and (asking s h (e ∷ past)) (answers_one rules ours)) same ∙ (ap (λ o. is_some_and o (answers_one rules ours)) asked_here ∙ one)
+
+  pub accepted : (rules : List RuleText) (role : Role) → theirs.role ≡ role → e.fault ≡ None → answers_attach rules (attach_answer rules e.number theirs role) (e ∷ past) s ≡ true
+  accepted rules Sender same none =
+      answers_by rules (attach_to_producer theirs (asked_address e.number theirs)) refl (producer_by rules theirs (asked_address e.number theirs) theirs.role e.fault same none)
+  accepted rules Receiver same none =
+      answers_by rules (attach_answer rules e.number theirs Receiver) refl (consumer_by rules theirs (asked_address e.number theirs) theirs.role e.fault (has_dynamic_source theirs) same none)
+
+  pub refused : (rules : List RuleText) (condition : ErrorCondition) → e.fault ≡ Some (Refuse condition) → answers_attach rules (attach_refused theirs) (e ∷ past) s ≡ true
+  refused rules condition is = answers_by rules (attach_refused theirs) refl (refused_by rules theirs (asked_address e.number theirs) theirs.role e.fault condition refl is)
+
+-- ---- addresses are short
+
+octets_by : (b : Bool) (n : ℕ) → nat_lt MAX_ADDRESS n ≡ b → (if b then Some (Refuse ResourceLimitExceeded) else None) ≡ None → n ≤ MAX_ADDRESS
+octets_by true n is none = absurd cc
+octets_by false n is none = ltb-false MAX_ADDRESS n is
+
+text_short : (address : AddressFields) → address_fault address ≡ None → length (address_text (Some address)) ≤ MAX_ADDRESS
+text_short (AnOther octets) is = absurd cc
+text_short (AText []) is = absurd cc
+text_short (AText (octet ∷ rest)) is = octets_by (nat_lt MAX_ADDRESS (length (octet ∷ rest))) (length (octet ∷ rest)) refl is
+
+target_text_short : (address : Option AddressFields) → target_address_fault address ≡ None → length (address_text address) ≤ MAX_ADDRESS
+target_text_short None is = absurd cc
+target_text_short (Some address) is = text_short address is
+
+source_text_short : (address : Option AddressFields) → source_address_fault address ≡ None → length (address_text address) ≤ MAX_ADDRESS
+source_text_short None is = absurd cc
+source_text_short (Some address) is = text_short address is
+
+target_short : (target : Option TargetFields) → target_fault target ≡ None → length (target_address target) ≤ MAX_ADDRESS
+target_short None is = absurd cc
+target_short (Some ACoordinator) is = absurd cc
+target_short (Some (ATerminus target)) is = by (flag target.dynamic) is
+  where
+    by : (b : Bool) → (if b then Some (Refuse NotImplemented) else target_address_fault target.address) ≡ None → length (address_text target.address) ≤ MAX_ADDRESS
+    by true is = absurd cc
+    by false is = target_text_short target.address is
+
+-- a made up one has 24 octets at most
+made_short : (number : ℕ) → number < 2 ^ 64 → length (codes "dyn/" ++ decimal number) ≤ MAX_ADDRESS
+made_short number small = omega (arith, length-append (codes "dyn/") (decimal number), length-decimal-le 20 number (omega arith) (omega (arith, small)) small)
+
+source_short : (number : ℕ) → number < 2 ^ 64 → (source : Option TerminusFields) → source_fault source ≡ None
+    → length (if is_some_and source (λ (s : TerminusFields). flag s.dynamic) then codes "dyn/" ++ decimal number else source_address source) ≤ MAX_ADDRESS
+source_short number small None is = absurd cc
+source_short number small (Some source) is = by (flag source.dynamic) is
+  where
+    by : (b : Bool) → (if b then None else source_address_fault source.address) ≡ None → length (if b then codes "dyn/" ++ decimal number else address_text source.address) ≤ MAX_ADDRESS
+    by true is = made_short number small
+    by false is = source_text_short source.address is
+
+counted_by : (b : Bool) (o : Option Fault) → (if b then Some (Refuse InvalidField) else o) ≡ None → o ≡ None
+counted_by true o is = absurd cc
+counted_by false o is = is
+
+-- that of a link which is accepted
+pub address_short : (number : ℕ) → number < 2 ^ 64 → (theirs : AttachFields) (role : Role) → theirs.role ≡ role → terminus_fault theirs role ≡ None → length (asked_address number theirs) ≤ MAX_ADDRESS
+address_short number small theirs Sender same is =
+    subst (λ r. length (if is_receiver r && is_some_and theirs.source (λ (s : TerminusFields). flag s.dynamic) then codes "dyn/" ++ decimal number else address_at (opposite r) theirs) ≤ MAX_ADDRESS) (sym same)
+    (target_short theirs.target (counted_by (is_none theirs.initial_delivery_count) (target_fault theirs.target) is))
+address_short number small theirs Receiver same is =
+    subst (λ r. length (if is_receiver r && is_some_and theirs.source (λ (s : TerminusFields). flag s.dynamic) then codes "dyn/" ++ decimal number else address_at (opposite r) theirs) ≤ MAX_ADDRESS) (sym same)
+    (source_short number small theirs.source is)
+
+-- ---- and so are the frames
+
+sender_mode_long : (m : SenderSettleMode) → length (sender_mode_value m).octets ≤ 2
+sender_mode_long Unsettled = ubyte_long 0
+sender_mode_long Settled = ubyte_long 1
+sender_mode_long Mixed = ubyte_long 2
+
+receiver_mode_long : (m : ReceiverSettleMode) → length (receiver_mode_value m).octets ≤ 2
+receiver_mode_long First = ubyte_long 0
+receiver_mode_long Second = ubyte_long 1
+
+role_long : (role : Role) → length (role_value role).octets ≤ 1
+role_long Sender = boolean_long false
+role_long Receiver = boolean_long true
+
+terminus_long : (code : ℕ) (address : List ℕ) (dynamic : Option Bool) → length address ≤ MAX_ADDRESS → length (fields_octets code (terminus_slots (record { address = Some (AText address); dynamic = dynamic }))) ≤ 181
+terminus_long code address dynamic short =
+    nested_long 169 code (terminus_slots (record { address = Some (AText address); dynamic = dynamic }))
+    (slots_long (165 ∷ 1 ∷ 1 ∷ 1 ∷ 1 ∷ []) (terminus_slots (record { address = Some (AText address); dynamic = dynamic }))
+    (omega (arith, text_long texts.Str address, short), (omega arith, (omega arith, (omega arith, (flag_within dynamic, tt))))))
+
+bare_long : (code : ℕ) → length (fields_octets code (terminus_slots bare_terminus)) ≤ 17
+bare_long code = nested_long 5 code (terminus_slots bare_terminus) (slots_long (1 ∷ 1 ∷ 1 ∷ 1 ∷ 1 ∷ []) (terminus_slots bare_terminus) (omega arith, (omega arith, (omega arith, (omega arith, (omega arith, tt))))))
+
+source_long : (address : List ℕ) (dynamic : Bool) → length address ≤ MAX_ADDRESS → length (source_octets (source_at address dynamic)) ≤ 181
+source_long address true short = terminus_long 0x28 address (Some true) short
+source_long address false short = terminus_long 0x28 address None short
+
+module _ (channel : ℕ) (theirs : AttachFields) (named : length theirs.name ≤ MAX_LINK_NAME) where
+  name_long : length (text_octets texts.Str theirs.name) ≤ 260
+  name_long = omega (arith, text_long texts.Str theirs.name, named)
+
+  module _ (address : List ℕ) (short : length address ≤ MAX_ADDRESS) where
+    pub producer_fits : length (spoken_octets (says channel (AnAttach (attach_to_producer theirs address)))) ≤ 512
+    producer_fits =
+        slots_fit channel (AnAttach (attach_to_producer theirs address)) (260 ∷ 5 ∷ 1 ∷ 2 ∷ 2 ∷ 17 ∷ 181 ∷ 1 ∷ 1 ∷ 5 ∷ 9 ∷ []) (
+          name_long,
+          (
+            uint_long theirs.handle,
+            (
+              role_long Receiver,
+              (
+                sender_mode_long (sender_mode theirs),
+                (
+                  receiver_mode_long First,
+                  (
+                    bare_long 0x28,
+                    (
+                      terminus_long 0x29 address None short,
+                      (omega arith, (omega arith, (omega arith, (ulong_long MAX_MESSAGE_SIZE, tt)))),
+                    ),
+                  ),
+                ),
+              ),
+            ),
+          ),
+        )
+        (omega arith)
+
+    pub consumer_fits : (dynamic : Bool) (mode : SenderSettleMode) → length (spoken_octets (says channel (AnAttach (attach_to_consumer theirs address dynamic mode)))) ≤ 512
+    consumer_fits dynamic mode =
+        slots_fit channel (AnAttach (attach_to_consumer theirs address dynamic mode)) (260 ∷ 5 ∷ 1 ∷ 2 ∷ 2 ∷ 181 ∷ 17 ∷ 1 ∷ 1 ∷ 5 ∷ 9 ∷ []) (
+          name_long,
+          (
+            uint_long theirs.handle,
+            (
+              role_long Sender,
+              (
+                sender_mode_long mode,
+                (
+                  receiver_mode_long (receiver_mode theirs),
+                  (
+                    source_long address dynamic short,
+                    (
+                      bare_long 0x29,
+                      (omega arith, (omega arith, (uint_long 0, (omega arith, tt)))),
+                    ),
+                  ),
+                ),
+              ),
+            ),
+          ),
+        )
+        (omega arith)
+
+  pub accepted_fits : (rules : List RuleText) (number : ℕ) (role : Role) → length (asked_address number theirs) ≤ MAX_ADDRESS → length (spoken_octets (says channel (AnAttach (attach_answer rules number theirs role)))) ≤ 512
+  accepted_fits rules number Sender short = producer_fits (asked_address number theirs) short
+  accepted_fits rules number Receiver short =
+      consumer_fits (asked_address number theirs) short (has_dynamic_source theirs) (answering_sender_mode rules (asked_address number theirs) (sender_mode theirs) Receiver)
+
+  count_long : (role : Role) → IsWithin 5 (option_map uint_value (count_of_sender role))
+  count_long Sender = uint_long 0
+  count_long Receiver = omega arith
+
+  pub refused_fits : length (spoken_octets (says channel (AnAttach (attach_refused theirs)))) ≤ 512
+  refused_fits =
+      slots_fit channel (AnAttach (attach_refused theirs)) (260 ∷ 5 ∷ 1 ∷ 1 ∷ 1 ∷ 1 ∷ 1 ∷ 1 ∷ 1 ∷ 5 ∷ 1 ∷ []) (
+        name_long,
+        (
+          uint_long theirs.handle,
+          (
+            role_long (other_role theirs.role),
+            (
+              omega arith,
+              (
+                omega arith,
+                (
+                  omega arith,
+                  (
+                    omega arith,
+                    (omega arith, (omega arith, (count_long (other_role theirs.role), (omega arith, tt)))),
+                  ),
+                ),
+              ),
+            ),
+          ),
+        ),
+      )
+      (omega arith)

@@ -1,0 +1,17 @@
+pub mod Words
+pub mod Connections
+pub mod Lengths
+pub mod Fine
+pub mod Closing
+pub mod Begins
+pub mod Said
+pub mod Faults
+pub mod Attaches
+pub mod Echoes
+pub mod Goes
+pub mod Spoken
+pub mod Order
+pub mod Inputs
+pub mod Answerable
+pub mod Again
+pub mod Short
