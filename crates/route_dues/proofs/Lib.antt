@@ -1,0 +1,4 @@
+pub mod Words
+pub mod Connections
+pub mod Lengths
+pub mod Flows

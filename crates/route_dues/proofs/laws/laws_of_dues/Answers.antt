@@ -1,0 +1,11 @@
+use Rattle.route_dues.proofs.Flows.{window_follows, credit_follows, drain_follows}
+use Rattle.route_dues.proofs.laws.laws_of_dues.Goals as goal
+
+pub returns-clause-window : goal.returns-clause-window
+returns-clause-window c = window_follows
+
+pub returns-clause-credit : goal.returns-clause-credit
+returns-clause-credit c = credit_follows
+
+pub returns-clause-drain : goal.returns-clause-drain
+returns-clause-drain c = drain_follows

@@ -1,0 +1,34 @@
+-- A frame that the router writes, as the next event of a history, and what the law asks of it there.
+use Rattle.std.specs.Prelude.{◌≡◌, ℕ, true, List, None}
+use Rattle.pairing_cert.specs.declared.note.Note.{Note}
+use Rattle.capture_form.specs.declared.records.Record.{Record}
+use Rattle.capture_form.specs.Rules.{RuleText}
+use Rattle.trace_events.specs.Frame.{Frame, Says, Spoken, frame_read}
+use Rattle.trace_events.specs.Event.{Event, Out}
+use Rattle.trace_events.specs.History.{judge_moment, history}
+use Rattle.trace_clauses.specs.Clauses.{first_broken, broken_clause}
+use Rattle.trace_clauses.specs.Written.{spoken_octets}
+use Rattle.trace_duties.specs.Diligent.{moment_keeps}
+
+-- a frame in the octets in which it is written
+abbrev pub frame_of : Spoken → Frame
+frame_of spoken = record { octets = spoken_octets spoken; body = Says spoken }
+
+-- it is written on this connection, with this note
+abbrev pub writing : List RuleText → List Event → ℕ → Note → Spoken → Event
+writing rules past c note spoken = judge_moment rules past c (Out (frame_of spoken)) note
+
+-- its octets say the same again, where they are read
+abbrev pub IsReadAgain : Spoken → Type 0
+IsReadAgain spoken = frame_read (spoken_octets spoken) ≡ frame_of spoken
+
+-- the events of a capture, no record of which breaks a clause
+pub record IsLawful (rules : List RuleText) (past : List Event) : Type 0 where
+  pub records : List Record
+  pub is : past ≡ history rules records
+  pub unbroken : first_broken rules past ≡ None
+
+-- written here, the frame breaks no clause and keeps the duties of a router
+pub record MayFollow (rules : List RuleText) (past : List Event) (c : ℕ) (note : Note) (spoken : Spoken) : Type 0 where
+  pub lawful : broken_clause rules (writing rules past c note spoken) past ≡ None
+  pub keeps : moment_keeps rules (writing rules past c note spoken) past (Out (frame_of spoken)) ≡ true
