@@ -2,3 +2,10 @@ pub mod Words
 pub mod Connections
 pub mod Lengths
 pub mod Flows
+pub mod TransferLengths
+pub mod Filled
+pub mod LiveLinks
+pub mod Carrying
+pub mod Transfers
+pub mod Picked
+pub mod Sending

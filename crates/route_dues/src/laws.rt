@@ -3,17 +3,35 @@
 ghost use Rattle.std.specs.Prelude.{◌≡◌, ℕ, true, List, Some};
 ghost use Rattle.pairing_cert.specs.declared.note.Note.TheVariants as notes;
 ghost use Rattle.capture_form.specs.Rules.{RuleText};
-ghost use Rattle.trace_events.specs.Event.{Event, Link};
+ghost use Rattle.trace_events.specs.Event.{Event, Link, Incoming, Outgoing};
 ghost use Rattle.trace_events.specs.declared.session.Session.{Session};
 ghost use Rattle.trace_events.specs.Session.{IsLiveOn};
-ghost use Rattle.trace_events.specs.Link.{IsLiveLink, is_producer, is_consumer};
+ghost use Rattle.trace_events.specs.Link.{IsLiveLink, is_producer, is_consumer, link_at};
+ghost use Rattle.trace_events.specs.Incoming.{incoming_at};
+ghost use Rattle.trace_events.specs.Outgoing.{in_progress, noted};
+ghost use Rattle.trace_events.specs.Due.{is_unsent};
 ghost use Rattle.trace_clauses.specs.FlowClause.{may_be_topped_up, full_credit, may_be_drained, drained_count};
 ghost use Rattle.trace_clauses.specs.Written.{written_session_flow, written_credit, written_count};
-ghost use Rattle.trace_duties.specs.Quiet.{lacks_window};
+ghost use Rattle.trace_duties.specs.Pick.{may_take};
+ghost use Rattle.trace_duties.specs.Quiet.{lacks_window, stands_still};
+ghost use Rattle.trace_duties.specs.Diligent.{is_next_waiting, is_picked_link, all_keep};
+ghost use Rattle.trace_duties.specs.Order.{CopiesInOrder};
 ghost use Rattle.route_dues.specs.Writing.{IsLawful, MayFollow};
+ghost use Rattle.route_dues.specs.Transfers.{first_frame, next_frame};
 
 /// The laws of what is due. The function does nothing: its contract is the laws.
 pub fn laws_of_dues()
+    // On a consumer's live link that stands still, the delivery in progress may go on.
+    ensures part { (rules : List RuleText) (past : List Event) (l : Link) (d : Incoming) (j : Outgoing) → IsLawful rules past → IsLiveLink l past → stands_still past l ≡ true
+        → in_progress l past ≡ Some j → noted j.note past ≡ Some d → MayFollow rules past l.session.connection j.note (next_frame past l d j) }
+    // Where the duties were kept so far, the next delivery that waits may begin on the link that is picked.
+    ensures waiting { (rules : List RuleText) (past : List Event) (l : Link) (d : Incoming) → IsLawful rules past → all_keep rules past ≡ true → link_at l.number past ≡ Some l
+        → incoming_at d.number past ≡ Some d → is_next_waiting rules past d ≡ true → is_picked_link rules past d l ≡ true
+        → MayFollow rules past l.session.connection (notes.Pair d.number) (first_frame past l d) }
+    // Where copies are in order, an unsent one may begin on its link, if that may be sent a delivery.
+    ensures copy { (rules : List RuleText) (past : List Event) (l : Link) (d : Incoming) → IsLawful rules past → IsLiveLink l past → is_consumer l ≡ true
+        → incoming_at d.number past ≡ Some d → may_take past l ≡ true → CopiesInOrder rules past → is_unsent rules d l past ≡ true
+        → MayFollow rules past l.session.connection (notes.Pair d.number) (first_frame past l d) }
     // A live session that lacks window may be given it anew.
     ensures window { (rules : List RuleText) (past : List Event) (s : Session) → IsLawful rules past → IsLiveOn s past → lacks_window past s ≡ true
         → MayFollow rules past s.connection notes.None (written_session_flow s past) }

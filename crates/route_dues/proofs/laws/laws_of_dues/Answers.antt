@@ -1,4 +1,5 @@
 use Rattle.route_dues.proofs.Flows.{window_follows, credit_follows, drain_follows}
+use Rattle.route_dues.proofs.Sending.{goes_on, next_begins, copy_begins}
 use Rattle.route_dues.proofs.laws.laws_of_dues.Goals as goal
 
 pub returns-clause-window : goal.returns-clause-window
@@ -9,3 +10,12 @@ returns-clause-credit c = credit_follows
 
 pub returns-clause-drain : goal.returns-clause-drain
 returns-clause-drain c = drain_follows
+
+pub returns-clause-part : goal.returns-clause-part
+returns-clause-part c = goes_on
+
+pub returns-clause-waiting : goal.returns-clause-waiting
+returns-clause-waiting c = next_begins
+
+pub returns-clause-copy : goal.returns-clause-copy
+returns-clause-copy c = copy_begins
