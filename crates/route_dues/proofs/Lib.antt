@@ -9,3 +9,6 @@ pub mod Carrying
 pub mod Transfers
 pub mod Picked
 pub mod Sending
+pub mod OutcomeFits
+pub mod Told
+pub mod Settled

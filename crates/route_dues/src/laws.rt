@@ -1,17 +1,20 @@
 //! What the frames that are due keep.
 
-ghost use Rattle.std.specs.Prelude.{◌≡◌, ℕ, true, List, Some};
+ghost use Rattle.std.specs.Prelude.{◌≡◌, ℕ, true, List, Option, Some, Contains, unwrap_or};
 ghost use Rattle.pairing_cert.specs.declared.note.Note.TheVariants as notes;
+ghost use Rattle.pairing_cert.specs.declared.note.Why.{Why};
 ghost use Rattle.capture_form.specs.Rules.{RuleText};
 ghost use Rattle.trace_events.specs.Event.{Event, Link, Incoming, Outgoing};
 ghost use Rattle.trace_events.specs.declared.session.Session.{Session};
 ghost use Rattle.trace_events.specs.Session.{IsLiveOn};
 ghost use Rattle.trace_events.specs.Link.{IsLiveLink, is_producer, is_consumer, link_at};
 ghost use Rattle.trace_events.specs.Incoming.{incoming_at};
-ghost use Rattle.trace_events.specs.Outgoing.{in_progress, noted};
+ghost use Rattle.trace_events.specs.Outgoing.{in_progress, noted, outgoing_deliveries};
+ghost use Rattle.trace_events.specs.Settling.{is_to_settle};
 ghost use Rattle.trace_events.specs.Due.{is_unsent};
 ghost use Rattle.trace_clauses.specs.FlowClause.{may_be_topped_up, full_credit, may_be_drained, drained_count};
-ghost use Rattle.trace_clauses.specs.Written.{written_session_flow, written_credit, written_count};
+ghost use Rattle.trace_clauses.specs.Outcome.{may_be_told, row};
+ghost use Rattle.trace_clauses.specs.Written.{written_outcome, written_settling, written_session_flow, written_credit, written_count};
 ghost use Rattle.trace_duties.specs.Pick.{may_take};
 ghost use Rattle.trace_duties.specs.Quiet.{lacks_window, stands_still};
 ghost use Rattle.trace_duties.specs.Diligent.{is_next_waiting, is_picked_link, all_keep};
@@ -21,6 +24,13 @@ ghost use Rattle.route_dues.specs.Transfers.{first_frame, next_frame};
 
 /// The laws of what is due. The function does nothing: its contract is the laws.
 pub fn laws_of_dues()
+    // Where a row applies to a delivery that may be told, its producer may be told the state of the row.
+    ensures outcome { (rules : List RuleText) (past : List Event) (d : Incoming) (why : Why) (state : Option (List ℕ)) → IsLawful rules past → incoming_at d.number past ≡ Some d
+        → may_be_told d past ≡ true → row rules d past why ≡ Some state
+        → MayFollow rules past d.link.session.connection (notes.Told why) (written_outcome d.link.session.channel (unwrap_or d.id 0) state) }
+    // A delivery that is to be settled may be settled with its consumer, by its id.
+    ensures settling { (rules : List RuleText) (past : List Event) (j : Outgoing) → IsLawful rules past → Contains (outgoing_deliveries past) j → is_to_settle past j ≡ true
+        → MayFollow rules past j.link.session.connection notes.None (written_settling j.link.session.channel (unwrap_or j.id 0)) }
     // On a consumer's live link that stands still, the delivery in progress may go on.
     ensures part { (rules : List RuleText) (past : List Event) (l : Link) (d : Incoming) (j : Outgoing) → IsLawful rules past → IsLiveLink l past → stands_still past l ≡ true
         → in_progress l past ≡ Some j → noted j.note past ≡ Some d → MayFollow rules past l.session.connection j.note (next_frame past l d j) }

@@ -1,4 +1,6 @@
 use Rattle.route_dues.proofs.Flows.{window_follows, credit_follows, drain_follows}
+use Rattle.route_dues.proofs.Told.{outcome_follows}
+use Rattle.route_dues.proofs.Settled.{settling_follows}
 use Rattle.route_dues.proofs.Sending.{goes_on, next_begins, copy_begins}
 use Rattle.route_dues.proofs.laws.laws_of_dues.Goals as goal
 
@@ -19,3 +21,9 @@ returns-clause-waiting c = next_begins
 
 pub returns-clause-copy : goal.returns-clause-copy
 returns-clause-copy c = copy_begins
+
+pub returns-clause-outcome : goal.returns-clause-outcome
+returns-clause-outcome c = outcome_follows
+
+pub returns-clause-settling : goal.returns-clause-settling
+returns-clause-settling c = settling_follows
