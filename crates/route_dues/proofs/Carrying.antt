@@ -21,6 +21,9 @@ use Rattle.trace_clauses.specs.declared.clause.Clause.TheVariants.{L1, L2, L3, L
 use Rattle.trace_clauses.specs.Clauses.{transfer_meets}
 use Rattle.trace_clauses.specs.TransferClause.{has_window, may_be_sent, may_begin, goes_on_with, is_same_note, to_carry, has_form, is_alike, names_carried, carries, carries_noted, is_first_to, is_in_order, may_go_to, is_payload_so_far}
 use Rattle.trace_clauses.specs.Written.{first_part, next_part}
+use Rattle.trace_duties.specs.Quiet.{has_earlier_unsent}
+use Rattle.trace_duties.specs.Order.{is_earliest}
+use Rattle.trace_duties.proofs.CopyOrder.{earliest-none, earliest-sent}
 use Rattle.trace_duties.specs.Diligent.{is_picked, is_next_waiting, is_picked_link, is_filled, is_filled_transfer}
 use Rattle.route_dues.proofs.Words.{or_right, both, same_bool}
 
@@ -41,6 +44,7 @@ pub record MayBegin (rules : List RuleText) (past : List Event) (l : Link) (d : 
   pub credit : nat_lt 0 (link_credit l past) ≡ true
   pub first : is_first_to rules l past d ≡ true
   pub order : is_in_order l past d ≡ true
+  pub earliest : has_earlier_unsent rules past l d ≡ false
   pub picked : is_of_multicast rules d || is_next_waiting rules past d && is_picked_link rules past d l ≡ true
 
 abbrev Passes : List RuleText → List Event → Incoming → Bool
@@ -125,6 +129,9 @@ module _ (rules : List RuleText) (past : List Event) (l : Link) (d : Incoming) (
       (ap (λ o. is_none_or o (λ x. is_of_multicast rules x || is_next_waiting rules past x && is_some_and e.link (is_picked_link rules past x))) (is_noted rules past l d may.carries e on at note)
       ∙ (ap (λ o. is_of_multicast rules d || is_next_waiting rules past d && is_some_and o (is_picked_link rules past d)) at ∙ may.picked))
 
+  pub first_earliest : is_earliest rules e past ≡ true
+  first_earliest = earliest-sent rules e past l d at (is_noted rules past l d may.carries e on at note) may.earliest
+
 -- ---- one that goes on with a delivery
 
 module _ (rules : List RuleText) (past : List Event) (l : Link) (d : Incoming) (may : MayCarry rules past l d)
@@ -155,3 +162,6 @@ module _ (rules : List RuleText) (past : List Event) (l : Link) (d : Incoming) (
 
   pub next_picked : is_picked rules e past ≡ true
   next_picked = ap (λ b. not b || is_none_or (noted e.note past) (λ x. is_of_multicast rules x || is_next_waiting rules past x && is_some_and e.link (is_picked_link rules past x))) later
+
+  pub next_earliest : is_earliest rules e past ≡ true
+  next_earliest = earliest-none rules e past later

@@ -1,34 +1,39 @@
 -- What is to be sent may be: a delivery in progress goes on; a copy that is due begins; and the next delivery that waits
 -- begins on the link that is picked.
-use Rattle.std.proofs.Common.{◌≡◌, refl, sym, ap, subst, ◌∙◌, true, ◌&&◌, ◌||◌, List, length, Option, Some, None, is_some, nat_lt, ne_eqb, arith}
-use Rattle.std.specs.Prelude.{is_none}
+use Rattle.std.proofs.Common.{◌≡◌, refl, sym, ap, subst, ◌∙◌, Bool, true, false, ◌&&◌, ◌||◌, not, List, length, Option, Some, None, is_some, nat_lt, ne_eqb, arith}
+use Rattle.std.specs.Prelude.{is_none, Contains}
 use Rattle.pairing_cert.specs.declared.note.Note.TheVariants as notes
 use Rattle.capture_form.specs.Rules.{RuleText}
 use Rattle.trace_events.specs.Event.{Event, Link, Incoming, Outgoing}
 use Rattle.trace_events.specs.Link.{link_at, is_consumer, IsLiveLink}
 use Rattle.trace_events.specs.Window.{session_window}
 use Rattle.trace_events.specs.Credit.{link_credit}
-use Rattle.trace_events.specs.Incoming.{address_of, incoming_at}
-use Rattle.trace_events.specs.Outgoing.{in_progress, noted}
-use Rattle.trace_events.specs.Waiting.{is_of_multicast, is_waiting}
+use Rattle.trace_events.specs.Incoming.{address_of, incoming_at, incoming_deliveries, is_complete, completed_before}
+use Rattle.trace_events.specs.Outgoing.{in_progress, noted, is_paired}
+use Rattle.trace_events.specs.Waiting.{is_of_multicast, is_waiting, always_had_consumer}
+use Rattle.trace_events.specs.Address.{has_multicast}
 use Rattle.trace_events.specs.Due.{is_unsent}
 use Rattle.trace_events.proofs.Along.{and_first, and_last}
-use Rattle.trace_events.proofs.Judged.{judged-born}
+use Rattle.trace_events.proofs.Judged.{AreJudged, judged-born}
+use Rattle.trace_events.proofs.StepWords.{and-false}
 use Rattle.trace_clauses.specs.TransferClause.{is_in_order}
 use Rattle.trace_clauses.proofs.FirstSent.{due_copy, GoesFirst, copy_goes_first, waiting_goes_first}
+use Rattle.trace_clauses.proofs.IncomingProgress.{judged-kept}
+use Rattle.trace_clauses.proofs.Parts.{IsKept, each_delivery}
+use Rattle.trace_clauses.proofs.WaitingQueue.{all_contained}
 use Rattle.trace_clauses.proofs.LinkEnds.{lives-live}
 use Rattle.trace_clauses.proofs.OutgoingProgress.{judged-carrying, carrying-noted, carrying-not_gone, carrying-link}
 use Rattle.trace_duties.specs.Pick.{may_take}
-use Rattle.trace_duties.specs.Quiet.{stands_still}
+use Rattle.trace_duties.specs.Quiet.{stands_still, has_earlier_unsent}
 use Rattle.trace_duties.specs.Diligent.{is_next_waiting, is_picked_link, all_keep}
 use Rattle.trace_duties.specs.Order.{CopiesInOrder}
-use Rattle.trace_duties.proofs.PicksInOrder.{kept_in_order}
+use Rattle.trace_duties.proofs.PicksInOrder.{kept_in_order, none-before}
 use Rattle.route_dues.specs.Writing.{IsLawful, MayFollow}
 use Rattle.route_dues.specs.Transfers.{first_frame, next_frame}
 use Rattle.route_dues.proofs.Words.{or_left, or_right, both}
 use Rattle.route_dues.proofs.Connections.{lawful_judged}
 use Rattle.route_dues.proofs.LiveLinks.{live_found, live_lives}
-use Rattle.route_dues.proofs.Transfers.{first_follows, next_follows}
+use Rattle.route_dues.proofs.PartsFollow.{first_follows, next_follows}
 use Rattle.route_dues.proofs.Picked.{is_picked-link}
 
 same_some : {A : Type 0} (a b : A) → Some a ≡ Some b → a ≡ b
@@ -65,9 +70,9 @@ none_of (Some x) is = absurd cc
 
 module _ (rules : List RuleText) (past : List Event) (l : Link) (d : Incoming) (lawful : IsLawful rules past) (live : IsLiveLink l past) (consumes : is_consumer l ≡ true)
     (found : incoming_at d.number past ≡ Some d) (takes : may_take past l ≡ true) where
-  begin_by : GoesFirst rules l past d → address_of d ≡ l.address → is_in_order l past d ≡ true → is_of_multicast rules d || is_next_waiting rules past d && is_picked_link rules past d l ≡ true
+  begin_by : GoesFirst rules l past d → address_of d ≡ l.address → is_in_order l past d ≡ true → has_earlier_unsent rules past l d ≡ false → is_of_multicast rules d || is_next_waiting rules past d && is_picked_link rules past d l ≡ true
       → MayFollow rules past l.session.connection (notes.Pair d.number) (first_frame past l d)
-  begin_by goes address order picked =
+  begin_by goes address order earliest picked =
       let counts = and_first (nat_lt 0 (link_credit l past) && nat_lt 0 (session_window l.session past)) (is_none (in_progress l past)) takes in
       first_follows rules past l d lawful (judged-born rules past (lawful_judged rules past lawful)) (record {
         carries = record {
@@ -83,17 +88,36 @@ module _ (rules : List RuleText) (past : List Event) (l : Link) (d : Incoming) (
         credit = and_first (nat_lt 0 (link_credit l past)) (nat_lt 0 (session_window l.session past)) counts;
         first = goes.first;
         order = order;
+        earliest = earliest;
         picked = picked;
       })
 
   -- a copy
-  pub copy_begins : CopiesInOrder rules past → is_unsent rules d l past ≡ true → MayFollow rules past l.session.connection (notes.Pair d.number) (first_frame past l d)
-  copy_begins order unsent =
+  pub copy_begins : CopiesInOrder rules past → is_unsent rules d l past ≡ true → has_earlier_unsent rules past l d ≡ false → MayFollow rules past l.session.connection (notes.Pair d.number) (first_frame past l d)
+  copy_begins order unsent earliest =
       let are = lawful_judged rules past lawful in
       let copy = due_copy rules past are l d found (and_first _ _ unsent) in
       begin_by (copy_goes_first rules past are l d found unsent) copy.address
-      (order l d (live_found rules past are l live) (live_lives past l live) unsent)
+      (order l d (live_found rules past are l live) (live_lives past l live) unsent) earliest
       (or_left (is_of_multicast rules d) (is_next_waiting rules past d && is_picked_link rules past d l) copy.multicast)
+
+-- a link that carries anycast deliveries has no copies to send
+waits-alone : (many complete paired had : Bool) → not many && complete && not paired && had ≡ true → many ≡ false
+waits-alone false complete paired had is = refl
+waits-alone true complete paired had is = absurd cc
+
+no_copies : (rules : List RuleText) (past : List Event) → AreJudged rules past → (l : Link) (d : Incoming) → address_of d ≡ l.address → is_waiting rules d past ≡ true → has_earlier_unsent rules past l d ≡ false
+no_copies rules past are l d at waits = none-before (λ (x : Incoming). completed_before x d past && is_unsent rules x l past) (incoming_deliveries past) (λ x there. by x there (is_unsent rules x l past) refl)
+  where
+    by : (x : Incoming) → Contains (incoming_deliveries past) x → (b : Bool) → is_unsent rules x l past ≡ b → completed_before x d past && b ≡ false
+    by x there false unsent = and-false (completed_before x d past)
+    by x there true unsent =
+        let kept = all_contained (IsKept past) (incoming_deliveries past) x (each_delivery (IsKept past) past (judged-kept rules past are).each) there in
+        let copy = due_copy rules past are l x kept.at (and_first _ _ unsent) in
+        let alone : is_of_multicast rules d ≡ false = waits-alone (is_of_multicast rules d) (is_complete d past) (is_paired d past) (always_had_consumer d past) waits in
+        let many : is_of_multicast rules d ≡ true = ap (has_multicast rules) (at ∙ sym copy.address) ∙ copy.multicast in
+        let never : true ≡ false = sym many ∙ alone in
+        absurd cc
 
 -- the next one of those that wait
 module _ (rules : List RuleText) (past : List Event) (l : Link) (d : Incoming) (lawful : IsLawful rules past) (keeps : all_keep rules past ≡ true) (at : link_at l.number past ≡ Some l)
@@ -105,5 +129,5 @@ module _ (rules : List RuleText) (past : List Event) (l : Link) (d : Incoming) (
       let waits = and_first (is_waiting rules d past) _ next in
       begin_by rules past l d lawful (lives-live rules past are l at is.lives) is.consumes found is.takes
       (waiting_goes_first rules past l d waits) is.address
-      (kept_in_order rules past are lawful.unbroken keeps l d at found is.address waits)
+      (kept_in_order rules past are lawful.unbroken keeps l d at found is.address waits) (no_copies rules past are l d is.address waits)
       (or_right (is_of_multicast rules d) (is_next_waiting rules past d && is_picked_link rules past d l) (both (is_next_waiting rules past d) (is_picked_link rules past d l) next picked))

@@ -1,7 +1,8 @@
-use Rattle.route_dues.proofs.Flows.{window_follows, credit_follows, drain_follows}
-use Rattle.route_dues.proofs.Told.{outcome_follows}
-use Rattle.route_dues.proofs.Settled.{settling_follows}
+use Rattle.route_dues.proofs.FlowsFollow.{window_follows, credit_follows, drain_follows}
+use Rattle.route_dues.proofs.OutcomesFollow.{outcome_follows}
+use Rattle.route_dues.proofs.SettlingsFollow.{settling_follows}
 use Rattle.route_dues.proofs.Sending.{goes_on, next_begins, copy_begins}
+use Rattle.route_dues.proofs.Behind.{stays_in_order}
 use Rattle.route_dues.proofs.laws.laws_of_dues.Goals as goal
 
 pub returns-clause-window : goal.returns-clause-window
@@ -27,3 +28,6 @@ returns-clause-outcome c = outcome_follows
 
 pub returns-clause-settling : goal.returns-clause-settling
 returns-clause-settling c = settling_follows
+
+pub returns-clause-behind : goal.returns-clause-behind
+returns-clause-behind c = stays_in_order

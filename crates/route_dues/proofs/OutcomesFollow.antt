@@ -10,6 +10,8 @@ use Rattle.amqp_perf.specs.Router.{outcome_told}
 use Rattle.pairing_cert.specs.declared.note.Note.TheVariants as notes
 use Rattle.pairing_cert.specs.declared.note.Why.{Why}
 use Rattle.capture_form.specs.Rules.{RuleText}
+use Rattle.std.proofs.lemmas.Bool.{leb-true}
+use Rattle.trace_events.specs.Frame.{Spoken}
 use Rattle.trace_events.specs.Words.{is_some_and, is_number, are_same_octets}
 use Rattle.trace_events.specs.Event.{Event, Incoming}
 use Rattle.trace_events.specs.Connection.{frame_limit}
@@ -26,7 +28,7 @@ use Rattle.trace_clauses.specs.declared.clause.Clause.TheVariants.{L1, L2, L3, L
 use Rattle.trace_clauses.specs.Clauses.{spoken_meets, clauses}
 use Rattle.trace_clauses.specs.DispositionClause.{is_outcome_of, tells_by}
 use Rattle.trace_clauses.specs.Outcome.{may_be_told, row}
-use Rattle.trace_clauses.specs.Written.{spoken_octets, state_of, written_outcome}
+use Rattle.trace_clauses.specs.Written.{spoken_octets, says, written_outcome}
 use Rattle.trace_clauses.proofs.IdsApart.{AreApart, history_apart, found_any, one_found}
 use Rattle.trace_clauses.proofs.IncomingProgress.{judged-kept}
 use Rattle.trace_clauses.proofs.LinkEnds.{lives-live}
@@ -35,6 +37,8 @@ use Rattle.trace_clauses.proofs.Parts.{delivery_kept}
 use Rattle.trace_clauses.proofs.PartsGoOn.{complete-whole}
 use Rattle.trace_duties.specs.Diligent.{is_of_answer}
 use Rattle.route_dues.specs.Writing.{frame_of, writing, IsLawful, MayFollow}
+use Rattle.route_dues.specs.Outcomes.{octets_in, outcome_frame}
+use Rattle.route_dues.proofs.Lengths.{within}
 use Rattle.route_dues.proofs.Words.{or_right, both}
 use Rattle.route_dues.proofs.Words.{none_broken}
 use Rattle.route_dues.proofs.Connections.{lawful_judged, may_write}
@@ -102,41 +106,47 @@ module _ (rules : List RuleText) (past : List Event) (d : Incoming) (lawful : Is
 
 -- ---- the event
 
-octets_of : (state : Option (List ℕ)) → option_map (λ (s : StateFields). s.octets) (state_of state) ≡ state
-octets_of None = refl
-octets_of (Some octets) = refl
+-- in the octets of a state nothing is said of its outcome
+pub outcome_octets : (channel id : ℕ) (state : Option StateFields) → spoken_octets (says channel (ADisposition (outcome_told id state))) ≡ spoken_octets (written_outcome channel id (octets_in state))
+unfolding spoken_octets
+outcome_octets channel id None = refl
+outcome_octets channel id (Some state) = refl
 
 same_state : (state : Option (List ℕ)) → are_same_octets state state ≡ true
 same_state None = refl
 same_state (Some octets) = (bytes_decides octets octets).1 refl
 
-module _ (rules : List RuleText) (past : List Event) (d : Incoming) (why : Why) (state : Option (List ℕ)) (id : ℕ) (lawful : IsLawful rules past)
+module _ (rules : List RuleText) (past : List Event) (d : Incoming) (why : Why) (state : Option StateFields) (id : ℕ) (lawful : IsLawful rules past)
     (live : IsLiveOn d.link.session past) (given : d.id ≡ Some id) (names : to_tell rules d.link.session id past ≡ Some d) (found : incoming_at d.number past ≡ Some d)
-    (may : may_be_told d past ≡ true) (is : row rules d past why ≡ Some state) where
+    (may : may_be_told d past ≡ true) (is : row rules d past why ≡ Some (octets_in state)) where
   abbrev fields : DispositionFields
-  fields = outcome_told id (state_of state)
+  fields = outcome_told id state
+
+  abbrev frame : Spoken
+  frame = says d.link.session.channel (ADisposition fields)
 
   abbrev e : Event
-  e = writing rules past d.link.session.connection (notes.Told why) (written_outcome d.link.session.channel id state)
+  e = writing rules past d.link.session.connection (notes.Told why) frame
 
   told_is : e.told ≡ Some d.number
   told_is = ap (option_and_then (λ s. told_by_role rules s id Receiver past)) live ∙ ap (option_map (λ (x : Incoming). x.number)) names
 
-  fits : nat_le (length (spoken_octets (written_outcome d.link.session.channel id state))) (frame_limit d.link.session.connection past) ≡ true
+  fits : nat_le (length (spoken_octets frame)) (frame_limit d.link.session.connection past) ≡ true
   fits =
-      sym (ap (λ o. nat_le (length (spoken_octets (written_outcome d.link.session.channel (unwrap_or o 0) state))) (frame_limit d.link.session.connection past)) given)
-      ∙ row_fits rules d past why state is
+      ap (λ octets. nat_le (length octets) (frame_limit d.link.session.connection past)) (outcome_octets d.link.session.channel id state)
+      ∙ (sym (ap (λ o. nat_le (length (spoken_octets (written_outcome d.link.session.channel (unwrap_or o 0) (octets_in state)))) (frame_limit d.link.session.connection past)) given)
+      ∙ row_fits rules d past why (octets_in state) is)
 
   eleven : is_some_and (option_and_then (λ n. incoming_at n past) e.told) (is_outcome_of rules e fields past) ≡ true
   eleven =
       ap (λ o. is_some_and (option_and_then (λ n. incoming_at n past) o) (is_outcome_of rules e fields past)) told_is
       ∙ (ap (λ o. is_some_and o (is_outcome_of rules e fields past)) found
-      ∙ both (may_be_told d past) (tells_by rules d (notes.Told why) (option_map (λ (s : StateFields). s.octets) (state_of state)) past) may
-      (ap (λ o. tells_by rules d (notes.Told why) o past) (octets_of state) ∙ (ap (λ o. is_some_and o (are_same_octets state)) is ∙ same_state state)))
+      ∙ both (may_be_told d past) (tells_by rules d (notes.Told why) (octets_in state) past) may
+      (ap (λ o. is_some_and o (are_same_octets (octets_in state))) is ∙ same_state (octets_in state)))
 
-  told_meets : (clause : Clause) → (let spoken = written_outcome d.link.session.channel id state in spoken_meets rules e (frame_of spoken) past spoken clause) ≡ true
+  told_meets : (clause : Clause) → spoken_meets rules e (frame_of frame) past frame clause ≡ true
   told_meets L1 =
-      both _ (nat_le (length (spoken_octets (written_outcome d.link.session.channel id state))) (frame_limit d.link.session.connection past))
+      both _ (nat_le (length (spoken_octets frame)) (frame_limit d.link.session.connection past))
       (may_write rules past d.link.session lawful live (ADisposition fields) refl) fits
   told_meets L11 = both (id == id) (is_some_and (option_and_then (λ n. incoming_at n past) e.told) (is_outcome_of rules e fields past)) (eq-eqb id id refl) eleven
   told_meets L2 = refl
@@ -152,19 +162,20 @@ module _ (rules : List RuleText) (past : List Event) (d : Incoming) (why : Why) 
   told_meets L13 = refl
   told_meets L14 = refl
 
-  told_follows : MayFollow rules past d.link.session.connection (notes.Told why) (written_outcome d.link.session.channel id state)
+  told_follows : MayFollow rules past d.link.session.connection (notes.Told why) frame
   told_follows = record {
-    lawful = none_broken (let spoken = written_outcome d.link.session.channel id state in spoken_meets rules e (frame_of spoken) past spoken) told_meets clauses;
+    lawful = none_broken (spoken_meets rules e (frame_of frame) past frame) told_meets clauses;
     keeps = or_right (is_of_answer rules past) _
-        ((bytes_decides (spoken_octets (written_outcome d.link.session.channel id state)) _).1
-        (ap (λ o. spoken_octets (written_outcome d.link.session.channel id o)) (sym (octets_of state))));
+        ((bytes_decides (spoken_octets frame) (spoken_octets (written_outcome d.link.session.channel id (octets_in state)))).1 (outcome_octets d.link.session.channel id state));
+    earliest = refl;
+    fits = within (spoken_octets frame) d.link.session.connection past (leb-true (length (spoken_octets frame)) (frame_limit d.link.session.connection past) fits);
   }
 
 -- where a row applies to a delivery that may be told, its state may be told
-pub outcome_follows : (rules : List RuleText) (past : List Event) (d : Incoming) (why : Why) (state : Option (List ℕ)) → IsLawful rules past → incoming_at d.number past ≡ Some d
-    → may_be_told d past ≡ true → row rules d past why ≡ Some state
-    → MayFollow rules past d.link.session.connection (notes.Told why) (written_outcome d.link.session.channel (unwrap_or d.id 0) state)
+pub outcome_follows : (rules : List RuleText) (past : List Event) (d : Incoming) (why : Why) (state : Option StateFields) → IsLawful rules past → incoming_at d.number past ≡ Some d
+    → may_be_told d past ≡ true → row rules d past why ≡ Some (octets_in state)
+    → MayFollow rules past d.link.session.connection (notes.Told why) (outcome_frame d state)
 outcome_follows rules past d why state lawful found may is =
     let id = id_is rules past d lawful found may in
-    subst (λ o. MayFollow rules past d.link.session.connection (notes.Told why) (written_outcome d.link.session.channel (unwrap_or o 0) state)) (sym id.1)
+    subst (λ o. MayFollow rules past d.link.session.connection (notes.Told why) (says d.link.session.channel (ADisposition (outcome_told (unwrap_or o 0) state)))) (sym id.1)
     (told_follows rules past d why state id.0 lawful (session_lives rules past d lawful found may) id.1 (named_by_id rules past d lawful found may) found may is)

@@ -25,10 +25,11 @@ use Rattle.route_dues.specs.Writing.{frame_of, writing, IsLawful, MayFollow}
 use Rattle.route_dues.specs.Transfers.{room_on, first_frame, next_frame}
 use Rattle.route_dues.proofs.Words.{or_right, both, none_broken}
 use Rattle.route_dues.proofs.Connections.{may_write}
+use Rattle.route_dues.proofs.Lengths.{within}
 use Rattle.route_dues.proofs.Filled.{filled_carries}
 use Rattle.route_dues.proofs.TransferLengths.{filled_fits, first_same, first_short, next_same, next_short}
 use Rattle.route_dues.proofs.Carrying as carrying
-use Rattle.route_dues.proofs.Carrying.{MayCarry, MayBegin, filled_of, first_meets, first_picked, next_meets, next_picked}
+use Rattle.route_dues.proofs.Carrying.{MayCarry, MayBegin, filled_of, first_meets, first_picked, first_earliest, next_meets, next_picked, next_earliest}
 
 -- ---- what the event is
 
@@ -130,14 +131,18 @@ module _ (rules : List RuleText) (past : List Event) (l : Link) (d : Incoming) (
       ap (λ b. Filled b (rest j d past)) (carrying.begins rules past l d may f on at refl j goes refl)
       ∙ ap (λ xs. Filled true (drop (length xs) whole)) none_yet
 
+  first_within : length (spoken_octets (first_frame past l d)) ≤ frame_limit l.session.connection past
+  first_within = filled_fits past l of whole (first_same l (next_delivery_id l.session past) d.format) (first_short l (next_delivery_id l.session past) d.format)
+
   pub first_follows : MayFollow rules past l.session.connection (notes.Pair d.number) (first_frame past l d)
   first_follows = record {
-    lawful = transfer_unbroken rules past l (notes.Pair d.number) (of more) octets may.carries.live may.carries.consumes refl lawful
-        (filled_fits past l of whole (first_same l (next_delivery_id l.session past) d.format) (first_short l (next_delivery_id l.session past) d.format))
+    lawful = transfer_unbroken rules past l (notes.Pair d.number) (of more) octets may.carries.live may.carries.consumes refl lawful first_within
         (first_meets rules past l d may f on at refl j goes refl more octets none_yet (filled_carries (room_on past l of) whole [] refl));
     keeps = transfer_keeps rules past l (notes.Pair d.number) (of more) octets may.carries.live may.carries.consumes refl
         (first_picked rules past l d may f on at refl j goes refl)
         (filled_of rules past l d may.carries f on at refl j goes may.carries.known ((bytes_decides (spoken_octets (first_frame past l d)) _).1 (ap spoken_octets (sym same))));
+    earliest = first_earliest rules past l d may f on at refl j goes refl;
+    fits = within (spoken_octets (first_frame past l d)) l.session.connection past first_within;
   }
 
 -- ---- a delivery goes on
@@ -173,12 +178,16 @@ module _ (rules : List RuleText) (past : List Event) (l : Link) (d : Incoming) (
       let Filled : Bool → Spoken = λ b. filled g l (λ more. if b then first_part l (next_delivery_id l.session past) d.format more else next_part l more) (rest j d past) past in
       ap Filled (carrying.later rules past l d may g on' at' refl j goes' older)
 
+  next_within : length (spoken_octets (next_frame past l d j)) ≤ frame_limit l.session.connection past
+  next_within = filled_fits past l (next_part l) left (next_same l) (next_short l)
+
   pub next_follows : MayFollow rules past l.session.connection (notes.Pair d.number) (next_frame past l d j)
   next_follows = record {
-    lawful = transfer_unbroken rules past l (notes.Pair d.number) (next_part l follows) part may.live may.consumes refl lawful
-        (filled_fits past l (next_part l) left (next_same l) (next_short l))
+    lawful = transfer_unbroken rules past l (notes.Pair d.number) (next_part l follows) part may.live may.consumes refl lawful next_within
         (next_meets rules past l d may g on' at' refl j goes' older named follows part (filled_carries (room_on past l (next_part l)) (incoming.payload d past) (outgoing.payload j past) so_far));
     keeps = transfer_keeps rules past l (notes.Pair d.number) (next_part l follows) part may.live may.consumes refl
         (next_picked rules past l d may g on' at' refl j goes' older)
         (filled_of rules past l d may g on' at' refl j goes' (ap (λ n. noted n past) named ∙ may.known) ((bytes_decides (spoken_octets (next_frame past l d j)) _).1 (ap spoken_octets (sym same'))));
+    earliest = next_earliest rules past l d may g on' at' refl j goes' older;
+    fits = within (spoken_octets (next_frame past l d j)) l.session.connection past next_within;
   }
