@@ -14,3 +14,4 @@ pub mod OutcomesFollow
 pub mod SettlingsFollow
 pub mod Behind
 pub mod Again
+pub mod PartsWritten

@@ -1,11 +1,15 @@
 -- The frame that tells an outcome fits its producer's limit: row C asks for that, and all other states are short.
-use Rattle.std.proofs.Common.{◌≡◌, refl, subst, ℕ, ◌+◌, ◌≤◌, Bool, true, false, ◌||◌, List, Option, Some, None, option_map, option_and_then, unwrap_or, ◌==◌, le-leb, arith, if◌then◌else◌}
+use Rattle.std.proofs.Common.{◌≡◌, refl, sym, subst, ℕ, ◌+◌, ◌≤◌, ◌<◌, ◌^◌, Bool, true, false, ◌||◌, List, length, Option, Some, None, option_map, option_and_then, unwrap_or, ◌==◌, le-leb, arith, if◌then◌else◌}
+use Rattle.flow_counts.specs.declared.profile.TheConstants.{MAX_FRAME_SIZE}
+use Rattle.amqp_perf.specs.Meaning.{ADisposition, DispositionFields}
+use Rattle.amqp_perf.specs.Router.{outcome_told, delivery_failed, FitsFrame}
+use Rattle.amqp_perf.specs.Writing.{IfThere}
+use Rattle.trace_clauses.specs.Written.{spoken_octets, says, written_outcome}
+use Rattle.route_dues.specs.Outcomes.{octets_in}
 use Rattle.amqp_types.specs.Writing.{fits_octet}
 use Rattle.amqp_perf.specs.declared.descriptor.Outcome.{Outcome}
 use Rattle.amqp_perf.specs.declared.descriptor.Outcome.TheVariants.{Accepted, Released}
 use Rattle.amqp_perf.specs.Nested.{StateFields}
-use Rattle.amqp_perf.specs.Meaning.{DispositionFields}
-use Rattle.amqp_perf.specs.Router.{delivery_failed}
 use Rattle.pairing_cert.specs.declared.note.Why.{Why}
 use Rattle.pairing_cert.specs.declared.note.Why.TheVariants.{C, Z, S, L, N, M}
 use Rattle.capture_form.specs.Rules.{RuleText}
@@ -18,6 +22,12 @@ use Rattle.trace_clauses.specs.Outcome.{row, anycast_row, paired_row, fits_produ
 use Rattle.trace_law.specs.OutcomeSize.{state_size, uint_size}
 use Rattle.trace_law.proofs.OutcomeSizes.{outcome_long}
 use Rattle.route_dues.proofs.Lengths.{limit_least}
+
+-- in the octets of a state nothing is said of its outcome
+pub outcome_said : (channel id : ℕ) (state : Option StateFields) → spoken_octets (says channel (ADisposition (outcome_told id state))) ≡ spoken_octets (written_outcome channel id (octets_in state))
+unfolding spoken_octets
+outcome_said channel id None = refl
+outcome_said channel id (Some state) = refl
 
 -- a state of seven octets at most
 abbrev IsSmall : Option (List ℕ) → Type 0
@@ -44,6 +54,17 @@ small_fits d past state small =
     let id = unwrap_or d.id 0 in
     let body = 3 + uint_size id + state_size state in
     le-leb _ _ (omega (arith, outcome_long d.link.session.channel id state, list_small (fits_octet (body + 1)) body, uint_small (id == 0) (fits_octet id), limit_least d.link.session.connection past, small))
+
+-- the frame of a state that came in one frame can be counted
+state_most : (state : Option StateFields) → IfThere FitsFrame state → state_size (octets_in state) ≤ MAX_FRAME_SIZE
+state_most None short = omega arith
+state_most (Some state) short = short
+
+pub outcome_counted : (channel id : ℕ) (state : Option StateFields) → IfThere FitsFrame state → length (spoken_octets (says channel (ADisposition (outcome_told id state)))) < 2 ^ 32
+outcome_counted channel id state short =
+    let body = 3 + uint_size id + state_size (octets_in state) in
+    subst (λ octets. length octets < 2 ^ 32) (sym (outcome_said channel id state))
+    (omega (arith, outcome_long channel id (octets_in state), list_small (fits_octet (body + 1)) body, uint_small (id == 0) (fits_octet id), state_most state short))
 
 where_true : {A : Type 0} (b : Bool) (x y : A) → (if b then Some x else None) ≡ Some y → (b ≡ true) × (x ≡ y)
 where_true true x y is = (refl, cc)

@@ -42,7 +42,7 @@ use Rattle.route_dues.proofs.Lengths.{within}
 use Rattle.route_dues.proofs.Words.{or_right, both}
 use Rattle.route_dues.proofs.Words.{none_broken}
 use Rattle.route_dues.proofs.Connections.{lawful_judged, may_write}
-use Rattle.route_dues.proofs.OutcomeFits.{row_fits}
+use Rattle.route_dues.proofs.OutcomeFits.{outcome_said, row_fits}
 
 -- ---- the delivery that its id names
 
@@ -106,12 +106,6 @@ module _ (rules : List RuleText) (past : List Event) (d : Incoming) (lawful : Is
 
 -- ---- the event
 
--- in the octets of a state nothing is said of its outcome
-pub outcome_octets : (channel id : ℕ) (state : Option StateFields) → spoken_octets (says channel (ADisposition (outcome_told id state))) ≡ spoken_octets (written_outcome channel id (octets_in state))
-unfolding spoken_octets
-outcome_octets channel id None = refl
-outcome_octets channel id (Some state) = refl
-
 same_state : (state : Option (List ℕ)) → are_same_octets state state ≡ true
 same_state None = refl
 same_state (Some octets) = (bytes_decides octets octets).1 refl
@@ -133,7 +127,7 @@ module _ (rules : List RuleText) (past : List Event) (d : Incoming) (why : Why) 
 
   fits : nat_le (length (spoken_octets frame)) (frame_limit d.link.session.connection past) ≡ true
   fits =
-      ap (λ octets. nat_le (length octets) (frame_limit d.link.session.connection past)) (outcome_octets d.link.session.channel id state)
+      ap (λ octets. nat_le (length octets) (frame_limit d.link.session.connection past)) (outcome_said d.link.session.channel id state)
       ∙ (sym (ap (λ o. nat_le (length (spoken_octets (written_outcome d.link.session.channel (unwrap_or o 0) (octets_in state)))) (frame_limit d.link.session.connection past)) given)
       ∙ row_fits rules d past why (octets_in state) is)
 
@@ -166,7 +160,7 @@ module _ (rules : List RuleText) (past : List Event) (d : Incoming) (why : Why) 
   told_follows = record {
     lawful = none_broken (spoken_meets rules e (frame_of frame) past frame) told_meets clauses;
     keeps = or_right (is_of_answer rules past) _
-        ((bytes_decides (spoken_octets frame) (spoken_octets (written_outcome d.link.session.channel id (octets_in state)))).1 (outcome_octets d.link.session.channel id state));
+        ((bytes_decides (spoken_octets frame) (spoken_octets (written_outcome d.link.session.channel id (octets_in state)))).1 (outcome_said d.link.session.channel id state));
     earliest = refl;
     fits = within (spoken_octets frame) d.link.session.connection past (leb-true (length (spoken_octets frame)) (frame_limit d.link.session.connection past) fits);
   }
