@@ -57,16 +57,28 @@ fields_short code slots = omega (arith, list_long (length (values_of slots)) (oc
 pub flow_short : (flow : Flow) → length (performative_octets (AFlow flow)) ≤ 100
 flow_short flow =
     omega (
-      arith, fields_short 0x13 (flow_slots flow),
+      arith,
+      fields_short 0x13 (flow_slots flow),
       fields_long 5 (flow_slots flow) (omega arith) (
-        uint_most flow.next_incoming_id, (uint_long flow.incoming_window, (uint_long flow.next_outgoing_id, (uint_long flow.outgoing_window,
-        (uint_most flow.handle, (uint_most flow.delivery_count, (uint_most flow.link_credit, (tt, (flag_most flow.drain, (flag_most flow.echo, tt)))))))))),
+        uint_most flow.next_incoming_id,
+        (
+          uint_long flow.incoming_window,
+          (
+            uint_long flow.next_outgoing_id,
+            (
+              uint_long flow.outgoing_window,
+              (uint_most flow.handle, (uint_most flow.delivery_count, (uint_most flow.link_credit, (tt, (flag_most flow.drain, (flag_most flow.echo, tt)))))),
+            ),
+          ),
+        ),
+      ),
     )
 
 pub settling_short : (id : ℕ) → length (performative_octets (ADisposition (settling id))) ≤ 100
 settling_short id =
     omega (
-      arith, fields_short 0x15 (disposition_slots (settling id)),
+      arith,
+      fields_short 0x15 (disposition_slots (settling id)),
       fields_long 5 (disposition_slots (settling id)) (omega arith) (flag_long false, (uint_long id, (tt, (flag_long true, (tt, tt))))),
     )
 

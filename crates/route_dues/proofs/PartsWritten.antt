@@ -34,8 +34,15 @@ module _ (l : Link) (of : Bool → TransferFields) (bare fields : TransferFields
       rooms ∙ ap (λ x. limit - length (spoken_octets (spoken_with l.session.channel (ATransfer x) []))) first in
       subst (λ x. length (spoken_octets (spoken_with l.session.channel (ATransfer x) (take m rest))) < 2 ^ 32) (sym second)
       (omega (
-        arith, left, low, short, same more, least, length-take m rest,
-        spoken_long (spoken_with l.session.channel (ATransfer (of true)) []), spoken_long (spoken_with l.session.channel (ATransfer (of more)) (take m rest)),
+        arith,
+        left,
+        low,
+        short,
+        same more,
+        least,
+        length-take m rest,
+        spoken_long (spoken_with l.session.channel (ATransfer (of true)) []),
+        spoken_long (spoken_with l.session.channel (ATransfer (of more)) (take m rest)),
       ))
 
   module _ (past : List Event) (rooms : room ≡ frame_limit l.session.connection past - length (spoken_octets (spoken_with l.session.channel (ATransfer bare) []))) where

@@ -86,8 +86,13 @@ null_long = omega arith
 six_long : (a b c d e f : List ℕ) → length (0x00 ∷ 0x53 ∷ 0x14 ∷ list_octets 6 (a ++ (b ++ (c ++ (d ++ (e ++ f)))))) ≤ 12 + (length a + (length b + (length c + (length d + (length e + length f)))))
 six_long a b c d e f =
     omega (
-      arith, list_long 6 (a ++ (b ++ (c ++ (d ++ (e ++ f))))),
-      length-append a (b ++ (c ++ (d ++ (e ++ f)))), length-append b (c ++ (d ++ (e ++ f))), length-append c (d ++ (e ++ f)), length-append d (e ++ f), length-append e f,
+      arith,
+      list_long 6 (a ++ (b ++ (c ++ (d ++ (e ++ f))))),
+      length-append a (b ++ (c ++ (d ++ (e ++ f)))),
+      length-append b (c ++ (d ++ (e ++ f))),
+      length-append c (d ++ (e ++ f)),
+      length-append d (e ++ f),
+      length-append e f,
     )
 
 pub first_short : (l : Link) (id format : ℕ) → length (performative_octets (ATransfer (first_part l id format true))) ≤ 100

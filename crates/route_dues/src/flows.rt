@@ -36,11 +36,11 @@ pub fn put_window<P: Counts>(
         → Puts out.old.items out.new.items result (spoken_octets (written_session_flow session history)) }
     ensures again { (rules : List RuleText) (history : Events) → P.stands_for past.now rules history → IsLiveOn session history → IsReadAgain (written_session_flow session history) }
 {
-    let flow = Flow::of_session(
+    let numbers = Flow::of_session(
         past.next_incoming_id(session),
         past.next_outgoing_id(session),
     );
-    put_spoken(out, session.channel, &Performative::Flow(flow), &[])
+    put_spoken(out, session.channel, &Performative::Flow(numbers), &[])
 }
 
 /// Appends a flow of a live link, with this delivery-count and link-credit.
