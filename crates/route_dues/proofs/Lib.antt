@@ -1,0 +1,17 @@
+pub mod Words
+pub mod Connections
+pub mod Lengths
+pub mod FlowsFollow
+pub mod TransferLengths
+pub mod Filled
+pub mod LiveLinks
+pub mod Carrying
+pub mod PartsFollow
+pub mod Picked
+pub mod Sending
+pub mod OutcomeFits
+pub mod OutcomesFollow
+pub mod SettlingsFollow
+pub mod Behind
+pub mod Again
+pub mod PartsWritten

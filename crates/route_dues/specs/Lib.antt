@@ -1,0 +1,3 @@
+pub mod Writing
+pub mod Transfers
+pub mod Outcomes
