@@ -1,9 +1,10 @@
 -- What the tables of the auditor stand for, all of them.
-use Rattle.std.specs.Prelude.{◌≡◌, List, None}
+use Rattle.std.specs.Prelude.{◌≡◌, ℕ, ◌+◌, List, None}
 use Rattle.capture_form.specs.Rules.{RuleText}
 use Rattle.trace_events.specs.Event.{Event}
 use Rattle.trace_clauses.specs.Clauses.{first_broken}
 use Rattle.audit_tables.specs.Connections.{AreKept}
+use Rattle.audit_tables.specs.Entries.{capped, entries_of_connections, entries_of_links}
 use Rattle.audit_tables.specs.LinkTables.{AreLinked}
 use Rattle.audit_tables.specs.declared.connections.Connections.{Connections}
 use Rattle.audit_tables.specs.declared.links.Links.{Links}
@@ -11,7 +12,7 @@ use Rattle.audit_addresses.specs.Consumers.{AreConsumers}
 use Rattle.audit_addresses.specs.declared.consumers.Consumers.{Consumers}
 use Rattle.audit_addresses.specs.ConsumerLinks.{AreConsumerLinks}
 use Rattle.audit_addresses.specs.declared.consumer_links.ConsumerLinks.{ConsumerLinks}
-use Rattle.audit_held.specs.HeldTables.{IsHistory, IsTable}
+use Rattle.audit_held.specs.HeldTables.{IsHistory, IsTable, count_of}
 use Rattle.audit_held.specs.declared.deliveries.Deliveries.{Deliveries}
 use Rattle.audit_copies.specs.Copies.{AreCopies}
 use Rattle.audit_copies.specs.declared.copies.Copies.{Copies}
@@ -29,3 +30,7 @@ StandFor rules connections links consumers deliveries receivers copies sent past
 abbrev pub AreTables : List RuleText → Tables → List Event → Type 0
 AreTables rules tables past =
     StandFor rules tables.connections tables.links tables.consumers tables.deliveries tables.receivers tables.copies tables.sent past
+
+-- how many entries they have; a delivery to a client, and what is known of an address, is no entry of its own
+abbrev pub entries_of : Tables → ℕ
+entries_of tables = capped (entries_of_connections tables.connections + entries_of_links tables.links + count_of tables.deliveries)

@@ -5,7 +5,7 @@ ghost use Rattle.capture_form.specs.Rules.{RuleText};
 ghost use Rattle.capture_form.specs.declared.records.Record.{Record};
 ghost use Rattle.trace_events.specs.History.{history};
 ghost use Rattle.audit_tables.specs.Connections.{IsLawfulNext};
-ghost use Rattle.audit_answers.specs.Tables.{AreTables, StandFor};
+ghost use Rattle.audit_answers.specs.Tables.{AreTables, StandFor, entries_of};
 ghost use Rattle.trace_law.specs.View.{Events, event_view};
 
 use crate::looked::Looked;
@@ -63,6 +63,17 @@ impl Tables {
             copies: &self.copies,
             sent: &self.sent,
         }
+    }
+
+    /// How many entries there are: connections, sessions, links, what of clients is still to be answered, and the deliveries from
+    /// clients that are kept; the greatest number where there are more.
+    pub fn entries(&self) -> usize
+        ensures { result ≡ entries_of self.now }
+    {
+        self.connections
+            .entries()
+            .saturating_add(self.links.entries())
+            .saturating_add(self.deliveries.count())
     }
 
     /// The event follows those so far.

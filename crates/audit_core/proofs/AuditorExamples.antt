@@ -1,19 +1,21 @@
 -- What the words for an auditor say, at small captures.
 use Rattle.std.proofs.Common.{◌≡◌, ℕ, List, [], ◌∷◌, Option, Some, None, Err, refl, sym, ap, ◌∙◌, inl, inr, arith}
 use Rattle.capture_form.specs.declared.records.Record.{Record}
-use Rattle.capture_form.specs.Text.{Trace}
+use Rattle.capture_form.specs.Rules.{RuleText}
 use Rattle.trace_clauses.specs.declared.clause.Clause.{Clause}
 use Rattle.trace_clauses.specs.declared.clause.Clause.TheVariants.{L1, L2}
 use Rattle.trace_clauses.specs.declared.tally.Tally.{Tally}
 use Rattle.trace_clauses.specs.Clauses.{first_broken}
+use Rattle.trace_clauses.specs.Verdict.{tally_of}
 use Rattle.trace_clauses.specs.Written.{written_open}
-use Rattle.trace_clauses.proofs.Captures.{opened, lost, broken_of}
+use Rattle.trace_clauses.proofs.Captures.{opened, broken_of}
 use Rattle.trace_clauses.proofs.Made.{write}
 use Rattle.trace_events.specs.History.{history}
+use Rattle.audit_ledger.specs.Ledger.{broken_behind}
 use Rattle.audit_core.specs.declared.auditor.Auditor.{Auditor}
 use Rattle.audit_core.specs.declared.verdict.Refusal.{Refusal}
 use Rattle.audit_core.specs.declared.verdict.Refusal.TheVariants.{Broken, Memory}
-use Rattle.audit_core.specs.Auditor.{Agrees, Stopped, IsRefusalBehind, broken_behind}
+use Rattle.audit_core.specs.Auditor.{Agrees, StandsFor, Stopped, IsRefusalBehind}
 use Rattle.audit_core.specs.Verdict.{WantsMemory, AnswersCapture}
 
 -- the router's open on a connection that nobody opened
@@ -33,32 +35,22 @@ some_is_none x e = cc
 
 -- ---- agreeing
 
-module _ (auditor : Auditor) where
-  -- an auditor that kept these records, and stopped at this refusal
-  abbrev at : List Record → Option Refusal → Auditor
-  at records refusal = record auditor { capture = record { rules = []; records = records }; refusal = refusal }
+module _ (auditor : Auditor) (rules : List RuleText) where
+  -- what stands for a lawful record, and has not stopped, agrees with it
+  agrees : StandsFor auditor rules (opened 0 ∷ []) → auditor.refusal ≡ None → Agrees auditor rules (opened 0 ∷ [])
+  agrees stands runs = record { stands = stands; counted = stands.1.1; lawful = refl; runs = runs }
 
-  agrees : Agrees (at (opened 0 ∷ []) None) [] (opened 0 ∷ [])
-  agrees = record { stands = refl; counted = refl; lawful = refl; runs = refl }
-
-  -- it kept another record, of the same tally
-  other_record : Agrees (at (lost 0 ∷ []) None) [] (opened 0 ∷ []) → ⊥
-  other_record a = let same : lost 0 ∷ [] ≡ opened 0 ∷ [] = ap (λ (t : Trace). t.records) a.stands in absurd cc
-
-  -- it kept fewer
-  fewer : Agrees (at [] None) [] (opened 0 ∷ []) → ⊥
-  fewer a = absurd (omega (arith, ap (λ (t : Tally). t.records) a.counted))
+  -- it has another number of records
+  fewer : auditor.ledger.tally ≡ tally_of [] → Agrees auditor rules (opened 0 ∷ []) → ⊥
+  fewer counts a = absurd (omega (arith, ap (λ (t : Tally). t.records) (sym counts ∙ a.counted)))
 
   -- one of them breaks a clause
-  broken : Agrees (at (unasked ∷ []) None) [] (unasked ∷ []) → ⊥
+  broken : Agrees auditor [] (unasked ∷ []) → ⊥
   broken a = some_is_none (0, L1) (sym first_unasked ∙ a.lawful)
 
   -- it has stopped
-  ended : Agrees (at (opened 0 ∷ []) (Some Memory)) [] (opened 0 ∷ []) → ⊥
-  ended a = let runs : Some Memory ≡ None = a.runs in absurd cc
-
-  stopped : Stopped (at [] (Some Memory)) Memory
-  stopped = refl
+  ended : auditor.refusal ≡ Some Memory → Agrees auditor rules (opened 0 ∷ []) → ⊥
+  ended stopped a = let runs : Some Memory ≡ None = sym stopped ∙ a.runs in absurd cc
 
 -- ---- refusing
 

@@ -1,7 +1,7 @@
 -- Taking the records of a capture, one after the other.
-use Rattle.std.proofs.Common.{◌≡◌, refl, sym, ap, ◌∙◌, ℕ, ◌+◌, ◌<◌, List, [], ◌∷◌, ◌++◌, length, take, drop, get_or, Some, arith, add-one}
+use Rattle.std.proofs.Common.{◌≡◌, refl, sym, ap, subst, ◌∙◌, ℕ, ◌+◌, ◌<◌, ◌≤◌, List, [], ◌∷◌, ◌++◌, length, take, drop, get_or, Some, Ok, arith, add-one}
 use Rattle.std.proofs.Math.Seq.{take-suc}
-use Rattle.std.proofs.lemmas.List.{length-take-le, take-append-drop}
+use Rattle.std.proofs.lemmas.List.{length-take-le, take-append-drop, take_all}
 use Rattle.capture_form.specs.declared.records.Record.{Record}
 use Rattle.capture_form.specs.Rules.{RuleText}
 use Rattle.capture_form.specs.Text.{Trace}
@@ -15,16 +15,21 @@ use Rattle.trace_law.proofs.Broken.{length-history}
 use Rattle.audit_core.specs.declared.auditor.Auditor.{Auditor}
 use Rattle.audit_core.specs.declared.verdict.Refusal.{Refusal}
 use Rattle.audit_core.specs.declared.verdict.Refusal.TheVariants.{Broken, Memory}
-use Rattle.audit_core.specs.Auditor.{Agrees, IsRefusalBehind, broken_behind, tally_by}
-use Rattle.audit_core.specs.Verdict.{tally_in, as_answer}
+use Rattle.audit_ledger.specs.Ledger.{broken_behind}
+use Rattle.audit_core.specs.Auditor.{Agrees, IsRefusalBehind, tally_by}
+use Rattle.audit_core.specs.Verdict.{tally_in, as_answer, answer_of}
 use Rattle.audit_core.specs.Stops.{StopsAudit, stop_of}
 use Rattle.audit_core.proofs.Taken.{broken_first}
 
 -- the first records and one more
-pushed : (rs : List Record) (i : ℕ) (entry d : Record) → i < length rs → entry ≡ get_or rs i d → take i rs ++ entry ∷ [] ≡ take (i + 1) rs
+pub pushed : (rs : List Record) (i : ℕ) (entry d : Record) → i < length rs → entry ≡ get_or rs i d → take i rs ++ entry ∷ [] ≡ take (i + 1) rs
 pushed rs i entry d lt is =
     let at : take (i + 1) rs ≡ take i rs ++ get_or rs i d ∷ [] = rw (add-one, take-suc rs i d lt) refl in
     ap (λ (e : Record). take i rs ++ e ∷ []) is ∙ sym at
+
+-- an auditor that took all of them has the answer
+pub accepted : (capture : Trace) (auditor : Auditor) → Agrees auditor capture.rules capture.records → answer_of capture ≡ Ok (tally_by auditor)
+accepted capture auditor agrees = rw (agrees.lawful, agrees.counted) refl
 
 module _ (capture : Trace) (i : ℕ) (auditor : Auditor) (entry d : Record) (lt : i < length capture.records) (is : entry ≡ get_or capture.records i d)
     (agrees : Agrees auditor capture.rules (take i capture.records)) where
@@ -48,3 +53,7 @@ module _ (capture : Trace) (i : ℕ) (auditor : Auditor) (entry d : Record) (lt 
 pub so_many : (capture : Trace) (i : ℕ) (auditor : Auditor) → i < length capture.records → Agrees auditor capture.rules (take i capture.records) → (tally_by auditor).records ≡ i
 so_many capture i auditor lt agrees =
     ap (λ (t : Tally). t.records) agrees.counted ∙ length-history capture.rules (take i capture.records) ∙ length-take-le i capture.records (omega (arith, lt))
+
+-- all were taken
+pub took_all : (capture : Trace) (i : ℕ) (auditor : Auditor) → length capture.records ≤ i → Agrees auditor capture.rules (take i capture.records) → Agrees auditor capture.rules capture.records
+took_all capture i auditor ge agrees = subst (λ rs. Agrees auditor capture.rules rs) (take_all i capture.records ge) agrees

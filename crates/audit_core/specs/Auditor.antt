@@ -1,12 +1,15 @@
 -- What an auditor has come to: for which capture it stands, or at which refusal it stopped.
-use Rattle.std.specs.Prelude.{◌≡◌, List, length, Option, Some, None, ⊤}
+use Rattle.std.specs.Prelude.{◌≡◌, ℕ, List, length, Option, Some, None, ⊤}
 use Rattle.capture_form.specs.declared.records.Record.{Record}
 use Rattle.capture_form.specs.Rules.{RuleText}
-use Rattle.trace_clauses.specs.declared.clause.Clause.{Clause}
 use Rattle.trace_clauses.specs.declared.tally.Tally.{Tally}
-use Rattle.trace_events.specs.History.{judge, history}
-use Rattle.trace_clauses.specs.Clauses.{first_broken, broken_clause}
+use Rattle.trace_events.specs.History.{history}
+use Rattle.trace_clauses.specs.Clauses.{first_broken}
 use Rattle.trace_clauses.specs.Verdict.{tally_of}
+use Rattle.audit_answers.specs.Tables.{entries_of}
+use Rattle.audit_ledger.specs.Ledger.{Stands, broken_behind}
+use Rattle.audit_ledger.specs.declared.not_entered.NotEntered.{NotEntered}
+use Rattle.audit_ledger.specs.declared.not_entered.NotEntered.TheVariants as why
 use Rattle.audit_core.specs.declared.auditor.Auditor.{Auditor}
 use Rattle.audit_core.specs.declared.verdict.Refusal.{Refusal}
 use Rattle.audit_core.specs.declared.verdict.Refusal.TheVariants.{Broken, Memory}
@@ -15,11 +18,19 @@ use Rattle.audit_core.specs.declared.verdict.Refusal.TheVariants.{Broken, Memory
 
 -- what it keeps stands for these records, judged by these rules
 abbrev pub StandsFor : Auditor → List RuleText → List Record → Type 0
-StandsFor auditor rules records = auditor.capture ≡ record { rules = rules; records = records }
+StandsFor auditor rules records = (auditor.rules.items ≡ rules) × Stands rules auditor.ledger records
+
+-- the rules by which it judges
+abbrev pub rules_of : Auditor → List RuleText
+rules_of auditor = auditor.rules.items
 
 -- what the records that it took hold
 abbrev pub tally_by : Auditor → Tally
-tally_by auditor = tally_of (history auditor.capture.rules auditor.capture.records)
+tally_by auditor = auditor.ledger.tally
+
+-- how many entries it has
+abbrev pub entries_by : Auditor → ℕ
+entries_by auditor = entries_of auditor.ledger.tables
 
 -- the refusal at which it stopped
 abbrev pub refusal_of : Auditor → Option Refusal
@@ -38,12 +49,13 @@ pub record Agrees (auditor : Auditor) (rules : List RuleText) (records : List Re
 abbrev pub Stopped : Auditor → Refusal → Type 0
 Stopped auditor refusal = refusal_of auditor ≡ Some refusal
 
--- the first clause that a record breaks behind others
-abbrev pub broken_behind : List RuleText → List Record → Record → Option Clause
-broken_behind rules records entry = let past = history rules records in broken_clause rules (judge rules past entry) past
-
 -- why a record is refused behind others: it is the first that breaks a clause, and this is the first that it breaks;
 -- want of memory says nothing of it
 abbrev pub IsRefusalBehind : List RuleText → List Record → Record → Refusal → Type 0
 IsRefusalBehind rules records entry (Broken number clause) = (number ≡ length records) × (broken_behind rules records entry ≡ Some clause)
 IsRefusalBehind rules records entry Memory = ⊤
+
+-- why the record of a number is refused
+abbrev pub refusal_at : ℕ → NotEntered → Refusal
+refusal_at number (why.Broken clause) = Broken number clause
+refusal_at number why.Memory = Memory

@@ -1,26 +1,27 @@
 //! The auditor: it takes the records of a capture one after the other, and refuses the first that does not meet the law.
 
-ghost use Rattle.std.specs.Prelude.{◌≡◌, ◌<◌, ◌∷◌, [], ◌++◌, List, None, Some, IfErr, IfSome, OnOk};
+ghost use Rattle.std.specs.Prelude.{◌≡◌, ◌<◌, ◌∷◌, [], ◌++◌, List, None, IfErr, IfSome, OnOk};
 ghost use Rattle.capture_form.specs.declared.records.Record.{Record};
 ghost use Rattle.capture_form.specs.Rules.{RuleText, AreRules};
 ghost use Rattle.capture_form.specs.Text.{IsRecord};
+ghost use Rattle.audit_ledger.specs.Ledger.{broken_behind};
 ghost use Rattle.audit_core.specs.declared.auditor.TheConstants.{MOST_RECORDS};
-ghost use Rattle.audit_core.specs.Auditor.{Agrees, Stopped, StandsFor, IsRefusalBehind, broken_behind, refusal_of, tally_by};
+ghost use Rattle.audit_core.specs.Auditor.{Agrees, IsRefusalBehind, Stopped, entries_by, refusal_at, refusal_of, tally_by};
 
 use crate::verdict::Refusal;
-use capture_form::{Capture, Record, Rule};
-use std::alloc::{AllocError, Global};
-use trace_law::{Tally, slow_check, tally_capture};
+use audit_ledger::{Ledger, NotEntered};
+use capture_form::{Record, Rule};
+use std::alloc::Global;
+use trace_law::Tally;
 
 /// The most records that an auditor takes.
 pub const MOST_RECORDS: u64 = 9223372036854775807;
 
-/// An auditor of one capture: what the records that it took have come to.
+/// An auditor of one capture: what the records that it took have come to. It keeps none of them.
 #[derive(Drop)]
 pub struct Auditor {
-    alloc: Global,
-    // The records that it took, each judged by all those below it.
-    capture: Capture,
+    rules: Vec<Rule>,
+    ledger: Ledger,
     // Why it stopped.
     refusal: Option<Refusal>,
 }
@@ -32,8 +33,8 @@ impl Auditor {
         ensures { Agrees result rules.items [] }
     {
         Auditor {
-            alloc,
-            capture: Capture::new(alloc, rules),
+            rules,
+            ledger: Ledger::new(alloc),
             refusal: None,
         }
     }
@@ -56,6 +57,34 @@ impl Auditor {
         ensures stopped { IfErr result (Stopped self.new) }
         ensures again { IfSome (refusal_of self.old) (λ refusal. (result ≡ Err refusal) × (self.new ≡ self.old)) }
     {
+        self.follow(&entry)
+    }
+
+    /// What the records that it took hold.
+    pub fn tally(&self) -> Tally
+        ensures { result ≡ tally_by self.now }
+    {
+        self.ledger.tally()
+    }
+
+    /// How many things it keeps of these records: connections of which one stands; sessions that are live or await their
+    /// end; links that are live or await their detach; begins, attaches, detaches and ends of clients that are still to be
+    /// answered; and deliveries. The greatest number where there are more.
+    pub fn entries(&self) -> usize
+        ensures { result ≡ entries_by self.now }
+    {
+        self.ledger.entries()
+    }
+
+    /// Takes a record that is lent.
+    pub(crate) fn follow(&mut self, entry: &Record) -> Result<(), Refusal>
+        requires { (tally_by self.old).records < MOST_RECORDS }
+        ensures met { OnOk result ((rules : List RuleText) (records : List Record) → Agrees self.old rules records → broken_behind rules records entry.now ≡ None) }
+        ensures taken { OnOk result ((rules : List RuleText) (records : List Record) → Agrees self.old rules records → Agrees self.new rules (records ++ entry.now ∷ [])) }
+        ensures refused { IfErr result (λ refusal. (rules : List RuleText) (records : List Record) → Agrees self.old rules records → IsRefusalBehind rules records entry.now refusal) }
+        ensures stopped { IfErr result (Stopped self.new) }
+        ensures again { IfSome (refusal_of self.old) (λ refusal. (result ≡ Err refusal) × (self.new ≡ self.old)) }
+    {
         if let Some(refusal) = self.refusal {
             return Err(refusal);
         }
@@ -64,46 +93,27 @@ impl Auditor {
         result
     }
 
-    /// What the records that it took hold.
-    pub fn tally(&self) -> Tally
-        ensures counted { result ≡ tally_by self.now }
+    /// Enters the record behind those that it took, if it meets the law.
+    fn judge(&mut self, entry: &Record) -> Result<(), Refusal>
+        requires { (tally_by self.old).records < MOST_RECORDS }
+        ensures met { OnOk result ((rules : List RuleText) (records : List Record) → Agrees self.old rules records → broken_behind rules records entry.now ≡ None) }
+        ensures taken { OnOk result ((rules : List RuleText) (records : List Record) → Agrees self.old rules records → Agrees self.new rules (records ++ entry.now ∷ [])) }
+        ensures refused { IfErr result (λ refusal. (rules : List RuleText) (records : List Record) → Agrees self.old rules records → IsRefusalBehind rules records entry.now refusal) }
     {
-        tally_capture(&self.capture)
-    }
-
-    /// Judges the record by those below it, and keeps it.
-    fn judge(&mut self, entry: Record) -> Result<(), Refusal>
-        requires { IsRecord entry }
-        ensures met { OnOk result ((rules : List RuleText) (records : List Record) → Agrees self.old rules records → broken_behind rules records entry ≡ None) }
-        ensures taken { OnOk result ((rules : List RuleText) (records : List Record) → Agrees self.old rules records → Agrees self.new rules (records ++ entry ∷ [])) }
-        ensures refused { IfErr result (λ refusal. (rules : List RuleText) (records : List Record) → Agrees self.old rules records → IsRefusalBehind rules records entry refusal) }
-    {
-        let number = self.capture.records().len();
-        keep(self.alloc, &mut self.capture, entry)?;
-        match slow_check(&self.capture, number) {
+        let number = self.tally().records;
+        match self.ledger.enter(&self.rules, entry) {
             Ok(()) => Ok(()),
-            Err(clause) => Err(Refusal::Broken(number as u64, clause)),
+            Err(why) => Err(refusal_at(number, why)),
         }
     }
 }
 
-/// Adds the record to the capture. Where memory is refused the capture stays as it was.
-fn keep(alloc: Global, capture: &mut Capture, entry: Record) -> Result<(), AllocError>
-    requires { IsRecord entry }
-    ensures { OnOk result (capture.new ≡ record { rules = capture.old.rules; records = capture.old.records ++ entry ∷ [] }) }
+/// Why the record of this number is not taken.
+fn refusal_at(number: u64, why: NotEntered) -> Refusal
+    ensures { result ≡ refusal_at number why }
 {
-    let mut one = Vec::new(alloc);
-    one.push(entry)?;
-    capture.extend(one)
-}
-
-impl From<AllocError> for Refusal {
-    ghost use Rattle.std.specs.Prelude.{◌≡◌};
-    ghost use Rattle.audit_core.specs.declared.verdict.Refusal.TheVariants.{Memory};
-
-    ghost from_gives = { λ _ refusal. refusal ≡ Memory };
-
-    fn from(_refused: AllocError) -> Refusal {
-        Refusal::Memory
+    match why {
+        NotEntered::Broken(clause) => Refusal::Broken(number, clause),
+        NotEntered::Memory => Refusal::Memory,
     }
 }

@@ -1,8 +1,8 @@
-//! Copies of what a capture lends.
+//! Copies of the rules that a capture lends.
 
 ghost use Rattle.std.specs.Prelude.{◌≡◌, ◌<◌, length, IfOk, OnErr};
 
-use capture_form::{Frame, Record, Rule, What};
+use capture_form::Rule;
 use std::alloc::{AllocError, Global};
 
 /// Equal rules.
@@ -25,23 +25,5 @@ fn copy_of_rule(rule: &Rule) -> Result<Rule, AllocError>
     Ok(Rule {
         distribution: rule.distribution,
         prefix: rule.prefix.clone()?,
-    })
-}
-
-/// An equal record.
-pub(crate) fn copy_of_record(alloc: Global, entry: &Record) -> Result<Record, AllocError>
-    ensures { IfOk result (λ copy. copy ≡ entry.now) }
-{
-    let what = match &entry.what {
-        What::Opened => What::Opened,
-        What::In(frame) => What::In(Frame::new(alloc, frame.octets())?),
-        What::Out(frame) => What::Out(Frame::new(alloc, frame.octets())?),
-        What::Lost => What::Lost,
-        What::Broken => What::Broken,
-    };
-    Ok(Record {
-        connection: entry.connection,
-        what,
-        note: entry.note,
     })
 }

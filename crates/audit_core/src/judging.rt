@@ -1,16 +1,17 @@
 //! Judging a capture that is there whole, and a text that is.
 
-ghost use Rattle.std.specs.Prelude.{◌≡◌, ◌^◌, ◌<◌, length, IfOk, IfErr, if◌then◌else◌};
+ghost use Rattle.std.specs.Prelude.{◌≡◌, ◌^◌, ◌<◌, [], length, IfOk, IfErr, OnOk, if◌then◌else◌};
 ghost use Rattle.capture_form.specs.Gives.{is_refusal};
 ghost use Rattle.capture_form.specs.Text.{text};
 ghost use Rattle.trace_clauses.specs.declared.tally.Tally.{Tally};
 ghost use Rattle.audit_core.specs.declared.verdict.Verdict.{Verdict};
 ghost use Rattle.audit_core.specs.declared.verdict.Verdict.TheVariants.{Accepted};
+ghost use Rattle.audit_core.specs.Auditor.{Agrees};
 ghost use Rattle.audit_core.specs.Verdict.{Answers, AnswersCapture, IsKept, answer_of};
 ghost use Rattle.audit_core.specs.Stops.{StopsAudit, stop_of, stops_within, refusal_on, verdict_on};
 
 use crate::auditor::Auditor;
-use crate::copying::{copy_of_record, copy_of_rules};
+use crate::copying::copy_of_rules;
 use crate::lengths::{HEAD, offset_of_record};
 use crate::verdict::{Refusal, Verdict};
 use capture_form::{Capture, FormFault, FormKind, Reading, read_whole_records};
@@ -103,15 +104,24 @@ fn audit_records(alloc: Global, capture: &Capture) -> Result<Tally, Stop>
         return Err(Stop::AtRules);
     };
     let mut auditor = Auditor::new(alloc, rules);
+    match follow_records(&mut auditor, capture) {
+        Ok(()) => Ok(auditor.tally()),
+        Err(stop) => Err(stop),
+    }
+}
+
+/// The auditor, which took no record yet, takes those of the capture.
+fn follow_records(auditor: &mut Auditor, capture: &Capture) -> Result<(), Stop>
+    requires { Agrees auditor.old capture.now.rules [] }
+    ensures accepted { OnOk result (Agrees auditor.new capture.now.rules capture.now.records) }
+    ensures stopped { IfErr result (StopsAudit capture.now) }
+{
     for (number, entry) in capture.records().iter().enumerate() {
-        let Ok(entry) = copy_of_record(alloc, entry) else {
-            return Err(Stop::AtRecord(number));
-        };
-        if let Err(refusal) = auditor.take(entry) {
+        if let Err(refusal) = auditor.follow(entry) {
             return Err(Stop::of_refusal(number, refusal));
         }
     }
-    Ok(auditor.tally())
+    Ok(())
 }
 
 /// The verdict of a text with this fault, where the records before it meet the clauses.

@@ -1,10 +1,11 @@
 //! Judging a text that a reader gives, record by record.
 
-ghost use Rattle.std.specs.Prelude.{◌≡◌, ◌++◌, length, IfSome, None};
+ghost use Rattle.std.specs.Prelude.{◌≡◌, ◌++◌, [], length, IfSome, None};
 ghost use Rattle.capture_form.specs.Rules.{AreRules};
 ghost use Rattle.capture_form.specs.Reader.{left_of, offset_of, fault_of, text_of_head};
 ghost use Rattle.trace_clauses.specs.declared.tally.Tally.{Tally};
 ghost use Rattle.audit_core.specs.declared.verdict.Verdict.TheVariants.{Accepted};
+ghost use Rattle.audit_core.specs.Auditor.{Agrees, rules_of};
 ghost use Rattle.audit_core.specs.Verdict.{AnswersRead, IsKept, verdict_of_fault, verdict_of_refusal};
 
 use crate::auditor::Auditor;
@@ -37,9 +38,25 @@ where
     requires runs { fault_of records ≡ None }
     ensures { IfSome (left_of R.remaining records) (λ left. AnswersRead (text_of_head rules.items ++ left) result) }
 {
-    let mut records = records;
-    let mut offset = len_of_head(&rules);
+    let offset = len_of_head(&rules);
     let mut auditor = Auditor::new(alloc, rules);
+    follow_read(&mut auditor, records, offset)
+}
+
+/// The verdict of a text whose head ends at this offset, by an auditor that has its rules and took no record yet. The records
+/// are read, and the auditor takes them.
+fn follow_read<R: Read>(auditor: &mut Auditor, records: Reader<R>, offset: u64) -> Verdict
+where
+    R: Drop,
+    requires rules { AreRules (rules_of auditor.old) }
+    requires agrees { Agrees auditor.old (rules_of auditor.old) [] }
+    requires head { offset ≡ length (text_of_head (rules_of auditor.old)) }
+    requires place { offset_of records ≡ length (text_of_head (rules_of auditor.old)) }
+    requires runs { fault_of records ≡ None }
+    ensures { IfSome (left_of R.remaining records) (λ left. AnswersRead (text_of_head (rules_of auditor.old) ++ left) result) }
+{
+    let mut records = records;
+    let mut offset = offset;
     'records: loop {
         match records.next_record() {
             Ok(Some(entry)) => {

@@ -1,5 +1,5 @@
 -- What the table of deliveries from clients stands for.
-use Rattle.std.specs.Prelude.{◌≡◌, ◌⊎◌, ℕ, Bool, true, List, Option, option_and_then, option_map, is_some, nat_eq, if◌then◌else◌, ◌==◌}
+use Rattle.std.specs.Prelude.{◌≡◌, ◌⊎◌, ℕ, Bool, true, List, length, Option, option_and_then, option_map, is_some, nat_eq, if◌then◌else◌, ◌==◌}
 use Rattle.indexmap.specs.IndexMap.{get}
 use Rattle.capture_form.specs.Rules.{RuleText}
 use Rattle.capture_form.specs.declared.records.Record.{Record}
@@ -19,6 +19,10 @@ IsHistory rules past = (records : List Record) × (past ≡ history rules record
 -- what the table has of the delivery of this number
 abbrev pub held_in : Deliveries → ℕ → Option Held
 held_in table n = option_map held_view (get nat_eq table.entries n)
+
+-- how many deliveries it has
+abbrev pub count_of : Deliveries → ℕ
+count_of table = length table.entries.entries
 
 -- the table has what the law keeps of these events
 abbrev pub AreHeld : List RuleText → Deliveries → List Event → Type 0

@@ -12,7 +12,7 @@ ghost use Rattle.trace_events.specs.Words.{is_some_and, or_else};
 ghost use Rattle.audit_tables.specs.Connections.{IsLawfulNext};
 ghost use Rattle.audit_held.specs.Grouped.{AreGrouped};
 ghost use Rattle.audit_held.specs.Held.{held_begun, held_next};
-ghost use Rattle.audit_held.specs.HeldTables.{AreMovedBy, BeginsOrTouches, IsTable, MovesAt, held_in};
+ghost use Rattle.audit_held.specs.HeldTables.{AreMovedBy, BeginsOrTouches, IsTable, MovesAt, count_of, held_in};
 ghost use Rattle.audit_held.specs.HeldTouched.{EndWith};
 ghost use Rattle.audit_held.specs.HeldViews.{held_view};
 ghost use Rattle.trace_law.specs.View.{event_view, link_view};
@@ -50,6 +50,13 @@ impl Deliveries {
         ensures { option_map held_view (option_copied result) ≡ held_in self.now number }
     {
         self.entries.get(&number)
+    }
+
+    /// How many are kept.
+    pub fn count(&self) -> usize
+        ensures { result ≡ count_of self.now }
+    {
+        self.entries.len()
     }
 
     /// The event follows those so far. These links live before it and end with it, and the addresses are those behind it.

@@ -5,6 +5,7 @@ ghost use Rattle.capture_form.specs.Rules.{RuleText};
 ghost use Rattle.capture_form.specs.declared.records.Record.{Record};
 ghost use Rattle.trace_events.specs.History.{moment_of};
 ghost use Rattle.audit_tables.specs.Connections.{IsLawfulNext};
+ghost use Rattle.audit_answers.specs.Tables.{entries_of};
 ghost use Rattle.audit_events.specs.HeldEvents.{held_event_view};
 ghost use Rattle.audit_ledger.specs.Ledger.{IsReason, Stands, broken_behind};
 ghost use Rattle.trace_law.specs.View.{event_view};
@@ -45,6 +46,13 @@ impl Ledger {
         ensures { result ≡ self.now.tally }
     {
         self.tally
+    }
+
+    /// How many entries its tables have.
+    pub fn entries(&self) -> usize
+        ensures { result ≡ entries_of self.now.tables }
+    {
+        self.tables.entries()
     }
 
     /// The record follows those so far, judged by these rules, if it meets the clauses.

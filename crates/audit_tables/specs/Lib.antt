@@ -6,3 +6,4 @@ pub mod HeldAddress
 pub mod LinkTables
 pub mod HeldViews
 pub mod EndedLinks
+pub mod Entries

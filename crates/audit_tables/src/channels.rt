@@ -3,6 +3,7 @@
 ghost use Rattle.std.specs.Prelude.{◌≡◌, ℕ, None, OnOk, OnErr, nat_eq, option_and_then, true, unwrap_or, ◌==◌, if◌then◌else◌};
 ghost use Rattle.std.specs.Option.{option_copied};
 ghost use Rattle.indexmap.specs.IndexMap.{get};
+ghost use Rattle.audit_tables.specs.Entries.{capped, entries_of_channels};
 ghost use Rattle.audit_tables.specs.Links.{nothing, says_of_handle, standing_next};
 ghost use Rattle.audit_tables.specs.LinkTables.{AreEmpty, AreMoved, AreMovedOn, AreSame, standing_of};
 ghost use Rattle.trace_law.specs.View.{event_view};
@@ -44,6 +45,17 @@ impl Channels {
         ensures { unwrap_or (option_copied result) nothing ≡ standing_of self.now channel handle }
     {
         self.entries.get(&channel)?.handle(handle)
+    }
+
+    /// How many entries the handles of the connection have; the greatest number where there are more.
+    pub(crate) fn entries(&self) -> usize
+        ensures { result ≡ capped (entries_of_channels self.now) }
+    {
+        let mut count: usize = 0;
+        for session in self.entries.values().as_slice() {
+            count = count.saturating_add(session.entries());
+        }
+        count
     }
 
     /// An event of the connection.

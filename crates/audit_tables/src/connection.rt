@@ -4,6 +4,7 @@
 ghost use Rattle.std.specs.Prelude.{◌≡◌, ℕ, ◌==◌, ◌<◌, true, OnOk, OnErr, if◌then◌else◌};
 ghost use Rattle.indexmap.specs.IndexMap.{spare};
 ghost use Rattle.audit_tables.specs.Connections.{IsFresh, IsFull, IsSame, Takes, TakesOn, fresh, seen_next, session_on, unanswered_on};
+ghost use Rattle.audit_tables.specs.Entries.{capped, entries_of_connection};
 ghost use Rattle.audit_tables.specs.Sessions.{opens_or_ends};
 ghost use Rattle.trace_law.specs.View.{event_view};
 
@@ -124,6 +125,17 @@ impl Connection {
             Some(unanswered) => *unanswered,
             None => Unanswered::nothing(),
         }
+    }
+
+    /// How many entries it has, with those of its channels; the greatest number where there are more.
+    pub(crate) fn entries(&self) -> usize
+        ensures { result ≡ capped (entries_of_connection self.now) }
+    {
+        let mut count = self.sessions.len().saturating_add(1);
+        for unanswered in self.unanswered.values().as_slice() {
+            count = count.saturating_add(unanswered.entries());
+        }
+        count
     }
 
     /// The event follows those of the connection so far.

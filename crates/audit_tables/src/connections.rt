@@ -6,6 +6,7 @@ ghost use Rattle.capture_form.specs.Rules.{RuleText};
 ghost use Rattle.capture_form.specs.declared.records.Record.{Record};
 ghost use Rattle.trace_events.specs.History.{history};
 ghost use Rattle.audit_tables.specs.Connections.{AreKept, AreSame, AreSeen, HasNoRoom, IsLawfulNext, TakesOne, connection_at, seen_in, session_in, unanswered_in};
+ghost use Rattle.audit_tables.specs.Entries.{capped, entries_of_connections};
 ghost use Rattle.audit_tables.specs.Sessions.{session_at};
 ghost use Rattle.audit_tables.specs.Unanswered.{unanswered_at};
 ghost use Rattle.trace_law.specs.View.{Events, event_view};
@@ -64,6 +65,18 @@ impl Connections {
             Some(connection) => connection.unanswered(channel),
             None => Unanswered::nothing(),
         }
+    }
+
+    /// How many entries there are: connections, sessions that are live or await their end, and the begins and ends of clients
+    /// that are still to be answered; the greatest number where there are more.
+    pub fn entries(&self) -> usize
+        ensures { result ≡ capped (entries_of_connections self.now) }
+    {
+        let mut count: usize = 0;
+        for connection in self.entries.values().as_slice() {
+            count = count.saturating_add(connection.entries());
+        }
+        count
     }
 
     /// The event follows those so far.

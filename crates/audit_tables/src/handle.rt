@@ -1,6 +1,7 @@
 //! A handle of a live session: its link, and what of it is still to be answered (part 2 of the standard, section 2.6).
 
 ghost use Rattle.std.specs.Prelude.{◌≡◌, IfOk, None, OnOk, OnErr, is_some, option_map, ◌&&◌, if◌then◌else◌};
+ghost use Rattle.audit_tables.specs.Entries.{entries_of_handle};
 ghost use Rattle.audit_tables.specs.Links as law;
 ghost use Rattle.audit_tables.specs.Links.{asked_in, asked_next, awaits_next, begun, link_next, nothing, owes_next, standing_next, undetached_next};
 ghost use Rattle.trace_law.specs.View.{asking_view, event_view, link_view};
@@ -129,6 +130,16 @@ impl Handle {
             && !self.owes_detach
             && !self.awaits_detach
             && !self.is_undetached
+    }
+
+    /// How many entries it has: its link, an attach and a detach that are to be answered, and a detach that is awaited.
+    pub(crate) fn entries(&self) -> usize
+        ensures { result ≡ entries_of_handle self.now }
+    {
+        usize::from(self.link.is_some())
+            + usize::from(self.attach.is_some())
+            + usize::from(self.owes_detach)
+            + usize::from(self.awaits_detach)
     }
 
     /// The live link.

@@ -4,6 +4,7 @@ ghost use Rattle.std.specs.Prelude.{◌≡◌, ℕ, None, OnOk, OnErr, nat_eq, u
 ghost use Rattle.indexmap.specs.IndexMap.{get};
 ghost use Rattle.amqp_perf.specs.View.{view};
 ghost use Rattle.std.specs.Option.{option_copied};
+ghost use Rattle.audit_tables.specs.Entries.{capped, entries_of_session};
 ghost use Rattle.audit_tables.specs.Links.{handle_about, handle_of, nothing, standing_next};
 ghost use Rattle.audit_tables.specs.LinkTables.{IsEmpty, IsMoved, IsSame, standing_on};
 ghost use Rattle.trace_law.specs.View.{event_view};
@@ -55,6 +56,17 @@ impl Handles {
         ensures { unwrap_or (option_copied result) nothing ≡ standing_on self.now handle }
     {
         self.entries.get(&handle)
+    }
+
+    /// How many entries the handles of the session have; the greatest number where there are more.
+    pub(crate) fn entries(&self) -> usize
+        ensures { result ≡ capped (entries_of_session self.now) }
+    {
+        let mut count: usize = 0;
+        for handle in self.entries.values().as_slice() {
+            count = count.saturating_add(handle.entries());
+        }
+        count
     }
 
     /// An event stands on the session.

@@ -6,6 +6,7 @@ ghost use Rattle.indexmap.specs.IndexMap.{get};
 ghost use Rattle.capture_form.specs.Rules.{RuleText};
 ghost use Rattle.capture_form.specs.declared.records.Record.{Record};
 ghost use Rattle.trace_events.specs.History.{history, judge};
+ghost use Rattle.audit_tables.specs.Entries.{capped, entries_of_links};
 ghost use Rattle.audit_tables.specs.Links.{nothing, says_of_handle};
 ghost use Rattle.audit_tables.specs.LinkTables.{AreLinked, LinksMoved, LinksSame, standing_in};
 ghost use Rattle.trace_law.specs.View.{Events, event_view};
@@ -39,6 +40,18 @@ impl Links {
         ensures { unwrap_or (option_copied result) nothing ≡ standing_in self.now connection channel handle }
     {
         self.entries.get(&connection)?.handle(channel, handle)
+    }
+
+    /// How many entries there are: links that are live or await their detach, and the attaches and detaches of clients that are
+    /// still to be answered; the greatest number where there are more.
+    pub fn entries(&self) -> usize
+        ensures { result ≡ capped (entries_of_links self.now) }
+    {
+        let mut count: usize = 0;
+        for connection in self.entries.values().as_slice() {
+            count = count.saturating_add(connection.entries());
+        }
+        count
     }
 
     /// The event follows those so far.

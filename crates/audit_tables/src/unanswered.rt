@@ -1,6 +1,7 @@
 //! What of a channel is still to be answered (part 2 of the standard, section 2.5).
 
 ghost use Rattle.std.specs.Prelude.{◌≡◌};
+ghost use Rattle.audit_tables.specs.Entries.{entries_unanswered};
 ghost use Rattle.audit_tables.specs.Unanswered.{begin_next, awaits_end_next, is_nothing, nothing, unanswered_next};
 ghost use Rattle.trace_law.specs.View.{event_view};
 
@@ -35,6 +36,15 @@ impl Unanswered {
         ensures { result ≡ is_nothing self.now }
     {
         self.begin.is_none() && !self.owes_end && !self.awaits_end
+    }
+
+    /// How many entries it has: a begin and an end that are to be answered, and an end that is awaited.
+    pub(crate) fn entries(&self) -> usize
+        ensures { result ≡ entries_unanswered self.now }
+    {
+        usize::from(self.begin.is_some())
+            + usize::from(self.owes_end)
+            + usize::from(self.awaits_end)
     }
 
     /// With one more event of the channel.

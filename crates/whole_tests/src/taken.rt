@@ -60,7 +60,7 @@ pub fn is_taken(alloc: Global, octets: &[u8], verdict: Verdict) -> bool {
 }
 
 /// Hands over the next record, if there is room for one more.
-fn take(auditor: &mut Auditor, entry: Record) -> Result<(), Refusal>
+pub fn take(auditor: &mut Auditor, entry: Record) -> Result<(), Refusal>
     requires { IsRecord entry }
 {
     if auditor.tally().records < MOST_RECORDS {

@@ -1,55 +1,24 @@
-use Rattle.std.proofs.Common.{refl, sym, subst, ap, ◌∙◌, length, None, Some, arith}
-use Rattle.std.specs.Prelude.{IfSome, ◌++◌}
+use Rattle.std.proofs.Common.{sym, subst, ap, ◌∙◌, length, List}
+use Rattle.std.specs.Prelude.{IfSome, ◌++◌, []}
+use Rattle.capture_form.specs.Rules.{RuleText, AreRules}
 use Rattle.capture_form.specs.Reader.{left_of, text_of_head}
-use Rattle.capture_form.specs.Text.{record_text}
-use Rattle.capture_form.proofs.TextLemmas.{long_record}
+use Rattle.audit_core.specs.Auditor.{Agrees}
 use Rattle.audit_core.specs.Verdict.{AnswersRead}
-use Rattle.audit_core.proofs.ReadSteps.{found_so, fits_so, moved_so, starts, few, goes_on, ends, refuses, stops}
 use Rattle.audit_core.proofs.streaming.audit_read.Goals as goal
 
-pub records-init : goal.records-init
-records-init g c =
-    starts g.R.Read.remaining c.args.rules.items c.args.records c.new-auditor.result c.len_of_head-offset.result c.requires.rules c.new-auditor.ensures
-    (c.len_of_head-offset.ensures ∙ ap (λ rs. length (text_of_head rs)) c.deref.ensures.value) c.requires.place c.requires.runs
+pub follow_read-requires-clause-rules : goal.follow_read-requires-clause-rules
+follow_read-requires-clause-rules g c = subst AreRules (sym c.new-auditor.ensures.stands.0) c.requires.rules
 
-pub take-requires-clause-bounds : goal.take-requires-clause-bounds
-take-requires-clause-bounds g c = fits_so c.in-Ok-Some.field-0 c.in-Ok-Some.entry c.in-Ok-Some.field-0-is c.in-Ok-Some.ensures.bounds
+pub follow_read-requires-clause-agrees : goal.follow_read-requires-clause-agrees
+follow_read-requires-clause-agrees g c = subst (λ (rs : List RuleText). Agrees c.new-auditor.result rs []) (sym c.new-auditor.ensures.stands.0) c.new-auditor.ensures
 
-pub take-requires-clause-few : goal.take-requires-clause-few
-take-requires-clause-few g c =
-    let some = c.in-Ok-Some in
-    let moved = moved_so _ _ some.field-0 some.entry some.field-0-is some.ensures.moved in
-    few g.R.Read.remaining c.args.rules.items _ c.records.records c.records.auditor c.records.offset c.records.invariant _ (length (record_text some.entry)) _ moved some.ensures.within (omega (arith, long_record some.entry))
+pub follow_read-requires-clause-head : goal.follow_read-requires-clause-head
+follow_read-requires-clause-head g c =
+    c.len_of_head-offset.ensures ∙ ap (λ rs. length (text_of_head rs)) (c.deref.ensures.value ∙ sym c.new-auditor.ensures.stands.0)
 
-pub returns-in-Err-take : goal.returns-in-Err-take
-returns-in-Err-take g c =
-    let some = c.in-Ok-Some in
-    let next = found_so _ _ some.field-0 (Some some.entry) some.field-0-is some.ensures.next in
-    let fits = fits_so some.field-0 some.entry some.field-0-is some.ensures.bounds in
-    subst (λ v. IfSome (left_of g.R.Read.remaining c.args.records) (λ left. AnswersRead (text_of_head c.args.rules.items ++ left) v)) (sym c.verdict_of_refusal.ensures)
-    (refuses g.R.Read.remaining c.args.rules.items _ c.records.records c.records.auditor c.records.offset c.records.invariant some.entry _ c.in-Err-take.refusal fits next c.in-Err-take.ensures.refused)
+pub follow_read-requires-clause-place : goal.follow_read-requires-clause-place
+follow_read-requires-clause-place g c = c.requires.place ∙ ap (λ rs. length (text_of_head rs)) (sym c.new-auditor.ensures.stands.0)
 
-pub records-smaller : goal.records-smaller
-records-smaller g c =
-    let some = c.in-Ok-Some in
-    let moved = moved_so _ _ some.field-0 some.entry some.field-0-is some.ensures.moved in
-    omega (arith, c.records.invariant.at, moved, some.ensures.within, c.len_of_record-len.ensures, long_record some.entry)
-
-pub records-preserved : goal.records-preserved
-records-preserved g c =
-    let some = c.in-Ok-Some in
-    let next = found_so _ _ some.field-0 (Some some.entry) some.field-0-is some.ensures.next in
-    let moved = moved_so _ _ some.field-0 some.entry some.field-0-is some.ensures.moved in
-    let fits = fits_so some.field-0 some.entry some.field-0-is some.ensures.bounds in
-    goes_on g.R.Read.remaining c.args.rules.items _ c.records.records c.records.auditor c.records.offset c.records.invariant some.entry c.next_record.new.self c.take.new.self c.len_of_record-len.result fits c.len_of_record-len.ensures
-    next moved (some.ensures.sound refl) c.in_default.ensures.taken
-
-pub returns-in-Ok-None : goal.returns-in-Ok-None
-returns-in-Ok-None g c =
-    let next = found_so _ _ c.in-Ok-None.field-0 None c.in-Ok-None.field-0-is c.in-Ok-None.ensures.next in
-    ends g.R.Read.remaining c.args.rules.items _ c.records.records c.records.auditor c.records.offset c.records.invariant c.tally.result _ c.tally.ensures.counted next
-
-pub returns-in-Err : goal.returns-in-Err
-returns-in-Err g c =
-    subst (λ v. IfSome (left_of g.R.Read.remaining c.args.records) (λ left. AnswersRead (text_of_head c.args.rules.items ++ left) v)) (sym c.verdict_of_fault.ensures)
-    (stops g.R.Read.remaining c.args.rules.items _ c.records.records c.records.auditor c.records.offset c.records.invariant c.in-Err.fault c.in-Err.ensures.place c.in-Err.ensures.exact)
+pub returns : goal.returns
+returns g c =
+    subst (λ (rs : List RuleText). IfSome (left_of g.R.Read.remaining c.args.records) (λ left. AnswersRead (text_of_head rs ++ left) c.follow_read.result)) c.new-auditor.ensures.stands.0 c.follow_read.ensures

@@ -1,19 +1,18 @@
-use Rattle.std.proofs.Common.{refl, ap}
-use Rattle.std.specs.Prelude.{length}
-use Rattle.audit_core.proofs.Taken.{judged_met, judged_on, judged_broken}
+use Rattle.std.proofs.Common.{refl, sym, subst}
+use Rattle.audit_core.specs.Auditor.{IsRefusalBehind}
+use Rattle.audit_core.proofs.Taken.{met, longer, refused}
 use Rattle.audit_core.proofs.auditor.Auditor.judge.Goals as goal
 
 pub returns-in-Ok-clause-met : goal.returns-in-Ok-clause-met
 returns-in-Ok-clause-met c = λ rules records agrees.
-    judged_met rules records c.args.entry c.args.self.now c.keep.new.capture _ c.slow_check.result agrees
-    c.in_ok-keep.ensures (ap length c.records-number.ensures.value) c.slow_check.ensures c.in-Ok.field-0 c.in-Ok.is
+    met rules records c.args.entry.now c.args.self.now agrees _ c.deref.ensures.value (c.in-Ok.ensures.met records)
 
 pub returns-in-Ok-clause-taken : goal.returns-in-Ok-clause-taken
 returns-in-Ok-clause-taken c = λ rules records agrees.
-    judged_on rules records c.args.entry c.args.self.now c.keep.new.capture _ c.slow_check.result agrees
-    c.in_ok-keep.ensures (ap length c.records-number.ensures.value) c.slow_check.ensures c.in-Ok.field-0 c.in-Ok.is _ refl refl
+    let unbroken = met rules records c.args.entry.now c.args.self.now agrees _ c.deref.ensures.value (c.in-Ok.ensures.met records) in
+    longer rules records c.args.entry.now c.args.self.now agrees _ c.deref.ensures.value _ refl refl unbroken (c.in-Ok.ensures.entered records)
 
 pub returns-in-Err-clause-refused : goal.returns-in-Err-clause-refused
 returns-in-Err-clause-refused c = λ rules records agrees.
-    judged_broken rules records c.args.entry c.args.self.now c.keep.new.capture _ c.slow_check.result agrees
-    c.in_ok-keep.ensures (ap length c.records-number.ensures.value) c.slow_check.ensures c.in-Err.clause c.in-Err.is
+    subst (λ r. IsRefusalBehind rules records c.args.entry.now r) (sym c.refusal_at.ensures)
+    (refused rules records c.args.entry.now c.args.self.now agrees _ c.deref.ensures.value c.tally-number.result c.tally-number.ensures c.in-Err.why (c.in-Err.ensures.reason records))
