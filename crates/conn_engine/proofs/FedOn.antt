@@ -185,9 +185,9 @@ fed_first before after fed n is h = subst (λ (c : Connection). HasFed c fed) (s
     (ends_given before.place before.close n before.ahead h.unkept h.last h.ends))
 
 -- frames were taken
-pub fed_refilled : (before after : Connection) (fed : List ℕ) → after ≡ record before { frames = after.frames; waiting = after.waiting; close = after.close } → HasFed before fed → HasFed after fed
+pub fed_refilled : (before after : Connection) (fed : List ℕ) → after ≡ record before { frames = after.frames; waiting = after.waiting; is_idle = after.is_idle; close = after.close } → HasFed before fed → HasFed after fed
 fed_refilled before after fed same h = subst (λ (c : Connection). HasFed c fed) (sym same)
-    (fed_elsewhere before (record before { frames = after.frames; waiting = after.waiting; close = after.close }) fed h refl refl h.ends)
+    (fed_elsewhere before (record before { frames = after.frames; waiting = after.waiting; is_idle = after.is_idle; close = after.close }) fed h refl refl h.ends)
 
 -- a loss that the router was told, or did not take
 told_over : (place : Place) (phase : Phase) (ahead : Ahead) (unkept : List ℕ) (last : List What) → is_loss_due phase place ≡ true → EndsAt place ahead unkept last → EndsOver ahead Untold last
@@ -213,8 +213,8 @@ ends_told ahead last ends = record {
 ends_refused : (ahead : Ahead) (last : List What) → EndsOver ahead Untold last → EndsOver ahead Refused last
 ends_refused ahead last ends = record { broken = ends.broken; is_broken = ends.is_broken; parts = ends.parts }
 
-fed_told : (before : Connection) (fed : List ℕ) (h : HasFed before fed) → EndsOver before.ahead Untold h.last → HasFed (record before { items = before.items ++ happened.Lost ∷ []; place = Over Told }) fed
-fed_told before fed h ends = record {
+fed_told : (idle : Bool) (before : Connection) (fed : List ℕ) (h : HasFed before fed) → EndsOver before.ahead Untold h.last → HasFed (record before { items = before.items ++ happened.Lost ∷ []; is_idle = idle; place = Over Told }) fed
+fed_told idle before fed h ends = record {
   steps = h.steps;
   unkept = h.unkept;
   last = h.last ++ happened.Lost ∷ [];
@@ -226,10 +226,10 @@ fed_told before fed h ends = record {
 fed_lost : (due : Bool) (before after : Connection) (fed : List ℕ) (result : Result Unit EngineFault) → is_loss_due before.ahead.phase before.place ≡ due → AfterLoss due before after result
     → HasFed before fed → HasFed after fed
 fed_lost true before after fed (Ok done) due did h =
-    subst (λ (c : Connection). HasFed c fed) (sym did) (fed_told before fed h (told_over before.place before.ahead.phase before.ahead h.unkept h.last due h.ends))
+    subst (λ (c : Connection). HasFed c fed) (sym did) (fed_told after.is_idle before fed h (told_over before.place before.ahead.phase before.ahead h.unkept h.last due h.ends))
 fed_lost true before after fed (Err fault) due did h =
     subst (λ (c : Connection). HasFed c fed) (sym did.0)
-    (fed_elsewhere before (record before { place = Over Refused }) fed h refl refl (ends_refused before.ahead h.last (told_over before.place before.ahead.phase before.ahead h.unkept h.last due h.ends)))
+    (fed_elsewhere before (record before { is_idle = after.is_idle; place = Over Refused }) fed h refl refl (ends_refused before.ahead h.last (told_over before.place before.ahead.phase before.ahead h.unkept h.last due h.ends)))
 fed_lost false before after fed result due did h =
     subst (λ (c : Connection). HasFed c fed) (sym did.1)
     (fed_elsewhere before (record before { place = over_of before.place }) fed h refl refl (ends_over_of before.place before.ahead h.unkept h.last h.ends))

@@ -243,11 +243,11 @@ given_first extent before after fed given n is h = subst (λ (c : Connection). H
 given_lost : (due : Bool) (extent : Extent) (before after : Connection) (fed given : List ℕ) (result : Result Unit EngineFault) → AfterLoss due before after result → HasGiven extent before fed given → HasGiven extent after fed given
 given_lost true extent before after fed given (Ok done) did h =
     subst (λ (c : Connection). HasGiven extent c fed given) (sym did)
-    (given_elsewhere extent extent before (record before { items = before.items ++ happened.Lost ∷ []; place = Over Told }) fed fed given h.unkept h refl refl refl h.follows
+    (given_elsewhere extent extent before (record before { items = before.items ++ happened.Lost ∷ []; is_idle = after.is_idle; place = Over Told }) fed fed given h.unkept h refl refl refl h.follows
     (says_over extent before.place Told before.ahead h.unkept h.said h.says))
 given_lost true extent before after fed given (Err fault) did h =
     subst (λ (c : Connection). HasGiven extent c fed given) (sym did.0)
-    (given_elsewhere extent extent before (record before { place = Over Refused }) fed fed given h.unkept h refl refl refl h.follows
+    (given_elsewhere extent extent before (record before { is_idle = after.is_idle; place = Over Refused }) fed fed given h.unkept h refl refl refl h.follows
     (says_over extent before.place Refused before.ahead h.unkept h.said h.says))
 given_lost false extent before after fed given result did h =
     subst (λ (c : Connection). HasGiven extent c fed given) (sym did.1)
@@ -270,7 +270,7 @@ refilled_behind phase frames frames_then closed (inl is) behind = inl is
 refilled_behind phase frames frames_then closed (inr not_open) (inl is) = inl is
 refilled_behind phase frames frames_then closed (inr not_open) (inr none) = inr (closed not_open ∙ none)
 
-pub given_refilled : (extent : Extent) (before after : Connection) (fed given : List ℕ) → Refilled before after → after ≡ record before { frames = after.frames; waiting = after.waiting; close = after.close }
+pub given_refilled : (extent : Extent) (before after : Connection) (fed given : List ℕ) → Refilled before after → after ≡ record before { frames = after.frames; waiting = after.waiting; is_idle = after.is_idle; close = after.close }
     → HasGiven extent before fed given → HasGiven extent after fed given
 given_refilled extent before after fed given filled same h =
     let more = filled.took.more in

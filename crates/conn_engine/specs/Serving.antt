@@ -1,5 +1,5 @@
 -- What an engine of one connection has told the router and has given, by all octets that it was fed.
-use Rattle.std.specs.Prelude.{◌≡◌, ℕ, ◌⊎◌, List, [], ◌∷◌, ◌++◌, Option}
+use Rattle.std.specs.Prelude.{Bool, ◌≡◌, ℕ, ◌⊎◌, List, [], ◌∷◌, ◌++◌, Option}
 use Rattle.std.specs.List.{flat_map, concat}
 use Rattle.capture_form.specs.declared.records.What.{What}
 use Rattle.capture_form.specs.declared.records.What.TheVariants as happened
@@ -16,13 +16,15 @@ use Rattle.conn_engine.specs.declared.place.Place.{Place}
 use Rattle.conn_engine.specs.declared.place.Place.TheVariants.{Reading, Closing, Over}
 
 -- a connection, as contracts see its engine: the items and frames of its port, the octets that were fed and are of no
--- step that was taken, those that wait to be given, how many of these are up to the end of a close, and where it is
+-- step that was taken, those that wait to be given, whether the port may have had no frame more when it was asked last,
+-- how many octets that wait are up to the end of a close, and where it is
 pub record Connection : Type 0 where
   pub number : ℕ
   pub items : List What
   pub frames : List (List ℕ)
   pub ahead : Ahead
   pub waiting : List ℕ
+  pub is_idle : Bool
   pub close : Option ℕ
   pub place : Place
 

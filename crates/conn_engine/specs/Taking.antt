@@ -1,10 +1,11 @@
 -- What an engine takes from its port, and tells it at the end.
-use Rattle.std.specs.Prelude.{◌≡◌, ◌≢◌, ℕ, ◌<◌, ◌^◌, Bool, true, false, List, [], ◌∷◌, ◌++◌, length, Option, Result, Ok, Err, IsOk}
+use Rattle.std.specs.Prelude.{◌≡◌, ◌≢◌, ℕ, ◌<◌, ◌≤◌, ◌^◌, ◌⊎◌, Bool, true, false, List, [], ◌∷◌, ◌++◌, length, Option, Result, Ok, Err, IsOk}
 use Rattle.std.specs.List.{concat}
 use Rattle.capture_form.specs.declared.records.What.TheVariants as happened
 use Rattle.stream_reading.specs.declared.step.Phase.{Phase}
 use Rattle.stream_reading.specs.declared.step.Phase.TheVariants.{Open}
 use Rattle.conn_engine.specs.declared.fault.EngineFault.{EngineFault}
+use Rattle.conn_engine.specs.declared.taking.TheConstants.{ENOUGH_OCTETS}
 use Rattle.conn_engine.specs.declared.place.Loss.{Loss}
 use Rattle.conn_engine.specs.declared.place.Loss.TheVariants.{Untold, Told, Refused}
 use Rattle.conn_engine.specs.declared.place.Place.{Place}
@@ -28,6 +29,10 @@ TookFrame frames frames_then waiting waiting_then close close_then next next_the
 TookFrame frames frames_then waiting waiting_then close close_then next next_then false =
     (frames_then ≡ frames) × (waiting_then ≡ waiting) × (close_then ≡ close) × (next_then ≡ next)
 
+-- enough octets wait, or the port may have had no frame more when it was asked
+abbrev pub IsRefilled : Bool → List ℕ → Type 0
+IsRefilled is_idle waiting = (ENOUGH_OCTETS ≤ length waiting) ⊎ (is_idle ≡ true)
+
 -- what taking frames changed of a connection: before the AMQP header was accepted, nothing
 pub record Refilled (before after : Connection) : Type 0 where
   pub took : TookFrames before.frames after.frames before.waiting after.waiting before.close after.close
@@ -47,6 +52,6 @@ loss_of (Err fault) = Refused
 
 -- what is done when the device is gone: the router is told of the loss, if it still is to be
 abbrev pub AfterLoss : Bool → Connection → Connection → Result Unit EngineFault → Type 0
-AfterLoss true before after (Ok done) = after ≡ record before { items = before.items ++ happened.Lost ∷ []; place = Over Told }
-AfterLoss true before after (Err fault) = (after ≡ record before { place = Over Refused }) × ItemFault fault
+AfterLoss true before after (Ok done) = after ≡ record before { items = before.items ++ happened.Lost ∷ []; is_idle = after.is_idle; place = Over Told }
+AfterLoss true before after (Err fault) = (after ≡ record before { is_idle = after.is_idle; place = Over Refused }) × ItemFault fault
 AfterLoss false before after result = IsOk result × (after ≡ record before { place = over_of before.place })

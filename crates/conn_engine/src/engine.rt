@@ -1,12 +1,12 @@
 //! The engine of one connection.
 
-ghost use Rattle.std.specs.Prelude.{◌≡◌, ◌≤◌, ◌++◌, ℕ, List, [], length, take, drop, None};
-ghost use Rattle.stream_reading.specs.declared.step.Phase.TheVariants.{FirstHeader};
+ghost use Rattle.std.specs.Prelude.{◌≡◌, ◌≤◌, ◌++◌, ℕ, List, [], length, take, drop, None, OnOk};
+ghost use Rattle.stream_reading.specs.declared.step.Phase.TheVariants.{FirstHeader, Open};
 ghost use Rattle.conn_engine.specs.declared.place.Place.TheVariants.{Reading};
 ghost use Rattle.conn_engine.specs.Closing.{close_left, is_over, place_given};
 ghost use Rattle.conn_engine.specs.Serving.{Extent, HasFed, HasGiven};
 ghost use Rattle.conn_engine.specs.Feeding.{FedAt, and_fed, extent_after, place_after};
-ghost use Rattle.conn_engine.specs.Taking.{AfterLoss, Refilled, is_loss_due, loss_of};
+ghost use Rattle.conn_engine.specs.Taking.{AfterLoss, IsRefilled, Refilled, is_loss_due, loss_of};
 
 use crate::fault::EngineFault;
 use crate::feeding::{submit, take_piece};
@@ -46,7 +46,7 @@ impl<P: Port> Model for Engine<P> {
 
     ghost Value = { Connection };
 
-    ghost view = { λ e. record { number = P.connection e.port; items = P.items e.port; frames = P.frames e.port; ahead = e.reader; waiting = e.output; close = e.close; place = e.place } };
+    ghost view = { λ e. record { number = P.connection e.port; items = P.items e.port; frames = P.frames e.port; ahead = e.reader; waiting = e.output; is_idle = P.is_idle e.port; close = e.close; place = e.place } };
 
     ghost invariant = { λ e. e.connection ≡ P.connection e.port };
 }
@@ -55,7 +55,7 @@ impl<P: Port> Engine<P> {
     /// The engine of the connection of this number, of which no octet has come yet. The port is of the same connection.
     pub fn new(alloc: Global, connection: u32, port: P) -> Engine<P>
         requires { connection ≡ P.connection port }
-        ensures value { result ≡ record { number = connection; items = P.items port; frames = P.frames port; ahead = record { phase = FirstHeader; octets = [] }; waiting = []; close = None; place = Reading } }
+        ensures value { result ≡ record { number = connection; items = P.items port; frames = P.frames port; ahead = record { phase = FirstHeader; octets = [] }; waiting = []; is_idle = P.is_idle port; close = None; place = Reading } }
         ensures fed { P.items port ≡ [] → HasFed result [] }
         ensures given { (extent : Extent) → P.frames port ≡ [] → HasGiven extent result [] [] }
     {
@@ -119,7 +119,9 @@ impl<P: Port> Engine<P> {
     #[tactic(auto, using(crate::proofs::FedOn::fed_refilled))]
     pub fn refill(&mut self) -> Result<(), AllocError>
         ensures took { Refilled self.old self.new }
-        ensures same { self.new ≡ record self.old { frames = self.new.frames; waiting = self.new.waiting; close = self.new.close } }
+        // Where the connection is open, the port was asked until it had none or enough octets wait.
+        ensures all { OnOk result (self.old.ahead.phase ≡ Open → IsRefilled self.new.is_idle self.new.waiting) }
+        ensures same { self.new ≡ record self.old { frames = self.new.frames; waiting = self.new.waiting; is_idle = self.new.is_idle; close = self.new.close } }
         // Whatever was fed and given before, is so still.
         ensures fed { (fed : List ℕ) → HasFed self.old fed → HasFed self.new fed }
         ensures given { (extent : Extent) (fed given : List ℕ) → HasGiven extent self.old fed given → HasGiven extent self.new fed given }
@@ -130,7 +132,9 @@ impl<P: Port> Engine<P> {
     /// Takes frames of the router, if it was told that the connection is open.
     fn take_due_frames(&mut self) -> Result<(), AllocError>
         ensures took { Refilled self.old self.new }
-        ensures same { self.new ≡ record self.old { frames = self.new.frames; waiting = self.new.waiting; close = self.new.close } }
+        // Where the connection is open, the port was asked until it had none or enough octets wait.
+        ensures all { OnOk result (self.old.ahead.phase ≡ Open → IsRefilled self.new.is_idle self.new.waiting) }
+        ensures same { self.new ≡ record self.old { frames = self.new.frames; waiting = self.new.waiting; is_idle = self.new.is_idle; close = self.new.close } }
     {
         if self.reader.phase() != Phase::Open {
             return Ok(());

@@ -1,6 +1,6 @@
 //! Octets that wait to be given.
 
-ghost use Rattle.std.specs.Prelude.{◌≡◌, ◌≤◌, ◌++◌, [], length, drop, IfOk, OnOk, OnErr};
+ghost use Rattle.std.specs.Prelude.{◌≡◌, ◌≤◌, ◌++◌, [], true, length, drop, IfNone, IfOk, OnOk, OnErr};
 ghost use Rattle.conn_engine.specs.Giving.{GivesNext};
 
 use crate::port::Port;
@@ -57,6 +57,7 @@ impl Output {
     /// Where the memory for it is refused; nothing has changed then.
     pub fn take_from<P: Port>(&mut self, port: &mut P, from: u64) -> Result<Option<u64>, AllocError>
         ensures ok { IfOk result (GivesNext (P.frames port.old) (P.frames port.new) self.old self.new from) }
+        ensures none { IfOk result (λ number. IfNone number (P.is_idle port.new ≡ true)) }
         ensures err { OnErr result ((P.frames port.new ≡ P.frames port.old) × (self.new ≡ self.old)) }
         ensures items { P.items port.new ≡ P.items port.old }
         ensures connection { P.connection port.new ≡ P.connection port.old }

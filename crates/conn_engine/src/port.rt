@@ -1,6 +1,6 @@
 //! What an engine reaches the router by.
 
-ghost use Rattle.std.specs.Prelude.{◌≡◌, ◌++◌, ◌∷◌, [], ℕ, List, IfOk, OnOk, OnErr};
+ghost use Rattle.std.specs.Prelude.{◌≡◌, ◌++◌, ◌∷◌, [], ℕ, Bool, true, List, IfNone, IfOk, OnOk, OnErr};
 ghost use Rattle.capture_form.specs.declared.records.What.{What};
 ghost use Rattle.route_items.specs.Items.{connection_of, what_of, IsShort};
 ghost use Rattle.conn_engine.specs.Giving.{GivesNext};
@@ -25,6 +25,9 @@ pub trait Port {
 
     ghost frames: { Self → List (List ℕ) };
 
+    /// Whether it may be that it had no frame more when it was asked last. One of which nothing is known says so always.
+    ghost is_idle: { Self → Bool };
+
     /// Hands an item of this connection to the router.
     ///
     /// # Errors
@@ -46,6 +49,7 @@ pub trait Port {
     /// Where the memory for it is refused; nothing has changed then.
     fn next_out(&mut self, from: u64, out: &mut Vec<u8>) -> Result<Option<u64>, AllocError>
         ensures ok { IfOk result (GivesNext (frames self.old) (frames self.new) out.old.items out.new.items from) }
+        ensures none { IfOk result (λ number. IfNone number (is_idle self.new ≡ true)) }
         ensures err { OnErr result ((frames self.new ≡ frames self.old) × (out.new.items ≡ out.old.items)) }
         ensures items { items self.new ≡ items self.old }
         ensures connection { connection self.new ≡ connection self.old };

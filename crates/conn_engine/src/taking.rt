@@ -1,9 +1,9 @@
 //! What an engine takes from its port.
 
-ghost use Rattle.std.specs.Prelude.{◌≡◌, ◌≤◌, drop, length, IfOk, OnErr};
+ghost use Rattle.std.specs.Prelude.{◌≡◌, ◌≤◌, true, false, drop, length, IfOk, OnOk, OnErr};
 ghost use Rattle.amqp_perf.specs.Reading.{performative_at};
 ghost use Rattle.conn_engine.specs.Closing.{close_at, is_close, is_close_read};
-ghost use Rattle.conn_engine.specs.Taking.{TookFrames, TookFrame};
+ghost use Rattle.conn_engine.specs.Taking.{IsRefilled, TookFrames, TookFrame};
 
 use crate::output::Output;
 use crate::port::Port;
@@ -13,7 +13,7 @@ use flow_counts::MAX_FRAME_SIZE;
 use std::alloc::AllocError;
 
 /// Where so many octets wait, no more frames are taken: four of the largest.
-const ENOUGH_OCTETS: usize = 65536;
+pub(crate) const ENOUGH_OCTETS: usize = 65536;
 
 /// Takes frames of a port until it has none or enough octets wait, from the record numbered `next` on, and keeps where
 /// the first close ends.
@@ -28,6 +28,7 @@ pub(crate) fn take_frames<P: Port>(
     close: &mut Option<usize>,
 ) -> Result<(), AllocError>
     ensures took { TookFrames (P.frames port.old) (P.frames port.new) output.old output.new close.old close.new }
+    ensures all { OnOk result (IsRefilled (P.is_idle port.new) output.new) }
     ensures items { P.items port.new ≡ P.items port.old }
     ensures connection { P.connection port.new ≡ P.connection port.old }
 {
@@ -49,6 +50,7 @@ fn take_frame<P: Port>(
     close: &mut Option<usize>,
 ) -> Result<bool, AllocError>
     ensures ok { IfOk result (TookFrame (P.frames port.old) (P.frames port.new) output.old output.new close.old close.new next.old next.new) }
+    ensures none { IfOk result (λ taken. taken ≡ false → P.is_idle port.new ≡ true) }
     ensures err { OnErr result ((P.frames port.new ≡ P.frames port.old) × (output.new ≡ output.old) × (close.new ≡ close.old) × (next.new ≡ next.old)) }
     ensures items { P.items port.new ≡ P.items port.old }
     ensures connection { P.connection port.new ≡ P.connection port.old }

@@ -61,13 +61,15 @@ struct Scripted {
 }
 
 impl Port for Scripted {
-    ghost use Rattle.std.specs.Prelude.{map, take};
+    ghost use Rattle.std.specs.Prelude.{map, take, true};
 
     ghost connection = { λ port. port.connection };
 
     ghost items = { λ port. port.items.items };
 
     ghost frames = { λ port. map (λ cue. cue.frame.now) (take port.given port.script.now) };
+
+    ghost is_idle = { λ port. true };
 
     fn submit(&mut self, item: Item<'_>) -> Result<(), PortFault> {
         if let Some((place, fault)) = self.refusal

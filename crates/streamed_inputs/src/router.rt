@@ -46,7 +46,7 @@ impl Router {
 }
 
 impl Port for Router {
-    ghost use Rattle.std.specs.Prelude.{replicate};
+    ghost use Rattle.std.specs.Prelude.{replicate, true};
     ghost use Rattle.streamed_inputs.specs.Frames.{empty_frame};
 
     ghost connection = { λ port. port.connection };
@@ -54,6 +54,8 @@ impl Port for Router {
     ghost items = { λ port. port.items.items };
 
     ghost frames = { λ port. replicate port.given empty_frame };
+
+    ghost is_idle = { λ port. true };
 
     fn submit(&mut self, item: Item<'_>) -> Result<(), PortFault> {
         let Ok(entry) = item.to_record(self.alloc) else {
