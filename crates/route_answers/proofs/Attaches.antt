@@ -133,7 +133,7 @@ target_short (Some (ATerminus target)) is = by (flag target.dynamic) is
     by false is = target_text_short target.address is
 
 -- a made up one has 24 octets at most
-made_short : (number : ℕ) → number < 2 ^ 64 → length (codes "dyn/" ++ decimal number) ≤ MAX_ADDRESS
+pub made_short : (number : ℕ) → number < 2 ^ 64 → length (codes "dyn/" ++ decimal number) ≤ MAX_ADDRESS
 made_short number small = omega (arith, length-append (codes "dyn/") (decimal number), length-decimal-le 20 number (omega arith) (omega (arith, small)) small)
 
 source_short : (number : ℕ) → number < 2 ^ 64 → (source : Option TerminusFields) → source_fault source ≡ None

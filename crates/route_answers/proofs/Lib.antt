@@ -12,6 +12,8 @@ pub mod Goes
 pub mod Spoken
 pub mod Order
 pub mod Inputs
+pub mod Kept
 pub mod Answerable
 pub mod Again
 pub mod Short
+mod AnsweringExamples

@@ -66,7 +66,7 @@ fn owed<'a>(rt: &HostRuntime, event: &Event<'a>) -> Result<Answer<'a>, AllocErro
 
 /// A close comes behind an open where none was written.
 #[test]
-fn connections(rt: HostRuntime) -> Result<(), Fail> {
+fn closes(rt: HostRuntime) -> Result<(), Fail> {
     let close = heard(Performative::Close(None), None);
     assert_eq!(rt; owed(&rt, &close)?, one(0, Saying::Close(None)));
     let fresh = OneConnection {
@@ -75,6 +75,12 @@ fn connections(rt: HostRuntime) -> Result<(), Fail> {
     };
     let first = answer_to(rt.alloc(), &fresh, &[], &close)?;
     assert_eq!(rt; first, two(0, Saying::Open, Saying::Close(None)));
+    Ok(())
+}
+
+/// Octets that stop being frames are answered once.
+#[test]
+fn broken(rt: HostRuntime) -> Result<(), Fail> {
     let framing = Some(ErrorCondition::FramingError);
     let broken = event(Moment::Broken);
     assert_eq!(rt; owed(&rt, &broken)?, one(0, Saying::Close(framing)));
@@ -84,18 +90,29 @@ fn connections(rt: HostRuntime) -> Result<(), Fail> {
     };
     let over = answer_to(rt.alloc(), &finished, &[], &broken)?;
     assert_eq!(rt; over, Answer::Nothing);
+    Ok(())
+}
+
+#[test]
+fn opened_and_lost(rt: HostRuntime) -> Result<(), Fail> {
     assert_eq!(rt; owed(&rt, &event(Moment::Lost))?, Answer::Nothing);
     assert_eq!(rt; owed(&rt, &event(Moment::Opened))?, Answer::Nothing);
     Ok(())
 }
 
-/// Begins, ends and detaches are answered on their channel, and what is passed over is not.
+/// Begins and ends are answered on their channel.
 #[test]
-fn sessions_and_detaches(rt: HostRuntime) -> Result<(), Fail> {
+fn sessions(rt: HostRuntime) -> Result<(), Fail> {
     let begin = heard(Performative::Begin(BEGIN), None);
     assert_eq!(rt; owed(&rt, &begin)?, one(1, Saying::Begin));
     let end = heard(Performative::End(None), None);
     assert_eq!(rt; owed(&rt, &end)?, one(1, Saying::End(None)));
+    Ok(())
+}
+
+/// A detach is answered as it came; one that is passed over is not.
+#[test]
+fn detaches(rt: HostRuntime) -> Result<(), Fail> {
     let detach = heard(Performative::Detach(DETACH), None);
     assert_eq!(rt; owed(&rt, &detach)?, one(1, Saying::Detach(5, true, None)));
     let passed = Event {
@@ -103,28 +120,51 @@ fn sessions_and_detaches(rt: HostRuntime) -> Result<(), Fail> {
         ..detach
     };
     assert_eq!(rt; owed(&rt, &passed)?, Answer::Nothing);
-    let unattached = ErrorCondition::UnattachedHandle;
-    let faulty = heard(Performative::Detach(DETACH), Some(Fault::End(unattached)));
-    assert_eq!(rt; owed(&rt, &faulty)?, one(1, Saying::End(Some(unattached))));
-    let invalid = ErrorCondition::InvalidField;
-    let detached = heard(Performative::Detach(DETACH), Some(Fault::Detach(invalid)));
-    assert_eq!(rt; owed(&rt, &detached)?, one(1, Saying::Detach(5, true, Some(invalid))));
     Ok(())
 }
 
-/// An attach is accepted, or refused and detached.
+/// A fault ends the session, or detaches the handle.
+#[test]
+fn faults(rt: HostRuntime) -> Result<(), Fail> {
+    let unattached = ErrorCondition::UnattachedHandle;
+    let ended = heard(Performative::Detach(DETACH), Some(Fault::End(unattached)));
+    assert_eq!(rt; owed(&rt, &ended)?, one(1, Saying::End(Some(unattached))));
+    let invalid = ErrorCondition::InvalidField;
+    let detached = heard(Performative::Detach(DETACH), Some(Fault::Detach(invalid)));
+    assert_eq!(rt;
+        owed(&rt, &detached)?,
+        one(1, Saying::Detach(5, true, Some(invalid)))
+    );
+    Ok(())
+}
+
+/// An attach is accepted.
 #[test]
 fn attaches(rt: HostRuntime) -> Result<(), Fail> {
     let producer = heard(Performative::Attach(PRODUCER), None);
-    assert_eq!(rt; owed(&rt, &producer)?, one(1, Saying::ToProducer(PRODUCER, "q")));
+    assert_eq!(rt;
+        owed(&rt, &producer)?,
+        one(1, Saying::ToProducer(PRODUCER, "q"))
+    );
     let consumer = heard(Performative::Attach(CONSUMER), None);
-    let given = Source::Given("q");
-    let mixed = Saying::ToConsumer(CONSUMER, given, SenderSettleMode::Mixed);
+    let mixed = Saying::ToConsumer(CONSUMER, Source::Given("q"), SenderSettleMode::Mixed);
     assert_eq!(rt; owed(&rt, &consumer)?, one(1, mixed));
-    let refused = ErrorCondition::NotImplemented;
-    let event = heard(Performative::Attach(PRODUCER), Some(Fault::Refuse(refused)));
-    let detach = Saying::Detach(0, true, Some(refused));
-    assert_eq!(rt; owed(&rt, &event)?, two(1, Saying::Refused(PRODUCER), detach));
+    Ok(())
+}
+
+/// Or refused and detached.
+#[test]
+fn refused(rt: HostRuntime) -> Result<(), Fail> {
+    let condition = ErrorCondition::NotImplemented;
+    let event = heard(
+        Performative::Attach(PRODUCER),
+        Some(Fault::Refuse(condition)),
+    );
+    let detach = Saying::Detach(0, true, Some(condition));
+    assert_eq!(rt;
+        owed(&rt, &event)?,
+        two(1, Saying::Refused(PRODUCER), detach)
+    );
     Ok(())
 }
 
@@ -150,26 +190,35 @@ fn multicast(rt: HostRuntime) -> Result<(), Fail> {
     Ok(())
 }
 
-/// A flow with echo is answered by the numbers of its session, or of its link too.
+/// A flow with echo is answered by the numbers of its session.
 #[test]
-fn echoes(rt: HostRuntime) -> Result<(), Fail> {
+fn echo_of_a_session(rt: HostRuntime) -> Result<(), Fail> {
     let session = Event {
         session: Some(SESSION),
         ..heard(Performative::Flow(FLOW), None)
     };
-    let numbers = Flow::of_session(2, 0);
-    assert_eq!(rt; owed(&rt, &session)?, one(1, Saying::Flow(numbers)));
+    assert_eq!(rt;
+        owed(&rt, &session)?,
+        one(1, Saying::Flow(Flow::of_session(2, 0)))
+    );
+    Ok(())
+}
+
+/// Or by those of its link too.
+#[test]
+fn echoes_of_links(rt: HostRuntime) -> Result<(), Fail> {
     let consumer = Event {
+        session: Some(SESSION),
         link: Some(link(Role::Sender)),
-        ..session
+        ..heard(Performative::Flow(FLOW), None)
     };
-    let sent = numbers.of_link(3, 3, 5, true);
+    let sent = Flow::of_session(2, 0).of_link(3, 3, 5, true);
     assert_eq!(rt; owed(&rt, &consumer)?, one(1, Saying::Flow(sent)));
     let producer = Event {
         link: Some(link(Role::Receiver)),
-        ..session
+        ..consumer
     };
-    let received = numbers.of_link(3, 1, 250, false);
+    let received = Flow::of_session(2, 0).of_link(3, 1, 250, false);
     assert_eq!(rt; owed(&rt, &producer)?, one(1, Saying::Flow(received)));
     Ok(())
 }
