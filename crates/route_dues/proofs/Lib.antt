@@ -16,3 +16,4 @@ pub mod Behind
 pub mod Again
 pub mod PartsWritten
 pub mod DueExamples
+pub mod StatesWritable

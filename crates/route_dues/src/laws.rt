@@ -24,7 +24,7 @@ ghost use Rattle.trace_duties.specs.Quiet.{lacks_window, stands_still, has_earli
 ghost use Rattle.trace_duties.specs.Diligent.{is_next_waiting, is_picked_link, all_keep};
 ghost use Rattle.trace_duties.specs.Order.{CopiesInOrder};
 ghost use Rattle.route_dues.specs.Writing.{writing, IsReadAgain, IsLawful, IsInOrder, MayFollow};
-ghost use Rattle.route_dues.specs.Outcomes.{octets_in, outcome_frame};
+ghost use Rattle.route_dues.specs.Outcomes.{octets_in, outcome_frame, HasState};
 ghost use Rattle.route_dues.specs.Transfers.{first_frame, next_frame};
 
 /// The laws of what is due. The function does nothing: its contract is the laws.
@@ -33,6 +33,8 @@ pub fn laws_of_dues()
     ensures outcome { (rules : List RuleText) (past : List Event) (d : Incoming) (why : Why) (state : Option StateFields) → IsLawful rules past → incoming_at d.number past ≡ Some d
         → may_be_told d past ≡ true → row rules d past why ≡ Some (octets_in state)
         → MayFollow rules past d.link.session.connection (notes.Told why) (outcome_frame d state) }
+    // The state that a row tells can be written.
+    ensures states { (rules : List RuleText) (past : List Event) (d : Incoming) (why : Why) (octets : List ℕ) → IsLawful rules past → row rules d past why ≡ Some (Some octets) → HasState octets }
     // A delivery that is to be settled may be settled with its consumer, by its id.
     ensures settling { (rules : List RuleText) (past : List Event) (j : Outgoing) → IsLawful rules past → Contains (outgoing_deliveries past) j → is_to_settle past j ≡ true
         → MayFollow rules past j.link.session.connection notes.None (written_settling j.link.session.channel (unwrap_or j.id 0)) }

@@ -3,6 +3,7 @@ use Rattle.route_dues.proofs.OutcomesFollow.{outcome_follows}
 use Rattle.route_dues.proofs.SettlingsFollow.{settling_follows}
 use Rattle.route_dues.proofs.Sending.{goes_on, next_begins, copy_begins}
 use Rattle.route_dues.proofs.Behind.{follows_within, stays_in_order}
+use Rattle.route_dues.proofs.StatesWritable.{row_state}
 use Rattle.route_dues.proofs.laws.laws_of_dues.Goals as goal
 
 pub returns-clause-window : goal.returns-clause-window
@@ -34,3 +35,6 @@ returns-clause-behind c = stays_in_order
 
 pub returns-clause-fits : goal.returns-clause-fits
 returns-clause-fits c = follows_within
+
+pub returns-clause-states : goal.returns-clause-states
+returns-clause-states c = row_state
