@@ -28,7 +28,7 @@ use Rattle.trace_duties.specs.Diligent.{is_of_answer, is_owed_flow, is_owed_on, 
 use Rattle.route_dues.specs.Writing.{frame_of, writing, IsLawful, MayFollow}
 use Rattle.route_dues.proofs.Words.{or_right, both, same_octets, none_broken}
 use Rattle.route_dues.proofs.Connections.{may_write}
-use Rattle.route_dues.proofs.Lengths.{flow_short, short_fits, short_within}
+use Rattle.route_dues.proofs.Lengths.{flow_short, short_fits}
 
 pub no_consumer : (role : Role) → is_receiver role ≡ true → is_sender role ≡ false
 no_consumer Receiver is = refl
@@ -66,7 +66,6 @@ module _ (rules : List RuleText) (past : List Event) (s : Session) (lawful : IsL
     lawful = none_broken (let spoken = says s.channel (AFlow flow) in spoken_meets rules e (frame_of spoken) past spoken) (flow_meets tells) clauses;
     keeps = or_right (is_of_answer rules past) _ owed;
     earliest = refl;
-    fits = short_within s.channel (AFlow flow) (flow_short flow);
   }
 
 -- ---- a session's

@@ -15,3 +15,5 @@ pub mod SettlingsFollow
 pub mod Behind
 pub mod Again
 pub mod PartsWritten
+pub mod DueExamples
+pub mod StatesWritable

@@ -10,7 +10,6 @@ use Rattle.amqp_perf.specs.Router.{outcome_told}
 use Rattle.pairing_cert.specs.declared.note.Note.TheVariants as notes
 use Rattle.pairing_cert.specs.declared.note.Why.{Why}
 use Rattle.capture_form.specs.Rules.{RuleText}
-use Rattle.std.proofs.lemmas.Bool.{leb-true}
 use Rattle.trace_events.specs.Frame.{Spoken}
 use Rattle.trace_events.specs.Words.{is_some_and, is_number, are_same_octets}
 use Rattle.trace_events.specs.Event.{Event, Incoming}
@@ -38,7 +37,6 @@ use Rattle.trace_clauses.proofs.PartsGoOn.{complete-whole}
 use Rattle.trace_duties.specs.Diligent.{is_of_answer}
 use Rattle.route_dues.specs.Writing.{frame_of, writing, IsLawful, MayFollow}
 use Rattle.route_dues.specs.Outcomes.{octets_in, outcome_frame}
-use Rattle.route_dues.proofs.Lengths.{within}
 use Rattle.route_dues.proofs.Words.{or_right, both}
 use Rattle.route_dues.proofs.Words.{none_broken}
 use Rattle.route_dues.proofs.Connections.{lawful_judged, may_write}
@@ -162,7 +160,6 @@ module _ (rules : List RuleText) (past : List Event) (d : Incoming) (why : Why) 
     keeps = or_right (is_of_answer rules past) _
         ((bytes_decides (spoken_octets frame) (spoken_octets (written_outcome d.link.session.channel id (octets_in state)))).1 (outcome_said d.link.session.channel id state));
     earliest = refl;
-    fits = within (spoken_octets frame) d.link.session.connection past (leb-true (length (spoken_octets frame)) (frame_limit d.link.session.connection past) fits);
   }
 
 -- where a row applies to a delivery that may be told, its state may be told

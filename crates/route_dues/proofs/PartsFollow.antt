@@ -25,7 +25,6 @@ use Rattle.route_dues.specs.Writing.{frame_of, writing, IsLawful, MayFollow}
 use Rattle.route_dues.specs.Transfers.{room_on, first_frame, next_frame}
 use Rattle.route_dues.proofs.Words.{or_right, both, none_broken}
 use Rattle.route_dues.proofs.Connections.{may_write}
-use Rattle.route_dues.proofs.Lengths.{within}
 use Rattle.route_dues.proofs.Filled.{filled_carries}
 use Rattle.route_dues.proofs.TransferLengths.{filled_fits, first_same, first_short, next_same, next_short}
 use Rattle.route_dues.proofs.Carrying as carrying
@@ -142,7 +141,6 @@ module _ (rules : List RuleText) (past : List Event) (l : Link) (d : Incoming) (
         (first_picked rules past l d may f on at refl j goes refl)
         (filled_of rules past l d may.carries f on at refl j goes may.carries.known ((bytes_decides (spoken_octets (first_frame past l d)) _).1 (ap spoken_octets (sym same))));
     earliest = first_earliest rules past l d may f on at refl j goes refl;
-    fits = within (spoken_octets (first_frame past l d)) l.session.connection past first_within;
   }
 
 -- ---- a delivery goes on
@@ -189,5 +187,4 @@ module _ (rules : List RuleText) (past : List Event) (l : Link) (d : Incoming) (
         (next_picked rules past l d may g on' at' refl j goes' older)
         (filled_of rules past l d may g on' at' refl j goes' (ap (λ n. noted n past) named ∙ may.known) ((bytes_decides (spoken_octets (next_frame past l d j)) _).1 (ap spoken_octets (sym same'))));
     earliest = next_earliest rules past l d may g on' at' refl j goes' older;
-    fits = within (spoken_octets (next_frame past l d j)) l.session.connection past next_within;
   }

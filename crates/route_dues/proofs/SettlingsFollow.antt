@@ -29,7 +29,7 @@ use Rattle.trace_duties.specs.Diligent.{is_of_answer}
 use Rattle.route_dues.specs.Writing.{frame_of, writing, IsLawful, MayFollow}
 use Rattle.route_dues.proofs.Words.{or_right, both, same_octets, none_broken}
 use Rattle.route_dues.proofs.Connections.{lawful_judged, may_write}
-use Rattle.route_dues.proofs.Lengths.{settling_short, short_fits, short_within}
+use Rattle.route_dues.proofs.Lengths.{settling_short, short_fits}
 
 -- ---- what is decided has an id
 
@@ -99,7 +99,6 @@ module _ (rules : List RuleText) (past : List Event) (s : Session) (id : ℕ) (j
     lawful = none_broken (let spoken = written_settling s.channel id in spoken_meets rules e (frame_of spoken) past spoken) settling_meets clauses;
     keeps = or_right (is_of_answer rules past) _ (same_octets (spoken_octets (written_settling s.channel id)));
     earliest = refl;
-    fits = short_within s.channel (ADisposition (settling id)) (settling_short id);
   }
 
 module _ (rules : List RuleText) (past : List Event) (j : Outgoing) (lawful : IsLawful rules past) (there : Contains (outgoing_deliveries past) j) (is : is_to_settle past j ≡ true) where

@@ -1,6 +1,5 @@
 -- A frame that the router writes, as the next event of a history, and what the law asks of it there.
-use Rattle.std.specs.Prelude.{◌≡◌, ◌≤◌, ℕ, true, List, length, None}
-use Rattle.flow_counts.specs.declared.profile.TheConstants.{MAX_FRAME_SIZE}
+use Rattle.std.specs.Prelude.{◌≡◌, ℕ, true, List, None}
 use Rattle.amqp_perf.specs.Meaning.{Meaning}
 use Rattle.pairing_cert.specs.declared.note.Note.{Note}
 use Rattle.capture_form.specs.declared.records.Record.{Record}
@@ -41,10 +40,8 @@ pub record IsInOrder (rules : List RuleText) (past : List Event) : Type 0 where
   pub keeps : all_keep rules past ≡ true
   pub copies : CopiesInOrder rules past
 
--- written here, the frame breaks no clause, keeps the duties of a router, and begins nothing in front of an earlier copy;
--- it is no longer than frames may be
+-- written here, the frame breaks no clause, keeps the duties of a router, and begins nothing in front of an earlier copy
 pub record MayFollow (rules : List RuleText) (past : List Event) (c : ℕ) (note : Note) (spoken : Spoken) : Type 0 where
   pub lawful : broken_clause rules (writing rules past c note spoken) past ≡ None
   pub keeps : moment_keeps rules (writing rules past c note spoken) past (Out (frame_of spoken)) ≡ true
   pub earliest : is_earliest rules (writing rules past c note spoken) past ≡ true
-  pub fits : length (spoken_octets spoken) ≤ MAX_FRAME_SIZE

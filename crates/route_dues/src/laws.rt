@@ -1,6 +1,7 @@
 //! What the frames that are due keep.
 
-ghost use Rattle.std.specs.Prelude.{◌≡◌, ℕ, true, false, List, ◌∷◌, Option, Some, Contains, unwrap_or};
+ghost use Rattle.std.specs.Prelude.{◌≡◌, ◌≤◌, ℕ, true, false, List, ◌∷◌, Option, Some, Contains, length, unwrap_or};
+ghost use Rattle.flow_counts.specs.declared.profile.TheConstants.{MAX_FRAME_SIZE};
 ghost use Rattle.amqp_perf.specs.Nested.{StateFields};
 ghost use Rattle.pairing_cert.specs.declared.note.Note.{Note};
 ghost use Rattle.pairing_cert.specs.declared.note.Note.TheVariants as notes;
@@ -17,13 +18,13 @@ ghost use Rattle.trace_events.specs.Settling.{is_to_settle};
 ghost use Rattle.trace_events.specs.Due.{is_unsent};
 ghost use Rattle.trace_clauses.specs.FlowClause.{may_be_topped_up, full_credit, may_be_drained, drained_count};
 ghost use Rattle.trace_clauses.specs.Outcome.{may_be_told, row};
-ghost use Rattle.trace_clauses.specs.Written.{written_settling, written_session_flow, written_credit, written_count};
+ghost use Rattle.trace_clauses.specs.Written.{spoken_octets, written_settling, written_session_flow, written_credit, written_count};
 ghost use Rattle.trace_duties.specs.Pick.{may_take};
 ghost use Rattle.trace_duties.specs.Quiet.{lacks_window, stands_still, has_earlier_unsent};
 ghost use Rattle.trace_duties.specs.Diligent.{is_next_waiting, is_picked_link, all_keep};
 ghost use Rattle.trace_duties.specs.Order.{CopiesInOrder};
 ghost use Rattle.route_dues.specs.Writing.{writing, IsReadAgain, IsLawful, IsInOrder, MayFollow};
-ghost use Rattle.route_dues.specs.Outcomes.{octets_in, outcome_frame};
+ghost use Rattle.route_dues.specs.Outcomes.{octets_in, outcome_frame, HasState};
 ghost use Rattle.route_dues.specs.Transfers.{first_frame, next_frame};
 
 /// The laws of what is due. The function does nothing: its contract is the laws.
@@ -32,6 +33,8 @@ pub fn laws_of_dues()
     ensures outcome { (rules : List RuleText) (past : List Event) (d : Incoming) (why : Why) (state : Option StateFields) → IsLawful rules past → incoming_at d.number past ≡ Some d
         → may_be_told d past ≡ true → row rules d past why ≡ Some (octets_in state)
         → MayFollow rules past d.link.session.connection (notes.Told why) (outcome_frame d state) }
+    // The state that a row tells can be written.
+    ensures states { (rules : List RuleText) (past : List Event) (d : Incoming) (why : Why) (octets : List ℕ) → IsLawful rules past → row rules d past why ≡ Some (Some octets) → HasState octets }
     // A delivery that is to be settled may be settled with its consumer, by its id.
     ensures settling { (rules : List RuleText) (past : List Event) (j : Outgoing) → IsLawful rules past → Contains (outgoing_deliveries past) j → is_to_settle past j ≡ true
         → MayFollow rules past j.link.session.connection notes.None (written_settling j.link.session.channel (unwrap_or j.id 0)) }
@@ -56,6 +59,8 @@ pub fn laws_of_dues()
     // The drain of a consumer's live link that may be drained may be answered.
     ensures drain { (rules : List RuleText) (past : List Event) (l : Link) → IsLawful rules past → IsLiveLink l past → is_consumer l ≡ true → may_be_drained rules past l ≡ true
         → MayFollow rules past l.session.connection notes.None (written_count l (drained_count past l) 0 past) }
+    // What may follow is no longer than frames may be.
+    ensures fits { (rules : List RuleText) (past : List Event) (c : ℕ) (note : Note) (spoken : Spoken) → IsLawful rules past → MayFollow rules past c note spoken → length (spoken_octets spoken) ≤ MAX_FRAME_SIZE }
     // Behind what may follow, and is read again, a router's records are in order as they were before.
     ensures behind { (rules : List RuleText) (past : List Event) (c : ℕ) (note : Note) (spoken : Spoken) → IsInOrder rules past → MayFollow rules past c note spoken → IsReadAgain spoken
         → IsInOrder rules (writing rules past c note spoken ∷ past) }

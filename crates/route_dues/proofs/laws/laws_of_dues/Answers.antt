@@ -2,7 +2,8 @@ use Rattle.route_dues.proofs.FlowsFollow.{window_follows, credit_follows, drain_
 use Rattle.route_dues.proofs.OutcomesFollow.{outcome_follows}
 use Rattle.route_dues.proofs.SettlingsFollow.{settling_follows}
 use Rattle.route_dues.proofs.Sending.{goes_on, next_begins, copy_begins}
-use Rattle.route_dues.proofs.Behind.{stays_in_order}
+use Rattle.route_dues.proofs.Behind.{follows_within, stays_in_order}
+use Rattle.route_dues.proofs.StatesWritable.{row_state}
 use Rattle.route_dues.proofs.laws.laws_of_dues.Goals as goal
 
 pub returns-clause-window : goal.returns-clause-window
@@ -31,3 +32,9 @@ returns-clause-settling c = settling_follows
 
 pub returns-clause-behind : goal.returns-clause-behind
 returns-clause-behind c = stays_in_order
+
+pub returns-clause-fits : goal.returns-clause-fits
+returns-clause-fits c = follows_within
+
+pub returns-clause-states : goal.returns-clause-states
+returns-clause-states c = row_state
