@@ -1,6 +1,6 @@
 //! The duties of a router: that nothing which can go waits, that each input is answered first, and that nothing else is
 //! written. Definitions that compute, in `specs/`, over the events of `trace_events` and the frames and rows of
-//! `trace_clauses`. No code follows them yet.
+//! `trace_clauses`. `route_answers` and `route_dues` write what they ask for.
 //!
 //! Reading order in `specs/`: `Consumers`, `Pick`, `Answer`, `Quiet`, `Diligent`, `Order`.
 //!
