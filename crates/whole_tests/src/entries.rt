@@ -39,15 +39,25 @@ fn entries_behind<R: Read>(alloc: Global, reader: R, count: u32) -> Option<usize
 where
     R: Drop,
 {
-    let Ok((rules, mut records)) = Reader::start(alloc, reader) else {
-        return None;
-    };
-    let mut auditor = Auditor::new(alloc, rules);
+    match Reader::start(alloc, reader) {
+        Ok((rules, records)) => {
+            let mut auditor = Auditor::new(alloc, rules);
+            entries_of(&mut auditor, records, count)
+        }
+        Err(_) => None,
+    }
+}
+
+/// How many entries an auditor has that takes so many records of a reader.
+fn entries_of<R: Read>(auditor: &mut Auditor, mut records: Reader<R>, count: u32) -> Option<usize>
+where
+    R: Drop,
+{
     for _ in 0..count {
         let Ok(Some(entry)) = records.next_record() else {
             return None;
         };
-        if take(&mut auditor, entry).is_err() {
+        if take(auditor, entry).is_err() {
             return None;
         }
     }

@@ -40,17 +40,29 @@ pub fn is_audited(alloc: Global, capture: &Capture, verdict: Verdict) -> bool {
 
 /// Whether this is what an auditor comes to that is handed the records of the text, and whether it stays with its refusal.
 pub fn is_taken(alloc: Global, octets: &[u8], verdict: Verdict) -> bool {
-    let Ok((rules, mut records)) = Reader::start(alloc, octets) else {
-        return matches!(verdict, Verdict::Malformed(..));
-    };
-    let mut auditor = Auditor::new(alloc, rules);
-    for _ in 0..octets.len() {
+    match Reader::start(alloc, octets) {
+        Ok((rules, records)) => {
+            let mut auditor = Auditor::new(alloc, rules);
+            comes_to(&mut auditor, records, octets.len(), verdict)
+        }
+        Err(_) => matches!(verdict, Verdict::Malformed(..)),
+    }
+}
+
+/// Whether an auditor comes to this verdict that takes the records, of which there are no more than this.
+fn comes_to(
+    auditor: &mut Auditor,
+    mut records: Reader<&[u8]>,
+    most: usize,
+    verdict: Verdict,
+) -> bool {
+    for _ in 0..most {
         let Ok(Some(entry)) = records.next_record() else {
             break;
         };
-        match take(&mut auditor, entry) {
+        match take(auditor, entry) {
             Ok(()) => {}
-            Err(refusal) => return is_refused(refusal, verdict) && stays(&mut auditor, refusal),
+            Err(refusal) => return is_refused(refusal, verdict) && stays(auditor, refusal),
         }
     }
     match verdict {
