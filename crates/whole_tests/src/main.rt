@@ -8,12 +8,10 @@
 //! - `rows`: the worked captures;
 //! - `worked`: their names and octets;
 //! - `seen`: what the plain checker says from record to record;
-//! - `taken`: what the auditor says of them, asked in other ways;
-//! - `entries`: how many entries the auditor has behind them.
+//! - `taken`: what the auditor says of them, asked in other ways.
 #![tactic(auto)]
 
 mod conversation;
-mod entries;
 mod frames;
 mod rows;
 mod seen;
@@ -23,7 +21,6 @@ mod worked;
 use audit_core::{Verdict, audit_bytes, one_verdict};
 use capture_form::{read_capture, write_capture};
 use conversation::Conversation;
-use entries::tell_entries;
 use std::{fs, io};
 use taken::{is_audited, is_read, is_taken};
 use trace_law::waiting_at;
@@ -41,8 +38,7 @@ fn main(rt: HostRuntime) -> io::Result<()> {
         tell(&rt, worked.name(), octets.as_slice())?;
     }
     tell_cuts(&rt)?;
-    tell_long_messages(&rt)?;
-    tell_entries(&rt)
+    tell_long_messages(&rt)
 }
 
 /// Writes what is said of these octets, and gives the verdict line.
