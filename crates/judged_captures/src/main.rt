@@ -3,6 +3,9 @@
 //! The captures are the files `NAME.cap` of the folder that the program runs in, `data/` here. For each, in the order of
 //! their names, it prints the name and the line of its verdict. `stdout` holds the lines that are expected; they were
 //! worked out by hand. `README.md` says what each capture tells apart.
+//!
+//! Then it damages each of them, as often as its first word says, and counts how many of these captures the auditor and the
+//! plain checker judge alike (`damaged`).
 #![tactic(auto)]
 
 ghost use Rattle.std.specs.Prelude.{◌≡◌, ◌++◌, IfOk, IsSorted, codes, string_bytes, string_cmp};
@@ -10,17 +13,41 @@ ghost use Rattle.audit_core.specs.Report.{line_of};
 ghost use Rattle.audit_core.specs.Verdict.{Answers};
 ghost use Rattle.audit_core.specs.declared.verdict.Verdict.{Verdict};
 
+mod damaged;
+
 use audit_core::audit_bytes;
+use damaged::Damage;
 use std::alloc::{AllocError, Global};
-use std::{fs, io};
+use std::{env, fs, io};
 
 fn main(rt: HostRuntime) -> io::Result<()> {
     let alloc = rt.alloc();
-    for name in names_of_captures(&rt)?.iter() {
+    let names = names_of_captures(&rt)?;
+    for name in names.iter() {
         let octets = fs::read(&rt, format!(in alloc; "{name}.cap")?)?;
         rt.println(line_on(alloc, name.as_str(), octets.as_slice())?)?;
     }
-    Ok(())
+    tell_damaged(&rt, names.as_slice(), how_often(&rt)?)
+}
+
+/// How often each capture is damaged: the first word, or never.
+fn how_often(rt: &HostRuntime) -> io::Result<u32> {
+    let words: Vec<String> = env::args(rt)?.skip(1).collect(rt.alloc())?;
+    let often = words.first().map(|word| word.as_str().parse::<u32>());
+    Ok(often.and_then(Result::ok).unwrap_or(0))
+}
+
+/// Writes how many of the damaged captures are judged alike, and how many are not.
+fn tell_damaged(rt: &HostRuntime, names: &[String], often: u32) -> io::Result<()> {
+    let mut damage = Damage::new(42);
+    let (mut alike, mut otherwise): (u64, u64) = (0, 0);
+    for name in names {
+        let octets = fs::read(rt, format!(in rt.alloc(); "{name}.cap")?)?;
+        let unlike = damage.judged_otherwise(rt.alloc(), octets.as_slice(), often)?;
+        alike = alike.wrapping_add(u64::from(often.wrapping_sub(unlike)));
+        otherwise = otherwise.wrapping_add(u64::from(unlike));
+    }
+    println!(rt; "damaged: {alike} judged alike, {otherwise} otherwise")
 }
 
 /// The name of a capture, and the line of the verdict of its octets.

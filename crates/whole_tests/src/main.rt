@@ -8,10 +8,12 @@
 //! - `rows`: the worked captures;
 //! - `worked`: their names and octets;
 //! - `seen`: what the plain checker says from record to record;
-//! - `taken`: what the auditor says of them, asked in other ways.
+//! - `taken`: what the auditor says of them, asked in other ways;
+//! - `entries`: how many entries the auditor has behind them.
 #![tactic(auto)]
 
 mod conversation;
+mod entries;
 mod frames;
 mod rows;
 mod seen;
@@ -21,6 +23,7 @@ mod worked;
 use audit_core::{Verdict, audit_bytes, one_verdict};
 use capture_form::{read_capture, write_capture};
 use conversation::Conversation;
+use entries::tell_entries;
 use std::{fs, io};
 use taken::{is_audited, is_read, is_taken};
 use trace_law::waiting_at;
@@ -38,7 +41,8 @@ fn main(rt: HostRuntime) -> io::Result<()> {
         tell(&rt, worked.name(), octets.as_slice())?;
     }
     tell_cuts(&rt)?;
-    tell_long_messages(&rt)
+    tell_long_messages(&rt)?;
+    tell_entries(&rt)
 }
 
 /// Writes what is said of these octets, and gives the verdict line.

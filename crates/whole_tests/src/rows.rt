@@ -3,7 +3,7 @@
 
 use crate::conversation::Conversation;
 use crate::frames;
-use amqp_perf::{ErrorCondition, Outcome};
+use amqp_perf::{ErrorCondition, Flow, Outcome};
 use pairing_cert::{Note, Why};
 use std::alloc::Global;
 use std::io;
@@ -166,6 +166,28 @@ pub fn sent_behind_drain(alloc: Global) -> io::Result<Conversation> {
     let mut talk = drained(alloc)?;
     let hi = talk.client(0).sends(HI)?;
     talk.router(1).sends(hi, HI)?;
+    Ok(talk)
+}
+
+/// A consumer grants 10 and asks for its numbers, and the router tells them. Nothing stands before it: it is to follow other
+/// records.
+pub fn echoed(alloc: Global) -> io::Result<Conversation> {
+    let mut talk = Conversation::new(alloc)?;
+    let asked = Flow {
+        next_incoming_id: Some(0),
+        incoming_window: 100,
+        next_outgoing_id: 0,
+        outgoing_window: 100,
+        handle: Some(0),
+        delivery_count: Some(0),
+        link_credit: Some(10),
+        drain: None,
+        echo: Some(true),
+    };
+    talk.client(1).says(frames::flow(alloc, asked)?)?;
+    let answer = Flow::of_session(0, 0).of_link(0, 0, 10, false);
+    talk.router(1)
+        .writes(Note::None, frames::flow(alloc, answer)?)?;
     Ok(talk)
 }
 

@@ -72,7 +72,7 @@ fn comes_to(
 }
 
 /// Hands over the next record, if there is room for one more.
-fn take(auditor: &mut Auditor, entry: Record) -> Result<(), Refusal>
+pub fn take(auditor: &mut Auditor, entry: Record) -> Result<(), Refusal>
     requires { IsRecord entry }
 {
     if auditor.tally().records < MOST_RECORDS {

@@ -1,0 +1,191 @@
+//! Captures made of others by damage: records are left out, repeated or exchanged, and octets changed. The auditor, which takes
+//! a record after the other, and the plain checker, which asks about each by all those below it, have to say the same of them.
+
+ghost use Rattle.std.specs.Prelude.{◌<◌, ◌≤◌, length, IfSome};
+ghost use Rattle.capture_form.specs.Text.{IsRecord};
+
+use audit_core::{Auditor, MOST_RECORDS, Refusal, Tally};
+use capture_form::{Capture, Reader, Reading, Record, Rule, read_whole_records};
+use rand_core::utils::NextWord;
+use rand_pcg::Pcg32;
+use std::alloc::{AllocError, Global};
+use trace_law::{slow_check, tally_capture};
+
+/// Where the rules begin.
+const RULES_AT: usize = 10;
+
+/// The octets of a record in front of its frame, and where the frame's length stands in them.
+const RECORD_HEAD: usize = 18;
+
+const LENGTH_AT: usize = 14;
+
+/// Damage that is made anew and anew, the same in each run.
+#[derive(Drop)]
+pub struct Damage {
+    random: Pcg32,
+}
+
+impl Damage {
+    /// The first damage of this number.
+    pub fn new(seed: u64) -> Damage {
+        Damage {
+            random: Pcg32::new(seed, 54),
+        }
+    }
+
+    /// Some number below this one.
+    fn below(&mut self, count: usize) -> usize
+        requires { 0 < count }
+        ensures { result < count }
+    {
+        self.random.next_word() as usize % count
+    }
+
+    /// Damages the text of a capture so many times, and answers how many of the captures that come of it are not judged alike.
+    pub fn judged_otherwise(
+        &mut self,
+        alloc: Global,
+        text: &[u8],
+        often: u32,
+    ) -> Result<u32, AllocError> {
+        let Ok((rules, _)) = Reader::start(alloc, text) else {
+            return Ok(often);
+        };
+        let head = len_of_head(rules.as_slice());
+        let mut otherwise: u32 = 0;
+        for _ in 0..often {
+            let damaged = self.damaged(alloc, text, head)?;
+            if !is_judged_alike(alloc, damaged.as_slice()) {
+                otherwise = otherwise.saturating_add(1);
+            }
+        }
+        Ok(otherwise)
+    }
+
+    /// A text made of that of a capture whose records begin at this place: with one to three records left out, repeated or
+    /// exchanged, and in one of two with an octet changed.
+    fn damaged(&mut self, alloc: Global, text: &[u8], head: usize) -> Result<Vec<u8>, AllocError> {
+        let (front, records) = text.split_at(head.min(text.len()));
+        let mut pieces = pieces_of(alloc, records)?;
+        for _ in 0..=self.below(3) {
+            self.exchange(&mut pieces)?;
+        }
+        let mut damaged = Vec::new(alloc);
+        damaged.extend_from_slice(front)?;
+        for piece in pieces.iter() {
+            damaged.extend_from_slice(piece)?;
+        }
+        if self.below(2) == 0 {
+            self.change_octet(&mut damaged, head);
+        }
+        Ok(damaged)
+    }
+
+    /// Leaves a piece out, repeats one somewhere, or exchanges two that stand side by side or anywhere.
+    fn exchange(&mut self, pieces: &mut Vec<&[u8]>) -> Result<(), AllocError> {
+        let count = pieces.len();
+        if count == 0 {
+            return Ok(());
+        }
+        let (one, other) = (self.below(count), self.below(count));
+        match self.below(4) {
+            0 => {
+                pieces.remove(one);
+            }
+            1 => pieces.insert(other, pieces[one])?,
+            2 => pieces.swap(one, other),
+            _ => pieces.swap(one, one.saturating_sub(1)),
+        }
+        Ok(())
+    }
+
+    /// Changes an octet behind the head.
+    fn change_octet(&mut self, text: &mut [u8], head: usize) {
+        let Some(count) = text.len().checked_sub(head) else {
+            return;
+        };
+        if count > 0 {
+            let place = head + self.below(count);
+            text[place] = self.below(256) as u8;
+        }
+    }
+}
+
+/// How long the magic, the number of rules and these rules are.
+fn len_of_head(rules: &[Rule]) -> usize {
+    let mut len = RULES_AT;
+    for rule in rules {
+        len = len.saturating_add(rule.prefix.len()).saturating_add(3);
+    }
+    len
+}
+
+/// The texts of the records, as far as they are whole.
+fn pieces_of(alloc: Global, records: &[u8]) -> Result<Vec<&[u8]>, AllocError> {
+    let mut pieces = Vec::new(alloc);
+    let mut rest = records;
+    while let Some(len) = len_of_first(rest) {
+        let (piece, behind) = rest.split_at(len);
+        pieces.push(piece)?;
+        rest = behind;
+    }
+    Ok(pieces)
+}
+
+/// How long the first record is, if it is whole.
+fn len_of_first(records: &[u8]) -> Option<usize>
+    ensures { IfSome result (λ len. (0 < len) × (len ≤ length records.now)) }
+{
+    let head = records.get(..RECORD_HEAD)?;
+    let length = head.get(LENGTH_AT..)?.first_chunk::<4>()?;
+    let len = RECORD_HEAD.checked_add(u32::from_be_bytes(*length) as usize)?;
+    records.get(..len)?;
+    Some(len)
+}
+
+/// Whether the auditor and the plain checker say the same of the whole records in front of these octets.
+fn is_judged_alike(alloc: Global, octets: &[u8]) -> bool {
+    let Reading { capture, .. } = read_whole_records(alloc, octets);
+    match Reader::start(alloc, octets) {
+        Ok((rules, records)) => {
+            let mut auditor = Auditor::new(alloc, rules);
+            taken(&mut auditor, records, capture.records().len()) == checked(&capture)
+        }
+        Err(_) => capture.records().is_empty(),
+    }
+}
+
+/// What the plain checker says of a capture: what it holds, or the first record that breaks a clause.
+fn checked(capture: &Capture) -> Result<Tally, Refusal> {
+    for number in 0..capture.records().len() {
+        if let Err(clause) = slow_check(capture, number) {
+            return Err(Refusal::Broken(number as u64, clause));
+        }
+    }
+    Ok(tally_capture(capture))
+}
+
+/// What an auditor says that takes so many records of a reader.
+fn taken(
+    auditor: &mut Auditor,
+    mut records: Reader<&[u8]>,
+    count: usize,
+) -> Result<Tally, Refusal> {
+    for _ in 0..count {
+        if let Ok(Some(entry)) = records.next_record() {
+            take(auditor, entry)?;
+        }
+    }
+    Ok(auditor.tally())
+}
+
+/// Hands over the next record, if there is room for one more.
+fn take(auditor: &mut Auditor, entry: Record) -> Result<(), Refusal>
+    requires { IsRecord entry }
+{
+    if auditor.tally().records < MOST_RECORDS {
+        auditor.take(entry)
+    } else {
+        Err(Refusal::Memory)
+    }
+}
