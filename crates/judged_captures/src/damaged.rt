@@ -2,10 +2,9 @@
 //! a record after the other, and the plain checker, which asks about each by all those below it, have to say the same of them.
 
 ghost use Rattle.std.specs.Prelude.{◌<◌, ◌≤◌, length, IfSome};
-ghost use Rattle.capture_form.specs.Text.{IsRecord};
 
-use audit_core::{Auditor, MOST_RECORDS, Refusal, Tally};
-use capture_form::{Capture, Reader, Reading, Record, Rule, read_whole_records};
+use audit_core::{Refusal, Tally, audit};
+use capture_form::{Capture, Reader, Reading, Rule, read_whole_records};
 use rand_core::utils::NextWord;
 use rand_pcg::Pcg32;
 use std::alloc::{AllocError, Global};
@@ -124,7 +123,10 @@ fn len_of_head(rules: &[Rule]) -> usize {
 fn pieces_of(alloc: Global, records: &[u8]) -> Result<Vec<&[u8]>, AllocError> {
     let mut pieces = Vec::new(alloc);
     let mut rest = records;
-    while let Some(len) = len_of_first(rest) {
+    for _ in 0..records.len() {
+        let Some(len) = len_of_first(rest) else {
+            break;
+        };
         let (piece, behind) = rest.split_at(len);
         pieces.push(piece)?;
         rest = behind;
@@ -146,13 +148,7 @@ fn len_of_first(records: &[u8]) -> Option<usize>
 /// Whether the auditor and the plain checker say the same of the whole records in front of these octets.
 fn is_judged_alike(alloc: Global, octets: &[u8]) -> bool {
     let Reading { capture, .. } = read_whole_records(alloc, octets);
-    match Reader::start(alloc, octets) {
-        Ok((rules, records)) => {
-            let mut auditor = Auditor::new(alloc, rules);
-            taken(&mut auditor, records, capture.records().len()) == checked(&capture)
-        }
-        Err(_) => capture.records().is_empty(),
-    }
+    audit(alloc, &capture) == checked(&capture)
 }
 
 /// What the plain checker says of a capture: what it holds, or the first record that breaks a clause.
@@ -163,29 +159,4 @@ fn checked(capture: &Capture) -> Result<Tally, Refusal> {
         }
     }
     Ok(tally_capture(capture))
-}
-
-/// What an auditor says that takes so many records of a reader.
-fn taken(
-    auditor: &mut Auditor,
-    mut records: Reader<&[u8]>,
-    count: usize,
-) -> Result<Tally, Refusal> {
-    for _ in 0..count {
-        if let Ok(Some(entry)) = records.next_record() {
-            take(auditor, entry)?;
-        }
-    }
-    Ok(auditor.tally())
-}
-
-/// Hands over the next record, if there is room for one more.
-fn take(auditor: &mut Auditor, entry: Record) -> Result<(), Refusal>
-    requires { IsRecord entry }
-{
-    if auditor.tally().records < MOST_RECORDS {
-        auditor.take(entry)
-    } else {
-        Err(Refusal::Memory)
-    }
 }
