@@ -1,0 +1,132 @@
+-- A frame that is due may follow.
+use Rattle.std.proofs.Common.{◌≡◌, sym, ap, subst, ◌∙◌, ℕ, ◌≤◌, List, [], ◌++◌, length, option_map, unwrap_or, Result, Ok, Err, OnOk}
+use Rattle.std.specs.declared.alloc.AllocError.{AllocError}
+use Rattle.amqp_types.specs.Writing.{Puts}
+use Rattle.flow_counts.specs.declared.profile.TheConstants.{MAX_FRAME_SIZE}
+use Rattle.pairing_cert.specs.declared.note.Note.{Note}
+use Rattle.pairing_cert.specs.declared.note.Note.TheVariants as notes
+use Rattle.capture_form.specs.Rules.{RuleText}
+use Rattle.capture_form.specs.declared.records.Record.{Record}
+use Rattle.capture_form.specs.declared.records.What.TheVariants as whats
+use Rattle.amqp_perf.specs.NestedViews.{state_view}
+use Rattle.trace_events.specs.Frame.{Spoken}
+use Rattle.trace_events.specs.Event.{Event, Link, Outgoing}
+use Rattle.trace_events.specs.declared.session.Session.{Session}
+use Rattle.trace_clauses.specs.FlowClause.{full_credit, drained_count}
+use Rattle.trace_clauses.specs.Written.{spoken_octets, written_settling, written_session_flow, written_credit, written_count}
+use Rattle.trace_law.specs.View.{link_view, incoming_view, outgoing_view}
+use Rattle.route_dues.specs.Outcomes.{outcome_frame}
+use Rattle.route_dues.specs.Transfers.{first_frame, next_frame}
+use Rattle.route_dues.specs.Writing.{IsReadAgain, IsInOrder, MayFollow}
+use Rattle.route_dues.proofs.FlowsFollow.{window_follows, credit_follows, drain_follows}
+use Rattle.route_dues.proofs.OutcomesFollow.{outcome_follows}
+use Rattle.route_dues.proofs.SettlingsFollow.{settling_follows}
+use Rattle.route_dues.proofs.Sending.{goes_on, next_begins, copy_begins}
+use Rattle.route_dues.proofs.Behind.{follows_within}
+use Rattle.due_frames.specs.declared.due.DueOutcome.{DueOutcome}
+use Rattle.due_frames.specs.declared.due.DuePart.{DuePart}
+use Rattle.due_frames.specs.declared.due.DueBegin.{DueBegin}
+use Rattle.due_frames.specs.declared.due.Due.{Due}
+use Rattle.due_frames.specs.declared.due.Due.TheVariants as dues
+use Rattle.due_frames.specs.Dues.{IsOutcomeDue, IsSettlingDue, IsPartDue, IsWaitingDue, IsCopyDue, IsDrainDue, IsCreditDue, IsWindowDue, IsFrameFor, IsNextFrame, connection_of, note_of}
+
+module _ (rules : List RuleText) (past : List Event) (order : IsInOrder rules past) where
+  framed : (c : ℕ) (note : Note) (spoken : Spoken) (octets : List ℕ) → MayFollow rules past c note spoken → IsReadAgain spoken → octets ≡ spoken_octets spoken → IsFrameFor rules past c note octets
+  framed c note spoken octets may again is = record {
+    spoken = spoken;
+    is = is;
+    follows = may;
+    again = again;
+    short = follows_within rules past c note spoken order.lawful may;
+  }
+
+  pub outcome_frame_for : (due : DueOutcome) (octets : List ℕ) → IsOutcomeDue rules past due
+      → (length (spoken_octets (outcome_frame (incoming_view due.delivery) (option_map state_view due.state))) ≤ MAX_FRAME_SIZE → IsReadAgain (outcome_frame (incoming_view due.delivery) (option_map state_view due.state)))
+      → octets ≡ spoken_octets (outcome_frame (incoming_view due.delivery) (option_map state_view due.state))
+      → IsFrameFor rules past (connection_of (dues.Outcome due)) (note_of (dues.Outcome due)) octets
+  outcome_frame_for due octets is again same =
+      let d = incoming_view due.delivery in
+      let spoken = outcome_frame d (option_map state_view due.state) in
+      let may = outcome_follows rules past d due.why (option_map state_view due.state) order.lawful is.stands is.told is.told_so in
+      framed d.link.session.connection (note_of (dues.Outcome due)) spoken octets may (again (follows_within rules past d.link.session.connection (note_of (dues.Outcome due)) spoken order.lawful may)) same
+
+  pub settling_frame_for : (j : Outgoing) (octets : List ℕ) → IsSettlingDue past j
+      → IsReadAgain (written_settling j.link.session.channel (unwrap_or j.id 0)) → octets ≡ spoken_octets (written_settling j.link.session.channel (unwrap_or j.id 0))
+      → IsFrameFor rules past j.link.session.connection notes.None octets
+  settling_frame_for j octets is again same =
+      framed j.link.session.connection notes.None (written_settling j.link.session.channel (unwrap_or j.id 0)) octets (settling_follows rules past j order.lawful is.0 is.1) again same
+
+  pub part_frame_for : (due : DuePart) (octets : List ℕ) (is : IsPartDue past due)
+      → IsReadAgain (next_frame past (link_view due.link) is.delivery is.own) → octets ≡ spoken_octets (next_frame past (link_view due.link) is.delivery is.own)
+      → IsFrameFor rules past (connection_of (dues.Part due)) (note_of (dues.Part due)) octets
+  part_frame_for due octets is again same =
+      let l = link_view due.link in
+      subst (λ (note : Note). IsFrameFor rules past l.session.connection note octets) (sym is.told)
+      (framed l.session.connection is.own.note (next_frame past l is.delivery is.own) octets
+      (goes_on rules past l is.delivery is.own order.lawful is.lives is.still is.progress is.carries) again same)
+
+  pub waiting_frame_for : (due : DueBegin) (octets : List ℕ) → IsWaitingDue rules past due
+      → IsReadAgain (first_frame past (link_view due.link) (incoming_view due.delivery)) → octets ≡ spoken_octets (first_frame past (link_view due.link) (incoming_view due.delivery))
+      → IsFrameFor rules past (connection_of (dues.Waiting due)) (note_of (dues.Waiting due)) octets
+  waiting_frame_for due octets is again same =
+      let l = link_view due.link in
+      let d = incoming_view due.delivery in
+      framed l.session.connection (notes.Pair d.number) (first_frame past l d) octets
+      (next_begins rules past l d order.lawful order.keeps is.begins.link_stands is.begins.stands is.next is.picked) again same
+
+  pub copy_frame_for : (due : DueBegin) (octets : List ℕ) → IsCopyDue rules past due
+      → IsReadAgain (first_frame past (link_view due.link) (incoming_view due.delivery)) → octets ≡ spoken_octets (first_frame past (link_view due.link) (incoming_view due.delivery))
+      → IsFrameFor rules past (connection_of (dues.Copy due)) (note_of (dues.Copy due)) octets
+  copy_frame_for due octets is again same =
+      let l = link_view due.link in
+      let d = incoming_view due.delivery in
+      framed l.session.connection (notes.Pair d.number) (first_frame past l d) octets
+      (copy_begins rules past l d order.lawful is.begins.lives is.consumer is.begins.stands is.room order.copies is.unsent is.earliest) again same
+
+  pub drain_frame_for : (l : Link) (octets : List ℕ) → IsDrainDue rules past l
+      → IsReadAgain (written_count l (drained_count past l) 0 past) → octets ≡ spoken_octets (written_count l (drained_count past l) 0 past)
+      → IsFrameFor rules past l.session.connection notes.None octets
+  drain_frame_for l octets is again same =
+      framed l.session.connection notes.None (written_count l (drained_count past l) 0 past) octets (drain_follows rules past l order.lawful is.lives is.consumer is.drained) again same
+
+  pub credit_frame_for : (l : Link) (octets : List ℕ) → IsCreditDue rules past l
+      → IsReadAgain (written_credit l (full_credit rules past l) past) → octets ≡ spoken_octets (written_credit l (full_credit rules past l) past)
+      → IsFrameFor rules past l.session.connection notes.None octets
+  credit_frame_for l octets is again same =
+      framed l.session.connection notes.None (written_credit l (full_credit rules past l) past) octets (credit_follows rules past l order.lawful is.lives is.producer is.topped_up) again same
+
+  pub window_frame_for : (s : Session) (octets : List ℕ) → IsWindowDue past s
+      → IsReadAgain (written_session_flow s past) → octets ≡ spoken_octets (written_session_flow s past)
+      → IsFrameFor rules past s.connection notes.None octets
+  window_frame_for s octets is again same =
+      framed s.connection notes.None (written_session_flow s past) octets (window_follows rules past s order.lawful is.0 is.1) again same
+
+-- ---- as octets that were appended to none
+
+-- where they were, they are what stands there
+pub appended : (result : Result (Unit {0}) AllocError) (old new octets : List ℕ) (P : Type 0) → old ≡ [] → Puts old new result octets → (new ≡ octets → P) → OnOk result P
+appended (Ok x) old new octets P none puts holds = holds (puts ∙ ap (λ xs. xs ++ octets) none)
+appended (Err e) old new octets P none puts holds = tt
+
+-- and are read again
+pub appended-again : (result : Result (Unit {0}) AllocError) (old new octets : List ℕ) (P Again : Type 0) → old ≡ [] → Puts old new result octets → OnOk result Again → (Again → new ≡ octets → P) → OnOk result P
+appended-again (Ok x) old new octets P Again none puts again holds = holds again (puts ∙ ap (λ xs. xs ++ octets) none)
+appended-again (Err e) old new octets P Again none puts again holds = tt
+
+-- of what is due they are the frame
+pub frame_of_due : (rules : List RuleText) (past : List Event) (octets : List ℕ) (due other : Due) → due ≡ other → IsFrameFor rules past (connection_of other) (note_of other) octets
+    → IsFrameFor rules past (connection_of due) (note_of due) octets
+frame_of_due rules past octets due other same is = subst (λ (x : Due). IsFrameFor rules past (connection_of x) (note_of x) octets) (sym same) is
+
+-- ---- as a record
+
+pub frame_recorded : (rules : List RuleText) (past : List Event) (r : Record) (c : ℕ) (note : Note) (octets : List ℕ) → r.connection ≡ c → r.note ≡ note → r.what ≡ whats.Out octets → IsFrameFor rules past c note octets
+    → IsNextFrame rules past r
+frame_recorded rules past r c note octets on told written is = record {
+  spoken = is.spoken;
+  what = written ∙ ap whats.Out is.is;
+  follows =
+      subst (λ n. MayFollow rules past n r.note is.spoken) (sym on) (subst (λ (x : Note). MayFollow rules past c x is.spoken) (sym told) is.follows);
+  again = is.again;
+  short = is.short;
+}

@@ -1,0 +1,103 @@
+//! The record of a frame that is due.
+
+ghost use Rattle.std.specs.Prelude.{◌≡◌, ◌≤◌, List, [], IfOk, OnOk, length};
+ghost use Rattle.flow_counts.specs.declared.profile.TheConstants.{MAX_FRAME_SIZE};
+ghost use Rattle.capture_form.specs.Rules.{RuleText};
+ghost use Rattle.capture_form.specs.Text.{IsRecord};
+ghost use Rattle.capture_form.specs.declared.records.What.TheVariants as whats;
+ghost use Rattle.trace_law.specs.View.{Events};
+ghost use Rattle.route_dues.specs.Writing.{IsInOrder};
+ghost use Rattle.due_frames.specs.Dues as dues;
+ghost use Rattle.due_frames.specs.Dues.{IsDue, IsDueBehind, IsNextFrame, IsFrameFor};
+
+use crate::due::Due;
+use capture_form::{Frame, Record, Rule, What};
+use pairing_cert::Note;
+use route_dues::{
+    put_credit, put_drain, put_first, put_next, put_outcome, put_settling, put_window,
+};
+use std::alloc::{AllocError, Global};
+use trace_law::{Counts, Outcomes};
+
+/// The connection that it is written on.
+fn connection_of(due: &Due<'_>) -> u32
+    ensures { result ≡ dues.connection_of due.now }
+{
+    match due {
+        Due::Outcome(told) => told.delivery.link.session.connection,
+        Due::Settling(delivery) => delivery.link.session.connection,
+        Due::Part(part) => part.link.session.connection,
+        Due::Waiting(begin) | Due::Copy(begin) => begin.link.session.connection,
+        Due::Drain(link) | Due::Credit(link) => link.session.connection,
+        Due::Window(session) => session.connection,
+    }
+}
+
+/// What is certified of it.
+fn note_of(due: &Due<'_>) -> Note
+    ensures { result ≡ dues.note_of due.now }
+{
+    match due {
+        Due::Outcome(told) => Note::Told(told.why),
+        Due::Part(part) => part.note,
+        Due::Waiting(begin) | Due::Copy(begin) => Note::Pair(begin.delivery.number),
+        Due::Settling(_) | Due::Drain(_) | Due::Credit(_) | Due::Window(_) => Note::None,
+    }
+}
+
+/// Appends the octets of the frame to none.
+///
+/// # Errors
+///
+/// Where memory is refused.
+fn put_due<'a, P: Counts + Outcomes<'a>>(
+    out: &mut Vec<u8>,
+    past: &P,
+    rules: &[Rule],
+    due: &Due<'_>,
+) -> Result<(), AllocError>
+    requires few { P.is_short past.now }
+    requires due { IsDueBehind (λ history. P.stands_for past.now rules.now history) rules.now due.now }
+    requires none { out.old.items ≡ [] }
+    ensures frame { (history : Events) → P.stands_for past.now rules.now history → IsInOrder rules.now history → IsDue rules.now history due.now →
+        OnOk result (IsFrameFor rules.now history (dues.connection_of due.now) (dues.note_of due.now) out.new.items) }
+{
+    match due {
+        Due::Outcome(told) => put_outcome(out, &told.delivery, told.state),
+        Due::Settling(delivery) => put_settling(out, delivery),
+        Due::Part(part) => put_next(out, past, &part.link, part.rest),
+        Due::Waiting(begin) | Due::Copy(begin) => {
+            put_first(out, past, &begin.link, &begin.delivery, begin.payload)
+        }
+        Due::Drain(link) => put_drain(out, past, link),
+        Due::Credit(link) => put_credit(out, past, rules, link),
+        Due::Window(session) => put_window(out, past, *session),
+    }
+}
+
+/// The record of the frame that is due, by what is asked of the past.
+///
+/// # Errors
+///
+/// Where memory is refused.
+pub fn record_of<'a, P: Counts + Outcomes<'a>>(
+    alloc: Global,
+    past: &P,
+    rules: &[Rule],
+    due: &Due<'_>,
+) -> Result<Record, AllocError>
+    requires few { P.is_short past.now }
+    requires due { IsDueBehind (λ history. P.stands_for past.now rules.now history) rules.now due.now }
+    ensures bounds { IfOk result IsRecord }
+    ensures next { (history : Events) → P.stands_for past.now rules.now history → IsInOrder rules.now history → IsDue rules.now history due.now →
+        IfOk result (IsNextFrame rules.now history) }
+{
+    let mut octets = Vec::new(alloc);
+    put_due(&mut octets, past, rules, due)?;
+    let frame = Frame::new(alloc, &octets)?;
+    Ok(Record {
+        connection: connection_of(due),
+        what: What::Out(frame),
+        note: note_of(due),
+    })
+}
