@@ -1,0 +1,3 @@
+pub mod NoTransfers
+pub mod Answered
+pub mod Steps

@@ -1,0 +1,39 @@
+-- What the records of a router keep, from step to step and while a step is written (own rules).
+use Rattle.std.specs.Prelude.{◌≡◌, ◌≤◌, ℕ, true, List, [], ◌∷◌, None, length}
+use Rattle.flow_counts.specs.declared.profile.TheConstants.{MAX_FRAME_SIZE}
+use Rattle.amqp_perf.specs.Meaning.{Meaning}
+use Rattle.capture_form.specs.Rules.{RuleText}
+use Rattle.trace_events.specs.Frame.{Spoken}
+use Rattle.trace_events.specs.Event.{Event}
+use Rattle.trace_events.specs.Said.{as_transfer}
+use Rattle.trace_clauses.specs.Written.{spoken_octets}
+use Rattle.trace_duties.specs.Diligent.{is_answered}
+use Rattle.trace_duties.specs.Quiet.{is_quiet}
+use Rattle.route_answers.specs.Answering.{AreInOrder, AreOpensAnswered}
+use Rattle.route_answers.specs.Writing.{behind}
+use Rattle.route_dues.specs.Writing.{IsInOrder}
+
+-- while a step is written: no record breaks a clause, the duties are kept, copies are in order, opens are answered, and
+-- so is the input of the step
+pub record IsUnderWay (rules : List RuleText) (past : List Event) : Type 0 where
+  pub order : IsInOrder rules past
+  pub opens : AreOpensAnswered past
+  pub answered : is_answered rules past ≡ true
+
+-- between steps: all of this, and nothing is left that could be written
+pub record IsAtRest (rules : List RuleText) (past : List Event) : Type 0 where
+  pub under_way : IsUnderWay rules past
+  pub quiet : is_quiet rules past ≡ true
+
+-- none of them is a transfer
+abbrev pub AreNoTransfers : List Spoken → Type 0
+AreNoTransfers [] = Unit {0}
+AreNoTransfers (spoken ∷ more) = (as_transfer spoken.meaning ≡ None) × AreNoTransfers more
+
+-- these frames of an answer are left to be written on the connection; behind the last one the step is under way
+pub record IsAnswering (rules : List RuleText) (c : ℕ) (past : List Event) (left : List Spoken) : Type 0 where
+  pub order : IsInOrder rules past
+  pub frames : AreInOrder rules c left past
+  pub plain : AreNoTransfers left
+  pub opens : AreOpensAnswered (behind rules c left past)
+  pub answered : is_answered rules (behind rules c left past) ≡ true
