@@ -1,0 +1,16 @@
+use Rattle.trace_events.specs.History.{history}
+use Rattle.trace_law.specs.View.{event_view}
+use Rattle.audit_answers.specs.Tables.{AreTables}
+use Rattle.route_books.proofs.Entering.{longer}
+use Rattle.route_books.proofs.books.Books.follow.Goals as goal
+
+pub returns : goal.returns
+returns g c = λ records r next stand.
+    let rules = c.args.rules.now in
+    let past = history rules records in
+    let lent = c.looked-looked.ensures rules past stand.tables in
+    let e = event_view c.args.event.now in
+    record {
+      tables = longer rules records r (AreTables rules c.take.new.self) e next.0 (c.in_ok-take.ensures records r next stand.tables);
+      listed = longer rules records r (g.D.Dues.has_all c.follow.new.self rules) e next.0 (c.in_ok-follow.ensures records r next lent stand.listed);
+    }

@@ -1,0 +1,105 @@
+//! The tables, with lists of what is due.
+
+ghost use Rattle.std.specs.Prelude.{◌≡◌, ◌∷◌, [], ◌++◌, List, None, true, OnOk, IfOk, IfSome, length};
+ghost use Rattle.capture_form.specs.Rules.{RuleText};
+ghost use Rattle.capture_form.specs.declared.records.Record.{Record};
+ghost use Rattle.trace_events.specs.History.{history, judge, moment_of};
+ghost use Rattle.audit_events.specs.HeldEvents.{held_event_view};
+ghost use Rattle.trace_duties.specs.Quiet.{is_quiet};
+ghost use Rattle.due_frames.specs.Dues.{IsNextFrame};
+ghost use Rattle.route_dues.specs.Writing.{IsInOrder};
+ghost use Rattle.capture_form.specs.Text.{IsRecord};
+ghost use Rattle.route_books.specs.Books.{AreBooks, AreInOrder, IsUnbroken, TellsOf};
+ghost use Rattle.audit_tables.specs.Connections.{IsLawfulNext};
+ghost use Rattle.trace_law.specs.View.{Events, event_view};
+
+use crate::dues::Dues;
+use audit_answers::{Looked, Tables};
+use audit_events::HeldEvent;
+use capture_form::{Record, Rule};
+use due_frames::record_of;
+use std::alloc::{AllocError, Global};
+use trace_law::{Event, judge};
+
+/// The tables of the records so far, and what is due behind them.
+#[derive(Drop)]
+pub struct Books<D: Dues> {
+    alloc: Global,
+    tables: Tables,
+    dues: D,
+}
+
+impl<D: Dues> Books<D> {
+    /// No records, with lists of nothing.
+    pub fn new(alloc: Global, dues: D) -> Books<D>
+        ensures { (rules : List RuleText) → D.has_all dues rules [] → AreBooks D.has_all rules result [] }
+    {
+        Books {
+            alloc,
+            tables: Tables::new(alloc),
+            dues,
+        }
+    }
+
+    /// The tables, lent.
+    pub fn looked(&self) -> Looked<'_>
+        ensures { (rules : List RuleText) (records : List Record) → AreBooks D.has_all rules self.now records → TellsOf rules result (history rules records) }
+    {
+        self.tables.looked()
+    }
+
+    /// The event of the next record, which breaks no clause and has this number: a copy but for its moment.
+    ///
+    /// # Errors
+    ///
+    /// Where memory is refused.
+    pub fn judged(
+        &self,
+        rules: &[Rule],
+        number: u64,
+        entry: &Record,
+    ) -> Result<HeldEvent, AllocError>
+        ensures { IfOk result (λ held. (records : List Record) → AreBooks D.has_all rules.now self.now records → number ≡ length records →
+            IsUnbroken rules.now records entry.now → IsLawfulNext rules.now records entry.now (held_event_view held (moment_of entry.now.what))) }
+    {
+        let looked = self.tables.looked();
+        let event = judge(&looked, rules, number, entry);
+        HeldEvent::new(self.alloc, &event)
+    }
+
+    /// The event of a next record follows those so far.
+    ///
+    /// # Errors
+    ///
+    /// Memory was refused; then the books may agree with no records any more.
+    pub fn follow(&mut self, rules: &[Rule], event: &Event) -> Result<(), AllocError>
+        ensures { OnOk result ((records : List Record) (r : Record) → IsLawfulNext rules.now records r (event_view event.now) →
+            AreBooks D.has_all rules.now self.old records → AreBooks D.has_all rules.now self.new (records ++ r ∷ [])) }
+    {
+        let looked = self.tables.looked();
+        self.dues.follow(rules, event, &looked)?;
+        self.tables.take(rules, event)?;
+        Ok(())
+    }
+
+    /// The record of the frame that is due next; `None` where nothing is.
+    ///
+    /// # Errors
+    ///
+    /// Where memory is refused.
+    pub fn next_record(&mut self, rules: &[Rule]) -> Result<Option<Record>, AllocError>
+        requires known { AreInOrder D.has_all rules.now self.old }
+        ensures bounds { IfOk result (λ next. IfSome next IsRecord) }
+        ensures next { (records : List Record) → AreBooks D.has_all rules.now self.old records → IsInOrder rules.now (history rules.now records) →
+            IfOk result (λ next. IfSome next (IsNextFrame rules.now (history rules.now records))) }
+        ensures kept { (records : List Record) → AreBooks D.has_all rules.now self.old records → AreBooks D.has_all rules.now self.new records }
+        ensures quiet { (records : List Record) → AreBooks D.has_all rules.now self.old records →
+            IfOk result (λ next. next ≡ None → is_quiet rules.now (history rules.now records) ≡ true) }
+    {
+        let looked = self.tables.looked();
+        match self.dues.next_due(rules, &looked) {
+            Some(due) => Ok(Some(record_of(self.alloc, &looked, rules, &due)?)),
+            None => Ok(None),
+        }
+    }
+}

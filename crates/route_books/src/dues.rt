@@ -1,0 +1,50 @@
+//! What is asked of lists of what is due.
+
+ghost use Rattle.std.specs.Prelude.{◌≡◌, ◌∷◌, List, None, true, OnOk, IfSome};
+ghost use Rattle.capture_form.specs.Rules.{RuleText};
+ghost use Rattle.capture_form.specs.declared.records.Record.{Record};
+ghost use Rattle.trace_events.specs.History.{history};
+ghost use Rattle.audit_tables.specs.Connections.{IsLawfulNext};
+ghost use Rattle.trace_duties.specs.Quiet.{is_quiet};
+ghost use Rattle.trace_law.specs.View.{Events, event_view};
+ghost use Rattle.due_frames.specs.Dues.{IsDue};
+ghost use Rattle.route_books.specs.Books.{TellsOf};
+
+use audit_answers::Looked;
+use capture_form::Rule;
+use due_frames::Due;
+use std::alloc::AllocError;
+use trace_law::Event;
+
+/// Lists of what may be due, from which the next that is due is found without a search through all deliveries, links or
+/// sessions. They are moved by one event after the other, and ask the tables of what else they need.
+pub trait Dues {
+    /// All that is due behind these events, judged by these rules, is listed.
+    ghost has_all: { Self → List RuleText → Events → Type 0 };
+
+    /// The event follows those so far, of which the tables that are lent tell.
+    ///
+    /// # Errors
+    ///
+    /// Memory was refused; then something may be due that is not listed any more.
+    fn follow(
+        &mut self,
+        rules: &[Rule],
+        event: &Event,
+        before: &Looked<'_>,
+    ) -> Result<(), AllocError>
+        ensures { OnOk result ((records : List Record) (r : Record) → IsLawfulNext rules.now records r (event_view event.now) →
+            TellsOf rules.now before.now (history rules.now records) → has_all self.old rules.now (history rules.now records) →
+            has_all self.new rules.now (event_view event.now ∷ history rules.now records)) };
+
+    /// What is due next, by the tables of the events so far; `None` where nothing is.
+    fn next_due<'t>(&mut self, rules: &[Rule], looked: &Looked<'t>) -> Option<Due<'t>>
+        // What is answered is due.
+        ensures due { (records : List Record) → TellsOf rules.now looked.now (history rules.now records) → IfSome result (IsDue rules.now (history rules.now records)) }
+        // All that is due stays listed.
+        ensures kept { (records : List Record) → TellsOf rules.now looked.now (history rules.now records) →
+            has_all self.old rules.now (history rules.now records) → has_all self.new rules.now (history rules.now records) }
+        // Nothing is left where nothing is answered.
+        ensures quiet { (records : List Record) → TellsOf rules.now looked.now (history rules.now records) →
+            has_all self.old rules.now (history rules.now records) → result ≡ None → is_quiet rules.now (history rules.now records) ≡ true };
+}
