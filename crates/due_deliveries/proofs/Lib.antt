@@ -1,0 +1,10 @@
+pub mod Begins
+pub mod Sources
+pub mod Counts
+pub mod EndedConsumers
+pub mod OpenDeliveries
+pub mod OutgoingCounts
+pub mod DecidedCounts
+pub mod Moves
+pub mod Texts
+pub mod Eligible
