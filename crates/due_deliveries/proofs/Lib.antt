@@ -8,3 +8,5 @@ pub mod DecidedCounts
 pub mod Moves
 pub mod Texts
 pub mod Eligible
+pub mod QueueLists
+pub mod QueueMoves

@@ -1,6 +1,6 @@
-//! Where the deliveries of a balanced address go, as its consumers take and decide them.
+//! Where the deliveries of a balanced address go, as its consumers take and decide them, and which of them comes first.
 
-use crate::Picks;
+use crate::{Picks, Queues};
 use amqp_perf::{
     Address, Attach, Begin, Disposition, Flow, Performative, Role, Terminus, Transfer,
 };
@@ -9,7 +9,7 @@ use capture_form::Rule;
 use pairing_cert::Note;
 use std::test::Fail;
 use trace_events::Session;
-use trace_law::{Body, Event, Frame, Link, Moment, Outgoing, Spoken};
+use trace_law::{Body, Event, Frame, Incoming, Link, Moment, Outgoing, Spoken};
 
 const SESSION: Session = Session {
     number: 4,
@@ -209,5 +209,69 @@ fn the_one_with_fewer_undecided_deliveries_is_picked(rt: HostRuntime) -> Result<
     assert_eq!(rt; picked(&tables, &picks), Some(8));
     step(&mut tables, &mut picks, &settles(18, 2, 4))?;
     assert_eq!(rt; picked(&tables, &picks), Some(6));
+    Ok(())
+}
+
+// A delivery of a client comes whole, in this record.
+fn comes<'a>(number: u64) -> Event<'a> {
+    let link = Link {
+        number: 5,
+        handle: 2,
+        role: Role::Receiver,
+        ..FIRST
+    };
+    let transfer = Transfer {
+        handle: 2,
+        delivery_id: Some(0),
+        delivery_tag: None,
+        message_format: None,
+        settled: None,
+        more: None,
+        resume: None,
+        aborted: None,
+    };
+    Event {
+        incoming: Some(Incoming {
+            number,
+            link,
+            id: Some(0),
+            format: 0,
+        }),
+        ..event(
+            number,
+            Moment::In(says(Performative::Transfer(transfer))),
+            Some(link),
+        )
+    }
+}
+
+fn queued(tables: &mut Tables, queues: &mut Queues, event: &Event) -> Result<Option<u64>, Fail> {
+    let rules: [Rule; 0] = [];
+    queues.follow(&rules, event)?;
+    tables.take(&rules, event)?;
+    let first = queues.first(b"q", &tables.looked());
+    Ok(first.map(|delivery| delivery.number))
+}
+
+#[test]
+fn the_first_that_waits_comes_first(rt: HostRuntime) -> Result<(), Fail> {
+    let mut tables = Tables::new(rt.alloc());
+    let mut queues = Queues::new(rt.alloc());
+    assert_eq!(rt; queued(&mut tables, &mut queues, &begins())?, None);
+    assert_eq!(rt; queued(&mut tables, &mut queues, &opens(FIRST))?, None);
+    assert_eq!(rt; queued(&mut tables, &mut queues, &comes(9))?, Some(9));
+    assert_eq!(rt; queued(&mut tables, &mut queues, &comes(10))?, Some(9));
+    let goes = Event {
+        note: Note::Pair(9),
+        outgoing: Some(Outgoing {
+            number: 11,
+            link: FIRST,
+            id: Some(0),
+            is_settled: false,
+            note: Note::Pair(9),
+        }),
+        ..goes(11, FIRST, 0)
+    };
+    assert_eq!(rt; queued(&mut tables, &mut queues, &goes)?, Some(10));
     Ok(())
 }
