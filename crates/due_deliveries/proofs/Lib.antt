@@ -1,0 +1,12 @@
+pub mod Begins
+pub mod Sources
+pub mod Counts
+pub mod EndedConsumers
+pub mod OpenDeliveries
+pub mod OutgoingCounts
+pub mod DecidedCounts
+pub mod Moves
+pub mod Texts
+pub mod Eligible
+pub mod QueueLists
+pub mod QueueMoves

@@ -1,0 +1,4 @@
+pub mod AddressCounts
+pub mod Undecided
+pub mod Picks
+pub mod Queues
