@@ -1,0 +1,5 @@
+pub mod LiveOnes
+pub mod LackingWindows
+pub mod StandingParts
+pub mod GroupMembers
+pub mod WindowsFollowed
