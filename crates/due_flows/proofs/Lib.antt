@@ -3,3 +3,5 @@ pub mod LackingWindows
 pub mod StandingParts
 pub mod GroupMembers
 pub mod WindowsFollowed
+pub mod PartsFollowed
+pub mod PartsDue

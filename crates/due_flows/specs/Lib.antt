@@ -4,3 +4,4 @@ pub mod Lent
 pub mod Lacking
 pub mod Standing
 pub mod Windows
+pub mod Parts

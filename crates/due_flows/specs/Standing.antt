@@ -37,3 +37,8 @@ is_their_flow None = false
 
 abbrev pub grants_window : Event → Bool
 grants_window e = is_their_flow (window_event e.moment)
+
+-- a live link on which a delivery may go on
+pub record IsStill (l : Link) (past : List Event) : Type 0 where
+  pub live : IsLiveLink l past
+  pub still : stands_still past l ≡ true

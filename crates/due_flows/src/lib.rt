@@ -8,6 +8,8 @@
 
 mod candidates;
 mod numbers;
+mod parts;
 mod windows;
 
+pub use parts::{DuePart, Parts};
 pub use windows::Windows;
