@@ -1,7 +1,10 @@
+pub mod Members
 pub mod LiveOnes
 pub mod LackingWindows
 pub mod StandingParts
+pub mod DrainingLinks
 pub mod GroupMembers
 pub mod WindowsFollowed
 pub mod PartsFollowed
 pub mod PartsDue
+pub mod DrainsFollowed

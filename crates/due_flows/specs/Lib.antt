@@ -3,5 +3,7 @@ pub mod Numbers
 pub mod Lent
 pub mod Lacking
 pub mod Standing
+pub mod Draining
 pub mod Windows
 pub mod Parts
+pub mod Drains

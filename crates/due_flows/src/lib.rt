@@ -7,9 +7,11 @@
 #![tactic(auto)]
 
 mod candidates;
+mod drains;
 mod numbers;
 mod parts;
 mod windows;
 
+pub use drains::Drains;
 pub use parts::{DuePart, Parts};
 pub use windows::Windows;
