@@ -4,6 +4,8 @@ pub mod Lent
 pub mod Lacking
 pub mod Standing
 pub mod Draining
+pub mod Topping
 pub mod Windows
 pub mod Parts
+pub mod Credits
 pub mod Drains

@@ -42,6 +42,13 @@ impl<V: Copy + Drop> Candidates<V> {
         self.entries.remove(&number);
     }
 
+    /// What stands under the number.
+    pub fn get(&self, number: u64) -> Option<V>
+        ensures { result ≡ value_of self.now number }
+    {
+        self.entries.get(&number).copied()
+    }
+
     /// The lowest number, and what stands under it.
     pub fn first(&self) -> Option<(u64, V)>
         ensures stands { IfSome result (λ entry. value_of self.now entry.0 ≡ Some entry.1) }

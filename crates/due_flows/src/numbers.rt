@@ -39,7 +39,11 @@ impl Numbers {
     }
 
     /// The number comes in, if there is one.
-    fn add(&mut self, number: Option<u64>) -> Result<(), AllocError>
+    ///
+    /// # Errors
+    ///
+    /// Memory was refused; then all stays as it was.
+    pub fn add(&mut self, number: Option<u64>) -> Result<(), AllocError>
         ensures { OnOk result ((n : ℕ) → has self.new n ≡ (has self.old n || is_number number n)) }
     {
         match number {
