@@ -1,5 +1,5 @@
 -- The list of links that may be given more credit, behind one more event, and where it is empty.
-use Rattle.std.proofs.Common.{◌≡◌, refl, sym, ap, subst, ◌∙◌, ℕ, ◌<◌, Bool, true, false, not, ◌&&◌, ◌||◌, ◌⊎◌, ◌↔◌, inl, inr, List, [], ◌∷◌, length, Option, Some, None, is_some, option_map, if◌then◌else◌, ◌==◌, eqb-true, eq-eqb, arith}
+use Rattle.std.proofs.Common.{◌≡◌, refl, sym, ap, ◌∙◌, ℕ, ◌<◌, Bool, true, false, not, ◌&&◌, ◌||◌, ◌↔◌, inl, inr, List, ◌∷◌, length, Option, Some, None, option_map, if◌then◌else◌, ◌==◌, eqb-true, arith}
 use Rattle.std.specs.Prelude.{Contains}
 use Rattle.capture_form.specs.Rules.{RuleText}
 use Rattle.trace_events.specs.Words.{is_some_and, where_passes}
@@ -9,7 +9,6 @@ use Rattle.trace_events.specs.Address.{has_consumer}
 use Rattle.trace_events.specs.Ends.{ends_link}
 use Rattle.trace_events.specs.Incoming.{is_aborted, is_complete, is_settled, is_told}
 use Rattle.trace_events.specs.Link.{IsLiveLink, is_producer, is_live, live_links, own_link}
-use Rattle.trace_events.specs.Settling.{is_closed}
 use Rattle.trace_events.specs.Waiting.{is_undecided, is_unpaired, always_had_consumer}
 use Rattle.trace_clauses.specs.Clauses.{first_broken}
 use Rattle.trace_clauses.specs.FlowClause.{may_be_topped_up}

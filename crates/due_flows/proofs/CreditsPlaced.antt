@@ -1,5 +1,5 @@
 -- A live link is found at its place.
-use Rattle.std.proofs.Common.{◌≡◌, sym, ap, ◌∙◌, ℕ, List, Option, Some}
+use Rattle.std.proofs.Common.{◌≡◌, ap, ◌∙◌, List, Some}
 use Rattle.trace_events.specs.Event.{Event, Link}
 use Rattle.trace_events.specs.declared.session.Session.{Session}
 use Rattle.trace_events.specs.Session.{live_session}

@@ -1,9 +1,9 @@
 -- What is put among the candidates stays there.
-use Rattle.std.proofs.Common.{◌≡◌, refl, sym, ap, ◌∙◌, ℕ, Bool, true, false, ◌||◌, List, Option, Some, None, is_some, option_map, if◌then◌else◌, ◌==◌, eq-eqb}
+use Rattle.std.proofs.Common.{◌≡◌, refl, ap, ◌∙◌, ℕ, Bool, true, false, ◌||◌, Option, Some, None, is_some, option_map, if◌then◌else◌, eq-eqb}
 use Rattle.trace_events.specs.Words.{is_number, where_passes}
-use Rattle.trace_events.specs.Event.{Event, Link, Incoming}
+use Rattle.trace_events.specs.Event.{Link, Incoming}
 use Rattle.trace_events.specs.Link.{is_producer}
-use Rattle.audit_held.specs.EntryAnswers.{Knows, delivery_in, has_number}
+use Rattle.audit_held.specs.EntryAnswers.{Knows, has_number}
 use Rattle.audit_held.specs.Held.{Held}
 use Rattle.audit_held.specs.HeldTables.{held_in}
 use Rattle.audit_held.specs.declared.deliveries.Deliveries.{Deliveries}

@@ -1,11 +1,9 @@
 -- The links that drain behind one more event, and what waits for them.
-use Rattle.std.proofs.Common.{◌≡◌, refl, sym, ap, subst, ◌∙◌, ℕ, ◌<◌, ◌≤◌, ◌-◌, Bool, true, false, not, ◌&&◌, ◌||◌, ◌⊎◌, inl, inr, List, [], ◌∷◌, length, Option, Some, None, is_some, option_map, option_and_then, filter_map, nat_lt, bytes_eq, if◌then◌else◌, ◌==◌, eqb-true, eq-eqb, ltb-true, lt-ltb, arith}
+use Rattle.std.proofs.Common.{◌≡◌, refl, sym, ap, subst, ◌∙◌, ℕ, ◌<◌, ◌≤◌, ◌-◌, Bool, true, false, not, ◌&&◌, ◌||◌, ◌⊎◌, inl, inr, List, [], ◌∷◌, length, Option, Some, None, is_some, option_map, option_and_then, nat_lt, bytes_eq, if◌then◌else◌, ◌==◌, eqb-true, ltb-true, lt-ltb, arith}
 use Rattle.std.specs.Prelude.{Contains}
-use Rattle.std.specs.List.{list_any, cons_option}
+use Rattle.std.specs.List.{cons_option}
 use Rattle.std.proofs.lemmas.Slice.Eq.{bytes_eq-Decides}
-use Rattle.amqp_perf.specs.Meaning.{Meaning, AnOpen, ABegin, AnAttach, AFlow, ATransfer, ADisposition, ADetach, AnEnd, AClose, flag}
-use Rattle.pairing_cert.specs.declared.note.Note.{Note}
-use Rattle.pairing_cert.specs.declared.note.Note.TheVariants as notes
+use Rattle.amqp_perf.specs.Meaning.{Meaning, AnOpen, ABegin, AnAttach, AFlow, ATransfer, ADisposition, ADetach, AnEnd, AClose}
 use Rattle.capture_form.specs.Rules.{RuleText}
 use Rattle.flow_counts.specs.Credit as counts
 use Rattle.flow_counts.specs.Credit.{LinkEvent, TheirFlow, OurFlow, Begun}
@@ -14,15 +12,15 @@ use Rattle.trace_events.specs.Frame.{Frame, Spoken, spoken_in}
 use Rattle.trace_events.specs.Event.{Event, Link, Incoming, Outgoing, Moment, Opened, In, Out, Lost, Broken, in_frame, is_on_link}
 use Rattle.trace_events.specs.Said.{out_transfer}
 use Rattle.trace_events.specs.Address.{has_consumer, is_consumer_of}
-use Rattle.trace_events.specs.Link.{IsLiveLink, is_consumer, is_live, links, link_at, own_link}
-use Rattle.trace_events.specs.Credit.{link_event, link_events, in_link_event, out_link_event, begins_incoming, begins_outgoing, link_credit, is_draining}
+use Rattle.trace_events.specs.Link.{IsLiveLink, is_consumer, is_live, links, link_at}
+use Rattle.trace_events.specs.Credit.{link_event, link_events, in_link_event, out_link_event, begins_incoming, begins_outgoing, link_credit}
 use Rattle.trace_events.specs.Incoming.{address_of, completes, is_complete, incoming_at, incoming_begun, incoming_deliveries}
 use Rattle.trace_events.specs.Outgoing.{outgoing_begun, names, is_paired, is_named_on}
 use Rattle.trace_events.specs.Queue.{pairs}
 use Rattle.trace_events.specs.Due.{is_due, is_unsent, has_unsent, makes_due, due_count}
-use Rattle.trace_events.specs.Waiting.{is_of_multicast, is_unpaired, is_waiting, always_had_consumer, has_waiting}
+use Rattle.trace_events.specs.Waiting.{is_of_multicast, is_waiting, always_had_consumer, has_waiting}
 use Rattle.trace_clauses.specs.Clauses.{first_broken}
-use Rattle.trace_clauses.specs.FlowClause.{nothing_waits, may_be_drained}
+use Rattle.trace_clauses.specs.FlowClause.{nothing_waits}
 use Rattle.trace_events.proofs.Along.{and_first, and_last, some_passes}
 use Rattle.trace_events.proofs.DueSteps.{is_unsent-stays}
 use Rattle.trace_events.proofs.EveryStep.{is_paired-step}
@@ -34,7 +32,7 @@ use Rattle.trace_events.proofs.Links as known
 use Rattle.trace_events.proofs.OutgoingSteps.{names_on}
 use Rattle.trace_clauses.proofs.BegunDeliveries.{begun-own, begun-written, begun-carries}
 use Rattle.trace_clauses.proofs.IncomingProgress.{judged-kept}
-use Rattle.trace_clauses.proofs.Parts.{IsKept, AllOf, each_delivery}
+use Rattle.trace_clauses.proofs.Parts.{IsKept, each_delivery}
 use Rattle.trace_clauses.proofs.WaitingQueue.{completed_once, all_contained}
 use Rattle.due_flows.specs.Draining.{IsDraining, is_drain, asks_drain, writes_part}
 use Rattle.due_flows.proofs.LiveOnes.{link-before, link-found, link-lives}

@@ -1,5 +1,5 @@
 -- The list of links that drain, behind one more event, and where it is empty.
-use Rattle.std.proofs.Common.{◌≡◌, refl, sym, ap, ◌∙◌, ℕ, Bool, true, false, not, ◌&&◌, ◌⊎◌, ◌↔◌, inl, inr, List, ◌∷◌, Option, Some, None, is_some, nat_lt, ◌==◌, eqb-true}
+use Rattle.std.proofs.Common.{◌≡◌, refl, sym, ap, ◌∙◌, ℕ, Bool, true, false, not, ◌&&◌, ◌↔◌, inl, inr, List, ◌∷◌, Some, None, nat_lt, ◌==◌, eqb-true}
 use Rattle.std.specs.Prelude.{Contains}
 use Rattle.capture_form.specs.Rules.{RuleText}
 use Rattle.trace_events.specs.Event.{Event, Link}
@@ -14,7 +14,7 @@ use Rattle.trace_duties.proofs.QuietLists.{all-each}
 use Rattle.audit_addresses.specs.ConsumerLinks.{has_number, consumer_at}
 use Rattle.due_flows.specs.Draining.{IsDraining, IsDrainable, asks_drain, writes_part}
 use Rattle.due_flows.proofs.LiveOnes.{live_links-live}
-use Rattle.due_flows.proofs.DrainingLinks.{IsWrittenFor, draining-before, nothing-before}
+use Rattle.due_flows.proofs.DrainingLinks.{draining-before, nothing-before}
 use Rattle.due_flows.proofs.PartsDue.{consumer-found}
 use Rattle.due_flows.proofs.PartsFollowed.{not-ended}
 

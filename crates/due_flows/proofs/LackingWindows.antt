@@ -1,17 +1,17 @@
 -- The sessions that lack window behind one more event.
-use Rattle.std.proofs.Common.{◌≡◌, refl, sym, ap, subst, ◌∙◌, ℕ, ◌+◌, ◌-◌, ◌≤◌, Bool, true, false, ◌&&◌, ◌⊎◌, inl, inr, List, [], ◌∷◌, length, Option, Some, None, filter_map, nat_le, if◌then◌else◌, ◌==◌, leb-true, le-leb, arith}
+use Rattle.std.proofs.Common.{◌≡◌, refl, sym, ap, ◌∙◌, ◌+◌, ◌≤◌, Bool, true, false, ◌&&◌, ◌⊎◌, inl, inr, List, [], ◌∷◌, length, Option, Some, None, nat_le, if◌then◌else◌, ◌==◌, leb-true, le-leb, arith}
 use Rattle.std.specs.List.{cons_option}
 use Rattle.capture_form.specs.Rules.{RuleText}
 use Rattle.flow_counts.specs.declared.events.WindowEvent.{WindowEvent}
 use Rattle.flow_counts.specs.declared.events.WindowEvent.TheVariants.{TheirFlow, Sent, OurFlow, Received}
-use Rattle.flow_counts.specs.declared.profile.TheConstants.{INCOMING_WINDOW, RENEWAL_MARK}
+use Rattle.flow_counts.specs.declared.profile.TheConstants.{RENEWAL_MARK}
 use Rattle.flow_counts.specs.GivenWindow as given
 use Rattle.flow_counts.specs.GivenWindow.{received_since_flow}
 use Rattle.trace_events.specs.Words.{is_some_and}
 use Rattle.trace_events.specs.Event.{Event, is_on_session}
 use Rattle.trace_events.specs.declared.session.Session.{Session}
 use Rattle.trace_events.specs.Session.{IsLiveOn}
-use Rattle.trace_events.specs.Window.{window_event, window_events, given_window}
+use Rattle.trace_events.specs.Window.{window_event, window_events}
 use Rattle.trace_events.proofs.Along.{and_first}
 use Rattle.trace_events.proofs.Judged.{AreJudged}
 use Rattle.trace_events.proofs.SessionNumbers.{judged-event_session, own_session-number}

@@ -1,5 +1,5 @@
 -- The sessions and links of a judged history that live: those of its lists, and those behind one more event.
-use Rattle.std.proofs.Common.{◌≡◌, refl, sym, ap, subst, ◌∙◌, ℕ, ◌<◌, Bool, true, false, ◌&&◌, not, ◌⊎◌, inl, inr, List, [], ◌∷◌, length, Option, Some, None, option_and_then, filter, find, if◌then◌else◌, ◌==◌, eqb-true, eq-eqb}
+use Rattle.std.proofs.Common.{◌≡◌, refl, sym, ap, subst, ◌∙◌, ℕ, ◌<◌, Bool, true, false, not, ◌⊎◌, inl, inr, List, [], ◌∷◌, length, Option, Some, None, option_and_then, filter, find, if◌then◌else◌, ◌==◌, eqb-true, eq-eqb}
 use Rattle.std.specs.Prelude.{Contains, filter_map}
 use Rattle.std.specs.List.{AllByRecursion, cons_option}
 use Rattle.capture_form.specs.Rules.{RuleText}
@@ -16,7 +16,6 @@ use Rattle.trace_events.proofs.LinkLives.{judged-stands}
 use Rattle.trace_events.proofs.LinkNumbers.{links-found}
 use Rattle.trace_events.proofs.SessionNumbers.{last_session-known, sessions-found, judged-event_session, one_number}
 use Rattle.trace_events.proofs.Sessions.{IsKnown}
-use Rattle.trace_events.proofs.Standing.{live-on}
 use Rattle.trace_clauses.proofs.LinkEnds.{lives-live, is_live-next, judged-is_live_session}
 use Rattle.trace_clauses.proofs.WaitingQueue.{contains_none, contains_cases, contains_first, contains_later}
 

@@ -1,8 +1,7 @@
 -- The part that is due on a link, by the tables.
-use Rattle.std.proofs.Common.{◌≡◌, refl, sym, ap, ◌∙◌, ℕ, ◌<◌, ◌≤◌, ◌%◌, ◌^◌, Bool, true, false, not, ◌&&◌, List, length, take, drop, Option, Some, None, is_some, option_map, unwrap_or, if◌then◌else◌, arith}
+use Rattle.std.proofs.Common.{◌≡◌, refl, sym, ap, ◌∙◌, ℕ, ◌<◌, ◌≤◌, ◌%◌, ◌^◌, Bool, true, false, not, ◌&&◌, List, length, Option, Some, None, is_some, option_map, unwrap_or, if◌then◌else◌, arith}
 use Rattle.std.proofs.lemmas.List.{length-take}
 use Rattle.capture_form.specs.Rules.{RuleText}
-use Rattle.pairing_cert.specs.declared.note.Note.{Note}
 use Rattle.trace_events.specs.Words.{where_passes}
 use Rattle.trace_events.specs.Event.{Event, Link, Incoming, Outgoing}
 use Rattle.trace_events.specs.Link.{IsLiveLink, is_consumer, is_live, link_at}

@@ -1,7 +1,6 @@
 -- The list of deliveries that may go on, behind one more event, and where it is empty.
-use Rattle.std.proofs.Common.{◌≡◌, refl, sym, ap, ◌∙◌, ℕ, Bool, true, false, not, ◌&&◌, ◌||◌, ◌⊎◌, ◌↔◌, inl, inr, List, [], ◌∷◌, Option, Some, None, is_some, nat_lt, if◌then◌else◌, ◌==◌, eqb-true, eq-eqb}
+use Rattle.std.proofs.Common.{◌≡◌, refl, sym, ap, ◌∙◌, ℕ, Bool, true, false, not, ◌&&◌, ◌||◌, ◌↔◌, inl, inr, List, [], ◌∷◌, Some, None, is_some, ◌==◌, eqb-true}
 use Rattle.std.specs.Prelude.{Contains}
-use Rattle.std.specs.List.{list_any}
 use Rattle.capture_form.specs.Rules.{RuleText}
 use Rattle.trace_events.specs.Words.{is_some_and}
 use Rattle.trace_events.specs.Event.{Event, Link, Outgoing}
@@ -10,7 +9,6 @@ use Rattle.trace_events.specs.Ends.{ends_link}
 use Rattle.trace_events.specs.Link.{IsLiveLink, is_consumer, is_live, live_links, link_at}
 use Rattle.trace_events.specs.Outgoing.{in_progress}
 use Rattle.trace_clauses.specs.Clauses.{first_broken}
-use Rattle.trace_events.proofs.Along.{and_first, and_last}
 use Rattle.trace_events.proofs.Judged.{AreJudged}
 use Rattle.trace_clauses.proofs.LinkEnds.{is_live-next}
 use Rattle.trace_clauses.proofs.WaitingQueue.{contains_first, contains_later}

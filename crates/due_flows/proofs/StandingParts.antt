@@ -1,5 +1,5 @@
 -- The deliveries in progress behind one more event, and the window of their sessions.
-use Rattle.std.proofs.Common.{◌≡◌, refl, sym, ap, subst, ◌∙◌, ℕ, ◌<◌, ◌-◌, Bool, true, false, ◌&&◌, ◌⊎◌, inl, inr, List, [], ◌∷◌, length, Option, Some, None, is_some, filter_map, nat_lt, if◌then◌else◌, ◌==◌, ltb-true, lt-ltb, eqb-true, arith}
+use Rattle.std.proofs.Common.{◌≡◌, refl, ap, ◌∙◌, ℕ, Bool, true, false, ◌⊎◌, inl, inr, List, ◌∷◌, Option, Some, None, is_some, nat_lt, if◌then◌else◌, ◌==◌, ltb-true, lt-ltb, arith}
 use Rattle.std.specs.List.{cons_option}
 use Rattle.capture_form.specs.Rules.{RuleText}
 use Rattle.flow_counts.specs.declared.events.WindowEvent.{WindowEvent}
@@ -9,9 +9,9 @@ use Rattle.trace_events.specs.Words.{is_some_and}
 use Rattle.trace_events.specs.Event.{Event, Link, Outgoing, is_on_session}
 use Rattle.trace_events.specs.declared.session.Session.{Session}
 use Rattle.trace_events.specs.Session.{IsLiveOn}
-use Rattle.trace_events.specs.Link.{IsLiveLink, is_consumer, own_link}
+use Rattle.trace_events.specs.Link.{own_link}
 use Rattle.trace_events.specs.Outgoing.{in_progress}
-use Rattle.trace_events.specs.Window.{window_event, window_events, session_window}
+use Rattle.trace_events.specs.Window.{window_event, window_events}
 use Rattle.trace_clauses.specs.Clauses.{first_broken}
 use Rattle.trace_events.proofs.Along.{and_first}
 use Rattle.trace_events.proofs.Judged.{AreJudged}

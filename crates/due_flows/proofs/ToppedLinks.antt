@@ -1,5 +1,5 @@
 -- The links of producers that may be given more credit behind one more event.
-use Rattle.std.proofs.Common.{◌≡◌, refl, sym, ap, subst, ◌∙◌, ℕ, ◌<◌, ◌≤◌, ◌+◌, Bool, true, false, cond, not, ◌&&◌, ◌||◌, ◌⊎◌, inl, inr, List, [], ◌∷◌, length, Option, Some, None, is_some, option_and_then, find, nat_le, nat_lt, bytes_eq, if◌then◌else◌, ◌==◌, eqb-true, eq-eqb, leb-true, le-leb, arith}
+use Rattle.std.proofs.Common.{◌≡◌, refl, sym, ap, subst, ◌∙◌, ℕ, ◌<◌, ◌≤◌, ◌+◌, Bool, true, false, cond, not, ◌&&◌, ◌||◌, ◌⊎◌, inl, inr, List, [], ◌∷◌, length, Option, Some, None, option_and_then, nat_le, nat_lt, bytes_eq, if◌then◌else◌, ◌==◌, eqb-true, leb-true, le-leb, arith}
 use Rattle.std.specs.Prelude.{Contains}
 use Rattle.std.specs.List.{list_any, count_by, cons_option}
 use Rattle.std.proofs.lemmas.Slice.Eq.{bytes_eq-Decides}
@@ -14,12 +14,11 @@ use Rattle.trace_events.specs.Event.{Event, Link, Incoming, Outgoing, is_on_link
 use Rattle.trace_events.specs.declared.session.Session.{Session}
 use Rattle.trace_events.specs.Said.{in_transfer, in_disposition}
 use Rattle.trace_events.specs.Address.{has_consumer, has_multicast, is_consumer_of}
-use Rattle.trace_events.specs.Link.{IsLiveLink, is_consumer, is_producer, is_sender, is_live, links, link_at, own_link}
+use Rattle.trace_events.specs.Link.{IsLiveLink, is_consumer, is_sender, is_live, links, link_at, own_link}
 use Rattle.trace_events.specs.Credit.{link_event, link_events, given_credit}
 use Rattle.flow_counts.specs.GivenCredit as given
-use Rattle.trace_events.specs.Incoming.{address_of, completed_by, completes, is_aborted, is_complete, is_from, is_last_part, is_part, is_settled, is_told, incoming_at, incoming_deliveries, settles_id, settles_part, in_progress}
+use Rattle.trace_events.specs.Incoming.{address_of, completes, is_aborted, is_complete, is_from, is_last_part, is_part, is_settled, is_told, incoming_at, incoming_deliveries, settles_id}
 use Rattle.trace_events.specs.Outgoing.{outgoing_begun, names, is_paired}
-use Rattle.trace_events.specs.Queue.{pairs}
 use Rattle.trace_events.specs.Decided.{decides, decided_count, begins_undecided}
 use Rattle.trace_events.specs.Disposition.{covers_id}
 use Rattle.trace_events.specs.Ends.{ends_link}
@@ -33,12 +32,12 @@ use Rattle.trace_events.proofs.LinkNumbers.{links-found}
 use Rattle.trace_events.proofs.Links.{passing}
 use Rattle.trace_clauses.proofs.IncomingProgress.{judged-kept, progress-kept}
 use Rattle.trace_clauses.proofs.LinkEnds.{is_live-next}
-use Rattle.trace_clauses.proofs.Parts.{IsKept, IsPart, judged_is_part, record_part, each_delivery}
+use Rattle.trace_clauses.proofs.Parts.{IsKept, IsPart, record_part, each_delivery}
 use Rattle.trace_clauses.proofs.Undecided.{part_link}
 use Rattle.trace_clauses.proofs.UndecidedCount.{undecided_count_moves}
 use Rattle.trace_clauses.proofs.WaitingQueue.{all_contained, contains_cases, contains_first, contains_later}
-use Rattle.due_flows.specs.Topping.{IsProducing, IsToppable, IsDecidedOn, IsServedFirst, carried_number, consumer_opened, named, settles}
-use Rattle.due_flows.proofs.LiveOnes.{all-contained, event-session, link-before, link-found, link-lives}
+use Rattle.due_flows.specs.Topping.{IsDecidedOn, IsServedFirst, carried_number, named, settles}
+use Rattle.due_flows.proofs.LiveOnes.{all-contained, event-session, link-found, link-lives}
 use Rattle.due_flows.proofs.DrainingLinks.{on-link, waits-on}
 use Rattle.due_flows.proofs.Members.{some-passes, none-passes}
 

@@ -1,5 +1,5 @@
 -- The list of sessions that lack window, behind one more event, and where it is empty.
-use Rattle.std.proofs.Common.{◌≡◌, refl, sym, ap, ◌∙◌, ℕ, Bool, true, false, not, ◌⊎◌, inl, inr, List, ◌∷◌, Option, Some, None, Result, Ok, Err, OnOk, if◌then◌else◌, ◌==◌, eq-eqb}
+use Rattle.std.proofs.Common.{◌≡◌, refl, sym, ap, ◌∙◌, ℕ, Bool, true, false, not, inl, inr, List, ◌∷◌, Option, Some, None, Result, Ok, Err, OnOk, if◌then◌else◌, ◌==◌, eq-eqb}
 use Rattle.capture_form.specs.Rules.{RuleText}
 use Rattle.trace_events.specs.Event.{Event}
 use Rattle.trace_events.specs.declared.session.Session.{Session}

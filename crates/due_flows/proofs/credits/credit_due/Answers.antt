@@ -1,4 +1,4 @@
-use Rattle.std.proofs.Common.{◌≡◌, sym, ap, subst, ◌∙◌, true, false, Option, Some, None, arith}
+use Rattle.std.proofs.Common.{◌≡◌, sym, ap, ◌∙◌, arith}
 use Rattle.trace_events.specs.Event.{Link}
 use Rattle.trace_events.specs.Link.{IsLiveLink, is_producer}
 use Rattle.trace_events.specs.Session.{IsLiveOn}

@@ -1,4 +1,4 @@
-use Rattle.std.proofs.Common.{◌≡◌, sym, ap, subst, ◌∙◌, ℕ, true, Option, Some, None}
+use Rattle.std.proofs.Common.{◌≡◌, sym, ap, ◌∙◌, true, Option, Some, None}
 use Rattle.trace_events.specs.Event.{Incoming}
 use Rattle.trace_events.specs.Incoming.{incoming_at}
 use Rattle.trace_law.specs.View.{incoming_view}

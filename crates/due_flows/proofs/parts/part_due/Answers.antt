@@ -1,16 +1,15 @@
-use Rattle.std.proofs.Common.{◌≡◌, refl, sym, ap, ◌∙◌, ℕ, true, false, ◌&&◌, ◌<◌, ◌^◌, Option, Some, None, is_some, length, drop, nat_lt, ltb-true, lt-ltb, arith}
-use Rattle.trace_events.specs.Event.{Link, Incoming, Outgoing}
+use Rattle.std.proofs.Common.{◌≡◌, refl, sym, ap, ◌∙◌, true, false, ◌&&◌, ◌<◌, ◌^◌, Option, Some, None, is_some, length, drop, nat_lt, ltb-true, lt-ltb, arith}
+use Rattle.trace_events.specs.Event.{Link, Incoming}
 use Rattle.trace_events.specs.Link.{IsLiveLink}
 use Rattle.trace_events.specs.Incoming as incoming
 use Rattle.trace_events.specs.Outgoing as outgoing
 use Rattle.trace_events.specs.Outgoing.{in_progress}
 use Rattle.trace_events.specs.Window.{session_window}
-use Rattle.trace_duties.specs.Quiet.{stands_still}
 use Rattle.trace_clauses.specs.TransferClause.{to_carry}
 use Rattle.trace_law.specs.View.{link_view, incoming_view, outgoing_view}
 use Rattle.audit_held.proofs.GroupAnswers.{judged-of}
 use Rattle.audit_addresses.specs.ConsumerLinks.{consumer_at}
-use Rattle.due_flows.proofs.PartsDue.{found-consumer, carries, carried-noted, sent-so-far, still-link, still-same, still-going, still-window}
+use Rattle.due_flows.proofs.PartsDue.{found-consumer, carries, carried-noted, sent-so-far, still-link, still-going, still-window}
 use Rattle.due_flows.proofs.parts.part_due.Goals as goal
 
 pub returns-in_err-link-clause-found : goal.returns-in_err-link-clause-found

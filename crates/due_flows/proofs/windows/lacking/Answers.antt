@@ -1,4 +1,4 @@
-use Rattle.std.proofs.Common.{◌≡◌, sym, ap, ◌∙◌, true, nat_le, le-leb}
+use Rattle.std.proofs.Common.{sym, ap, ◌∙◌, nat_le, le-leb}
 use Rattle.flow_counts.specs.declared.profile.TheConstants.{RENEWAL_MARK}
 use Rattle.trace_events.specs.Session.{IsLiveOn}
 use Rattle.trace_events.proofs.Standing.{live-on}

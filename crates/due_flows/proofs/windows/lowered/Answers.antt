@@ -1,4 +1,4 @@
-use Rattle.std.proofs.Common.{◌≡◌, sym, ap, subst, ◌∙◌, ◌+◌, ◌≤◌, inl, inr, Some, nat_le, leb-true, arith}
+use Rattle.std.proofs.Common.{◌≡◌, sym, ap, subst, ◌∙◌, ◌+◌, inl, inr, Some, leb-true, arith}
 use Rattle.flow_counts.specs.declared.profile.TheConstants.{RENEWAL_MARK}
 use Rattle.trace_events.specs.History.{history}
 use Rattle.trace_events.specs.Session.{IsLiveOn}

@@ -1,5 +1,4 @@
-use Rattle.std.proofs.Common.{◌≡◌, refl, sym, ap, ◌∙◌, ℕ, true, Some}
-use Rattle.trace_events.specs.Event.{Event}
+use Rattle.std.proofs.Common.{◌≡◌, refl, ◌∙◌, ℕ, true}
 use Rattle.trace_law.specs.View.{event_view}
 use Rattle.due_flows.specs.Numbers.{has}
 use Rattle.due_flows.proofs.CreditsTouched.{put-more, put-here, named-producer}

@@ -1,4 +1,4 @@
-use Rattle.std.proofs.Common.{◌≡◌, refl, sym, ap, ◌∙◌, Option, Some, None, false, true, is_some}
+use Rattle.std.proofs.Common.{◌≡◌, refl, sym, ap, ◌∙◌, Option, None, false, true, is_some}
 use Rattle.number_groups.specs.OctetGroups.{is_member}
 use Rattle.trace_law.specs.declared.history.event.Link.{Link}
 use Rattle.audit_held.proofs.GroupAnswers.{judged-of}

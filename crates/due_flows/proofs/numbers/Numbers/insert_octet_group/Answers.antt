@@ -1,4 +1,4 @@
-use Rattle.std.proofs.Common.{nat_eq, subst, ◌<◌, ◌≤◌}
+use Rattle.std.proofs.Common.{subst, ◌<◌, ◌≤◌}
 use Rattle.number_groups.specs.OctetGroups.{numbers}
 use Rattle.due_flows.specs.Numbers.{has}
 use Rattle.due_flows.proofs.GroupMembers.{none-yet, one-more, all-in}

@@ -1,4 +1,4 @@
-use Rattle.std.proofs.Common.{◌≡◌, refl, sym, ap, ◌∙◌, Option, Some, None, false, true, is_some}
+use Rattle.std.proofs.Common.{◌≡◌, refl, sym, ap, ◌∙◌, Option, None, false, true, is_some}
 use Rattle.audit_held.proofs.GroupAnswers.{judged-of}
 use Rattle.due_flows.specs.Parts.{stands, waits}
 use Rattle.due_flows.specs.Numbers.{has}
