@@ -73,7 +73,7 @@ impl SentDeliveries {
     }
 
     /// How many octets of the delivery of this number were sent, counted in 64 bits; 0 of one that is not in the table.
-    fn sent_count(&self, number: u64) -> u64
+    pub fn sent_count(&self, number: u64) -> u64
         ensures { result ≡ sent_count_in self.now number }
     {
         match self.get(number) {

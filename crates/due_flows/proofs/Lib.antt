@@ -1,0 +1,14 @@
+pub mod Members
+pub mod LiveOnes
+pub mod LackingWindows
+pub mod StandingParts
+pub mod DrainingLinks
+pub mod ToppedLinks
+pub mod GroupMembers
+pub mod WindowsFollowed
+pub mod PartsFollowed
+pub mod PartsDue
+pub mod DrainsFollowed
+pub mod CreditsFollowed
+pub mod CreditsTouched
+pub mod CreditsPlaced

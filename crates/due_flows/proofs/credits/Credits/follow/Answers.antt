@@ -1,0 +1,17 @@
+use Rattle.std.proofs.Common.{sym, subst, List}
+use Rattle.trace_events.specs.History.{history}
+use Rattle.trace_events.proofs.Judged.{history-judged}
+use Rattle.trace_law.specs.View.{event_view}
+use Rattle.trace_law.specs.declared.history.event.Link.{Link}
+use Rattle.audit_tables.specs.EndedLinks.{AreEnded, views}
+use Rattle.due_flows.proofs.CreditsFollowed.{have-credits}
+use Rattle.due_flows.proofs.credits.Credits.follow.Goals as goal
+
+pub returns : goal.returns
+returns c = λ rules records r next are has.
+    let e = event_view c.args.event.now in
+    let past = history rules records in
+    let Ended : List Link → Type 0 = λ links. AreEnded e past (views links) in
+    let ended = subst Ended (sym c.deref.ensures.value) (c.in_ok-ended.ensures rules records r next.0 are.1.1.0) in
+    have-credits rules e past ((r, next.0), history-judged rules records) next.1 c.args.before.now are (views c.deref.result.now) ended
+    c.args.self.now c.end.new.self c.open.new.self c.touch.new.self c.wake.new.self c.end.ensures c.in_ok-open.ensures c.in_ok-touch.ensures c.in_ok-wake.ensures has

@@ -1,0 +1,11 @@
+pub mod Candidates
+pub mod Numbers
+pub mod Lent
+pub mod Lacking
+pub mod Standing
+pub mod Draining
+pub mod Topping
+pub mod Windows
+pub mod Parts
+pub mod Credits
+pub mod Drains

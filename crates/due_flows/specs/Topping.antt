@@ -1,0 +1,57 @@
+-- The links of producers that may be given more credit (part 2 of the standard, section 2.6.7; when: own rule), and the events
+-- that may bring one there.
+use Rattle.std.specs.Prelude.{◌≡◌, ℕ, Bool, true, false, List, Option, Some, None, option_and_then}
+use Rattle.capture_form.specs.Rules.{RuleText}
+use Rattle.pairing_cert.specs.declared.note.Note.{Note}
+use Rattle.pairing_cert.specs.declared.note.Note.TheVariants as notes
+use Rattle.trace_events.specs.Words.{is_some_and, where_passes}
+use Rattle.trace_events.specs.Event.{Event, Link, Incoming}
+use Rattle.trace_events.specs.Said.{in_disposition}
+use Rattle.trace_events.specs.Address.{has_consumer}
+use Rattle.trace_events.specs.Incoming.{incoming_at}
+use Rattle.trace_events.specs.Link.{IsLiveLink, is_consumer, is_producer, is_sender, own_link}
+use Rattle.trace_events.specs.Waiting.{is_undecided}
+use Rattle.trace_clauses.specs.FlowClause.{may_be_topped_up}
+
+-- a producer's live link
+pub record IsProducing (l : Link) (past : List Event) : Type 0 where
+  pub live : IsLiveLink l past
+  pub producer : is_producer l ≡ true
+
+-- which is to be given more credit
+pub record IsToppable (rules : List RuleText) (l : Link) (past : List Event) : Type 0 where
+  pub live : IsLiveLink l past
+  pub producer : is_producer l ≡ true
+  pub may : may_be_topped_up rules past l ≡ true
+
+-- the number of the delivery that a note names, and of the one that what the event is a part of carries
+abbrev pub named : Note → Option ℕ
+named (notes.Pair n) = Some n
+named notes.None = None
+named (notes.Told why) = None
+
+abbrev pub carried_number : Event → Option ℕ
+carried_number e = option_and_then (λ j. named j.note) e.outgoing
+
+-- a producer's disposition stands on its session
+abbrev pub settles : Event → Bool
+settles e = is_some_and (in_disposition e) (λ fields. is_sender fields.role)
+
+-- the consumer's link that the event opens
+abbrev pub consumer_opened : Event → Option Link
+consumer_opened e = where_passes is_consumer (own_link e)
+
+-- the event tells of, or carries, this undecided delivery of the link
+pub record IsDecidedOn (rules : List RuleText) (past : List Event) (l : Link) (number : Option ℕ) : Type 0 where
+  pub delivery : Incoming
+  pub is : number ≡ Some delivery.number
+  pub at : incoming_at delivery.number past ≡ Some delivery
+  pub undecided : is_undecided rules delivery past ≡ true
+  pub link : delivery.link ≡ l
+
+-- the event opens the first consumer's link of the address
+pub record IsServedFirst (e : Event) (past : List Event) (l : Link) : Type 0 where
+  pub consumer : Link
+  pub opened : consumer_opened e ≡ Some consumer
+  pub address : consumer.address ≡ l.address
+  pub unserved : has_consumer l.address past ≡ false

@@ -1,0 +1,265 @@
+//! The links of producers that may be given more credit (part 2 of the standard, section 2.6.7).
+
+ghost use Rattle.std.specs.Prelude.{◌≡◌, ◌∷◌, ℕ, List, [], Some, None, IfSome, OnOk, false, is_some, nat_eq, option_map, true};
+ghost use Rattle.capture_form.specs.Rules.{RuleText};
+ghost use Rattle.capture_form.specs.declared.records.Record.{Record};
+ghost use Rattle.number_groups.specs.Groups.{is_member};
+ghost use Rattle.number_groups.specs.OctetGroups as octets;
+ghost use Rattle.trace_events.specs.Address as addresses;
+ghost use Rattle.trace_events.specs.Event as law;
+ghost use Rattle.trace_events.specs.History.{history};
+ghost use Rattle.trace_events.specs.Link.{IsLiveLink, is_producer, own_link};
+ghost use Rattle.trace_events.specs.Words.{is_some_and, where_passes};
+ghost use Rattle.trace_clauses.specs.FlowClause.{may_be_topped_up};
+ghost use Rattle.trace_duties.specs.Quiet.{none_lacks_credit};
+ghost use Rattle.audit_held.specs.EntryAnswers.{Knows};
+ghost use Rattle.audit_tables.specs.Connections.{IsLawfulNext};
+ghost use Rattle.audit_tables.specs.EndedLinks.{views};
+ghost use Rattle.audit_addresses.specs.ConsumerLinks.{has_number};
+ghost use Rattle.due_flows.specs.Lent.{AreOf};
+ghost use Rattle.due_flows.specs.Topping.{IsToppable, carried_number, consumer_opened, settles};
+ghost use Rattle.due_flows.specs.Credits.{HasCredits, AreEndedIn, AreOpenedIn, AreTouchedIn, AreWokenIn, place_of};
+ghost use Rattle.trace_law.specs.View.{Events, event_view, link_view};
+
+use crate::candidates::Candidates;
+use crate::numbers::Numbers;
+use amqp_perf::Role;
+use audit_answers::Looked;
+use capture_form::{Distribution, Rule, distribution_of};
+use flow_counts::LOW_MARK;
+use number_groups::{Groups, OctetGroups};
+use pairing_cert::Note;
+use std::alloc::{AllocError, Global};
+use trace_law::{Counts, Event, Inputs, Link};
+
+/// Where a link is found.
+#[derive(Clone, Copy, Debug)]
+pub struct Place {
+    connection: u32,
+    channel: u16,
+    handle: u32,
+}
+
+/// The links of producers.
+#[derive(Drop)]
+pub struct Credits {
+    alloc: Global,
+    /// Where each is found, by its number.
+    places: Candidates<Place>,
+    /// All of them, by their sessions and by their addresses.
+    of_session: Groups<u64>,
+    of_address: OctetGroups,
+    /// Those that may be given more credit.
+    links: Numbers,
+}
+
+impl Credits {
+    /// No records.
+    pub fn new(alloc: Global) -> Credits
+        ensures { (rules : List RuleText) → HasCredits rules result [] }
+    {
+        Credits {
+            alloc,
+            places: Candidates::new(alloc),
+            of_session: Groups::new(alloc),
+            of_address: OctetGroups::new(alloc),
+            links: Numbers::new(alloc),
+        }
+    }
+
+    /// The event follows; `before` are the tables without it.
+    ///
+    /// # Errors
+    ///
+    /// Memory was refused; then a link that may be given more credit may not be found.
+    pub fn follow(&mut self, event: &Event, before: &Looked<'_>) -> Result<(), AllocError>
+        ensures { OnOk result ((rules : List RuleText) (records : List Record) (r : Record) → IsLawfulNext rules records r (event_view event.now) →
+            AreOf rules before.now (history rules records) → HasCredits rules self.old (history rules records) →
+            HasCredits rules self.new (event_view event.now ∷ history rules records)) }
+    {
+        let ended = before.links.ended(self.alloc, event)?;
+        self.end(&ended);
+        self.open(event)?;
+        self.touch(event, before)?;
+        self.wake(event, before)?;
+        Ok(())
+    }
+
+    /// These links are over.
+    fn end(&mut self, ended: &[Link])
+        ensures { AreEndedIn (views ended.now) self.old self.new }
+    {
+        for link in ended {
+            self.places.remove(link.number);
+            self.of_session.remove(&link.session.number, link.number);
+            self.of_address.remove(link.address, link.number);
+        }
+    }
+
+    /// The producer's link that the event opens comes in.
+    fn open(&mut self, event: &Event) -> Result<(), AllocError>
+        ensures { OnOk result (AreOpenedIn (event_view event.now) self.old self.new) }
+    {
+        let Some(link) = producer_opened(event) else {
+            return Ok(());
+        };
+        self.places.insert(link.number, place_of(&link))?;
+        self.of_session.insert(link.session.number, link.number)?;
+        self.of_address.insert(link.address, link.number)?;
+        Ok(())
+    }
+
+    /// The link that the event names, and those of the deliveries that it tells and carries, may be given more credit.
+    fn touch(&mut self, event: &Event, before: &Looked<'_>) -> Result<(), AllocError>
+        ensures { OnOk result (AreTouchedIn (event_view event.now) before.now self.old self.new) }
+    {
+        self.links.add(producer_named(event))?;
+        self.links.add(producer_of(event.told, before))?;
+        self.links.add(producer_of(carried(event), before))?;
+        Ok(())
+    }
+
+    /// So may those of the session on which a producer's disposition stands, and those of the address that has its first
+    /// consumer.
+    fn wake(&mut self, event: &Event, before: &Looked<'_>) -> Result<(), AllocError>
+        ensures { OnOk result (AreWokenIn (event_view event.now) before.now self.old self.new) }
+    {
+        if let Some(session) = settled_session(event) {
+            self.links.insert_group(&self.of_session, session)?;
+        }
+        if let Some(address) = served(event, before) {
+            self.links.insert_octet_group(&self.of_address, address)?;
+        }
+        Ok(())
+    }
+
+    /// The live link with the lowest number that may be given more credit. Links below it are candidates no more.
+    pub fn first_due<'t>(&mut self, rules: &[Rule], looked: &Looked<'t>) -> Option<Link<'t>>
+        ensures due { IfSome result (λ link. (past : Events) → AreOf rules.now looked.now past → IsToppable rules.now (link_view link) past) }
+        ensures kept { (past : Events) → AreOf rules.now looked.now past → HasCredits rules.now self.old past → HasCredits rules.now self.new past }
+        ensures quiet { (past : Events) → AreOf rules.now looked.now past → HasCredits rules.now self.old past → result ≡ None →
+            none_lacks_credit rules.now past ≡ true }
+    {
+        while let Some(number) = self.links.first() {
+            if let Some(link) = credit_due(number, self.places.get(number), rules, looked) {
+                return Some(link);
+            }
+            self.links.remove(number);
+        }
+        None
+    }
+}
+
+fn place_of(link: &Link) -> Place
+    ensures { result ≡ place_of (link_view link.now) }
+{
+    Place {
+        connection: link.session.connection,
+        channel: link.session.channel,
+        handle: link.handle,
+    }
+}
+
+/// The producer's link that the event opens.
+fn producer_opened<'a>(event: &Event<'a>) -> Option<Link<'a>>
+    ensures { option_map link_view result ≡ where_passes is_producer (own_link (event_view event.now)) }
+{
+    match event.link {
+        Some(link) if link.number == event.number && link.role == Role::Receiver => Some(link),
+        _ => None,
+    }
+}
+
+/// The number of the producer's link that the event names.
+fn producer_named(event: &Event) -> Option<u64>
+    ensures { result ≡ option_map (λ (l : law.Link). l.number) (where_passes is_producer (event_view event.now).link) }
+{
+    match event.link {
+        Some(link) if link.role == Role::Receiver => Some(link.number),
+        _ => None,
+    }
+}
+
+/// The number of the delivery that the one carries of which the event is a part.
+fn carried(event: &Event) -> Option<u64>
+    ensures { result ≡ carried_number (event_view event.now) }
+{
+    match event.outgoing?.note {
+        Note::Pair(number) => Some(number),
+        Note::None | Note::Told(_) => None,
+    }
+}
+
+/// The number of the link of the delivery of this number, where the tables have it.
+fn producer_of(number: Option<u64>, before: &Looked<'_>) -> Option<u64>
+    ensures { (rules : List RuleText) (past : Events) → AreOf rules before.now past → (d : law.Incoming) → number ≡ Some d.number →
+        Knows before.now.deliveries.now d → result ≡ Some d.link.number }
+{
+    Some(before.deliveries.incoming_at(number?)?.link.number)
+}
+
+/// The session on which a producer's disposition stands.
+fn settled_session(event: &Event) -> Option<u64>
+    ensures { (s : ℕ) → settles (event_view event.now) ≡ true → option_map (λ s. s.number) (event_view event.now).session ≡ Some s → result ≡ Some s }
+{
+    match event.in_disposition()?.role {
+        Role::Sender => Some(event.session?.number),
+        Role::Receiver => None,
+    }
+}
+
+/// The address of the consumer's link that the event opens, where it has none yet.
+fn served<'a>(event: &Event<'a>, before: &Looked<'_>) -> Option<&'a [u8]>
+    ensures { (rules : List RuleText) (past : Events) → AreOf rules before.now past → (l : law.Link) → consumer_opened (event_view event.now) ≡ Some l →
+        addresses.has_consumer l.address past ≡ false → option_map (λ octets. octets.now) result ≡ Some l.address }
+{
+    match event.link {
+        Some(link) if link.number == event.number && link.role == Role::Sender => {
+            if before.has_consumer(link.address) {
+                None
+            } else {
+                Some(link.address)
+            }
+        }
+        _ => None,
+    }
+}
+
+/// The link of this number, at its place, where it may be given more credit.
+fn credit_due<'t>(
+    number: u64,
+    place: Option<Place>,
+    rules: &[Rule],
+    looked: &Looked<'t>,
+) -> Option<Link<'t>>
+    ensures due { IfSome result (λ link. (past : Events) → AreOf rules.now looked.now past → IsToppable rules.now (link_view link) past) }
+    ensures found { (past : Events) → AreOf rules.now looked.now past → (l : law.Link) → l.number ≡ number → place ≡ Some (place_of l) →
+        IsToppable rules.now l past → is_some result ≡ true }
+{
+    let place = place?;
+    let session = looked.live_session(place.connection, place.channel)?;
+    let link = looked.session_link(session, place.handle)?;
+    if link.number == number && link.is_producer() && may_be_topped_up(rules, &link, looked) {
+        Some(link)
+    } else {
+        None
+    }
+}
+
+/// A producer's live link is to be given more credit: that and its undecided deliveries have come down so far, and someone
+/// may take its deliveries.
+fn may_be_topped_up(rules: &[Rule], link: &Link, looked: &Looked<'_>) -> bool
+    ensures { (past : Events) → AreOf rules.now looked.now past → IsLiveLink (link_view link.now) past →
+        result ≡ may_be_topped_up rules.now past (link_view link.now) }
+{
+    let given = u64::from(looked.given_credit(link));
+    given.saturating_add(looked.undecided_count(rules, link)) <= u64::from(LOW_MARK)
+        && (has_multicast(rules, link.address) || looked.has_consumer(link.address))
+}
+
+/// Each delivery of the address goes to all its consumers.
+fn has_multicast(rules: &[Rule], address: &[u8]) -> bool
+    ensures { result ≡ addresses.has_multicast rules.now address.now }
+{
+    matches!(distribution_of(rules, address), Distribution::Multicast)
+}

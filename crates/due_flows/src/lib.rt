@@ -1,0 +1,26 @@
+//! Lists of the work that sessions and links ask for: windows and credit to be given anew, deliveries to go on with, and
+//! drains to be answered. Each keeps candidates, among which is all that is due, is moved forward by one event after the
+//! other, and answers what is due with the lowest number, by the tables of `audit_answers`. An event touches what belongs
+//! to it alone: its session, its link, and those of its address that wait for it.
+//!
+//! - `windows`: the sessions whose window is to be given anew;
+//! - `parts`: the deliveries to consumers that may go on;
+//! - `credits`: the links of producers that may be given more credit;
+//! - `drains`: the links of consumers whose drain may be answered;
+//! - `candidates`, `numbers`: what may be to do, in the order of its numbers.
+//!
+//! In `specs/`, each list has a file of its name, which says what it has; `Lacking`, `Standing`, `Topping` and `Draining` are
+//! what they list, in the law's words; `Lent` is what the tables stand for.
+#![tactic(auto)]
+
+mod candidates;
+mod credits;
+mod drains;
+mod numbers;
+mod parts;
+mod windows;
+
+pub use credits::Credits;
+pub use drains::Drains;
+pub use parts::{DuePart, Parts};
+pub use windows::Windows;
