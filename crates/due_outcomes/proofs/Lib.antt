@@ -1,0 +1,7 @@
+mod GroupLists
+mod UnderKeys
+mod Spoken
+mod UnsettledSteps
+mod Passing
+mod SentEntries
+mod SettlingsDue
