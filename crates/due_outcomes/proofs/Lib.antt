@@ -2,6 +2,11 @@ mod GroupLists
 mod UnderKeys
 mod Spoken
 mod UnsettledSteps
+mod UntoldSteps
 mod Passing
 mod SentEntries
 mod SettlingsDue
+mod LostConsumers
+mod UntoldFollowed
+mod OutcomesDue
+mod OutcomeTables

@@ -9,7 +9,7 @@ pub if-such : {A : Type 0} (P Q : A → Type 0) (o : Option A) → ((x : A) → 
 if-such P Q None so h = tt
 if-such P Q (Some x) so h = so x h
 
-or-last : (a b : Bool) → b ≡ true → a || b ≡ true
+pub or-last : (a b : Bool) → b ≡ true → a || b ≡ true
 or-last true b is = refl
 or-last false b is = is
 

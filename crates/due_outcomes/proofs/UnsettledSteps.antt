@@ -24,11 +24,11 @@ use Rattle.due_outcomes.specs.SentNumbers.{Grows, IsUnder, KeepsAll}
 use Rattle.due_outcomes.specs.Unsettled.{HasUnsettled, is_decided, is_open}
 use Rattle.due_outcomes.specs.declared.unsettled.Unsettled.{Unsettled}
 
-and-both : (a b : Bool) → a && b ≡ true → (a ≡ true) × (b ≡ true)
+pub and-both : (a b : Bool) → a && b ≡ true → (a ≡ true) × (b ≡ true)
 and-both true b is = (refl, is)
 and-both false b is = absurd cc
 
-or-cases : (a b : Bool) → a || b ≡ true → (a ≡ true) ⊎ (b ≡ true)
+pub or-cases : (a b : Bool) → a || b ≡ true → (a ≡ true) ⊎ (b ≡ true)
 or-cases true b is = inl refl
 or-cases false b is = inr is
 
@@ -41,7 +41,7 @@ open-bits : (s stands : Bool) → not s && stands ≡ true → s ≡ false
 open-bits true stands is = absurd cc
 open-bits false stands is = refl
 
-some-of : (o : Option DispositionFields) → is_some_and o is_decisive ≡ true → is_some o ≡ true
+pub some-of : (o : Option DispositionFields) → is_some_and o is_decisive ≡ true → is_some o ≡ true
 some-of None is = absurd cc
 some-of (Some fields) is = refl
 

@@ -8,9 +8,13 @@
 #![tactic(auto)]
 
 mod candidates;
+mod outcome;
 mod sent_numbers;
 mod unsettled;
+mod untold;
 
 pub use candidates::Candidates;
+pub use outcome::DueOutcome;
 pub use sent_numbers::SentNumbers;
 pub use unsettled::Unsettled;
+pub use untold::Untold;
