@@ -10,3 +10,4 @@ mod LostConsumers
 mod UntoldFollowed
 mod OutcomesDue
 mod OutcomeTables
+mod StateOctets

@@ -4,12 +4,14 @@
 //!
 //! - `candidates`: numbers in their order;
 //! - `sent_numbers`: numbers by the deliveries to clients that they stand for: by their link, their session and their id there;
-//! - `unsettled`: the deliveries to settle with their consumers.
+//! - `unsettled`: the deliveries to settle with their consumers;
+//! - `untold`: the outcomes to tell, each with its row (`outcome`) and the state that it tells (`state`).
 #![tactic(auto)]
 
 mod candidates;
 mod outcome;
 mod sent_numbers;
+mod state;
 mod unsettled;
 mod untold;
 
