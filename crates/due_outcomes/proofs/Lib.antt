@@ -1,0 +1,13 @@
+mod GroupLists
+mod UnderKeys
+mod Spoken
+mod UnsettledSteps
+mod UntoldSteps
+mod Passing
+mod SentEntries
+mod SettlingsDue
+mod LostConsumers
+mod UntoldFollowed
+mod OutcomesDue
+mod OutcomeTables
+mod StateOctets

@@ -1,0 +1,177 @@
+-- What the tables say of deliveries to settle is what the law says, and what is forgotten is none of them.
+use Rattle.std.proofs.Common.{◌≡◌, refl, sym, ap, subst, ◌∙◌, ℕ, Bool, true, false, not, ◌&&◌, List, [], ◌∷◌, Option, Some, None, is_some, find, option_map, if◌then◌else◌, ◌==◌, eqb-true}
+use Rattle.std.specs.Prelude.{Contains}
+use Rattle.capture_form.specs.Rules.{RuleText}
+use Rattle.trace_events.specs.Words.{is_some_and, where_passes}
+use Rattle.trace_events.specs.Event.{Event, Incoming, Outgoing}
+use Rattle.trace_events.specs.Disposition.{terminal_state}
+use Rattle.trace_events.specs.Outgoing.{decision, first_deciding, noted, outgoing_deliveries}
+use Rattle.trace_events.specs.Settling.{is_closed, is_to_settle}
+use Rattle.trace_events.specs.Work.{carries_closed, stands_unsettled}
+use Rattle.trace_events.proofs.Judged.{AreJudged}
+use Rattle.trace_events.proofs.SettlingSteps.{is_to_settle-parts}
+use Rattle.trace_clauses.specs.Clauses.{first_broken}
+use Rattle.trace_clauses.proofs.WaitingQueue.{find_has}
+use Rattle.trace_duties.specs.Quiet.{none_is_unsettled}
+use Rattle.trace_duties.proofs.QuietLists.{all-each}
+use Rattle.audit_held.specs.EntryAnswers.{says_closed}
+use Rattle.audit_held.specs.HeldTables.{held_in}
+use Rattle.audit_held.proofs.CarriedHeld.{carried-closed, carried-of}
+use Rattle.audit_held.proofs.GroupAnswers.{judged-of}
+use Rattle.audit_sent.specs.Sent.{Sent, sent, outgoing_at, to_settle}
+use Rattle.audit_sent.specs.SentAnswers.{closes}
+use Rattle.audit_sent.specs.SentTables.{sent_in}
+use Rattle.audit_answers.specs.declared.looked.Looked.{Looked}
+use Rattle.due_outcomes.specs.Candidates.{has}
+use Rattle.due_outcomes.specs.LookedTables.{AreLooked}
+use Rattle.due_outcomes.specs.SentNumbers.{IsUnder}
+use Rattle.due_outcomes.specs.Settlings.{IsDueSettling, due_in, says_open, waits_in}
+use Rattle.due_outcomes.specs.Unsettled.{HasUnsettled, is_decided, is_open}
+use Rattle.due_outcomes.specs.declared.unsettled.Unsettled.{Unsettled}
+use Rattle.due_outcomes.proofs.SentEntries.{contained-at, contained-entry}
+
+same_some : {A : Type 0} (a b : A) → Some a ≡ Some b → a ≡ b
+same_some a b is = cc
+
+and-both : (a b : Bool) → a && b ≡ true → (a ≡ true) × (b ≡ true)
+and-both true b is = (refl, is)
+and-both false b is = absurd cc
+
+found-passes : {A : Type 0} (test : A → Bool) (xs : List A) (x : A) → find test xs ≡ Some x → test x ≡ true
+found-passes test [] x found = absurd cc
+found-passes test (y ∷ ys) x found = by (test y) refl found (found-passes test ys x)
+  where
+    by : (b : Bool) → test y ≡ b → (if b then Some y else find test ys) ≡ Some x → (find test ys ≡ Some x → test x ≡ true) → test x ≡ true
+    by true is found later = ap test (sym (same_some y x found)) ∙ is
+    by false is found later = later found
+
+some-map : {A B : Type 0} (f : A → B) (o : Option A) → is_some (option_map f o) ≡ is_some o
+some-map f None = refl
+some-map f (Some x) = refl
+
+-- nothing is decided on a pre-settled link
+settle-bits : {A : Type 0} (s stands : Bool) (o : Option A) (closed : Bool) → (not s && stands) && is_some (if s then None else o) && closed ≡ stands && (is_some (if s then None else o) && closed)
+settle-bits true true o closed = refl
+settle-bits true false o closed = refl
+settle-bits false true o closed = refl
+settle-bits false false o closed = refl
+
+waits-bits : (a b : Bool) → a ≡ true → b ≡ true → a && b ≡ true
+waits-bits a b is so = ap (λ x. x && b) is ∙ so
+
+-- what is to be settled is open, and decided
+settled-parts : (past : List Event) (j : Outgoing) → is_to_settle past j ≡ true → (is_open past j ≡ true) × (is_decided past j ≡ true)
+settled-parts past j is =
+    let all = and-both (is_open past j && is_decided past j) (carries_closed past j)
+    (settle-bits j.link.is_pre_settled (stands_unsettled past j) (first_deciding j past) (carries_closed past j) ∙ (sym (is_to_settle-parts past j) ∙ is)) in
+    and-both (is_open past j) (is_decided past j) all.0
+
+module _ (rules : List RuleText) (past : List Event) (looked : Looked) (stands : AreLooked rules looked past) where
+  are : AreJudged rules past
+  are = judged-of rules past stands.0
+
+  lawful : first_broken rules past ≡ None
+  lawful = stands.1.1.1.1.1.1.1.0
+
+  entry : (j : Outgoing) → Contains (outgoing_deliveries past) j → sent_in looked.sent.now j.number ≡ Some (sent past j)
+  entry j there = contained-entry rules past are looked.sent.now stands.1.1.1.1.1.1.1.1.entries j there
+
+  closings : (j : Outgoing) → outgoing_at j.number past ≡ Some j → closes (λ n. says_closed (held_in looked.deliveries.now n)) j.note ≡ carries_closed past j
+  closings j at =
+      let c = carried-of rules past are lawful (λ (k : Outgoing). k.number == j.number) j at in
+      ap (closes (λ n. says_closed (held_in looked.deliveries.now n))) c.named
+      ∙ (carried-closed rules past are lawful looked.deliveries.now stands.1.1.1.1.0.0 j c
+      ∙ sym (ap (λ note. is_some_and (noted note past) (is_closed past)) c.named ∙ ap (λ (o : Option Incoming). is_some_and o (is_closed past)) c.at))
+
+  -- its entry says so just where the law does
+  entry-settles : (j : Outgoing) → outgoing_at j.number past ≡ Some j → to_settle (sent past j) (closes (λ n. says_closed (held_in looked.deliveries.now n)) j.note) ≡ is_to_settle past j
+  entry-settles j at =
+      ap (λ b. is_open past j && is_some (option_map terminal_state (decision j past)) && b) (closings j at)
+      ∙ (ap (λ b. is_open past j && b && carries_closed past j) (some-map terminal_state (decision j past))
+      ∙ (settle-bits j.link.is_pre_settled (stands_unsettled past j) (first_deciding j past) (carries_closed past j) ∙ sym (is_to_settle-parts past j)))
+
+  abbrev settles : Sent → Bool
+  settles x = to_settle x (closes (λ n. says_closed (held_in looked.deliveries.now n)) x.delivery.note)
+
+  abbrev given : Option Sent → Option Outgoing
+  given o = option_map (λ (x : Sent). x.delivery) (where_passes settles o)
+
+  -- what the tables give is to be settled
+  pub due-is : (n : ℕ) (j : Outgoing) → due_in looked.sent.now looked.deliveries.now n ≡ Some j → IsDueSettling past j
+  due-is n j due = by (outgoing_at n past) refl (sym (ap given (stands.1.1.1.1.1.1.1.1.entries n)) ∙ due)
+    where
+      pass : (k : Outgoing) → outgoing_at n past ≡ Some k → (b : Bool) → is_to_settle past k ≡ b → option_map (λ (x : Sent). x.delivery) (if b then Some (sent past k) else None) ≡ Some j → IsDueSettling past j
+      pass k at true is gives =
+          let same : k ≡ j = same_some k j gives in
+          record {
+            there = subst (Contains (outgoing_deliveries past)) same (find_has (λ (x : Outgoing). x.number == n) (outgoing_deliveries past) k at);
+            due = ap (is_to_settle past) (sym same) ∙ is;
+          }
+      pass k at false is gives = absurd cc
+
+      by : (o : Option Outgoing) → outgoing_at n past ≡ o → given (option_map (sent past) o) ≡ Some j → IsDueSettling past j
+      by None at gives = absurd cc
+      by (Some k) at gives =
+          let number : k.number ≡ n = eqb-true k.number n (found-passes (λ (x : Outgoing). x.number == n) (outgoing_deliveries past) k at) in
+          let own : settles (sent past k) ≡ is_to_settle past k = entry-settles k (ap (λ m. outgoing_at m past) number ∙ at) in
+          pass k at (is_to_settle past k) refl (sym (ap (λ b. option_map (λ (x : Sent). x.delivery) (if b then Some (sent past k) else None)) own) ∙ gives)
+
+  -- and all that is to be settled they give
+  pub is-due : (j : Outgoing) → Contains (outgoing_deliveries past) j → is_to_settle past j ≡ true → is_some (due_in looked.sent.now looked.deliveries.now j.number) ≡ true
+  is-due j there is =
+      ap (λ o. is_some (given o)) (entry j there)
+      ∙ ap (λ b. is_some (option_map (λ (x : Sent). x.delivery) (if b then Some (sent past j) else None))) (entry-settles j (contained-at rules past are j there) ∙ is)
+
+  -- ---- what is forgotten
+
+  module _ (earlier later : Unsettled) (number : ℕ) (gone : waits_in (sent_in looked.sent.now number) ≡ false) (was : HasUnsettled earlier past)
+      (left : (n : ℕ) → has later.candidates n ≡ (has earlier.candidates n && not (number == n)))
+      (settled : (j : Outgoing) (n : ℕ) → (number == n) ≡ false → IsUnder earlier.numbers j n → IsUnder later.numbers j n)
+      (same : says_open (sent_in looked.sent.now number) ≡ true → later.numbers ≡ earlier.numbers) where
+    -- it is no decided one that is open
+    another : (j : Outgoing) → Contains (outgoing_deliveries past) j → is_open past j ≡ true → is_decided past j ≡ true → (number == j.number) ≡ false
+    another j there opens decides = by (number == j.number) refl
+      where
+        by : (b : Bool) → (number == j.number) ≡ b → (number == j.number) ≡ false
+        by false is = is
+        by true is =
+            let waits : waits_in (sent_in looked.sent.now number) ≡ true =
+            ap (λ n. waits_in (sent_in looked.sent.now n)) (eqb-true number j.number is)
+            ∙ (ap waits_in (entry j there) ∙ waits-bits (is_open past j) (is_some (option_map terminal_state (decision j past))) opens (some-map terminal_state (decision j past) ∙ decides)) in
+            let never : true ≡ false = sym waits ∙ gone in
+            absurd cc
+
+    stays : (j : Outgoing) → Contains (outgoing_deliveries past) j → is_open past j ≡ true → IsUnder later.numbers j j.number
+    stays j there opens = by (says_open (sent_in looked.sent.now number)) refl
+      where
+        apart : says_open (sent_in looked.sent.now number) ≡ false → (b : Bool) → (number == j.number) ≡ b → (number == j.number) ≡ false
+        apart shut false is = is
+        apart shut true is =
+            let says : says_open (sent_in looked.sent.now number) ≡ true =
+            ap (λ n. says_open (sent_in looked.sent.now n)) (eqb-true number j.number is) ∙ (ap says_open (entry j there) ∙ opens) in
+            let never : true ≡ false = sym says ∙ shut in
+            absurd cc
+
+        by : (b : Bool) → says_open (sent_in looked.sent.now number) ≡ b → IsUnder later.numbers j j.number
+        by true is = subst (λ numbers. IsUnder numbers j j.number) (sym (same is)) (was.found j there opens)
+        by false is = settled j j.number (apart is (number == j.number) refl) (was.found j there opens)
+
+    pub forgotten : HasUnsettled later past
+    forgotten = record {
+      decided = λ j there opens decides. left j.number
+          ∙ (ap (λ b. b && not (number == j.number)) (was.decided j there opens decides) ∙ ap not (another j there opens decides));
+      found = stays;
+    }
+
+  -- ---- where none is given, none is left
+
+  pub none-left : (unsettled : Unsettled) → HasUnsettled unsettled past
+      → ((n : ℕ) → has unsettled.candidates n ≡ true → is_some (due_in looked.sent.now looked.deliveries.now n) ≡ false) → none_is_unsettled past ≡ true
+  none-left unsettled kept none = all-each (λ j. not (is_to_settle past j)) (outgoing_deliveries past) (λ j there. by j there (is_to_settle past j) refl)
+    where
+      by : (j : Outgoing) → Contains (outgoing_deliveries past) j → (b : Bool) → is_to_settle past j ≡ b → not b ≡ true
+      by j there false is = refl
+      by j there true is =
+          let parts = settled-parts past j is in
+          let never : true ≡ false = sym (is-due j there is) ∙ none j.number (kept.decided j there parts.0 parts.1) in
+          absurd cc

@@ -1,0 +1,100 @@
+-- The deliveries that are decided and still unsettled, behind one more event: each was so before, or is one of which its
+-- consumer speaks with the event.
+use Rattle.std.proofs.Common.{◌≡◌, refl, sym, ap, subst, ◌∙◌, ◌⊎◌, inl, inr, ℕ, Bool, true, false, ◌&&◌, ◌||◌, not, List, ◌∷◌, Option, Some, None, IfSome, is_some, ◌==◌, eqb-true}
+use Rattle.std.specs.Prelude.{Contains}
+use Rattle.std.specs.List.{cons_option}
+use Rattle.amqp_perf.specs.Meaning.{DispositionFields}
+use Rattle.capture_form.specs.Rules.{RuleText}
+use Rattle.trace_events.specs.Words.{is_some_and}
+use Rattle.trace_events.specs.Event.{Event, Outgoing}
+use Rattle.trace_events.specs.Link.{is_live}
+use Rattle.trace_events.specs.Disposition.{is_decisive}
+use Rattle.trace_events.specs.Outgoing.{outgoing_begun, outgoing_deliveries, answering}
+use Rattle.trace_events.specs.Work.{stands_unsettled, keeps_unsettled, decides_now}
+use Rattle.trace_events.proofs.Judged.{AreJudged}
+use Rattle.trace_events.proofs.Links.{passing}
+use Rattle.trace_events.proofs.OutgoingLinks.{decision-begun}
+use Rattle.trace_events.proofs.SettlingSteps.{is_decided-step, stands_unsettled-step}
+use Rattle.trace_clauses.specs.Clauses.{first_broken}
+use Rattle.trace_clauses.proofs.BegunDeliveries.{IsBegun, judged-begun}
+use Rattle.trace_clauses.proofs.LinkEnds.{is_live-next}
+use Rattle.trace_clauses.proofs.WaitingQueue.{all_contained, contains_cases}
+use Rattle.due_outcomes.specs.Candidates.{has}
+use Rattle.due_outcomes.specs.SentNumbers.{Grows, IsUnder, KeepsAll}
+use Rattle.due_outcomes.specs.Unsettled.{HasUnsettled, is_decided, is_open}
+use Rattle.due_outcomes.specs.declared.unsettled.Unsettled.{Unsettled}
+
+pub and-both : (a b : Bool) → a && b ≡ true → (a ≡ true) × (b ≡ true)
+and-both true b is = (refl, is)
+and-both false b is = absurd cc
+
+pub or-cases : (a b : Bool) → a || b ≡ true → (a ≡ true) ⊎ (b ≡ true)
+or-cases true b is = inl refl
+or-cases false b is = inr is
+
+-- one of the deliveries behind the event began before it, or with it
+pub first-or-earlier : {A : Type 0} (o : Option A) (xs : List A) (x : A) → Contains (cons_option o xs) x → (o ≡ Some x) ⊎ Contains xs x
+first-or-earlier None xs x there = inr there
+first-or-earlier (Some y) xs x there = elim (contains_cases y xs x there) [ inl same ↦ inl (ap Some same) | inr later ↦ inr later ]
+
+open-bits : (s stands : Bool) → not s && stands ≡ true → s ≡ false
+open-bits true stands is = absurd cc
+open-bits false stands is = refl
+
+pub some-of : (o : Option DispositionFields) → is_some_and o is_decisive ≡ true → is_some o ≡ true
+some-of None is = absurd cc
+some-of (Some fields) is = refl
+
+module _ (rules : List RuleText) (e : Event) (past : List Event) (are : AreJudged rules (e ∷ past)) (lawful : first_broken rules past ≡ None) where
+  begun-all : (j : Outgoing) → Contains (outgoing_deliveries past) j → IsBegun past j
+  begun-all j there = all_contained (IsBegun past) (outgoing_deliveries past) j (judged-begun rules past are.1 lawful) there
+
+  -- what is open behind the event was before
+  open-before : (j : Outgoing) → IsBegun past j → is_open (e ∷ past) j ≡ true → is_open past j ≡ true
+  open-before j b is =
+      let stands = and-both (stands_unsettled past j) (keeps_unsettled e j)
+      (sym (stands_unsettled-step e past j (is_live-next rules e past are j.link b.linked.at)) ∙ (and-both (not j.link.is_pre_settled) (stands_unsettled (e ∷ past) j) is).1) in
+      ap (λ b. b && stands_unsettled past j) (and-both (not j.link.is_pre_settled) (stands_unsettled (e ∷ past) j) is).0 ∙ stands.0
+
+  -- what is decided was before, or its consumer speaks of it
+  decided-before : (j : Outgoing) → is_decided (e ∷ past) j ≡ true → (is_decided past j ≡ true) ⊎ (is_some (answering j e) ≡ true)
+  decided-before j is = elim (or-cases (is_decided past j) (is_live past j.link && decides_now e j) (sym (is_decided-step e past j) ∙ is)) [
+    | inl was ↦ inl was
+    | inr now ↦ inr (some-of (answering j e) (and-both (not j.link.is_pre_settled) (is_some_and (answering j e) is_decisive) (and-both (is_live past j.link) (decides_now e j) now).1).1)
+  ]
+
+  undecided-begun : (j : Outgoing) → outgoing_begun e ≡ Some j → is_decided (e ∷ past) j ≡ false
+  undecided-begun j begun =
+      let own = passing (λ (x : Outgoing). x.number == e.number) e.outgoing j begun in
+      ap is_some (decision-begun rules e past j are (eqb-true j.number e.number own.1))
+
+  module _ (earlier later : Unsettled) (was : HasUnsettled earlier past) (kept : KeepsAll earlier.numbers later.numbers)
+      (begun : IfSome (outgoing_begun e) (λ j. j.link.is_pre_settled ≡ false → IsUnder later.numbers j j.number)) (grown : Grows earlier.candidates later.candidates)
+      (answered : (j : Outgoing) (n : ℕ) → IsUnder later.numbers j n → is_some (answering j e) ≡ true → has later.candidates n ≡ true) where
+    decided-new : (j : Outgoing) → outgoing_begun e ≡ Some j → is_decided (e ∷ past) j ≡ true → has later.candidates j.number ≡ true
+    decided-new j is decides = let never : true ≡ false = sym decides ∙ undecided-begun j is in absurd cc
+
+    decided-old : (j : Outgoing) → Contains (outgoing_deliveries past) j → is_open (e ∷ past) j ≡ true → is_decided (e ∷ past) j ≡ true → has later.candidates j.number ≡ true
+    decided-old j there is decides =
+        let open_then = open-before j (begun-all j there) is in
+        elim (decided-before j decides) [
+          | inl then ↦ grown j.number (was.decided j there open_then then)
+          | inr now ↦ answered j j.number (kept j j.number (was.found j there open_then)) now
+        ]
+
+    found-new : (j : Outgoing) → outgoing_begun e ≡ Some j → is_open (e ∷ past) j ≡ true → IsUnder later.numbers j j.number
+    found-new j at is =
+        subst (λ (o : Option Outgoing). IfSome o (λ k. k.link.is_pre_settled ≡ false → IsUnder later.numbers k k.number)) at begun (open-bits j.link.is_pre_settled (stands_unsettled (e ∷ past) j) is)
+
+    -- so the list follows the event
+    pub unsettled-next : HasUnsettled later (e ∷ past)
+    unsettled-next = record {
+      decided = λ j there is decides. elim (first-or-earlier (outgoing_begun e) (outgoing_deliveries past) j there) [
+        | inl new ↦ decided-new j new decides
+        | inr old ↦ decided-old j old is decides
+      ];
+      found = λ j there is. elim (first-or-earlier (outgoing_begun e) (outgoing_deliveries past) j there) [
+        | inl new ↦ found-new j new is
+        | inr old ↦ kept j j.number (was.found j old (open-before j (begun-all j old) is))
+      ];
+    }

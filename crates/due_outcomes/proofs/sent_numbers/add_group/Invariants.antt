@@ -1,0 +1,8 @@
+use Rattle.std.proofs.Common.{◌≡◌, ℕ, ◌||◌, nat_eq, take}
+use Rattle.std.specs.List.{list_any}
+use Rattle.number_groups.specs.Groups.{numbers}
+use Rattle.due_outcomes.specs.Candidates.{has}
+use Rattle.due_outcomes.proofs.sent_numbers.add_group.Given as goal
+
+abbrev pub invariant-loop-index : goal.invariant-loop-index
+invariant-loop-index g l = (n : ℕ) → has l.candidates n ≡ (has l.fn.candidates n || list_any (nat_eq n) (take l.index (numbers g.K.PartialEq.eq l.groups l.key)))

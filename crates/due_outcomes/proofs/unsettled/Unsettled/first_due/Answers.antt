@@ -1,0 +1,23 @@
+use Rattle.std.proofs.Common.{◌≡◌, refl, sym, ℕ, List, Option, Some, None, IfSome, option_map}
+use Rattle.capture_form.specs.Rules.{RuleText}
+use Rattle.capture_form.specs.declared.records.Record.{Record}
+use Rattle.trace_events.specs.History.{history}
+use Rattle.trace_law.specs.View.{outgoing_view}
+use Rattle.trace_law.specs.declared.history.event.Outgoing.{Outgoing}
+use Rattle.audit_answers.specs.declared.looked.Looked.{Looked}
+use Rattle.due_outcomes.specs.LookedTables.{AreLooked}
+use Rattle.due_outcomes.specs.Settlings.{IsDueSettling, due_in}
+use Rattle.due_outcomes.proofs.SettlingsDue.{due-is, none-left}
+use Rattle.due_outcomes.proofs.unsettled.Unsettled.first_due.Goals as goal
+
+due-by : (looked : Looked) (n : ℕ) (o : Option Outgoing) → option_map outgoing_view o ≡ due_in looked.sent.now looked.deliveries.now n
+    → IfSome o (λ j. (rules : List RuleText) (records : List Record) → AreLooked rules looked (history rules records) → IsDueSettling (history rules records) (outgoing_view j))
+due-by looked n None is = tt
+due-by looked n (Some j) is = λ rules records stands. due-is rules (history rules records) looked stands n (outgoing_view j) (sym is)
+
+pub returns-in_err-number-clause-quiet : goal.returns-in_err-number-clause-quiet
+returns-in_err-number-clause-quiet c = λ none rules records stands was.
+    none-left rules (history rules records) c.args.looked.now stands c.forget_settled.new.self (c.forget_settled.ensures rules records stands was) (c.in_err-number.ensures.none refl)
+
+pub returns-clause-due : goal.returns-clause-due
+returns-clause-due c = due-by c.args.looked.now c.in_ok-number.number c.settling_of.result c.settling_of.ensures

@@ -1,0 +1,15 @@
+use Rattle.std.proofs.Common.{List}
+use Rattle.capture_form.specs.Rules.{RuleText}
+use Rattle.capture_form.specs.declared.records.Record.{Record}
+use Rattle.trace_events.specs.History.{history}
+use Rattle.due_outcomes.specs.Candidates.{count_of}
+use Rattle.due_outcomes.specs.LookedTables.{AreLooked}
+use Rattle.due_outcomes.specs.Unsettled.{HasUnsettled}
+use Rattle.due_outcomes.proofs.unsettled.Unsettled.forget_settled.Given as goal
+
+abbrev pub invariant-loop-number : goal.invariant-loop-number
+invariant-loop-number l = (rules : List RuleText) (records : List Record) → AreLooked rules l.looked (history rules records) → HasUnsettled l.fn.self (history rules records)
+    → HasUnsettled l.self (history rules records)
+
+abbrev pub decreases-loop-number : goal.decreases-loop-number
+decreases-loop-number l = count_of l.self.candidates

@@ -1,0 +1,36 @@
+use Rattle.std.proofs.Common.{ap, ◌∙◌, ◌∷◌, ◌&&◌, ◌||◌, nat_eq}
+use Rattle.std.specs.List.{list_any}
+use Rattle.number_groups.specs.Groups.{is_member}
+use Rattle.trace_events.specs.History.{history}
+use Rattle.trace_events.specs.Link.{is_consumer}
+use Rattle.trace_events.proofs.Judged.{AreJudged, history-judged}
+use Rattle.trace_law.specs.View.{event_view, link_view}
+use Rattle.audit_tables.specs.EndedLinks.{views}
+use Rattle.due_outcomes.specs.Candidates.{has}
+use Rattle.due_outcomes.specs.Untold.{waits_in}
+use Rattle.due_outcomes.proofs.GroupLists.{any-map}
+use Rattle.due_outcomes.proofs.UntoldFollowed.{followed}
+use Rattle.due_outcomes.proofs.UntoldSteps.{untold-next}
+use Rattle.due_outcomes.proofs.untold.Untold.follow.Goals as goal
+
+pub returns : goal.returns
+returns c = λ records r next stands was.
+    let rules = c.args.rules.now in
+    let e = event_view c.args.event.now in
+    let past = history rules records in
+    let are : AreJudged rules (e ∷ past) = ((r, next.0), history-judged rules records) in
+    let u2 = c.pair.new.self in
+    let items = c.in_ok-ended.ended.items in
+    untold-next rules e past are next.1 c.args.self.now c.add_waiting.new.self was
+    (followed rules e past are c.args.self.now c.complete.new.self u2 c.add_waiting.new.self c.add.new.candidates c.add_answered.new.candidates c.add_links.new.candidates (views items) c.carried_number.result
+    c.in_ok-complete.ensures.completed c.in_ok-complete.ensures.waits c.in_ok-complete.ensures.kept c.in_ok-complete.ensures.same
+    c.in_ok-pair.ensures.begun c.in_ok-pair.ensures.kept c.in_ok-pair.ensures.stay c.in_ok-pair.ensures.same
+    c.in_ok-add.ensures c.carried_number.ensures c.in_ok-add_answered.ensures.grown c.in_ok-add_answered.ensures.answered
+    (λ n. c.in_ok-add_links.ensures n
+    ∙ (ap (λ links. has c.add_answered.new.candidates n || list_any (λ l. is_member nat_eq u2.carried.of_link (link_view l).number n) links) c.deref.ensures.value
+    ∙ ap (λ b. has c.add_answered.new.candidates n || b) (any-map link_view (λ l. is_member nat_eq u2.carried.of_link l.number n) items)))
+    (λ n. c.in_ok-add_waiting.ensures.added n
+    ∙ (ap (λ links. has c.add_links.new.candidates n || list_any (λ l. is_consumer (link_view l) && waits_in u2 (link_view l).address n) links) c.deref-2.ensures.value
+    ∙ ap (λ b. has c.add_links.new.candidates n || b) (any-map link_view (λ l. is_consumer l && waits_in u2 l.address n) items)))
+    c.in_ok-add_waiting.ensures.carried c.in_ok-add_waiting.ensures.waiting
+    (c.in_ok-ended.ensures rules records r next.0 stands.1.1.0))

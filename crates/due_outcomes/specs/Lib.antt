@@ -1,0 +1,9 @@
+pub mod Candidates
+pub mod Answered
+pub mod Ids
+pub mod SentNumbers
+pub mod Unsettled
+pub mod Untold
+pub mod DueOutcomes
+pub mod LookedTables
+pub mod Settlings

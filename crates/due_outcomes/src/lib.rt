@@ -1,0 +1,22 @@
+//! Two lists of a router's work, each found without a look at what is not due: outcomes to tell, and deliveries to settle.
+//! A list keeps candidates, the numbers of deliveries, among which is all that is due, and asks the tables of `audit_answers`
+//! of each, the lowest first.
+//!
+//! - `candidates`: numbers in their order;
+//! - `sent_numbers`: numbers by the deliveries to clients that they stand for: by their link, their session and their id there;
+//! - `unsettled`: the deliveries to settle with their consumers;
+//! - `untold`: the outcomes to tell, each with its row (`outcome`) and the state that it tells (`state`).
+#![tactic(auto)]
+
+mod candidates;
+mod outcome;
+mod sent_numbers;
+mod state;
+mod unsettled;
+mod untold;
+
+pub use candidates::Candidates;
+pub use outcome::DueOutcome;
+pub use sent_numbers::SentNumbers;
+pub use unsettled::Unsettled;
+pub use untold::Untold;

@@ -1,0 +1,271 @@
+//! The outcomes to tell (part 3 of the standard, section 3.4).
+
+ghost use Rattle.std.specs.Prelude.{◌≡◌, ◌<◌, ◌∷◌, ◌||◌, ◌&&◌, ◌==◌, ℕ, not, List, [], true, false, None, IfSome, OnOk, option_map};
+ghost use Rattle.std.specs.List.{list_any};
+ghost use Rattle.number_groups.specs.OctetGroups as octets;
+ghost use Rattle.capture_form.specs.Rules.{RuleText};
+ghost use Rattle.capture_form.specs.declared.records.Record.{Record};
+ghost use Rattle.trace_duties.specs.Quiet.{none_is_untold};
+ghost use Rattle.trace_events.specs.Address.{has_multicast};
+ghost use Rattle.trace_events.specs.Event as events;
+ghost use Rattle.trace_events.specs.History.{history};
+ghost use Rattle.trace_events.specs.Incoming.{address_of, completed_by};
+ghost use Rattle.trace_events.specs.Link.{is_consumer};
+ghost use Rattle.trace_events.specs.Outgoing.{names, outgoing_begun};
+ghost use Rattle.trace_events.specs.Waiting as fates;
+ghost use Rattle.trace_events.specs.Words.{is_number, is_some_and};
+ghost use Rattle.trace_law.specs.OutcomeSize.{told_view};
+ghost use Rattle.trace_law.specs.View.{event_view, incoming_view, link_view};
+ghost use Rattle.audit_held.specs.EntryAnswers.{says_closed};
+ghost use Rattle.audit_held.specs.Held.{says_waiting};
+ghost use Rattle.audit_held.specs.HeldTables.{held_in};
+ghost use Rattle.audit_tables.specs.Connections.{IsLawfulNext};
+ghost use Rattle.due_outcomes.specs.Candidates.{count_of, has};
+ghost use Rattle.due_outcomes.specs.DueOutcomes.{IsDueOutcome};
+ghost use Rattle.due_outcomes.specs.LookedTables.{AreLooked};
+ghost use Rattle.due_outcomes.specs.SentNumbers.{IsUnder, KeepsAll};
+ghost use Rattle.due_outcomes.specs.Untold.{HasUntold, waits_in};
+
+use crate::candidates::Candidates;
+use crate::outcome::{DueOutcome, outcome_of};
+use crate::sent_numbers::SentNumbers;
+use audit_answers::Looked;
+use audit_held::HeldDelivery;
+use capture_form::{Distribution, Rule, distribution_of};
+use number_groups::OctetGroups;
+use pairing_cert::Note;
+use std::alloc::{AllocError, Global};
+use trace_law::{Event, Incoming, Link, Outcomes};
+
+/// The outcomes to tell.
+#[derive(Drop)]
+pub struct Untold {
+    alloc: Global,
+    candidates: Candidates,
+    /// Those that wait, by their address.
+    waiting: OctetGroups,
+    /// Those of anycast that went to a consumer, by the delivery that carries them.
+    carried: SentNumbers,
+}
+
+/// The address goes to all its consumers.
+fn is_of_multicast(rules: &[Rule], address: &[u8]) -> bool
+    ensures { result ≡ has_multicast rules.now address.now }
+{
+    matches!(distribution_of(rules, address), Distribution::Multicast)
+}
+
+/// The number becomes a candidate, if there is one.
+fn add(candidates: &mut Candidates, number: Option<u64>) -> Result<(), AllocError>
+    ensures { OnOk result ((n : ℕ) → has candidates.new n ≡ (has candidates.old n || is_number number n)) }
+{
+    if let Some(number) = number {
+        candidates.add(number)?;
+    }
+    Ok(())
+}
+
+/// All numbers of the group of an address become candidates.
+fn add_group(
+    candidates: &mut Candidates,
+    groups: &OctetGroups,
+    address: &[u8],
+) -> Result<(), AllocError>
+    ensures { OnOk result ((n : ℕ) → has candidates.new n ≡ (has candidates.old n || octets.is_member groups.now address.now n)) }
+{
+    for index in 0..groups.count(address) {
+        add(candidates, groups.get(address, index))?;
+    }
+    Ok(())
+}
+
+/// What waits at the address of a consumer's link becomes a candidate.
+fn add_left(
+    candidates: &mut Candidates,
+    groups: &OctetGroups,
+    link: &Link,
+) -> Result<(), AllocError>
+    ensures { OnOk result ((n : ℕ) → has candidates.new n
+        ≡ (has candidates.old n || is_consumer (link_view link.now) && octets.is_member groups.now (link_view link.now).address n)) }
+{
+    if link.is_consumer() {
+        add_group(candidates, groups, link.address)?;
+    }
+    Ok(())
+}
+
+/// The delivery that the event completes.
+fn completed<'a>(event: &Event<'a>) -> Option<Incoming<'a>>
+    ensures { option_map incoming_view result ≡ completed_by (event_view event.now) }
+{
+    match event.incoming {
+        Some(delivery) if event.completes(&delivery) => Some(delivery),
+        _ => None,
+    }
+}
+
+/// The number of the delivery from a client that the one carries of which the event is a part.
+fn carried_number(event: &Event) -> Option<u64>
+    ensures { (n : ℕ) → is_number result n ≡ is_some_and (event_view event.now).outgoing (λ j. names n j.note) }
+{
+    match event.outgoing.as_ref()?.note {
+        Note::Pair(number) => Some(number),
+        Note::None | Note::Told(_) => None,
+    }
+}
+
+impl Untold {
+    /// No records.
+    pub fn new(alloc: Global) -> Untold
+        ensures { (rules : List RuleText) → HasUntold rules result [] }
+    {
+        Untold {
+            alloc,
+            candidates: Candidates::new(alloc),
+            waiting: OctetGroups::new(alloc),
+            carried: SentNumbers::new(alloc),
+        }
+    }
+
+    /// The event follows; `before` are the tables without it. It takes the time of the deliveries of which a consumer speaks
+    /// with it, of those that went over the links that it ends, and of those that wait at the addresses of these.
+    ///
+    /// # Errors
+    ///
+    /// Memory was refused; then the list may agree with no records any more.
+    pub fn follow(
+        &mut self,
+        rules: &[Rule],
+        event: &Event,
+        before: &Looked<'_>,
+    ) -> Result<(), AllocError>
+        ensures { OnOk result ((records : List Record) (r : Record) → IsLawfulNext rules.now records r (event_view event.now) →
+            AreLooked rules.now before.now (history rules.now records) →
+            HasUntold rules.now self.old (history rules.now records) → HasUntold rules.now self.new (event_view event.now ∷ history rules.now records)) }
+    {
+        self.complete(rules, event)?;
+        self.pair(rules, event)?;
+        add(&mut self.candidates, carried_number(event))?;
+        self.carried.add_answered(&mut self.candidates, event)?;
+        let ended = before.links.ended(self.alloc, event)?;
+        self.carried.add_links(&mut self.candidates, &ended)?;
+        self.add_waiting(&ended)?;
+        Ok(())
+    }
+
+    /// The outcome that is to be told next: of the delivery with the lowest number, by the first reason that applies. Those of
+    /// which none is to be told are forgotten; the one that is answered stays a candidate.
+    pub fn first_due<'t>(&mut self, rules: &[Rule], looked: &Looked<'t>) -> Option<DueOutcome<'t>>
+        ensures due { IfSome result (λ due. (records : List Record) → AreLooked rules.now looked.now (history rules.now records) →
+            IsDueOutcome rules.now (history rules.now records) (incoming_view due.delivery) due.why (told_view due.told)) }
+        ensures kept { (records : List Record) → AreLooked rules.now looked.now (history rules.now records) →
+            HasUntold rules.now self.old (history rules.now records) → HasUntold rules.now self.new (history rules.now records) }
+        ensures quiet { result ≡ None → (records : List Record) → AreLooked rules.now looked.now (history rules.now records) →
+            HasUntold rules.now self.old (history rules.now records) → none_is_untold rules.now (history rules.now records) ≡ true }
+    {
+        while let Some(number) = self.candidates.first() {
+            if let Some(due) = outcome_of(rules, looked, number) {
+                return Some(due);
+            }
+            self.forget(looked, number);
+        }
+        None
+    }
+
+    /// What the event completes is a candidate, and found by its address while it may wait.
+    fn complete(&mut self, rules: &[Rule], event: &Event) -> Result<(), AllocError>
+        ensures completed { OnOk result ((n : ℕ) → has self.new.candidates n
+            ≡ (has self.old.candidates n || is_some_and (completed_by (event_view event.now)) (λ d. d.number == n))) }
+        ensures waits { OnOk result (IfSome (completed_by (event_view event.now)) (λ d. fates.is_of_multicast rules.now d ≡ false →
+            waits_in self.new (address_of d) d.number ≡ true)) }
+        ensures kept { OnOk result ((address : List ℕ) (n : ℕ) → waits_in self.old address n ≡ true → waits_in self.new address n ≡ true) }
+        ensures same { self.new.carried ≡ self.old.carried }
+    {
+        let Some(delivery) = completed(event) else {
+            return Ok(());
+        };
+        self.candidates.add(delivery.number)?;
+        if !is_of_multicast(rules, delivery.link.address) {
+            self.waiting.insert(delivery.link.address, delivery.number)?;
+        }
+        Ok(())
+    }
+
+    /// What goes to a consumer with the event waits no more, and if it is of anycast, it is found by what carries it.
+    fn pair(&mut self, rules: &[Rule], event: &Event) -> Result<(), AllocError>
+        ensures begun { OnOk result (IfSome (outgoing_begun (event_view event.now)) (λ j. (n : ℕ) → names n j.note ≡ true →
+            has_multicast rules.now j.link.address ≡ false → IsUnder self.new.carried j n)) }
+        ensures kept { OnOk result (KeepsAll self.old.carried self.new.carried) }
+        ensures stay { OnOk result ((address : List ℕ) (n : ℕ) → is_some_and (outgoing_begun (event_view event.now)) (λ j. names n j.note) ≡ false →
+            waits_in self.old address n ≡ true → waits_in self.new address n ≡ true) }
+        ensures same { self.new.candidates ≡ self.old.candidates }
+    {
+        let Some(delivery) = event.outgoing_begun() else {
+            return Ok(());
+        };
+        let Note::Pair(number) = delivery.note else {
+            return Ok(());
+        };
+        self.waiting.remove(delivery.link.address, number);
+        if !is_of_multicast(rules, delivery.link.address) {
+            self.carried.put(&delivery, number)?;
+        }
+        Ok(())
+    }
+
+    /// What waits at the addresses of these links' consumers becomes a candidate.
+    fn add_waiting(&mut self, ended: &[Link]) -> Result<(), AllocError>
+        ensures added { OnOk result ((n : ℕ) → has self.new.candidates n
+            ≡ (has self.old.candidates n || list_any (λ l. is_consumer (link_view l) && waits_in self.old (link_view l).address n) ended.now)) }
+        ensures carried { self.new.carried ≡ self.old.carried }
+        ensures waiting { self.new.waiting ≡ self.old.waiting }
+    {
+        for link in ended {
+            add_left(&mut self.candidates, &self.waiting, link)?;
+        }
+        Ok(())
+    }
+
+    /// The delivery is no candidate, and not found any more by what is over of it.
+    fn forget(&mut self, looked: &Looked<'_>, number: u64)
+        ensures left { (n : ℕ) → has self.new.candidates n ≡ (has self.old.candidates n && not (number == n)) }
+        ensures shorter { has self.old.candidates number ≡ true → count_of self.new.candidates < count_of self.old.candidates }
+        ensures waiting { (address : List ℕ) (n : ℕ) → (number == n) ≡ false → waits_in self.old address n ≡ true → waits_in self.new address n ≡ true }
+        ensures waits { is_some_and (held_in looked.now.deliveries.now number) (λ x. says_waiting x.fate) ≡ true → self.new.waiting ≡ self.old.waiting }
+        ensures carried { (j : events.Outgoing) (n : ℕ) → (number == n) ≡ false → IsUnder self.old.carried j n → IsUnder self.new.carried j n }
+        ensures opens { says_closed (held_in looked.now.deliveries.now number) ≡ false → self.new.carried ≡ self.old.carried }
+    {
+        self.candidates.remove(number);
+        if let Some(held) = looked.deliveries.get(number) {
+            self.stop_waiting(held, number);
+            self.stop_carrying(looked, held, number);
+        }
+    }
+
+    /// It is not found by its address, if it doesn't wait.
+    fn stop_waiting(&mut self, held: &HeldDelivery, number: u64)
+        ensures waiting { (address : List ℕ) (n : ℕ) → (number == n) ≡ false → waits_in self.old address n ≡ true → waits_in self.new address n ≡ true }
+        ensures waits { says_waiting held.now.fate ≡ true → self.new.waiting ≡ self.old.waiting }
+        ensures candidates { self.new.candidates ≡ self.old.candidates }
+        ensures carried { self.new.carried ≡ self.old.carried }
+    {
+        if !held.is_waiting() {
+            self.waiting.remove(held.delivery().link.address, number);
+        }
+    }
+
+    /// It is not found by what carries it, if nothing more is to be told of it.
+    fn stop_carrying(&mut self, looked: &Looked<'_>, held: &HeldDelivery, number: u64)
+        ensures carried { (j : events.Outgoing) (n : ℕ) → (number == n) ≡ false → IsUnder self.old.carried j n → IsUnder self.new.carried j n }
+        ensures opens { held.now.is_closed ≡ false → self.new.carried ≡ self.old.carried }
+        ensures candidates { self.new.candidates ≡ self.old.candidates }
+        ensures waiting { self.new.waiting ≡ self.old.waiting }
+    {
+        if !held.is_closed() {
+            return;
+        }
+        if let Some(carrier) = looked.pairing(&held.delivery()) {
+            self.carried.remove(&carrier, number);
+        }
+    }
+}
