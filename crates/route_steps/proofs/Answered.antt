@@ -28,9 +28,9 @@ pub answered_more : (rules : List RuleText) (e : Event) (past : List Event) → 
 answered_more rules e past out is =
     let from : up_to_input (e ∷ past) ≡ up_to_input past = ap (λ b. if b then up_to_input past else e ∷ past) out in
     let begins : begin_with (up_to_input (e ∷ past)) (last_answer rules (e ∷ past)) (reverse (group past) ++ e ∷ []) ≡ true =
-        rw from (more_behind (up_to_input past) (last_answer rules past) (reverse (group past)) (e ∷ []) is) in
+    rw from (more_behind (up_to_input past) (last_answer rules past) (reverse (group past)) (e ∷ []) is) in
     let events : reverse (group (e ∷ past)) ≡ reverse (group past) ++ e ∷ [] =
-        ap (λ b. reverse (if b then e ∷ group past else [])) out ∙ reverse-append (e ∷ []) (group past) in
+    ap (λ b. reverse (if b then e ∷ group past else [])) out ∙ reverse-append (e ∷ []) (group past) in
     ap (λ xs. begin_with (up_to_input (e ∷ past)) (last_answer rules (e ∷ past)) xs) events
     ∙ begins
 

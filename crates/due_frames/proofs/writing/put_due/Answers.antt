@@ -14,93 +14,107 @@ use Rattle.due_frames.proofs.Follow.{appended, appended-again, frame_of_due, out
 use Rattle.due_frames.proofs.writing.put_due.Goals as goal
 
 pub returns-in-Outcome : goal.returns-in-Outcome
-returns-in-Outcome g c = record { frame = λ history stands order is.
-    let rules = c.args.rules.now in
-    let new = c.put_outcome.new.out.items in
-    let P = IsFrameFor rules history (connection_of c.args.due.now) (note_of c.args.due.now) new in
-    let same = c.in-Outcome.is in
-    let due = subst (λ due. IsDue rules history due) same is in
-    let x = c.in-Outcome.told in
-    appended c.put_outcome.result c.args.out.now.items new (spoken_octets (outcome_frame (incoming_view x.delivery) (option_map state_view x.state))) P c.requires.none c.put_outcome.ensures.appended
-    (λ here. frame_of_due rules history new c.args.due.now (dues.Outcome x) same (outcome_frame_for rules history order x new due c.put_outcome.ensures.again here)) }
+returns-in-Outcome g c = record {
+  frame = λ history stands order is.
+      let rules = c.args.rules.now in
+      let new = c.put_outcome.new.out.items in
+      let P = IsFrameFor rules history (connection_of c.args.due.now) (note_of c.args.due.now) new in
+      let same = c.in-Outcome.is in
+      let due = subst (λ due. IsDue rules history due) same is in
+      let x = c.in-Outcome.told in
+      appended c.put_outcome.result c.args.out.now.items new (spoken_octets (outcome_frame (incoming_view x.delivery) (option_map state_view x.state))) P c.requires.none c.put_outcome.ensures.appended
+      (λ here. frame_of_due rules history new c.args.due.now (dues.Outcome x) same (outcome_frame_for rules history order x new due c.put_outcome.ensures.again here));
+}
 
 pub returns-in-Settling : goal.returns-in-Settling
-returns-in-Settling g c = record { frame = λ history stands order is.
-    let rules = c.args.rules.now in
-    let new = c.put_settling.new.out.items in
-    let P = IsFrameFor rules history (connection_of c.args.due.now) (note_of c.args.due.now) new in
-    let same = c.in-Settling.is in
-    let due = subst (λ due. IsDue rules history due) same is in
-    let x = c.in-Settling.delivery in
-    let j = outgoing_view x in
-    appended c.put_settling.result c.args.out.now.items new (spoken_octets (written_settling j.link.session.channel (unwrap_or j.id 0))) P c.requires.none c.put_settling.ensures.appended
-    (λ here. frame_of_due rules history new c.args.due.now (dues.Settling x) same (settling_frame_for rules history order j new due c.put_settling.ensures.again here)) }
+returns-in-Settling g c = record {
+  frame = λ history stands order is.
+      let rules = c.args.rules.now in
+      let new = c.put_settling.new.out.items in
+      let P = IsFrameFor rules history (connection_of c.args.due.now) (note_of c.args.due.now) new in
+      let same = c.in-Settling.is in
+      let due = subst (λ due. IsDue rules history due) same is in
+      let x = c.in-Settling.delivery in
+      let j = outgoing_view x in
+      appended c.put_settling.result c.args.out.now.items new (spoken_octets (written_settling j.link.session.channel (unwrap_or j.id 0))) P c.requires.none c.put_settling.ensures.appended
+      (λ here. frame_of_due rules history new c.args.due.now (dues.Settling x) same (settling_frame_for rules history order j new due c.put_settling.ensures.again here));
+}
 
 pub returns-in-Part : goal.returns-in-Part
-returns-in-Part g c = record { frame = λ history stands order is.
-    let rules = c.args.rules.now in
-    let new = c.put_next.new.out.items in
-    let P = IsFrameFor rules history (connection_of c.args.due.now) (note_of c.args.due.now) new in
-    let same = c.in-Part.is in
-    let due = subst (λ due. IsDue rules history due) same is in
-    let x = c.in-Part.part in
-    let l = link_view x.link in
-    appended-again c.put_next.result c.args.out.now.items new (spoken_octets (next_frame history l due.delivery due.own)) P (IsReadAgain (next_frame history l due.delivery due.own)) c.requires.none
-    (c.put_next.ensures.appended rules history due.delivery due.own stands due.left) (c.put_next.ensures.again rules history due.delivery due.own stands due.left)
-    (λ again here. frame_of_due rules history new c.args.due.now (dues.Part x) same (part_frame_for rules history order x new due again here)) }
+returns-in-Part g c = record {
+  frame = λ history stands order is.
+      let rules = c.args.rules.now in
+      let new = c.put_next.new.out.items in
+      let P = IsFrameFor rules history (connection_of c.args.due.now) (note_of c.args.due.now) new in
+      let same = c.in-Part.is in
+      let due = subst (λ due. IsDue rules history due) same is in
+      let x = c.in-Part.part in
+      let l = link_view x.link in
+      appended-again c.put_next.result c.args.out.now.items new (spoken_octets (next_frame history l due.delivery due.own)) P (IsReadAgain (next_frame history l due.delivery due.own)) c.requires.none
+      (c.put_next.ensures.appended rules history due.delivery due.own stands due.left) (c.put_next.ensures.again rules history due.delivery due.own stands due.left)
+      (λ again here. frame_of_due rules history new c.args.due.now (dues.Part x) same (part_frame_for rules history order x new due again here));
+}
 
 pub returns-in-Drain : goal.returns-in-Drain
-returns-in-Drain g c = record { frame = λ history stands order is.
-    let rules = c.args.rules.now in
-    let new = c.put_drain.new.out.items in
-    let P = IsFrameFor rules history (connection_of c.args.due.now) (note_of c.args.due.now) new in
-    let same = c.in-Drain.is in
-    let due = subst (λ due. IsDue rules history due) same is in
-    let x = c.in-Drain.link in
-    let l = link_view x in
-    appended c.put_drain.result c.args.out.now.items new (spoken_octets (written_count l (drained_count history l) 0 history)) P c.requires.none (c.put_drain.ensures.appended rules history stands due.lives)
-    (λ here. frame_of_due rules history new c.args.due.now (dues.Drain x) same (drain_frame_for rules history order l new due (c.put_drain.ensures.again rules history stands due.lives) here)) }
+returns-in-Drain g c = record {
+  frame = λ history stands order is.
+      let rules = c.args.rules.now in
+      let new = c.put_drain.new.out.items in
+      let P = IsFrameFor rules history (connection_of c.args.due.now) (note_of c.args.due.now) new in
+      let same = c.in-Drain.is in
+      let due = subst (λ due. IsDue rules history due) same is in
+      let x = c.in-Drain.link in
+      let l = link_view x in
+      appended c.put_drain.result c.args.out.now.items new (spoken_octets (written_count l (drained_count history l) 0 history)) P c.requires.none (c.put_drain.ensures.appended rules history stands due.lives)
+      (λ here. frame_of_due rules history new c.args.due.now (dues.Drain x) same (drain_frame_for rules history order l new due (c.put_drain.ensures.again rules history stands due.lives) here));
+}
 
 pub returns-in-Credit : goal.returns-in-Credit
-returns-in-Credit g c = record { frame = λ history stands order is.
-    let rules = c.args.rules.now in
-    let new = c.put_credit.new.out.items in
-    let P = IsFrameFor rules history (connection_of c.args.due.now) (note_of c.args.due.now) new in
-    let same = c.in-Credit.is in
-    let due = subst (λ due. IsDue rules history due) same is in
-    let x = c.in-Credit.link in
-    let l = link_view x in
-    appended c.put_credit.result c.args.out.now.items new (spoken_octets (written_credit l (full_credit rules history l) history)) P c.requires.none (c.put_credit.ensures.appended history stands due.lives)
-    (λ here. frame_of_due rules history new c.args.due.now (dues.Credit x) same (credit_frame_for rules history order l new due (c.put_credit.ensures.again history stands due.lives) here)) }
+returns-in-Credit g c = record {
+  frame = λ history stands order is.
+      let rules = c.args.rules.now in
+      let new = c.put_credit.new.out.items in
+      let P = IsFrameFor rules history (connection_of c.args.due.now) (note_of c.args.due.now) new in
+      let same = c.in-Credit.is in
+      let due = subst (λ due. IsDue rules history due) same is in
+      let x = c.in-Credit.link in
+      let l = link_view x in
+      appended c.put_credit.result c.args.out.now.items new (spoken_octets (written_credit l (full_credit rules history l) history)) P c.requires.none (c.put_credit.ensures.appended history stands due.lives)
+      (λ here. frame_of_due rules history new c.args.due.now (dues.Credit x) same (credit_frame_for rules history order l new due (c.put_credit.ensures.again history stands due.lives) here));
+}
 
 pub returns-in-Window : goal.returns-in-Window
-returns-in-Window g c = record { frame = λ history stands order is.
-    let rules = c.args.rules.now in
-    let new = c.put_window.new.out.items in
-    let P = IsFrameFor rules history (connection_of c.args.due.now) (note_of c.args.due.now) new in
-    let same = c.in-Window.is in
-    let due = subst (λ due. IsDue rules history due) same is in
-    let s = c.in-Window.session in
-    appended c.put_window.result c.args.out.now.items new (spoken_octets (written_session_flow s history)) P c.requires.none (c.put_window.ensures.appended rules history stands due.0)
-    (λ here. frame_of_due rules history new c.args.due.now (dues.Window s) same (window_frame_for rules history order s new due (c.put_window.ensures.again rules history stands due.0) here)) }
+returns-in-Window g c = record {
+  frame = λ history stands order is.
+      let rules = c.args.rules.now in
+      let new = c.put_window.new.out.items in
+      let P = IsFrameFor rules history (connection_of c.args.due.now) (note_of c.args.due.now) new in
+      let same = c.in-Window.is in
+      let due = subst (λ due. IsDue rules history due) same is in
+      let s = c.in-Window.session in
+      appended c.put_window.result c.args.out.now.items new (spoken_octets (written_session_flow s history)) P c.requires.none (c.put_window.ensures.appended rules history stands due.0)
+      (λ here. frame_of_due rules history new c.args.due.now (dues.Window s) same (window_frame_for rules history order s new due (c.put_window.ensures.again rules history stands due.0) here));
+}
 
 pub returns-in-Waiting : goal.returns-in-Waiting
-returns-in-Waiting g c = record { frame = λ history stands order is.
-    let rules = c.args.rules.now in
-    let new = c.put_first.new.out.items in
-    let P = IsFrameFor rules history (connection_of c.args.due.now) (note_of c.args.due.now) new in
-    let x = c.in-Waiting.begin in
-    let l = link_view x.link in
-    let d = incoming_view x.delivery in
-    elim c.in-Waiting.is [
-      | inl same ↦
-          let due = subst (λ due. IsDue rules history due) same is in
-          appended-again c.put_first.result c.args.out.now.items new (spoken_octets (first_frame history l d)) P (IsReadAgain (first_frame history l d)) c.requires.none
-          (c.put_first.ensures.appended rules history stands due.begins.lives due.begins.whole) (c.put_first.ensures.again rules history stands due.begins.lives due.begins.whole)
-          (λ again here. frame_of_due rules history new c.args.due.now (dues.Waiting x) same (waiting_frame_for rules history order x new due again here))
-      | inr same ↦
-          let due = subst (λ due. IsDue rules history due) same is in
-          appended-again c.put_first.result c.args.out.now.items new (spoken_octets (first_frame history l d)) P (IsReadAgain (first_frame history l d)) c.requires.none
-          (c.put_first.ensures.appended rules history stands due.begins.lives due.begins.whole) (c.put_first.ensures.again rules history stands due.begins.lives due.begins.whole)
-          (λ again here. frame_of_due rules history new c.args.due.now (dues.Copy x) same (copy_frame_for rules history order x new due again here))
-    ] }
+returns-in-Waiting g c = record {
+  frame = λ history stands order is.
+      let rules = c.args.rules.now in
+      let new = c.put_first.new.out.items in
+      let P = IsFrameFor rules history (connection_of c.args.due.now) (note_of c.args.due.now) new in
+      let x = c.in-Waiting.begin in
+      let l = link_view x.link in
+      let d = incoming_view x.delivery in
+      elim c.in-Waiting.is [
+        | inl same ↦
+            let due = subst (λ due. IsDue rules history due) same is in
+            appended-again c.put_first.result c.args.out.now.items new (spoken_octets (first_frame history l d)) P (IsReadAgain (first_frame history l d)) c.requires.none
+            (c.put_first.ensures.appended rules history stands due.begins.lives due.begins.whole) (c.put_first.ensures.again rules history stands due.begins.lives due.begins.whole)
+            (λ again here. frame_of_due rules history new c.args.due.now (dues.Waiting x) same (waiting_frame_for rules history order x new due again here))
+        | inr same ↦
+            let due = subst (λ due. IsDue rules history due) same is in
+            appended-again c.put_first.result c.args.out.now.items new (spoken_octets (first_frame history l d)) P (IsReadAgain (first_frame history l d)) c.requires.none
+            (c.put_first.ensures.appended rules history stands due.begins.lives due.begins.whole) (c.put_first.ensures.again rules history stands due.begins.lives due.begins.whole)
+            (λ again here. frame_of_due rules history new c.args.due.now (dues.Copy x) same (copy_frame_for rules history order x new due again here))
+      ];
+}
