@@ -120,9 +120,9 @@ frame_of_due rules past octets due other same is = subst (λ (x : Due). IsFrameF
 
 -- ---- as a record
 
-pub frame_recorded : (rules : List RuleText) (past : List Event) (r : Record) (c : ℕ) (note : Note) (octets : List ℕ) → r.connection ≡ c → r.note ≡ note → r.what ≡ whats.Out octets → IsFrameFor rules past c note octets
+pub frame_recorded : (rules : List RuleText) (past : List Event) (r : Record) (c : ℕ) (certified : Note) (octets : List ℕ) → r.connection ≡ c → r.note ≡ certified → r.what ≡ whats.Out octets → IsFrameFor rules past c certified octets
     → IsNextFrame rules past r
-frame_recorded rules past r c note octets on told written is = record {
+frame_recorded rules past r c certified octets on told written is = record {
   spoken = is.spoken;
   what = written ∙ ap whats.Out is.is;
   follows =
