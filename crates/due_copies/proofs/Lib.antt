@@ -1,0 +1,4 @@
+pub mod Earliest
+pub mod UnsentSteps
+pub mod CopiesFollowed
+pub mod CopiesDue

@@ -1,0 +1,58 @@
+use Rattle.std.proofs.Common.{◌≡◌, sym, ap, ◌∙◌, Option, Some, None, true, false}
+use Rattle.trace_events.specs.Event.{Link}
+use Rattle.trace_events.specs.Due.{has_unsent}
+use Rattle.trace_duties.specs.Pick.{may_take}
+use Rattle.trace_law.specs.View.{incoming_view, link_view}
+use Rattle.audit_held.proofs.GroupAnswers.{judged-of}
+use Rattle.audit_addresses.specs.ConsumerLinks.{consumer_at}
+use Rattle.due_flows.proofs.LiveOnes.{link-found}
+use Rattle.due_flows.proofs.PartsDue.{found-consumer}
+use Rattle.due_copies.proofs.CopiesDue.{ahead-earliest, one-unsent, ready-found, ready-same}
+use Rattle.due_copies.proofs.copies.UnsentCopies.copy_due.Goals as goal
+
+pub returns-in_err-link-clause-found : goal.returns-in_err-link-clause-found
+returns-in_err-link-clause-found c = λ past are has l own ready.
+    let rules = c.args.rules.now in
+    let never : ◌≡◌ {A = Option Link} None (Some l) = c.in_err-link.ensures ∙ (are.1.1.1.1.1.0 c.args.number ∙ ready-found rules past (judged-of rules past are.0) c.args.number l own ready) in
+    absurd cc
+
+pub returns-then-not-may_take-clause-found : goal.returns-then-not-may_take-clause-found
+returns-then-not-may_take-clause-found c = λ past are has l own ready.
+    let rules = c.args.rules.now in
+    let judged = judged-of rules past are.0 in
+    let m = link_view c.in_ok-link.link in
+    let at : Some m ≡ consumer_at c.args.number past = c.in_ok-link.ensures ∙ are.1.1.1.1.1.0 c.args.number in
+    let live = (found-consumer rules past judged c.args.number m (sym at)).0 in
+    sym c.if-not-may_take.true ∙ (c.may_take.ensures rules past are live ∙ (ap (may_take past) (ready-same rules past judged c.args.number l own ready m at) ∙ ready.takes))
+
+pub returns-in_err-delivery-clause-found : goal.returns-in_err-delivery-clause-found
+returns-in_err-delivery-clause-found c = λ past are has l own ready.
+    let rules = c.args.rules.now in
+    let judged = judged-of rules past are.0 in
+    let m = link_view c.in_ok-link.link in
+    let at : Some m ≡ consumer_at c.args.number past = c.in_ok-link.ensures ∙ are.1.1.1.1.1.0 c.args.number in
+    let live = (found-consumer rules past judged c.args.number m (sym at)).0 in
+    let some : has_unsent rules m past ≡ true = ap (λ (k : Link). has_unsent rules k past) (ready-same rules past judged c.args.number l own ready m at) ∙ ready.some in
+    let d = one-unsent rules past judged m live some in
+    let never : false ≡ true = c.in_err-delivery.ensures.ahead past are d.0 d.1 (has.listed m d.0 d.1) in
+    absurd cc
+
+pub returns-clause-due : goal.returns-clause-due
+returns-clause-due c = λ past are has.
+    let rules = c.args.rules.now in
+    let judged = judged-of rules past are.0 in
+    let m = link_view c.in_ok-link.link in
+    let f = incoming_view c.in_ok-delivery.delivery in
+    let at : Some m ≡ consumer_at c.args.number past = c.in_ok-link.ensures ∙ are.1.1.1.1.1.0 c.args.number in
+    let found = found-consumer rules past judged c.args.number m (sym at) in
+    let copy = c.in_ok-delivery.ensures.copy past are found.0 in
+    record {
+      live = found.0;
+      at = link-found rules past judged m found.0;
+      consumer = found.1;
+      found = copy.found;
+      takes = sym (c.may_take.ensures rules past are found.0) ∙ c.if-not-may_take.false;
+      unsent = copy.unsent;
+      earliest = ahead-earliest rules past judged m found.0 f (λ d h. c.in_ok-delivery.ensures.ahead past are d h (has.listed m d h));
+      payload = c.payload-payload.ensures rules past are.1.1.1.1.0.0 copy.known;
+    }

@@ -1,0 +1,13 @@
+use Rattle.std.proofs.Common.{◌≡◌, true, false}
+use Rattle.due_copies.proofs.copies.UnsentCopies.new.Goals as goal
+
+never : {A : Type 0} → false ≡ true → A
+never is = absurd cc
+
+pub returns : goal.returns
+returns c = λ rules. record {
+  are = c.new-copies.ensures rules;
+  listed = λ l d h. never h.unsent;
+  stands = λ l d h. never h.unsent;
+  waits = λ l d h takes. never h.unsent;
+}

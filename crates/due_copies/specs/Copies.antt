@@ -1,0 +1,57 @@
+-- What the list of unsent copies has, and what it answers (own rules).
+use Rattle.std.specs.Prelude.{◌≡◌, Bool, true, false, not, List, Option, Some}
+use Rattle.capture_form.specs.Rules.{RuleText}
+use Rattle.trace_events.specs.Words.{is_some_and}
+use Rattle.trace_events.specs.Event.{Event, Link, Incoming}
+use Rattle.trace_events.specs.Link.{IsLiveLink, is_consumer, link_at}
+use Rattle.trace_events.specs.Incoming.{incoming_at, payload, completed_before}
+use Rattle.trace_events.specs.Due.{is_unsent, has_unsent}
+use Rattle.trace_duties.specs.Pick.{may_take}
+use Rattle.trace_duties.specs.Quiet.{has_earlier_unsent}
+use Rattle.trace_law.specs.View.{link_view, incoming_view}
+use Rattle.audit_copies.specs.Copies.{AreCopies}
+use Rattle.audit_held.specs.EntryAnswers.{Knows}
+use Rattle.audit_held.specs.declared.deliveries.Deliveries.{Deliveries}
+use Rattle.due_copies.specs.Lists.{lists, stands, waits}
+use Rattle.due_copies.specs.declared.copies.DueCopy.{DueCopy}
+use Rattle.due_copies.specs.declared.copies.UnsentCopies.{UnsentCopies}
+
+-- a copy of the delivery is due to the live link, and not sent
+pub record IsUnsentOn (rules : List RuleText) (l : Link) (d : Incoming) (past : List Event) : Type 0 where
+  pub live : IsLiveLink l past
+  pub found : incoming_at d.number past ≡ Some d
+  pub unsent : is_unsent rules d l past ≡ true
+
+-- each unsent copy is listed, its link stands with its session, and is a candidate where it may be sent a delivery
+pub record HasUnsent (rules : List RuleText) (copies : UnsentCopies) (past : List Event) : Type 0 where
+  pub are : AreCopies rules copies.copies past
+  pub listed : (l : Link) (d : Incoming) → IsUnsentOn rules l d past → lists copies.lists l.number d.number ≡ true
+  pub stands : (l : Link) (d : Incoming) → IsUnsentOn rules l d past → stands copies.lists l.session.number l.number ≡ true
+  pub waits : (l : Link) (d : Incoming) → IsUnsentOn rules l d past → may_take past l ≡ true → waits copies.lists l.number ≡ true
+
+-- the earliest unsent copy of a consumer's live link that may be sent a delivery
+pub record IsDueCopy (rules : List RuleText) (copy : DueCopy) (past : List Event) : Type 0 where
+  pub live : IsLiveLink (link_view copy.link) past
+  pub at : link_at (link_view copy.link).number past ≡ Some (link_view copy.link)
+  pub consumer : is_consumer (link_view copy.link) ≡ true
+  pub found : incoming_at (incoming_view copy.delivery).number past ≡ Some (incoming_view copy.delivery)
+  pub takes : may_take past (link_view copy.link) ≡ true
+  pub unsent : is_unsent rules (incoming_view copy.delivery) (link_view copy.link) past ≡ true
+  pub earliest : has_earlier_unsent rules past (link_view copy.link) (incoming_view copy.delivery) ≡ false
+  pub payload : copy.payload.now ≡ payload (incoming_view copy.delivery) past
+
+-- a live link with an unsent copy, which may be sent a delivery
+pub record IsReady (rules : List RuleText) (l : Link) (past : List Event) : Type 0 where
+  pub live : IsLiveLink l past
+  pub takes : may_take past l ≡ true
+  pub some : has_unsent rules l past ≡ true
+
+-- a delivery that the table knows, of which a copy is unsent
+pub record IsKnownCopy (rules : List RuleText) (table : Deliveries) (l : Link) (past : List Event) (d : Incoming) : Type 0 where
+  pub known : Knows table d
+  pub found : incoming_at d.number past ≡ Some d
+  pub unsent : is_unsent rules d l past ≡ true
+
+-- this is no later than the delivery
+abbrev pub is_ahead : List Event → Option Incoming → Incoming → Bool
+is_ahead past first d = is_some_and first (λ f. not (completed_before d f past))

@@ -1,0 +1,198 @@
+//! The copies of multicast deliveries that are still to be sent, as work (own rules).
+
+ghost use Rattle.std.specs.Prelude.{◌≡◌, ◌∷◌, ℕ, List, [], Some, None, IfSome, OnOk, true, is_some, option_map};
+ghost use Rattle.capture_form.specs.Rules.{RuleText};
+ghost use Rattle.capture_form.specs.declared.records.Record.{Record};
+ghost use Rattle.trace_events.specs.Event as law;
+ghost use Rattle.trace_events.specs.History.{history};
+ghost use Rattle.trace_events.specs.Link.{IsLiveLink};
+ghost use Rattle.trace_duties.specs.Pick.{may_take};
+ghost use Rattle.trace_duties.specs.Quiet.{copies_are_sent};
+ghost use Rattle.trace_law.specs.View.{Events, event_view, incoming_view, link_view};
+ghost use Rattle.audit_tables.specs.Connections.{IsLawfulNext};
+ghost use Rattle.audit_held.specs.EntryAnswers.{Knows};
+ghost use Rattle.due_flows.specs.Lent.{AreOf};
+ghost use Rattle.due_copies.specs.Lists.{earlier_of, lists};
+ghost use Rattle.due_copies.specs.Copies.{HasUnsent, IsDueCopy, IsKnownCopy, IsReady, IsUnsentOn, is_ahead};
+
+use crate::lists::Lists;
+use audit_answers::Looked;
+use audit_copies::{Copies, receivers_of};
+use capture_form::Rule;
+use pairing_cert::Note;
+use std::alloc::{AllocError, Global};
+use trace_law::{Carriage, Counts, Event, Incoming, Link};
+
+/// A copy that is due: of this delivery to this link, with the delivery's payload.
+#[derive(Clone, Copy)]
+pub struct DueCopy<'t> {
+    pub link: Link<'t>,
+    pub delivery: Incoming<'t>,
+    pub payload: &'t [u8],
+}
+
+/// The copies that are still to be sent.
+#[derive(Drop)]
+pub struct UnsentCopies {
+    alloc: Global,
+    /// Which they are.
+    copies: Copies,
+    /// Their numbers.
+    lists: Lists,
+}
+
+impl UnsentCopies {
+    /// No records.
+    pub fn new(alloc: Global) -> UnsentCopies
+        ensures { (rules : List RuleText) → HasUnsent rules result [] }
+    {
+        let copies = Copies::new(alloc);
+        let lists = Lists::new(alloc);
+        UnsentCopies {
+            alloc,
+            copies,
+            lists,
+        }
+    }
+
+    /// The event follows; `before` are the tables without it.
+    ///
+    /// # Errors
+    ///
+    /// Memory was refused; then a copy that is due may not be found.
+    pub fn follow(
+        &mut self,
+        rules: &[Rule],
+        event: &Event,
+        before: &Looked<'_>,
+    ) -> Result<(), AllocError>
+        ensures { OnOk result ((records : List Record) (r : Record) → IsLawfulNext rules.now records r (event_view event.now) →
+            AreOf rules.now before.now (history rules.now records) → HasUnsent rules.now self.old (history rules.now records) →
+            HasUnsent rules.now self.new (event_view event.now ∷ history rules.now records)) }
+    {
+        let ended = before.links.ended(self.alloc, event)?;
+        let receivers = receivers_of(
+            self.alloc,
+            rules,
+            event,
+            before.consumers,
+            before.receivers,
+            before.links,
+        )?;
+        self.copies.take(rules, event, &ended, &receivers)?;
+        self.lists.end(&ended);
+        self.lists.send(event);
+        self.lists
+            .come(event, &receivers, before.receivers, &self.copies)?;
+        self.lists.touch(event)?;
+        self.lists.wake(event)?;
+        Ok(())
+    }
+
+    /// The earliest unsent copy of the live link with the lowest number that may be sent a delivery. Links below it are
+    /// candidates no more.
+    pub fn first_due<'t>(&mut self, rules: &[Rule], looked: &Looked<'t>) -> Option<DueCopy<'t>>
+        ensures due { IfSome result (λ copy. (past : Events) → AreOf rules.now looked.now past → HasUnsent rules.now self.old past →
+            IsDueCopy rules.now copy past) }
+        ensures kept { (past : Events) → AreOf rules.now looked.now past → HasUnsent rules.now self.old past → HasUnsent rules.now self.new past }
+        ensures quiet { (past : Events) → AreOf rules.now looked.now past → HasUnsent rules.now self.old past → result ≡ None →
+            copies_are_sent rules.now past ≡ true }
+    {
+        while let Some(number) = self.lists.links.first() {
+            if let Some(copy) = self.copy_due(number, rules, looked) {
+                return Some(copy);
+            }
+            self.lists.links.remove(number);
+        }
+        None
+    }
+
+    /// The earliest unsent copy of the link of this number, if it may be sent a delivery.
+    fn copy_due<'t>(&self, number: u64, rules: &[Rule], looked: &Looked<'t>) -> Option<DueCopy<'t>>
+        ensures due { IfSome result (λ copy. (past : Events) → AreOf rules.now looked.now past → HasUnsent rules.now self.now past →
+            IsDueCopy rules.now copy past) }
+        ensures found { (past : Events) → AreOf rules.now looked.now past → HasUnsent rules.now self.now past → (l : law.Link) → l.number ≡ number →
+            IsReady rules.now l past → is_some result ≡ true }
+    {
+        let link = looked.receivers.get(number)?;
+        if !may_take(&link, looked) {
+            return None;
+        }
+        let delivery = self.earliest(&link, rules, looked)?;
+        let payload = looked.deliveries.payload(&delivery);
+        Some(DueCopy {
+            link,
+            delivery,
+            payload,
+        })
+    }
+
+    /// Of the link's unsent copies the one that was completed first.
+    fn earliest<'t>(&self, link: &Link, rules: &[Rule], looked: &Looked<'t>) -> Option<Incoming<'t>>
+        ensures copy { (past : Events) → AreOf rules.now looked.now past → IsLiveLink (link_view link.now) past →
+            IfSome (option_map incoming_view result) (IsKnownCopy rules.now looked.now.deliveries.now (link_view link.now) past) }
+        ensures ahead { (past : Events) → AreOf rules.now looked.now past → (d : law.Incoming) → IsUnsentOn rules.now (link_view link.now) d past →
+            lists self.now.lists link.now.number d.number ≡ true → is_ahead past (option_map incoming_view result) d ≡ true }
+    {
+        let mut first = None;
+        for index in 0..self.lists.numbers.count(&link.number) {
+            let number = self.lists.numbers.get(&link.number, index);
+            first = earlier(first, unsent_copy(number, link, rules, looked), looked);
+        }
+        first
+    }
+}
+
+/// A live link may be sent a delivery: it has credit, its session has window, and nothing is in progress.
+fn may_take(link: &Link, looked: &Looked<'_>) -> bool
+    ensures { (rules : List RuleText) (past : Events) → AreOf rules looked.now past → IsLiveLink (link_view link.now) past →
+        result ≡ may_take past (link_view link.now) }
+{
+    looked.link_credit(link) > 0
+        && looked.session_window(link.session) > 0
+        && looked.outgoing_in_progress(link).is_none()
+}
+
+/// The delivery of this number, where a copy of it is unsent on the live link.
+fn unsent_copy<'t>(
+    number: Option<u64>,
+    link: &Link,
+    rules: &[Rule],
+    looked: &Looked<'t>,
+) -> Option<Incoming<'t>>
+    ensures copy { (past : Events) → AreOf rules.now looked.now past → IsLiveLink (link_view link.now) past →
+        IfSome (option_map incoming_view result) (IsKnownCopy rules.now looked.now.deliveries.now (link_view link.now) past) }
+    ensures found { (past : Events) → AreOf rules.now looked.now past → (d : law.Incoming) → number ≡ Some d.number →
+        IsUnsentOn rules.now (link_view link.now) d past → option_map incoming_view result ≡ Some d }
+{
+    let own = number?;
+    let delivery = looked.deliveries.to_carry(Note::Pair(own))?;
+    if looked.is_unsent(rules, &delivery, link) {
+        Some(delivery)
+    } else {
+        None
+    }
+}
+
+/// Of two deliveries that the tables know the one that was completed first.
+fn earlier<'t>(
+    first: Option<Incoming<'t>>,
+    second: Option<Incoming<'t>>,
+    looked: &Looked<'t>,
+) -> Option<Incoming<'t>>
+    ensures { (rules : List RuleText) (past : Events) → AreOf rules looked.now past → IfSome (option_map incoming_view first.entry) (Knows looked.now.deliveries.now) →
+        IfSome (option_map incoming_view second.entry) (Knows looked.now.deliveries.now) →
+        option_map incoming_view result ≡ earlier_of past (option_map incoming_view first.entry) (option_map incoming_view second.entry) }
+{
+    match (first, second) {
+        (Some(one), Some(other)) => {
+            if looked.deliveries.completed_before(&other, &one) {
+                second
+            } else {
+                first
+            }
+        }
+        (None, _) => second,
+        (_, None) => first,
+    }
+}
