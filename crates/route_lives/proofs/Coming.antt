@@ -1,0 +1,56 @@
+-- What became of a connection once an item came.
+use Rattle.std.proofs.Common.{◌≡◌, refl, sym, ap, ◌∙◌, ℕ, Bool, true, false, ◌&&◌, List, [], ◌∷◌, ◌++◌, Option, Some, cond, unwrap_or, nat_eq, ◌==◌}
+use Rattle.std.proofs.lemmas.Bool.{eqb-true}
+use Rattle.indexmap.specs.IndexMap.{get}
+use Rattle.capture_form.specs.declared.records.Record.{Record}
+use Rattle.capture_form.specs.declared.records.What.{What}
+use Rattle.route_items.specs.declared.item.Item.{Item}
+use Rattle.route_items.specs.declared.item.Item.TheVariants.{Opened, In, Broken, Lost}
+use Rattle.route_items.specs.Items.{record_of, connection_of}
+use Rattle.route_lives.specs.declared.lives.Life.{Life}
+use Rattle.route_lives.specs.declared.lives.Lives.{Lives}
+use Rattle.route_lives.specs.Inputs.{has_one, is_opening, is_losing, is_breaking}
+use Rattle.route_lives.specs.Lives.{AreLives, life_in, life_of, life_after, no_life}
+use Rattle.route_lives.proofs.Appended.{has_one-other, has_one-now}
+
+abbrev made : Bool → Bool → Bool → Life
+made a b c = record { is_opened = a; is_lost = b; is_broken = c }
+
+alike : (a b c x y z : Bool) → a ≡ x → b ≡ y → c ≡ z → made a b c ≡ made x y z
+alike a b c x y z first second third = ap (λ a. made a b c) first ∙ (ap (λ b. made x b c) second ∙ ap (λ c. made x y c) third)
+
+module _ (c : ℕ) (records : List Record) (item : Item) where
+  -- on another connection, nothing became of this one
+  elsewhere : connection_of item == c ≡ false → life_of c (records ++ record_of item ∷ []) ≡ life_of c records
+  elsewhere other =
+      alike _ _ _ _ _ _ (none is_opening) (none is_losing) (none is_breaking)
+    where
+      never : (b : Bool) → b && (connection_of item == c) ≡ false
+      never true = other
+      never false = refl
+
+      none : (test : What → Bool) → has_one test c (records ++ record_of item ∷ []) ≡ has_one test c records
+      none test = has_one-other test c records (record_of item) (never (test (record_of item).what))
+
+here : (c : ℕ) (records : List Record) (item : Item) → connection_of item == c ≡ true → life_of c (records ++ record_of item ∷ []) ≡ life_after (life_of c records) item
+here c records (Opened k) same =
+    alike _ _ _ _ _ _ (has_one-now is_opening c records (record_of (Opened k)) same) (has_one-other is_losing c records (record_of (Opened k)) refl) (has_one-other is_breaking c records (record_of (Opened k)) refl)
+here c records (In k frame) same =
+    alike _ _ _ _ _ _ (has_one-other is_opening c records (record_of (In k frame)) refl) (has_one-other is_losing c records (record_of (In k frame)) refl) (has_one-other is_breaking c records (record_of (In k frame)) refl)
+here c records (Broken k) same =
+    alike _ _ _ _ _ _ (has_one-other is_opening c records (record_of (Broken k)) refl) (has_one-other is_losing c records (record_of (Broken k)) refl) (has_one-now is_breaking c records (record_of (Broken k)) same)
+here c records (Lost k) same =
+    alike _ _ _ _ _ _ (has_one-other is_opening c records (record_of (Lost k)) refl) (has_one-now is_losing c records (record_of (Lost k)) same) (has_one-other is_breaking c records (record_of (Lost k)) refl)
+
+-- the table behind an item, from the one before it
+module _ (old new : Lives) (item : Item) (life : Life) (is : life ≡ life_after (life_in old (connection_of item)) item) where
+  pub came : ((q : ℕ) → get nat_eq new.entries q ≡ cond (nat_eq (connection_of item) q) (Some life) (get nat_eq old.entries q))
+      → (inputs : List Record) → AreLives old inputs → AreLives new (inputs ++ record_of item ∷ [])
+  came updates inputs told c = ap (λ (o : Option Life). unwrap_or o no_life) (updates c) ∙ by (nat_eq (connection_of item) c) refl
+    where
+      by : (b : Bool) → nat_eq (connection_of item) c ≡ b → unwrap_or (cond b (Some life) (get nat_eq old.entries c)) no_life ≡ life_of c (inputs ++ record_of item ∷ [])
+      by true same =
+          is
+          ∙ (ap (λ l. life_after l item) (told (connection_of item) ∙ ap (λ k. life_of k inputs) (eqb-true (connection_of item) c same))
+          ∙ sym (here c inputs item same))
+      by false other = told c ∙ sym (elsewhere c inputs item other)

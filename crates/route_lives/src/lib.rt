@@ -1,0 +1,8 @@
+//! What became of each connection of a router, by its inputs: which item may come next.
+#![tactic(auto)]
+
+mod lives;
+#[cfg(test)]
+mod tests;
+
+pub use lives::Lives;
