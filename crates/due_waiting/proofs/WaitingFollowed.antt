@@ -1,0 +1,79 @@
+-- The list of deliveries that wait, behind one more event.
+use Rattle.std.proofs.Common.{◌≡◌, refl, sym, ap, ◌∙◌, ◌↔◌, ℕ, Bool, true, false, not, ◌&&◌, bytes_eq, inl, inr, List, ◌∷◌, Some, None, if◌then◌else◌}
+use Rattle.std.specs.Prelude.{Contains}
+use Rattle.std.proofs.lemmas.Slice.Eq.{bytes_eq-Decides}
+use Rattle.capture_form.specs.Rules.{RuleText}
+use Rattle.trace_events.specs.Words.{where_passes}
+use Rattle.trace_events.specs.Event.{Event, Link, Incoming, Outgoing}
+use Rattle.trace_events.specs.Ends.{ends_link}
+use Rattle.trace_events.specs.Incoming.{address_of, completed_by, completes}
+use Rattle.trace_events.specs.Link.{IsLiveLink, is_consumer, own_link}
+use Rattle.trace_events.proofs.Judged.{AreJudged}
+use Rattle.trace_clauses.specs.Clauses.{first_broken}
+use Rattle.audit_addresses.specs.ConsumerLinks.{consumer_at, has_number}
+use Rattle.due_flows.specs.Standing.{goes_on, grants_window}
+use Rattle.due_flows.proofs.LiveOnes.{link-before}
+use Rattle.due_flows.proofs.PartsDue.{consumer-found}
+use Rattle.due_flows.proofs.PartsFollowed.{not-ended}
+use Rattle.due_waiting.specs.Waking.{MayBegin, IsGranted}
+use Rattle.due_waiting.proofs.Woken.{completed-now, might-before}
+
+-- each live link of a consumer stands with its session, and an address at which a delivery may begin is awake
+pub record Have (rules : List RuleText) (stand : ℕ → ℕ → Bool) (wake : List ℕ → Bool) (past : List Event) : Type 0 where
+  pub stands : (l : Link) → IsLiveLink l past → is_consumer l ≡ true → stand l.session.number l.number ≡ true
+  pub awake : (d : Incoming) (l : Link) → MayBegin rules past d l → wake (address_of d) ≡ true
+
+module _ (rules : List RuleText) (e : Event) (past : List Event) (are : AreJudged rules (e ∷ past)) (lawful : first_broken rules (e ∷ past) ≡ None)
+    (ended : List Link) (all : (l : Link) → Contains ended l ↔ IsLiveLink l past × (ends_link l e ≡ true))
+    (stood stand₁ stand : ℕ → ℕ → Bool) (was_awake awake : List ℕ → Bool)
+    (completed : (d : Incoming) → completed_by e ≡ Some d → awake (address_of d) ≡ true)
+    (credited : (l : Link) → e.link ≡ Some l → is_consumer l ≡ true → grants_window e ≡ true → awake l.address ≡ true)
+    (freed : (j : Outgoing) → e.outgoing ≡ Some j → goes_on e ≡ false → awake j.link.address ≡ true)
+    (granted : (l : Link) → IsGranted e past l → stood l.session.number l.number ≡ true → consumer_at l.number past ≡ Some l → awake l.address ≡ true)
+    (kept : (address : List ℕ) → was_awake address ≡ true → awake address ≡ true)
+    (stood₁ : (session n : ℕ) → has_number ended n ≡ false → stood session n ≡ true → stand₁ session n ≡ true)
+    (opened : (l : Link) → where_passes is_consumer (own_link e) ≡ Some l → stand l.session.number l.number ≡ true)
+    (stood₂ : (session n : ℕ) → stand₁ session n ≡ true → stand session n ≡ true)
+    (has : Have rules stood was_awake past) where
+  stands-on : (l : Link) → IsLiveLink l (e ∷ past) → is_consumer l ≡ true → stand l.session.number l.number ≡ true
+  stands-on l live consumer = elim (link-before rules e past are l live) [
+    | inl own ↦ opened l (ap (where_passes is_consumer) own ∙ ap (λ b. if b then Some l else None) consumer)
+    | inr was ↦ stood₂ l.session.number l.number (stood₁ l.session.number l.number (not-ended rules e past are ended all l was live) (has.stands l was consumer))
+  ]
+
+  module _ (d : Incoming) (l : Link) (h : MayBegin rules (e ∷ past) d l) where
+    here : awake l.address ≡ true → awake (address_of d) ≡ true
+    here is = ap awake (sym h.address) ∙ is
+
+    awake-by : (b : Bool) → completes d e ≡ b → awake (address_of d) ≡ true
+    awake-by true now = completed d (completed-now rules e past are lawful d l h now)
+    awake-by false none = elim (might-before rules e past are lawful d l h none) [
+      | inl woken ↦ elim woken [
+        | inl flow ↦ here (credited l flow.link h.consumer flow.flow)
+        | inr more ↦ elim more [
+          | inl part ↦ here (ap (λ (m : Link). awake m.address) (sym part.link) ∙ freed part.delivery part.is part.last)
+          | inr window ↦ here (granted l window (has.stands l window.live h.consumer) (consumer-found rules past are.1 l window.live h.consumer))
+        ]
+      ]
+      | inr before ↦ kept (address_of d) (has.awake d l before)
+    ]
+
+  pub have-waiting : Have rules stand awake (e ∷ past)
+  have-waiting = record { stands = stands-on; awake = λ d l h. awake-by d l h (completes d e) refl }
+
+-- without an address at which none may begin
+pub have-dropped : (rules : List RuleText) (past : List Event) (stand : ℕ → ℕ → Bool) (was_awake awake : List ℕ → Bool) (gone : List ℕ)
+    → ((d : Incoming) (l : Link) → MayBegin rules past d l → address_of d ≡ gone → ⊥) → ((at : List ℕ) → awake at ≡ was_awake at && not (bytes_eq gone at))
+    → Have rules stand was_awake past → Have rules stand awake past
+have-dropped rules past stand was_awake awake gone none dropped has = record {
+  stands = has.stands;
+  awake = λ d l h. dropped (address_of d) ∙ by d l h (has.awake d l h) (bytes_eq gone (address_of d)) refl;
+}
+  where
+    stays : (b : Bool) → b ≡ true → b && true ≡ true
+    stays true is = refl
+    stays false is = absurd cc
+
+    by : (d : Incoming) (l : Link) → MayBegin rules past d l → was_awake (address_of d) ≡ true → (b : Bool) → bytes_eq gone (address_of d) ≡ b → was_awake (address_of d) && not b ≡ true
+    by d l h was false other = stays (was_awake (address_of d)) was
+    by d l h was true same = absurd (none d l h (sym ((bytes_eq-Decides gone (address_of d)).0 same)))

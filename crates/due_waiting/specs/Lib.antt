@@ -1,0 +1,4 @@
+pub mod BySession
+pub mod Awake
+pub mod Waking
+pub mod Waiting

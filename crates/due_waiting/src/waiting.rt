@@ -1,0 +1,189 @@
+//! The anycast deliveries that wait and may begin, as work (own rules, after the message routing of the Qpid Dispatch Router).
+
+ghost use Rattle.std.specs.Prelude.{◌≡◌, ◌+◌, ◌<◌, ◌⊎◌, ◌∷◌, ◌||◌, ℕ, List, [], Some, None, IfSome, OnOk, bytes_eq, is_none, option_map, true, if◌then◌else◌};
+ghost use Rattle.capture_form.specs.Rules.{RuleText};
+ghost use Rattle.capture_form.specs.declared.records.Record.{Record};
+ghost use Rattle.trace_events.specs.History.{history};
+ghost use Rattle.trace_events.specs.Incoming.{address_of};
+ghost use Rattle.trace_duties.specs.Quiet.{none_waits_in_vain};
+ghost use Rattle.trace_law.specs.View.{Events, event_view, incoming_view};
+ghost use Rattle.audit_tables.specs.Connections.{IsLawfulNext};
+ghost use Rattle.audit_held.specs.EntryAnswers.{Knows};
+ghost use Rattle.due_flows.specs.Lent.{AreOf};
+ghost use Rattle.due_deliveries.specs.Picks.{ArePicks};
+ghost use Rattle.due_deliveries.specs.Queues.{HaveQueues};
+ghost use Rattle.due_waiting.specs.Awake.{count_of, is_among_first};
+ghost use Rattle.due_waiting.specs.Waiting.{HasWaiting, IsDueWaiting, IsEarliest, NoneBegins, earlier_of};
+
+use crate::awake::Awake;
+use crate::by_session::BySession;
+use audit_answers::Looked;
+use capture_form::Rule;
+use due_deliveries::{Picks, Queues};
+use std::alloc::{AllocError, Global};
+use trace_law::{Event, Incoming, Link};
+
+/// A delivery that waits and may begin: on this link, with the delivery's payload.
+#[derive(Clone, Copy)]
+pub struct DueWaiting<'t> {
+    pub link: Link<'t>,
+    pub delivery: Incoming<'t>,
+    pub payload: &'t [u8],
+}
+
+/// The anycast deliveries that wait.
+#[derive(Drop)]
+pub struct Waiting {
+    alloc: Global,
+    /// The link that each would go to.
+    picks: Picks,
+    /// Those of each address, in the order in which they were completed.
+    queues: Queues,
+    /// The live links of consumers.
+    links: BySession,
+    /// The addresses at which one may begin, and others.
+    awake: Awake,
+}
+
+impl Waiting {
+    /// No records.
+    pub fn new(alloc: Global) -> Waiting
+        ensures { (rules : List RuleText) → HasWaiting rules result [] }
+    {
+        Waiting {
+            alloc,
+            picks: Picks::new(alloc),
+            queues: Queues::new(alloc),
+            links: BySession::new(alloc),
+            awake: Awake::new(alloc),
+        }
+    }
+
+    /// The event follows; `before` are the tables without it.
+    ///
+    /// # Errors
+    ///
+    /// Memory was refused; then a delivery that may begin may not be found, or another link be picked for it.
+    pub fn follow(
+        &mut self,
+        rules: &[Rule],
+        event: &Event,
+        before: &Looked<'_>,
+    ) -> Result<(), AllocError>
+        ensures { OnOk result ((records : List Record) (r : Record) → IsLawfulNext rules.now records r (event_view event.now) →
+            AreOf rules.now before.now (history rules.now records) → HasWaiting rules.now self.old (history rules.now records) →
+            HasWaiting rules.now self.new (event_view event.now ∷ history rules.now records)) }
+    {
+        let ended = before.links.ended(self.alloc, event)?;
+        self.picks.follow(event, before)?;
+        self.queues.follow(rules, event)?;
+        self.awake.wake(event, &self.links, before)?;
+        self.links.end(&ended);
+        self.links.open(event)?;
+        Ok(())
+    }
+
+    /// Of the deliveries that may begin the one that was completed first. It takes time linear in the addresses to look at,
+    /// and in the links of each of them; those at which none may begin go.
+    pub fn first_due<'t>(&mut self, rules: &[Rule], looked: &Looked<'t>) -> Option<DueWaiting<'t>>
+        ensures due { IfSome result (λ due. (records : List Record) → AreOf rules.now looked.now (history rules.now records) →
+            HasWaiting rules.now self.old (history rules.now records) → IsDueWaiting rules.now due (history rules.now records)) }
+        ensures earliest { IfSome result (λ due. (records : List Record) → AreOf rules.now looked.now (history rules.now records) →
+            HasWaiting rules.now self.old (history rules.now records) → IsEarliest rules.now due (history rules.now records)) }
+        ensures kept { (records : List Record) → AreOf rules.now looked.now (history rules.now records) →
+            HasWaiting rules.now self.old (history rules.now records) → HasWaiting rules.now self.new (history rules.now records) }
+        ensures quiet { (records : List Record) → AreOf rules.now looked.now (history rules.now records) →
+            HasWaiting rules.now self.old (history rules.now records) → result ≡ None → none_waits_in_vain rules.now (history rules.now records) ≡ true }
+    {
+        let mut first = None;
+        let mut index = 0;
+        while index < self.awake.count() {
+            if let Some(due) = self.look(index, rules, looked) {
+                first = Some(earlier(first, due, looked));
+                index += 1;
+            }
+        }
+        first
+    }
+
+    /// What is due at the address of this index. Where nothing is, it goes, and the last one takes its place.
+    fn look<'t>(
+        &mut self,
+        index: usize,
+        rules: &[Rule],
+        looked: &Looked<'t>,
+    ) -> Option<DueWaiting<'t>>
+        requires within { index < count_of self.old.awake }
+        ensures due { IfSome result (λ due. (records : List Record) → AreOf rules.now looked.now (history rules.now records) →
+            HasWaiting rules.now self.old (history rules.now records) → IsDueWaiting rules.now due (history rules.now records)) }
+        ensures kept { (records : List Record) → AreOf rules.now looked.now (history rules.now records) →
+            HasWaiting rules.now self.old (history rules.now records) → HasWaiting rules.now self.new (history rules.now records) }
+        ensures before { (at : List ℕ) → is_among_first self.new.awake index at ≡ is_among_first self.old.awake index at }
+        ensures here { IfSome result (λ due. (records : List Record) → AreOf rules.now looked.now (history rules.now records) →
+            HasWaiting rules.now self.old (history rules.now records) → (at : List ℕ) → is_among_first self.new.awake (index + 1) at
+            ≡ (is_among_first self.old.awake index at || bytes_eq at (address_of (incoming_view due.delivery)))) }
+        ensures count { count_of self.new.awake + (if is_none result then 1 else 0) ≡ count_of self.old.awake }
+    {
+        let address = self.awake.get(index)?;
+        if let Some(due) = due_at(address, &self.picks, &mut self.queues, rules, looked) {
+            return Some(due);
+        }
+        self.awake.remove(index);
+        None
+    }
+}
+
+/// What is due at the address: its first delivery, on the link that is picked.
+fn due_at<'t>(
+    address: &[u8],
+    picks: &Picks,
+    queues: &mut Queues,
+    rules: &[Rule],
+    looked: &Looked<'t>,
+) -> Option<DueWaiting<'t>>
+    ensures due { IfSome result (λ due. (records : List Record) → AreOf rules.now looked.now (history rules.now records) →
+        ArePicks picks.now (history rules.now records) → HaveQueues rules.now queues.old (history rules.now records) →
+        IsDueWaiting rules.now due (history rules.now records)) }
+    ensures here { IfSome result (λ due. (records : List Record) → AreOf rules.now looked.now (history rules.now records) →
+        HaveQueues rules.now queues.old (history rules.now records) → address_of (incoming_view due.delivery) ≡ address.now) }
+    ensures kept { (records : List Record) → AreOf rules.now looked.now (history rules.now records) →
+        HaveQueues rules.now queues.old (history rules.now records) → HaveQueues rules.now queues.new (history rules.now records) }
+    ensures none { (records : List Record) → AreOf rules.now looked.now (history rules.now records) →
+        ArePicks picks.now (history rules.now records) → HaveQueues rules.now queues.old (history rules.now records) → result ≡ None →
+        NoneBegins rules.now (history rules.now records) address.now }
+{
+    let delivery = queues.first(address, looked)?;
+    let link = picks.pick(address, rules, looked)?;
+    let payload = looked.deliveries.payload(&delivery);
+    Some(DueWaiting {
+        link,
+        delivery,
+        payload,
+    })
+}
+
+/// Of two that are due the one whose delivery was completed first.
+fn earlier<'t>(
+    first: Option<DueWaiting<'t>>,
+    other: DueWaiting<'t>,
+    looked: &Looked<'t>,
+) -> DueWaiting<'t>
+    ensures one { (first.entry ≡ Some result) ⊎ (other.entry ≡ result) }
+    ensures order { (rules : List RuleText) (past : Events) → AreOf rules looked.now past →
+        IfSome first.entry (λ due. Knows looked.now.deliveries.now (incoming_view due.delivery)) →
+        Knows looked.now.deliveries.now (incoming_view other.entry.delivery) → result ≡ earlier_of past first.entry other.entry }
+{
+    match first {
+        Some(due) => {
+            if looked
+                .deliveries
+                .completed_before(&other.delivery, &due.delivery)
+            {
+                other
+            } else {
+                due
+            }
+        }
+        None => other,
+    }
+}
