@@ -1,21 +1,23 @@
 -- A frame that is due may follow.
-use Rattle.std.proofs.Common.{◌≡◌, sym, ap, subst, ◌∙◌, ℕ, ◌≤◌, List, [], ◌++◌, length, option_map, unwrap_or, Result, Ok, Err, OnOk}
+use Rattle.std.proofs.Common.{◌≡◌, sym, ap, subst, ◌∙◌, ℕ, ◌≤◌, List, [], ◌++◌, length, Option, None, Some, IfSome, unwrap_or, Result, Ok, Err, OnOk}
 use Rattle.std.specs.declared.alloc.AllocError.{AllocError}
 use Rattle.amqp_types.specs.Writing.{Puts}
 use Rattle.flow_counts.specs.declared.profile.TheConstants.{MAX_FRAME_SIZE}
 use Rattle.pairing_cert.specs.declared.note.Note.{Note}
 use Rattle.pairing_cert.specs.declared.note.Note.TheVariants as notes
+use Rattle.pairing_cert.specs.declared.note.Why.{Why}
 use Rattle.capture_form.specs.Rules.{RuleText}
 use Rattle.capture_form.specs.declared.records.Record.{Record}
 use Rattle.capture_form.specs.declared.records.What.TheVariants as whats
-use Rattle.amqp_perf.specs.NestedViews.{state_view}
+use Rattle.amqp_perf.specs.Nested.{StateFields}
 use Rattle.trace_events.specs.Frame.{Spoken}
-use Rattle.trace_events.specs.Event.{Event, Link, Outgoing}
+use Rattle.trace_events.specs.Event.{Event, Link, Incoming, Outgoing}
 use Rattle.trace_events.specs.declared.session.Session.{Session}
 use Rattle.trace_clauses.specs.FlowClause.{full_credit, drained_count}
 use Rattle.trace_clauses.specs.Written.{spoken_octets, written_settling, written_session_flow, written_credit, written_count}
-use Rattle.trace_law.specs.View.{link_view, incoming_view, outgoing_view}
-use Rattle.route_dues.specs.Outcomes.{outcome_frame}
+use Rattle.trace_law.specs.OutcomeSize.{told_view}
+use Rattle.trace_law.specs.View.{link_view, incoming_view}
+use Rattle.route_dues.specs.Outcomes.{HasState, octets_in, outcome_frame}
 use Rattle.route_dues.specs.Transfers.{first_frame, next_frame}
 use Rattle.route_dues.specs.Writing.{IsReadAgain, IsInOrder, MayFollow}
 use Rattle.route_dues.proofs.FlowsFollow.{window_follows, credit_follows, drain_follows}
@@ -23,12 +25,21 @@ use Rattle.route_dues.proofs.OutcomesFollow.{outcome_follows}
 use Rattle.route_dues.proofs.SettlingsFollow.{settling_follows}
 use Rattle.route_dues.proofs.Sending.{goes_on, next_begins, copy_begins}
 use Rattle.route_dues.proofs.Behind.{follows_within}
-use Rattle.due_frames.specs.declared.due.DueOutcome.{DueOutcome}
-use Rattle.due_frames.specs.declared.due.DuePart.{DuePart}
+use Rattle.route_dues.proofs.StatesWritable.{row_state}
+use Rattle.due_outcomes.specs.DueOutcomes.{IsDueOutcome}
+use Rattle.due_outcomes.specs.Settlings.{IsDueSettling}
+use Rattle.due_outcomes.specs.declared.outcome.DueOutcome.{DueOutcome}
+use Rattle.due_flows.specs.Parts.{IsDuePart}
+use Rattle.due_flows.specs.Draining.{IsDrainable}
+use Rattle.due_flows.specs.Topping.{IsToppable}
+use Rattle.due_flows.specs.Lacking.{IsLacking}
+use Rattle.due_flows.specs.declared.parts.DuePart.{DuePart}
+use Rattle.due_copies.specs.Copies.{IsDueCopy}
+use Rattle.due_copies.specs.declared.copies.DueCopy.{DueCopy}
 use Rattle.due_frames.specs.declared.due.DueBegin.{DueBegin}
 use Rattle.due_frames.specs.declared.due.Due.{Due}
 use Rattle.due_frames.specs.declared.due.Due.TheVariants as dues
-use Rattle.due_frames.specs.Dues.{IsOutcomeDue, IsSettlingDue, IsPartDue, IsWaitingDue, IsCopyDue, IsDrainDue, IsCreditDue, IsWindowDue, IsFrameFor, IsNextFrame, connection_of, note_of}
+use Rattle.due_frames.specs.Dues.{IsDue, IsWaitingDue, IsFrameFor, IsNextFrame, connection_of, note_of}
 
 module _ (rules : List RuleText) (past : List Event) (order : IsInOrder rules past) where
   framed : (c : ℕ) (note : Note) (spoken : Spoken) (octets : List ℕ) → MayFollow rules past c note spoken → IsReadAgain spoken → octets ≡ spoken_octets spoken → IsFrameFor rules past c note octets
@@ -40,30 +51,33 @@ module _ (rules : List RuleText) (past : List Event) (order : IsInOrder rules pa
     short = follows_within rules past c note spoken order.lawful may;
   }
 
-  pub outcome_frame_for : (due : DueOutcome) (octets : List ℕ) → IsOutcomeDue rules past due
-      → (length (spoken_octets (outcome_frame (incoming_view due.delivery) (option_map state_view due.state))) ≤ MAX_FRAME_SIZE → IsReadAgain (outcome_frame (incoming_view due.delivery) (option_map state_view due.state)))
-      → octets ≡ spoken_octets (outcome_frame (incoming_view due.delivery) (option_map state_view due.state))
-      → IsFrameFor rules past (connection_of (dues.Outcome due)) (note_of (dues.Outcome due)) octets
-  outcome_frame_for due octets is again same =
-      let d = incoming_view due.delivery in
-      let spoken = outcome_frame d (option_map state_view due.state) in
-      let may = outcome_follows rules past d due.why (option_map state_view due.state) order.lawful is.stands is.told is.told_so in
-      framed d.link.session.connection (note_of (dues.Outcome due)) spoken octets may (again (follows_within rules past d.link.session.connection (note_of (dues.Outcome due)) spoken order.lawful may)) same
+  pub outcome_frame_for : (d : Incoming) (why : Why) (told : Option (List ℕ)) (state : Option StateFields) (octets : List ℕ) → IsDueOutcome rules past d why told → octets_in state ≡ told
+      → (length (spoken_octets (outcome_frame d state)) ≤ MAX_FRAME_SIZE → IsReadAgain (outcome_frame d state))
+      → octets ≡ spoken_octets (outcome_frame d state) → IsFrameFor rules past d.link.session.connection (notes.Told why) octets
+  outcome_frame_for d why told state octets is states again same =
+      let spoken = outcome_frame d state in
+      let may = outcome_follows rules past d why state order.lawful is.at is.may (is.tells ∙ ap Some (sym states)) in
+      framed d.link.session.connection (notes.Told why) spoken octets may (again (follows_within rules past d.link.session.connection (notes.Told why) spoken order.lawful may)) same
 
-  pub settling_frame_for : (j : Outgoing) (octets : List ℕ) → IsSettlingDue past j
+  -- what is told can be written
+  pub state_told : (d : Incoming) (why : Why) (told : Option (List ℕ)) → IsDueOutcome rules past d why told → IfSome told HasState
+  state_told d why None is = tt
+  state_told d why (Some octets) is = row_state rules past d why octets order.lawful is.tells
+
+  pub settling_frame_for : (j : Outgoing) (octets : List ℕ) → IsDueSettling past j
       → IsReadAgain (written_settling j.link.session.channel (unwrap_or j.id 0)) → octets ≡ spoken_octets (written_settling j.link.session.channel (unwrap_or j.id 0))
       → IsFrameFor rules past j.link.session.connection notes.None octets
   settling_frame_for j octets is again same =
-      framed j.link.session.connection notes.None (written_settling j.link.session.channel (unwrap_or j.id 0)) octets (settling_follows rules past j order.lawful is.0 is.1) again same
+      framed j.link.session.connection notes.None (written_settling j.link.session.channel (unwrap_or j.id 0)) octets (settling_follows rules past j order.lawful is.there is.due) again same
 
-  pub part_frame_for : (due : DuePart) (octets : List ℕ) (is : IsPartDue past due)
-      → IsReadAgain (next_frame past (link_view due.link) is.delivery is.own) → octets ≡ spoken_octets (next_frame past (link_view due.link) is.delivery is.own)
+  pub part_frame_for : (due : DuePart) (octets : List ℕ) (is : IsDuePart due past)
+      → IsReadAgain (next_frame past (link_view due.link) is.carried is.delivery) → octets ≡ spoken_octets (next_frame past (link_view due.link) is.carried is.delivery)
       → IsFrameFor rules past (connection_of (dues.Part due)) (note_of (dues.Part due)) octets
   part_frame_for due octets is again same =
       let l = link_view due.link in
-      subst (λ (note : Note). IsFrameFor rules past l.session.connection note octets) (sym is.told)
-      (framed l.session.connection is.own.note (next_frame past l is.delivery is.own) octets
-      (goes_on rules past l is.delivery is.own order.lawful is.lives is.still is.progress is.carries) again same)
+      subst (λ (note : Note). IsFrameFor rules past l.session.connection note octets) (sym is.note)
+      (framed l.session.connection is.delivery.note (next_frame past l is.carried is.delivery) octets
+      (goes_on rules past l is.carried is.delivery order.lawful is.live is.still is.going is.named) again same)
 
   pub waiting_frame_for : (due : DueBegin) (octets : List ℕ) → IsWaitingDue rules past due
       → IsReadAgain (first_frame past (link_view due.link) (incoming_view due.delivery)) → octets ≡ spoken_octets (first_frame past (link_view due.link) (incoming_view due.delivery))
@@ -72,34 +86,39 @@ module _ (rules : List RuleText) (past : List Event) (order : IsInOrder rules pa
       let l = link_view due.link in
       let d = incoming_view due.delivery in
       framed l.session.connection (notes.Pair d.number) (first_frame past l d) octets
-      (next_begins rules past l d order.lawful order.keeps is.begins.link_stands is.begins.stands is.next is.picked) again same
+      (next_begins rules past l d order.lawful order.keeps is.at is.found is.next is.picked) again same
 
-  pub copy_frame_for : (due : DueBegin) (octets : List ℕ) → IsCopyDue rules past due
+  pub copy_frame_for : (due : DueCopy) (octets : List ℕ) → IsDueCopy rules due past
       → IsReadAgain (first_frame past (link_view due.link) (incoming_view due.delivery)) → octets ≡ spoken_octets (first_frame past (link_view due.link) (incoming_view due.delivery))
       → IsFrameFor rules past (connection_of (dues.Copy due)) (note_of (dues.Copy due)) octets
   copy_frame_for due octets is again same =
       let l = link_view due.link in
       let d = incoming_view due.delivery in
       framed l.session.connection (notes.Pair d.number) (first_frame past l d) octets
-      (copy_begins rules past l d order.lawful is.begins.lives is.consumer is.begins.stands is.room order.copies is.unsent is.earliest) again same
+      (copy_begins rules past l d order.lawful is.live is.consumer is.found is.takes order.copies is.unsent is.earliest) again same
 
-  pub drain_frame_for : (l : Link) (octets : List ℕ) → IsDrainDue rules past l
+  pub drain_frame_for : (l : Link) (octets : List ℕ) → IsDrainable rules l past
       → IsReadAgain (written_count l (drained_count past l) 0 past) → octets ≡ spoken_octets (written_count l (drained_count past l) 0 past)
       → IsFrameFor rules past l.session.connection notes.None octets
   drain_frame_for l octets is again same =
-      framed l.session.connection notes.None (written_count l (drained_count past l) 0 past) octets (drain_follows rules past l order.lawful is.lives is.consumer is.drained) again same
+      framed l.session.connection notes.None (written_count l (drained_count past l) 0 past) octets (drain_follows rules past l order.lawful is.live is.consumer is.may) again same
 
-  pub credit_frame_for : (l : Link) (octets : List ℕ) → IsCreditDue rules past l
+  pub credit_frame_for : (l : Link) (octets : List ℕ) → IsToppable rules l past
       → IsReadAgain (written_credit l (full_credit rules past l) past) → octets ≡ spoken_octets (written_credit l (full_credit rules past l) past)
       → IsFrameFor rules past l.session.connection notes.None octets
   credit_frame_for l octets is again same =
-      framed l.session.connection notes.None (written_credit l (full_credit rules past l) past) octets (credit_follows rules past l order.lawful is.lives is.producer is.topped_up) again same
+      framed l.session.connection notes.None (written_credit l (full_credit rules past l) past) octets (credit_follows rules past l order.lawful is.live is.producer is.may) again same
 
-  pub window_frame_for : (s : Session) (octets : List ℕ) → IsWindowDue past s
+  pub window_frame_for : (s : Session) (octets : List ℕ) → IsLacking s past
       → IsReadAgain (written_session_flow s past) → octets ≡ spoken_octets (written_session_flow s past)
       → IsFrameFor rules past s.connection notes.None octets
   window_frame_for s octets is again same =
       framed s.connection notes.None (written_session_flow s past) octets (window_follows rules past s order.lawful is.0 is.1) again same
+
+-- an outcome that is due, whatever else is
+pub outcome_told : (rules : List RuleText) (past : List Event) → IsInOrder rules past → (due : Due) (x : DueOutcome) → due ≡ dues.Outcome x → IsDue rules past due → IfSome (told_view x.told) HasState
+outcome_told rules past order due x same is =
+    state_told rules past order (incoming_view x.delivery) x.why (told_view x.told) (subst (λ (y : Due). IsDue rules past y) same is)
 
 -- ---- as octets that were appended to none
 
@@ -112,6 +131,11 @@ appended (Err e) old new octets P none puts holds = tt
 pub appended-again : (result : Result (Unit {0}) AllocError) (old new octets : List ℕ) (P Again : Type 0) → old ≡ [] → Puts old new result octets → OnOk result Again → (Again → new ≡ octets → P) → OnOk result P
 appended-again (Ok x) old new octets P Again none puts again holds = holds again (puts ∙ ap (λ xs. xs ++ octets) none)
 appended-again (Err e) old new octets P Again none puts again holds = tt
+
+-- where nothing was refused, one thing holds because another does
+pub on_ok : {P Q : Type 0} (result : Result (Unit {0}) AllocError) → (P → Q) → OnOk result P → OnOk result Q
+on_ok (Ok x) so holds = so holds
+on_ok (Err e) so holds = tt
 
 -- of what is due they are the frame
 pub frame_of_due : (rules : List RuleText) (past : List Event) (octets : List ℕ) (due other : Due) → due ≡ other → IsFrameFor rules past (connection_of other) (note_of other) octets

@@ -1,30 +1,12 @@
 //! What may be due.
 
-use amqp_perf::State;
-use pairing_cert::{Note, Why};
+use due_copies::DueCopy;
+use due_flows::DuePart;
+use due_outcomes::DueOutcome;
 use trace_events::Session;
 use trace_law::{Incoming, Link, Outgoing};
 
-/// An outcome that is due: of which delivery it is told, why, and with which state.
-#[derive(Clone, Copy)]
-pub struct DueOutcome<'t> {
-    pub delivery: Incoming<'t>,
-    pub why: Why,
-    /// `None` tells no outcome: the delivery is settled, and no more.
-    pub state: Option<State<'t>>,
-}
-
-/// A part that is due of the delivery in progress on a consumer's link.
-#[derive(Clone, Copy)]
-pub struct DuePart<'t> {
-    pub link: Link<'t>,
-    /// Which delivery it carries.
-    pub note: Note,
-    /// What of that delivery's payload was not sent yet.
-    pub rest: &'t [u8],
-}
-
-/// A delivery that is due to begin on a consumer's link, with its payload.
+/// A delivery that waits and is due to begin on a consumer's link, with its payload.
 #[derive(Clone, Copy)]
 pub struct DueBegin<'t> {
     pub link: Link<'t>,
@@ -44,7 +26,7 @@ pub enum Due<'t> {
     /// The first part of a delivery that waits, on the link that is picked.
     Waiting(DueBegin<'t>),
     /// The first part of the earliest copy of a link.
-    Copy(DueBegin<'t>),
+    Copy(DueCopy<'t>),
     /// The answer to the drain of a consumer's link.
     Drain(Link<'t>),
     /// The credit that fills a producer's link up.

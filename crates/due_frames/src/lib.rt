@@ -1,4 +1,4 @@
-//! Whatever is due to be written next, as one type, and the record of its frame.
+//! Whatever is due to be written next, as one type over what the lists of a router's work answer, and the record of its frame.
 //!
 //! - `due`: what may be due;
 //! - `writing`: the record of the frame that is then written.
@@ -7,5 +7,5 @@
 mod due;
 mod writing;
 
-pub use due::{Due, DueBegin, DueOutcome, DuePart};
+pub use due::{Due, DueBegin};
 pub use writing::record_of;

@@ -30,13 +30,15 @@ pub struct Books<D: Dues> {
 }
 
 impl<D: Dues> Books<D> {
-    /// No records, with lists of nothing.
-    pub fn new(alloc: Global, dues: D) -> Books<D>
-        ensures { (rules : List RuleText) → D.has_all dues rules [] → AreBooks D.has_all rules result [] }
+    /// No records.
+    pub fn new(alloc: Global) -> Books<D>
+        ensures { (rules : List RuleText) → AreBooks D.has_all rules result [] }
     {
+        let tables = Tables::new(alloc);
+        let dues = D::new(alloc);
         Books {
             alloc,
-            tables: Tables::new(alloc),
+            tables,
             dues,
         }
     }

@@ -1,6 +1,6 @@
 //! What is asked of lists of what is due.
 
-ghost use Rattle.std.specs.Prelude.{◌≡◌, ◌∷◌, List, None, true, OnOk, IfSome};
+ghost use Rattle.std.specs.Prelude.{◌≡◌, ◌∷◌, List, [], None, true, OnOk, IfSome};
 ghost use Rattle.capture_form.specs.Rules.{RuleText};
 ghost use Rattle.capture_form.specs.declared.records.Record.{Record};
 ghost use Rattle.trace_events.specs.History.{history};
@@ -13,7 +13,7 @@ ghost use Rattle.route_books.specs.Books.{TellsOf};
 use audit_answers::Looked;
 use capture_form::Rule;
 use due_frames::Due;
-use std::alloc::AllocError;
+use std::alloc::{AllocError, Global};
 use trace_law::Event;
 
 /// Lists of what may be due, from which the next that is due is found without a search through all deliveries, links or
@@ -21,6 +21,10 @@ use trace_law::Event;
 pub trait Dues {
     /// All that is due behind these events, judged by these rules, is listed.
     ghost has_all: { Self → List RuleText → Events → Type 0 };
+
+    /// Of no records.
+    fn new(alloc: Global) -> Self
+        ensures { (rules : List RuleText) → has_all result rules [] };
 
     /// The event follows those so far, of which the tables that are lent tell.
     ///
@@ -40,7 +44,8 @@ pub trait Dues {
     /// What is due next, by the tables of the events so far; `None` where nothing is.
     fn next_due<'t>(&mut self, rules: &[Rule], looked: &Looked<'t>) -> Option<Due<'t>>
         // What is answered is due.
-        ensures due { (records : List Record) → TellsOf rules.now looked.now (history rules.now records) → IfSome result (IsDue rules.now (history rules.now records)) }
+        ensures due { (records : List Record) → TellsOf rules.now looked.now (history rules.now records) →
+            has_all self.old rules.now (history rules.now records) → IfSome result (IsDue rules.now (history rules.now records)) }
         // All that is due stays listed.
         ensures kept { (records : List Record) → TellsOf rules.now looked.now (history rules.now records) →
             has_all self.old rules.now (history rules.now records) → has_all self.new rules.now (history rules.now records) }

@@ -1,29 +1,29 @@
-use Rattle.std.proofs.Common.{inl, inr, sym, subst, ◌∙◌, length, drop, option_map, unwrap_or}
-use Rattle.amqp_perf.specs.NestedViews.{state_view}
-use Rattle.trace_events.specs.Incoming as incoming
-use Rattle.trace_events.specs.Outgoing as outgoing
+use Rattle.std.proofs.Common.{subst, unwrap_or}
 use Rattle.trace_clauses.specs.FlowClause.{full_credit, drained_count}
 use Rattle.trace_clauses.specs.Written.{spoken_octets, written_settling, written_session_flow, written_credit, written_count}
 use Rattle.trace_law.specs.View.{link_view, incoming_view, outgoing_view}
-use Rattle.route_dues.specs.Outcomes.{outcome_frame}
 use Rattle.route_dues.specs.Transfers.{first_frame, next_frame}
 use Rattle.route_dues.specs.Writing.{IsReadAgain}
 use Rattle.due_frames.specs.declared.due.Due.TheVariants as dues
 use Rattle.due_frames.specs.Dues.{IsDue, IsFrameFor, connection_of, note_of}
-use Rattle.due_frames.proofs.Follow.{appended, appended-again, frame_of_due, outcome_frame_for, settling_frame_for, part_frame_for, waiting_frame_for, copy_frame_for, drain_frame_for, credit_frame_for, window_frame_for}
+use Rattle.due_frames.proofs.Follow.{appended, appended-again, frame_of_due, on_ok, outcome_told, settling_frame_for, part_frame_for, waiting_frame_for, copy_frame_for, drain_frame_for, credit_frame_for, window_frame_for}
 use Rattle.due_frames.proofs.writing.put_due.Goals as goal
+
+pub put_told-requires-clause-told : goal.put_told-requires-clause-told
+put_told-requires-clause-told g c =
+    let behind = c.requires.due in
+    outcome_told c.args.rules.now behind.past behind.order c.args.due.now c.in-Outcome.told c.in-Outcome.is behind.is_due
 
 pub returns-in-Outcome : goal.returns-in-Outcome
 returns-in-Outcome g c = record {
   frame = λ history stands order is.
       let rules = c.args.rules.now in
-      let new = c.put_outcome.new.out.items in
+      let new = c.put_told.new.out.items in
       let P = IsFrameFor rules history (connection_of c.args.due.now) (note_of c.args.due.now) new in
       let same = c.in-Outcome.is in
       let due = subst (λ due. IsDue rules history due) same is in
       let x = c.in-Outcome.told in
-      appended c.put_outcome.result c.args.out.now.items new (spoken_octets (outcome_frame (incoming_view x.delivery) (option_map state_view x.state))) P c.requires.none c.put_outcome.ensures.appended
-      (λ here. frame_of_due rules history new c.args.due.now (dues.Outcome x) same (outcome_frame_for rules history order x new due c.put_outcome.ensures.again here));
+      on_ok c.put_told.result (frame_of_due rules history new c.args.due.now (dues.Outcome x) same) (c.put_told.ensures.frame rules history order due);
 }
 
 pub returns-in-Settling : goal.returns-in-Settling
@@ -50,8 +50,8 @@ returns-in-Part g c = record {
       let due = subst (λ due. IsDue rules history due) same is in
       let x = c.in-Part.part in
       let l = link_view x.link in
-      appended-again c.put_next.result c.args.out.now.items new (spoken_octets (next_frame history l due.delivery due.own)) P (IsReadAgain (next_frame history l due.delivery due.own)) c.requires.none
-      (c.put_next.ensures.appended rules history due.delivery due.own stands due.left) (c.put_next.ensures.again rules history due.delivery due.own stands due.left)
+      appended-again c.put_next.result c.args.out.now.items new (spoken_octets (next_frame history l due.carried due.delivery)) P (IsReadAgain (next_frame history l due.carried due.delivery)) c.requires.none
+      (c.put_next.ensures.appended rules history due.carried due.delivery stands due.rest) (c.put_next.ensures.again rules history due.carried due.delivery stands due.rest)
       (λ again here. frame_of_due rules history new c.args.due.now (dues.Part x) same (part_frame_for rules history order x new due again here));
 }
 
@@ -65,8 +65,8 @@ returns-in-Drain g c = record {
       let due = subst (λ due. IsDue rules history due) same is in
       let x = c.in-Drain.link in
       let l = link_view x in
-      appended c.put_drain.result c.args.out.now.items new (spoken_octets (written_count l (drained_count history l) 0 history)) P c.requires.none (c.put_drain.ensures.appended rules history stands due.lives)
-      (λ here. frame_of_due rules history new c.args.due.now (dues.Drain x) same (drain_frame_for rules history order l new due (c.put_drain.ensures.again rules history stands due.lives) here));
+      appended c.put_drain.result c.args.out.now.items new (spoken_octets (written_count l (drained_count history l) 0 history)) P c.requires.none (c.put_drain.ensures.appended rules history stands due.live)
+      (λ here. frame_of_due rules history new c.args.due.now (dues.Drain x) same (drain_frame_for rules history order l new due (c.put_drain.ensures.again rules history stands due.live) here));
 }
 
 pub returns-in-Credit : goal.returns-in-Credit
@@ -79,8 +79,8 @@ returns-in-Credit g c = record {
       let due = subst (λ due. IsDue rules history due) same is in
       let x = c.in-Credit.link in
       let l = link_view x in
-      appended c.put_credit.result c.args.out.now.items new (spoken_octets (written_credit l (full_credit rules history l) history)) P c.requires.none (c.put_credit.ensures.appended history stands due.lives)
-      (λ here. frame_of_due rules history new c.args.due.now (dues.Credit x) same (credit_frame_for rules history order l new due (c.put_credit.ensures.again history stands due.lives) here));
+      appended c.put_credit.result c.args.out.now.items new (spoken_octets (written_credit l (full_credit rules history l) history)) P c.requires.none (c.put_credit.ensures.appended history stands due.live)
+      (λ here. frame_of_due rules history new c.args.due.now (dues.Credit x) same (credit_frame_for rules history order l new due (c.put_credit.ensures.again history stands due.live) here));
 }
 
 pub returns-in-Window : goal.returns-in-Window
@@ -102,19 +102,28 @@ returns-in-Waiting g c = record {
       let rules = c.args.rules.now in
       let new = c.put_first.new.out.items in
       let P = IsFrameFor rules history (connection_of c.args.due.now) (note_of c.args.due.now) new in
+      let same = c.in-Waiting.is in
+      let due = subst (λ due. IsDue rules history due) same is in
       let x = c.in-Waiting.begin in
       let l = link_view x.link in
       let d = incoming_view x.delivery in
-      elim c.in-Waiting.is [
-        | inl same ↦
-            let due = subst (λ due. IsDue rules history due) same is in
-            appended-again c.put_first.result c.args.out.now.items new (spoken_octets (first_frame history l d)) P (IsReadAgain (first_frame history l d)) c.requires.none
-            (c.put_first.ensures.appended rules history stands due.begins.lives due.begins.whole) (c.put_first.ensures.again rules history stands due.begins.lives due.begins.whole)
-            (λ again here. frame_of_due rules history new c.args.due.now (dues.Waiting x) same (waiting_frame_for rules history order x new due again here))
-        | inr same ↦
-            let due = subst (λ due. IsDue rules history due) same is in
-            appended-again c.put_first.result c.args.out.now.items new (spoken_octets (first_frame history l d)) P (IsReadAgain (first_frame history l d)) c.requires.none
-            (c.put_first.ensures.appended rules history stands due.begins.lives due.begins.whole) (c.put_first.ensures.again rules history stands due.begins.lives due.begins.whole)
-            (λ again here. frame_of_due rules history new c.args.due.now (dues.Copy x) same (copy_frame_for rules history order x new due again here))
-      ];
+      appended-again c.put_first.result c.args.out.now.items new (spoken_octets (first_frame history l d)) P (IsReadAgain (first_frame history l d)) c.requires.none
+      (c.put_first.ensures.appended rules history stands due.live due.payload) (c.put_first.ensures.again rules history stands due.live due.payload)
+      (λ again here. frame_of_due rules history new c.args.due.now (dues.Waiting x) same (waiting_frame_for rules history order x new due again here));
+}
+
+pub returns-in-Copy : goal.returns-in-Copy
+returns-in-Copy g c = record {
+  frame = λ history stands order is.
+      let rules = c.args.rules.now in
+      let new = c.put_first-in-Copy.new.out.items in
+      let P = IsFrameFor rules history (connection_of c.args.due.now) (note_of c.args.due.now) new in
+      let same = c.in-Copy.is in
+      let due = subst (λ due. IsDue rules history due) same is in
+      let x = c.in-Copy.copy in
+      let l = link_view x.link in
+      let d = incoming_view x.delivery in
+      appended-again c.put_first-in-Copy.result c.args.out.now.items new (spoken_octets (first_frame history l d)) P (IsReadAgain (first_frame history l d)) c.requires.none
+      (c.put_first-in-Copy.ensures.appended rules history stands due.live due.payload) (c.put_first-in-Copy.ensures.again rules history stands due.live due.payload)
+      (λ again here. frame_of_due rules history new c.args.due.now (dues.Copy x) same (copy_frame_for rules history order x new due again here));
 }

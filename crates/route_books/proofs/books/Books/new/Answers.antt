@@ -1,4 +1,4 @@
 use Rattle.route_books.proofs.books.Books.new.Goals as goal
 
 pub returns : goal.returns
-returns g c = λ rules listed. record { tables = c.new.ensures rules; listed = listed }
+returns g c = λ rules. record { tables = c.new-tables.ensures rules; listed = c.new-dues.ensures rules }
