@@ -1,0 +1,80 @@
+//! What links and sessions are to be given: drain answers, credit and windows (part 2 of the standard, sections 2.5.6 and
+//! 2.6.7).
+
+ghost use Rattle.std.specs.Prelude.{◌≡◌, ◌∷◌, List, [], None, IfSome, OnOk};
+ghost use Rattle.capture_form.specs.Rules.{RuleText};
+ghost use Rattle.capture_form.specs.declared.records.Record.{Record};
+ghost use Rattle.trace_events.specs.History.{history};
+ghost use Rattle.trace_law.specs.View.{event_view};
+ghost use Rattle.audit_tables.specs.Connections.{IsLawfulNext};
+ghost use Rattle.due_frames.specs.Dues.{IsDue};
+ghost use Rattle.route_books.specs.Books.{TellsOf};
+ghost use Rattle.route_work.specs.Work.{HasFlowing, IsAllGiven};
+
+use audit_answers::Looked;
+use capture_form::Rule;
+use due_flows::{Credits, Drains, Windows};
+use due_frames::Due;
+use std::alloc::{AllocError, Global};
+use trace_law::Event;
+
+/// Drains to answer, links that may be given credit, and sessions that may be given their window.
+#[derive(Drop)]
+pub struct Flowing {
+    drains: Drains,
+    credits: Credits,
+    windows: Windows,
+}
+
+impl Flowing {
+    /// Of no records.
+    pub(crate) fn new(alloc: Global) -> Flowing
+        ensures { (rules : List RuleText) → HasFlowing rules result [] }
+    {
+        let drains = Drains::new(alloc);
+        let credits = Credits::new(alloc);
+        let windows = Windows::new(alloc);
+        Flowing {
+            drains,
+            credits,
+            windows,
+        }
+    }
+
+    /// The event follows; `before` are the tables without it.
+    ///
+    /// # Errors
+    ///
+    /// Memory was refused; then something that is due may not be found any more.
+    pub(crate) fn follow(&mut self, event: &Event, before: &Looked<'_>) -> Result<(), AllocError>
+        ensures { OnOk result ((rules : List RuleText) (records : List Record) (r : Record) → IsLawfulNext rules records r (event_view event.now) →
+            TellsOf rules before.now (history rules records) → HasFlowing rules self.old (history rules records) →
+            HasFlowing rules self.new (event_view event.now ∷ history rules records)) }
+    {
+        self.drains.follow(event, before)?;
+        self.credits.follow(event, before)?;
+        self.windows.follow(event, before)?;
+        Ok(())
+    }
+
+    /// The first drain answer; where no drain may be answered, the first credit; where none may be given, the first window.
+    pub(crate) fn next_due<'t>(&mut self, rules: &[Rule], looked: &Looked<'t>) -> Option<Due<'t>>
+        ensures due { (records : List Record) → TellsOf rules.now looked.now (history rules.now records) →
+            HasFlowing rules.now self.old (history rules.now records) → IfSome result (IsDue rules.now (history rules.now records)) }
+        ensures kept { (records : List Record) → TellsOf rules.now looked.now (history rules.now records) →
+            HasFlowing rules.now self.old (history rules.now records) → HasFlowing rules.now self.new (history rules.now records) }
+        ensures quiet { (records : List Record) → TellsOf rules.now looked.now (history rules.now records) →
+            HasFlowing rules.now self.old (history rules.now records) → result ≡ None → IsAllGiven rules.now (history rules.now records) }
+    {
+        if let Some(link) = self.drains.first_due(rules, looked) {
+            return Some(Due::Drain(link));
+        }
+        if let Some(link) = self.credits.first_due(rules, looked) {
+            return Some(Due::Credit(link));
+        }
+        if let Some(session) = self.windows.first_due(looked) {
+            return Some(Due::Window(session));
+        }
+        None
+    }
+}

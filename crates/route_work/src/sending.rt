@@ -1,0 +1,92 @@
+//! What is to be sent to consumers: the next part of a delivery in progress, a delivery that waits, and copies (part 2 of the
+//! standard, section 2.6.14; own rules).
+
+ghost use Rattle.std.specs.Prelude.{◌≡◌, ◌∷◌, List, [], None, IfSome, OnOk};
+ghost use Rattle.capture_form.specs.Rules.{RuleText};
+ghost use Rattle.capture_form.specs.declared.records.Record.{Record};
+ghost use Rattle.trace_events.specs.History.{history};
+ghost use Rattle.trace_law.specs.View.{event_view};
+ghost use Rattle.audit_tables.specs.Connections.{IsLawfulNext};
+ghost use Rattle.due_frames.specs.Dues.{IsDue};
+ghost use Rattle.route_books.specs.Books.{TellsOf};
+ghost use Rattle.route_work.specs.Work.{HasSending, IsAllSent};
+
+use audit_answers::Looked;
+use capture_form::Rule;
+use due_copies::UnsentCopies;
+use due_flows::Parts;
+use due_frames::{Due, DueBegin};
+use due_waiting::Waiting;
+use std::alloc::{AllocError, Global};
+use trace_law::Event;
+
+/// Deliveries to consumers that may go on or begin.
+#[derive(Drop)]
+pub struct Sending {
+    parts: Parts,
+    waiting: Waiting,
+    copies: UnsentCopies,
+}
+
+impl Sending {
+    /// Of no records.
+    pub(crate) fn new(alloc: Global) -> Sending
+        ensures { (rules : List RuleText) → HasSending rules result [] }
+    {
+        let parts = Parts::new(alloc);
+        let waiting = Waiting::new(alloc);
+        let copies = UnsentCopies::new(alloc);
+        Sending {
+            parts,
+            waiting,
+            copies,
+        }
+    }
+
+    /// The event follows; `before` are the tables without it.
+    ///
+    /// # Errors
+    ///
+    /// Memory was refused; then something that is due may not be found any more.
+    pub(crate) fn follow(
+        &mut self,
+        rules: &[Rule],
+        event: &Event,
+        before: &Looked<'_>,
+    ) -> Result<(), AllocError>
+        ensures { OnOk result ((records : List Record) (r : Record) → IsLawfulNext rules.now records r (event_view event.now) →
+            TellsOf rules.now before.now (history rules.now records) → HasSending rules.now self.old (history rules.now records) →
+            HasSending rules.now self.new (event_view event.now ∷ history rules.now records)) }
+    {
+        self.parts.follow(event, before)?;
+        self.waiting.follow(rules, event, before)?;
+        self.copies.follow(rules, event, before)?;
+        Ok(())
+    }
+
+    /// The first part of a delivery in progress; where none goes on, the first that waits and may begin; where none does, the
+    /// first copy.
+    pub(crate) fn next_due<'t>(&mut self, rules: &[Rule], looked: &Looked<'t>) -> Option<Due<'t>>
+        ensures due { (records : List Record) → TellsOf rules.now looked.now (history rules.now records) →
+            HasSending rules.now self.old (history rules.now records) → IfSome result (IsDue rules.now (history rules.now records)) }
+        ensures kept { (records : List Record) → TellsOf rules.now looked.now (history rules.now records) →
+            HasSending rules.now self.old (history rules.now records) → HasSending rules.now self.new (history rules.now records) }
+        ensures quiet { (records : List Record) → TellsOf rules.now looked.now (history rules.now records) →
+            HasSending rules.now self.old (history rules.now records) → result ≡ None → IsAllSent rules.now (history rules.now records) }
+    {
+        if let Some(part) = self.parts.first_due(looked) {
+            return Some(Due::Part(part));
+        }
+        if let Some(begin) = self.waiting.first_due(rules, looked) {
+            return Some(Due::Waiting(DueBegin {
+                link: begin.link,
+                delivery: begin.delivery,
+                payload: begin.payload,
+            }));
+        }
+        if let Some(copy) = self.copies.first_due(rules, looked) {
+            return Some(Due::Copy(copy));
+        }
+        None
+    }
+}

@@ -1,0 +1,75 @@
+//! What is to be told: outcomes to producers, and settlings to consumers (part 3 of the standard, section 3.4; part 2, section
+//! 2.6.12).
+
+ghost use Rattle.std.specs.Prelude.{◌≡◌, ◌∷◌, List, [], None, IfSome, OnOk};
+ghost use Rattle.capture_form.specs.Rules.{RuleText};
+ghost use Rattle.capture_form.specs.declared.records.Record.{Record};
+ghost use Rattle.trace_events.specs.History.{history};
+ghost use Rattle.trace_law.specs.View.{event_view};
+ghost use Rattle.audit_tables.specs.Connections.{IsLawfulNext};
+ghost use Rattle.due_frames.specs.Dues.{IsDue};
+ghost use Rattle.route_books.specs.Books.{TellsOf};
+ghost use Rattle.route_work.specs.Work.{HasTelling, IsAllTold};
+
+use audit_answers::Looked;
+use capture_form::Rule;
+use due_frames::Due;
+use due_outcomes::{Unsettled, Untold};
+use std::alloc::{AllocError, Global};
+use trace_law::Event;
+
+/// Outcomes to tell, and deliveries to settle.
+#[derive(Drop)]
+pub struct Telling {
+    untold: Untold,
+    unsettled: Unsettled,
+}
+
+impl Telling {
+    /// Of no records.
+    pub(crate) fn new(alloc: Global) -> Telling
+        ensures { (rules : List RuleText) → HasTelling rules result [] }
+    {
+        let untold = Untold::new(alloc);
+        let unsettled = Unsettled::new(alloc);
+        Telling { untold, unsettled }
+    }
+
+    /// The event follows; `before` are the tables without it.
+    ///
+    /// # Errors
+    ///
+    /// Memory was refused; then something that is due may not be found any more.
+    pub(crate) fn follow(
+        &mut self,
+        rules: &[Rule],
+        event: &Event,
+        before: &Looked<'_>,
+    ) -> Result<(), AllocError>
+        ensures { OnOk result ((records : List Record) (r : Record) → IsLawfulNext rules.now records r (event_view event.now) →
+            TellsOf rules.now before.now (history rules.now records) → HasTelling rules.now self.old (history rules.now records) →
+            HasTelling rules.now self.new (event_view event.now ∷ history rules.now records)) }
+    {
+        self.untold.follow(rules, event, before)?;
+        self.unsettled.follow(event, before)?;
+        Ok(())
+    }
+
+    /// The first outcome; where none is to be told, the first settling.
+    pub(crate) fn next_due<'t>(&mut self, rules: &[Rule], looked: &Looked<'t>) -> Option<Due<'t>>
+        ensures due { (records : List Record) → TellsOf rules.now looked.now (history rules.now records) →
+            HasTelling rules.now self.old (history rules.now records) → IfSome result (IsDue rules.now (history rules.now records)) }
+        ensures kept { (records : List Record) → TellsOf rules.now looked.now (history rules.now records) →
+            HasTelling rules.now self.old (history rules.now records) → HasTelling rules.now self.new (history rules.now records) }
+        ensures quiet { (records : List Record) → TellsOf rules.now looked.now (history rules.now records) →
+            HasTelling rules.now self.old (history rules.now records) → result ≡ None → IsAllTold rules.now (history rules.now records) }
+    {
+        if let Some(outcome) = self.untold.first_due(rules, looked) {
+            return Some(Due::Outcome(outcome));
+        }
+        if let Some(settling) = self.unsettled.first_due(looked) {
+            return Some(Due::Settling(settling));
+        }
+        None
+    }
+}

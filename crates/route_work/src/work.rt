@@ -1,0 +1,60 @@
+//! All lists of what is due, in the order of a step.
+
+ghost use Rattle.std.specs.Prelude.{◌≡◌};
+ghost use Rattle.route_work.specs.Work.{HasWork};
+
+use crate::flowing::Flowing;
+use crate::sending::Sending;
+use crate::telling::Telling;
+use audit_answers::Looked;
+use capture_form::Rule;
+use due_frames::Due;
+use route_books::Dues;
+use std::alloc::{AllocError, Global};
+use trace_law::Event;
+
+/// What may be due of a router's work. First it tells what is to be told, then it sends what may be sent, and what links and
+/// sessions lack it gives last.
+#[derive(Drop)]
+pub struct Work {
+    telling: Telling,
+    sending: Sending,
+    flowing: Flowing,
+}
+
+impl Dues for Work {
+    ghost has_all = { λ work rules past. HasWork rules work past };
+
+    fn new(alloc: Global) -> Work {
+        let telling = Telling::new(alloc);
+        let sending = Sending::new(alloc);
+        let flowing = Flowing::new(alloc);
+        Work {
+            telling,
+            sending,
+            flowing,
+        }
+    }
+
+    fn follow(
+        &mut self,
+        rules: &[Rule],
+        event: &Event,
+        before: &Looked<'_>,
+    ) -> Result<(), AllocError> {
+        self.telling.follow(rules, event, before)?;
+        self.sending.follow(rules, event, before)?;
+        self.flowing.follow(event, before)?;
+        Ok(())
+    }
+
+    fn next_due<'t>(&mut self, rules: &[Rule], looked: &Looked<'t>) -> Option<Due<'t>> {
+        if let Some(due) = self.telling.next_due(rules, looked) {
+            return Some(due);
+        }
+        if let Some(due) = self.sending.next_due(rules, looked) {
+            return Some(due);
+        }
+        self.flowing.next_due(rules, looked)
+    }
+}
