@@ -1,0 +1,9 @@
+pub mod Sums
+pub mod OwnCounts
+pub mod FlowOctets
+pub mod OwnEvents
+pub mod Parts
+pub mod Places
+pub mod Frames
+pub mod FlowFrames
+pub mod Measures
