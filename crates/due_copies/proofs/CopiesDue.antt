@@ -1,17 +1,16 @@
 -- The copy that is due on a link, by the tables, and where none is.
-use Rattle.std.proofs.Common.{◌≡◌, refl, sym, ap, subst, ◌∙◌, ◌<◌, ◌+◌, ℕ, Bool, true, false, not, ◌&&◌, ◌||◌, List, [], ◌∷◌, length, take, get_or, Option, Some, None, is_some, nat_eq, nat_lt, if◌then◌else◌, ◌==◌, arith, eqb-true, eq-eqb, lt-ltb, ◌-◌, bytes_eq}
+use Rattle.std.proofs.Common.{◌≡◌, refl, sym, ap, subst, ◌∙◌, ◌≤◌, ℕ, Bool, true, false, not, ◌&&◌, ◌||◌, List, [], ◌∷◌, Option, Some, None, is_some, nat_lt, if◌then◌else◌, ◌==◌, arith, eqb-true, eq-eqb, lt-ltb, ◌-◌, bytes_eq}
 use Rattle.std.specs.Prelude.{Contains, is_none}
-use Rattle.std.specs.List.{list_any, list_all, slice_get}
-use Rattle.std.proofs.lemmas.List.Folds.{list_any_more}
-use Rattle.std.proofs.lemmas.Option.{slice_get-get_or}
+use Rattle.std.specs.List.{list_all}
+use Rattle.std.proofs.lemmas.Bool.{le-ltb}
 use Rattle.pairing_cert.specs.declared.note.Note.TheVariants as notes
 use Rattle.capture_form.specs.Rules.{RuleText}
-use Rattle.trace_events.specs.Words.{where_passes}
+use Rattle.trace_events.specs.Words.{is_some_and, where_passes}
 use Rattle.trace_events.specs.Event.{Event, Link, Incoming}
 use Rattle.trace_events.specs.Credit.{link_credit}
 use Rattle.trace_events.specs.Due.{is_due, is_unsent, has_unsent}
-use Rattle.trace_events.specs.Incoming.{incoming_at, incoming_deliveries, is_complete, completed_before}
-use Rattle.trace_events.specs.Link.{IsLiveLink, is_consumer, live_links}
+use Rattle.trace_events.specs.Incoming.{incoming_at, incoming_deliveries, is_complete, completion, completed_before}
+use Rattle.trace_events.specs.Link.{IsLiveLink, is_consumer, link_at, live_links}
 use Rattle.trace_events.specs.Outgoing.{in_progress, is_named_on}
 use Rattle.trace_events.specs.Waiting.{is_gone}
 use Rattle.trace_events.specs.Window.{session_window}
@@ -22,16 +21,19 @@ use Rattle.trace_clauses.specs.TransferClause.{to_carry}
 use Rattle.trace_clauses.proofs.FirstSent.{copy_goes_first}
 use Rattle.trace_clauses.proofs.IncomingProgress.{judged-kept}
 use Rattle.trace_clauses.proofs.Parts.{IsKept, each_delivery}
-use Rattle.trace_clauses.proofs.WaitingQueue.{all_contained}
+use Rattle.trace_clauses.proofs.UnsentCopies.{unsent_complete}
+use Rattle.trace_clauses.proofs.WaitingQueue.{all_contained, completed_below}
 use Rattle.trace_duties.specs.Pick.{may_take}
 use Rattle.trace_duties.specs.Quiet.{has_earlier_unsent, is_held_back, copies_are_sent}
 use Rattle.trace_duties.proofs.QuietLists.{all-each}
 use Rattle.trace_duties.proofs.PicksInOrder.{none-before}
-use Rattle.due_flows.proofs.LiveOnes.{live_links-live}
+use Rattle.due_flows.proofs.LiveOnes.{link-found, live_links-live}
 use Rattle.due_flows.proofs.Members.{some-passes, none-passes, found-contained}
 use Rattle.due_flows.proofs.PartsDue.{consumer-found}
-use Rattle.due_copies.specs.Numbers.{has}
-use Rattle.due_copies.specs.declared.numbers.Numbers.{Numbers}
+use Rattle.due_copies.specs.ByLink.{copy_at}
+use Rattle.due_copies.specs.Candidates.{has}
+use Rattle.due_copies.specs.declared.by_link.ByLink.{ByLink}
+use Rattle.due_copies.specs.declared.candidates.Candidates.{Candidates}
 use Rattle.trace_events.specs.Event.{Outgoing}
 use Rattle.trace_events.specs.Address.{is_consumer_of}
 use Rattle.trace_events.specs.Credit.{begun_count}
@@ -42,12 +44,22 @@ use Rattle.trace_events.specs.Waiting.{is_of_multicast}
 use Rattle.trace_events.proofs.Along.{and_last}
 use Rattle.trace_clauses.proofs.OneConsumer.{some-and}
 use Rattle.audit_addresses.specs.ConsumerLinks.{consumer_at}
-use Rattle.due_copies.specs.Lists.{waits, earlier_of}
+use Rattle.due_copies.specs.Lists.{Waits, copy_on, waits}
 use Rattle.due_copies.specs.declared.lists.Lists.{Lists}
-use Rattle.due_copies.specs.Copies.{HasUnsent, IsReady, IsUnsentOn, is_ahead}
+use Rattle.due_copies.specs.Copies.{HasUnsent, IsReady, IsUnsentOn}
 use Rattle.due_copies.specs.declared.copies.UnsentCopies.{UnsentCopies}
 use Rattle.due_copies.proofs.CopiesFollowed.{Have}
-use Rattle.due_copies.proofs.Earliest.{ahead-later, ahead-here}
+
+same_number : (a b : ℕ) → Some a ≡ Some b → a ≡ b
+same_number a b is = cc
+
+same_link : (k l : Link) → Some k ≡ Some l → k ≡ l
+same_link k l is = cc
+
+-- live links of one number are one
+pub live-same : (rules : List RuleText) (past : List Event) → AreJudged rules past → (k l : Link) → IsLiveLink k past → IsLiveLink l past → k.number ≡ l.number → k ≡ l
+live-same rules past are k l one other number =
+    same_link k l (sym (link-found rules past are k one) ∙ (ap (λ n. link_at n past) number ∙ link-found rules past are l other))
 
 -- ---- the delivery of a copy is kept
 
@@ -68,37 +80,60 @@ module _ (rules : List RuleText) (past : List Event) (are : AreJudged rules past
         let d = some-passes (λ (d : Incoming). is_unsent rules d l past) (incoming_deliveries past) some in
         (d.0, record { live = live; found = found-of d.0 d.1.0; unsent = d.1.1 })
 
-    -- what is ahead of all unsent copies is the earliest
-    pub ahead-earliest : IsLiveLink l past → (f : Incoming) → ((d : Incoming) → IsUnsentOn rules l d past → is_ahead past (Some f) d ≡ true) → has_earlier_unsent rules past l f ≡ false
-    ahead-earliest live f ahead =
+    -- the first that is listed is the earliest
+    pub first-earliest : (all : Lists) → Have rules all past → IsLiveLink l past → (c : ℕ) → ((other n : ℕ) → copy_on all l.number other ≡ Some n → c ≤ other)
+        → (f : Incoming) → copy_on all l.number c ≡ Some f.number → has_earlier_unsent rules past l f ≡ false
+    first-earliest all have live c least f listed =
         none-before (λ (x : Incoming). completed_before x f past && is_unsent rules x l past) (incoming_deliveries past) (λ x there. by x there (is_unsent rules x l past) refl)
       where
-        off : (b : Bool) → not b ≡ true → b && true ≡ false
-        off false is = refl
-        off true is = absurd cc
+        later : (x : Incoming) → IsUnsentOn rules l x past → completed_before x f past ≡ false
+        later x h =
+            let below = completed_below rules past are x (unsent_complete rules past x l h.unsent) in
+            ap (λ (o : Option ℕ). is_some_and o (λ m. is_some_and (completion f past) (λ n. nat_lt m n))) below.1
+            ∙ ap (λ (o : Option ℕ). is_some_and o (λ n. nat_lt below.0 n)) (have.ranked l.number c f.number listed f refl)
+            ∙ le-ltb below.0 c (least below.0 x.number (have.listed l x h below.0 below.1))
 
         by : (x : Incoming) → Contains (incoming_deliveries past) x → (b : Bool) → is_unsent rules x l past ≡ b → completed_before x f past && b ≡ false
         by x there false unsent = and-false (completed_before x f past)
-        by x there true unsent = off (completed_before x f past) (ahead x (record { live = live; found = found-of x there; unsent = unsent }))
+        by x there true unsent = ap (λ t. t && true) (later x (record { live = live; found = found-of x there; unsent = unsent }))
 
--- ---- the search for the earliest
-
-pub none-among : (numbers : List ℕ) (n : ℕ) → list_any (nat_eq n) (take 0 numbers) ≡ false
-none-among numbers n = refl
-
-pub ahead-more : (past : List Event) (numbers : List ℕ) (i : ℕ) → i < length numbers → (first second : Option Incoming) (d : Incoming)
-    → (list_any (nat_eq d.number) (take i numbers) ≡ true → is_ahead past first d ≡ true)
-    → (slice_get numbers i ≡ Some d.number → second ≡ Some d)
-    → list_any (nat_eq d.number) (take (i + 1) numbers) ≡ true → is_ahead past (earlier_of past first second) d ≡ true
-ahead-more past numbers i below first second d was found among =
-    by (list_any (nat_eq d.number) (take i numbers)) (nat_eq d.number (get_or numbers i 0)) refl refl (sym (list_any_more (nat_eq d.number) numbers i 0 below) ∙ among)
+-- where none is listed none is unsent
+pub one-unlisted : (rules : List RuleText) (past : List Event) (are : AreJudged rules past) (l : Link) (all : Lists) → Have rules all past → IsLiveLink l past
+    → ((c : ℕ) → copy_on all l.number c ≡ None) → has_unsent rules l past ≡ false
+one-unlisted rules past are l all have live none = by (has_unsent rules l past) refl
   where
-    by : (a b : Bool) → list_any (nat_eq d.number) (take i numbers) ≡ a → nat_eq d.number (get_or numbers i 0) ≡ b → a || b ≡ true → is_ahead past (earlier_of past first second) d ≡ true
-    by true b is same some = ahead-later past first second d (was is)
-    by false true is same some =
-        let at : slice_get numbers i ≡ Some d.number = slice_get-get_or numbers i 0 below ∙ ap Some (sym (eqb-true d.number (get_or numbers i 0) same)) in
-        subst (λ (o : Option Incoming). is_ahead past (earlier_of past first o) d ≡ true) (sym (found at)) (ahead-here past first d)
-    by false false is same some = absurd cc
+    by : (b : Bool) → has_unsent rules l past ≡ b → b ≡ false
+    by false is = refl
+    by true is =
+        let d = one-unsent rules past are l live is in
+        let below = completed_below rules past are d.0 (unsent_complete rules past d.0 l d.1.unsent) in
+        let never : ◌≡◌ {A = Option ℕ} None (Some d.0.number) = sym (none below.0) ∙ have.listed l d.0 d.1 below.0 below.1 in
+        absurd cc
+
+-- one whose copy is listed, and is not unsent, is listed no more
+pub have-passed : (rules : List RuleText) (past : List Event) (are : AreJudged rules past) (l : Link) → IsLiveLink l past → (all : Lists) (copies : ByLink) (c n : ℕ)
+    → ((link other : ℕ) → copy_at copies link other ≡ (if l.number == link && (c == other) then None else copy_on all link other))
+    → copy_on all l.number c ≡ Some n → ((d : Incoming) → d.number ≡ n → IsUnsentOn rules l d past → ⊥)
+    → Have rules all past → Have rules (record all { copies = copies }) past
+have-passed rules past are l live all copies c n removed at none have = record {
+  ranked = λ link other m is. have.ranked link other m (was link other m (l.number == link && (c == other)) (removed link other) is);
+  listed = λ k d h other is. removed k.number other ∙ by k d h other is (l.number == k.number && (c == other)) refl;
+  stands = have.stands;
+  waits = have.waits;
+}
+  where
+    was : (link other m : ℕ) (b : Bool) → copy_at copies link other ≡ (if b then None else copy_on all link other) → copy_at copies link other ≡ Some m → copy_on all link other ≡ Some m
+    was link other m true gone is = let never : ◌≡◌ {A = Option ℕ} None (Some m) = sym gone ∙ is in absurd cc
+    was link other m false same is = sym same ∙ is
+
+    by : (k : Link) (d : Incoming) → IsUnsentOn rules k d past → (other : ℕ) → completion d past ≡ Some other → (b : Bool) → (l.number == k.number && (c == other)) ≡ b
+        → (if b then None else copy_on all k.number other) ≡ Some d.number
+    by k d h other is false apart = have.listed k d h other is
+    by k d h other is true same =
+        let one : k ≡ l = live-same rules past are k l h.live live (sym (eqb-true l.number k.number (and_first (l.number == k.number) (c == other) same))) in
+        let place : c ≡ other = eqb-true c other (and_last (l.number == k.number) (c == other) same) in
+        let own : Some n ≡ Some d.number = sym at ∙ (ap (λ i. copy_on all l.number i) place ∙ (ap (λ (j : Link). copy_on all j.number other) (sym one) ∙ have.listed k d h other is)) in
+        absurd (none d (sym (same_number n d.number own)) (subst (λ (j : Link). IsUnsentOn rules j d past) one h))
 
 -- ---- candidates
 
@@ -111,22 +146,28 @@ some-of rules past l d h = by (has_unsent rules l past) refl
         sym (none-passes (λ (x : Incoming). is_unsent rules x l past) (incoming_deliveries past) is d (found-contained (λ (x : Incoming). x.number == d.number) (incoming_deliveries past) d h.found))
         ∙ h.unsent
 
--- without the candidate that may be sent none
-pub have-dropped : (rules : List RuleText) (past : List Event) (all : Lists) (links : Numbers) (number : ℕ) → ((n : ℕ) → has links n ≡ has all.links n && not (number == n))
+-- without a candidate that may be sent none
+pub have-dropped : (rules : List RuleText) (past : List Event) (all : Lists) (links : Candidates) (completion number : ℕ)
+    → ((c n : ℕ) → has links c n ≡ has all.links c n && not (completion == c && (number == n)))
     → ((l : Link) → l.number ≡ number → IsReady rules l past → ⊥) → Have rules all past → Have rules (record all { links = links }) past
-have-dropped rules past all links number dropped none have = record {
+have-dropped rules past all links completion number dropped none have = record {
+  ranked = have.ranked;
   listed = have.listed;
   stands = have.stands;
-  waits = λ l d h takes. dropped l.number ∙ by l d h takes (have.waits l d h takes) (number == l.number) refl;
+  waits = λ l d h takes. by l d h takes (have.waits l d h takes) (number == l.number) refl;
 }
   where
-    stays : (b : Bool) → b ≡ true → b && true ≡ true
-    stays true is = refl
-    stays false is = absurd cc
+    stays : (a b : Bool) → a ≡ true → a && not (b && false) ≡ true
+    stays true true is = refl
+    stays true false is = refl
+    stays false b is = absurd cc
 
-    by : (l : Link) (d : Incoming) → IsUnsentOn rules l d past → may_take past l ≡ true → has all.links l.number ≡ true → (b : Bool) → (number == l.number) ≡ b → has all.links l.number && not b ≡ true
-    by l d h takes waits false other = stays (has all.links l.number) waits
-    by l d h takes waits true same = absurd (none l (sym (eqb-true number l.number same)) (record { live = h.live; takes = takes; some = some-of rules past l d h }))
+    by : (l : Link) (d : Incoming) → IsUnsentOn rules l d past → may_take past l ≡ true → Waits all l.number → (b : Bool) → (number == l.number) ≡ b
+        → Waits (record all { links = links }) l.number
+    by l d h takes waiting false other =
+        let c = waiting.0 in
+        (c, dropped c l.number ∙ (ap (λ b. has all.links c l.number && not (completion == c && b)) other ∙ stays (has all.links c l.number) (completion == c) waiting.1))
+    by l d h takes waiting true same = absurd (none l (sym (eqb-true number l.number same)) (record { live = h.live; takes = takes; some = some-of rules past l d h }))
 
 -- ---- no candidates
 
@@ -147,14 +188,17 @@ held false None window credit none = by (window == 0) (credit == 0) refl refl
         let never : false ≡ true = sym none ∙ (ap (λ b. b && nat_lt 0 window && true) (positive credit there) ∙ ap (λ b. b && true) (positive window here)) in
         absurd cc
 
-pub none-due : (rules : List RuleText) (past : List Event) → AreJudged rules past → (all : Lists) → Have rules all past → ((n : ℕ) → waits all n ≡ false) → copies_are_sent rules past ≡ true
+pub none-due : (rules : List RuleText) (past : List Event) → AreJudged rules past → (all : Lists) → Have rules all past → ((c n : ℕ) → waits all c n ≡ false) → copies_are_sent rules past ≡ true
 none-due rules past are all have none =
     all-each (λ l. list_all (λ d. not (is_unsent rules d l past) || is_held_back rules past l d) (incoming_deliveries past)) (live_links past)
     (λ l lives. all-each (λ d. not (is_unsent rules d l past) || is_held_back rules past l d) (incoming_deliveries past)
     (λ d there. by l (live_links-live rules past are l lives) d there (is_unsent rules d l past) refl))
   where
     kept-back : (l : Link) (d : Incoming) → IsUnsentOn rules l d past → (b : Bool) → may_take past l ≡ b → is_held_back rules past l d ≡ true
-    kept-back l d h true takes = let never : false ≡ true = sym (none l.number) ∙ have.waits l d h takes in absurd cc
+    kept-back l d h true takes =
+        let waiting = have.waits l d h takes in
+        let never : false ≡ true = sym (none waiting.0 l.number) ∙ waiting.1 in
+        absurd cc
     kept-back l d h false stops = held (has_earlier_unsent rules past l d) (in_progress l past) (session_window l.session past) (link_credit l past) stops
 
     by : (l : Link) → IsLiveLink l past → (d : Incoming) → Contains (incoming_deliveries past) d → (b : Bool) → is_unsent rules d l past ≡ b → not b || is_held_back rules past l d ≡ true
@@ -195,4 +239,4 @@ module _ (rules : List RuleText) (past : List Event) (are : AreJudged rules past
 -- ---- the list
 
 pub have-of : (rules : List RuleText) (copies : UnsentCopies) (past : List Event) → HasUnsent rules copies past → Have rules copies.lists past
-have-of rules copies past h = record { listed = h.listed; stands = h.stands; waits = h.waits }
+have-of rules copies past h = record { ranked = h.ranked; listed = h.listed; stands = h.stands; waits = h.waits }

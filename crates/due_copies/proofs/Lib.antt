@@ -1,4 +1,5 @@
-pub mod Earliest
+pub mod Pairs
+pub mod Listed
 pub mod UnsentSteps
 pub mod CopiesFollowed
 pub mod CopiesDue

@@ -166,6 +166,20 @@ module _ (rules : List RuleText) (e : Event) (past : List Event) (are : AreJudge
           ∙ (session-connection rules past are.0.0 named.0 named.1 ∙ sym (ap (λ (x : Event). x.connection) are.0.1))
     ]
 
+    -- the link that the event names is this one where the number is
+    on-own : is_some_and e.link (λ (m : Link). m.number == l.number) ≡ true → is_on_link l e ≡ true
+    on-own on =
+        let m = some_passes (λ (m : Link). m.number == l.number) e.link on in
+        let own : e.link ≡ Some l = m.1 ∙ ap Some (event-link rules e past are l m.0 h.live m.1 m.2) in
+        ap (λ b. b && (e.connection == l.session.connection)) on ∙ eq-eqb e.connection l.session.connection (sym (on_connection own))
+
+    pub unlinked : is_on_link l e ≡ false → is_some_and e.link (λ (m : Link). m.number == l.number) ≡ false
+    unlinked apart = by (is_some_and e.link (λ (m : Link). m.number == l.number)) refl
+      where
+        by : (b : Bool) → is_some_and e.link (λ (m : Link). m.number == l.number) ≡ b → b ≡ false
+        by false is = refl
+        by true is = let never : true ≡ false = sym (on-own is) ∙ apart in absurd cc
+
     pub not-named : names_at l.number d.number e ≡ false
     not-named = by (names_at l.number d.number e) refl
       where
@@ -175,8 +189,6 @@ module _ (rules : List RuleText) (e : Event) (past : List Event) (are : AreJudge
             let written = and_first (is_some (out_transfer e)) (is_some_and e.link (λ (m : Link). m.number == l.number)) (and_first (is_some (out_transfer e) && is_some_and e.link (λ (m : Link). m.number == l.number)) (names d.number e.note) is) in
             let on = and_last (is_some (out_transfer e)) (is_some_and e.link (λ (m : Link). m.number == l.number)) (and_first (is_some (out_transfer e) && is_some_and e.link (λ (m : Link). m.number == l.number)) (names d.number e.note) is) in
             let named = and_last (is_some (out_transfer e) && is_some_and e.link (λ (m : Link). m.number == l.number)) (names d.number e.note) is in
-            let m = some_passes (λ (m : Link). m.number == l.number) e.link on in
-            let own : e.link ≡ Some l = m.1 ∙ ap Some (event-link rules e past are l m.0 h.live m.1 m.2) in
-            let stands : is_on_link l e ≡ true = ap (λ b. b && (e.connection == l.session.connection)) on ∙ eq-eqb e.connection l.session.connection (sym (on_connection own)) in
+            let stands = on-own on in
             let never : names_on d l e ≡ true = ap (λ b. b && names d.number e.note && is_on_link l e) written ∙ (ap (λ b. b && is_on_link l e) named ∙ stands) in
             sym never ∙ unnamed

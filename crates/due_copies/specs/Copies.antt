@@ -1,10 +1,9 @@
 -- What the list of unsent copies has, and what it answers (own rules).
-use Rattle.std.specs.Prelude.{◌≡◌, Bool, true, false, not, List, Option, Some}
+use Rattle.std.specs.Prelude.{◌≡◌, ℕ, true, false, List, Some}
 use Rattle.capture_form.specs.Rules.{RuleText}
-use Rattle.trace_events.specs.Words.{is_some_and}
 use Rattle.trace_events.specs.Event.{Event, Link, Incoming}
 use Rattle.trace_events.specs.Link.{IsLiveLink, is_consumer, link_at}
-use Rattle.trace_events.specs.Incoming.{incoming_at, payload, completed_before}
+use Rattle.trace_events.specs.Incoming.{incoming_at, payload, completion}
 use Rattle.trace_events.specs.Due.{is_unsent, has_unsent}
 use Rattle.trace_duties.specs.Pick.{may_take}
 use Rattle.trace_duties.specs.Quiet.{has_earlier_unsent}
@@ -12,7 +11,7 @@ use Rattle.trace_law.specs.View.{link_view, incoming_view}
 use Rattle.audit_copies.specs.Copies.{AreCopies}
 use Rattle.audit_held.specs.EntryAnswers.{Knows}
 use Rattle.audit_held.specs.declared.deliveries.Deliveries.{Deliveries}
-use Rattle.due_copies.specs.Lists.{lists, stands, waits}
+use Rattle.due_copies.specs.Lists.{Waits, copy_on, stands}
 use Rattle.due_copies.specs.declared.copies.DueCopy.{DueCopy}
 use Rattle.due_copies.specs.declared.copies.UnsentCopies.{UnsentCopies}
 
@@ -22,12 +21,14 @@ pub record IsUnsentOn (rules : List RuleText) (l : Link) (d : Incoming) (past : 
   pub found : incoming_at d.number past ≡ Some d
   pub unsent : is_unsent rules d l past ≡ true
 
--- each unsent copy is listed, its link stands with its session, and is a candidate where it may be sent a delivery
+-- what is listed is listed under the record that completed it; each unsent copy is, its link stands with its session, and is a
+-- candidate where it may be sent a delivery
 pub record HasUnsent (rules : List RuleText) (copies : UnsentCopies) (past : List Event) : Type 0 where
   pub are : AreCopies rules copies.copies past
-  pub listed : (l : Link) (d : Incoming) → IsUnsentOn rules l d past → lists copies.lists l.number d.number ≡ true
+  pub ranked : (link c n : ℕ) → copy_on copies.lists link c ≡ Some n → (d : Incoming) → d.number ≡ n → completion d past ≡ Some c
+  pub listed : (l : Link) (d : Incoming) → IsUnsentOn rules l d past → (c : ℕ) → completion d past ≡ Some c → copy_on copies.lists l.number c ≡ Some d.number
   pub stands : (l : Link) (d : Incoming) → IsUnsentOn rules l d past → stands copies.lists l.session.number l.number ≡ true
-  pub waits : (l : Link) (d : Incoming) → IsUnsentOn rules l d past → may_take past l ≡ true → waits copies.lists l.number ≡ true
+  pub waits : (l : Link) (d : Incoming) → IsUnsentOn rules l d past → may_take past l ≡ true → Waits copies.lists l.number
 
 -- the earliest unsent copy of a consumer's live link that may be sent a delivery
 pub record IsDueCopy (rules : List RuleText) (copy : DueCopy) (past : List Event) : Type 0 where
@@ -51,7 +52,3 @@ pub record IsKnownCopy (rules : List RuleText) (table : Deliveries) (l : Link) (
   pub known : Knows table d
   pub found : incoming_at d.number past ≡ Some d
   pub unsent : is_unsent rules d l past ≡ true
-
--- this is no later than the delivery
-abbrev pub is_ahead : List Event → Option Incoming → Incoming → Bool
-is_ahead past first d = is_some_and first (λ f. not (completed_before d f past))

@@ -1,3 +1,4 @@
-pub mod Numbers
+pub mod Candidates
+pub mod ByLink
 pub mod Lists
 pub mod Copies

@@ -1,19 +1,18 @@
 //! The copies of multicast deliveries that are still to be sent, as work (own rules).
 
-ghost use Rattle.std.specs.Prelude.{◌≡◌, ◌∷◌, ℕ, List, [], Some, None, IfSome, OnOk, true, is_some, option_map};
+ghost use Rattle.std.specs.Prelude.{◌≡◌, ◌∷◌, List, [], None, IfSome, OnOk, true, false, is_some, option_map};
 ghost use Rattle.capture_form.specs.Rules.{RuleText};
 ghost use Rattle.capture_form.specs.declared.records.Record.{Record};
 ghost use Rattle.trace_events.specs.Event as law;
 ghost use Rattle.trace_events.specs.History.{history};
+ghost use Rattle.trace_events.specs.Due.{has_unsent};
 ghost use Rattle.trace_events.specs.Link.{IsLiveLink};
 ghost use Rattle.trace_duties.specs.Pick.{may_take};
-ghost use Rattle.trace_duties.specs.Quiet.{copies_are_sent};
+ghost use Rattle.trace_duties.specs.Quiet.{copies_are_sent, has_earlier_unsent};
 ghost use Rattle.trace_law.specs.View.{Events, event_view, incoming_view, link_view};
 ghost use Rattle.audit_tables.specs.Connections.{IsLawfulNext};
-ghost use Rattle.audit_held.specs.EntryAnswers.{Knows};
 ghost use Rattle.due_flows.specs.Lent.{AreOf};
-ghost use Rattle.due_copies.specs.Lists.{earlier_of, lists};
-ghost use Rattle.due_copies.specs.Copies.{HasUnsent, IsDueCopy, IsKnownCopy, IsReady, IsUnsentOn, is_ahead};
+ghost use Rattle.due_copies.specs.Copies.{HasUnsent, IsDueCopy, IsKnownCopy, IsReady, IsUnsentOn};
 
 use crate::lists::Lists;
 use audit_answers::Looked;
@@ -89,8 +88,8 @@ impl UnsentCopies {
         Ok(())
     }
 
-    /// The earliest unsent copy of the live link with the lowest number that may be sent a delivery. Links below it are
-    /// candidates no more.
+    /// Of the copies that may be sent the one whose delivery was completed first, and of one delivery that to the link with
+    /// the lowest number. Links before it are candidates no more.
     pub fn first_due<'t>(&mut self, rules: &[Rule], looked: &Looked<'t>) -> Option<DueCopy<'t>>
         ensures due { IfSome result (λ copy. (past : Events) → AreOf rules.now looked.now past → HasUnsent rules.now self.old past →
             IsDueCopy rules.now copy past) }
@@ -98,21 +97,28 @@ impl UnsentCopies {
         ensures quiet { (past : Events) → AreOf rules.now looked.now past → HasUnsent rules.now self.old past → result ≡ None →
             copies_are_sent rules.now past ≡ true }
     {
-        while let Some(number) = self.lists.links.first() {
-            if let Some(copy) = self.copy_due(number, rules, looked) {
+        while let Some((completion, link)) = self.lists.links.first() {
+            if let Some(copy) = self.copy_due(link, rules, looked) {
                 return Some(copy);
             }
-            self.lists.links.remove(number);
+            self.lists.links.remove(completion, link);
         }
         None
     }
 
     /// The earliest unsent copy of the link of this number, if it may be sent a delivery.
-    fn copy_due<'t>(&self, number: u64, rules: &[Rule], looked: &Looked<'t>) -> Option<DueCopy<'t>>
-        ensures due { IfSome result (λ copy. (past : Events) → AreOf rules.now looked.now past → HasUnsent rules.now self.now past →
+    fn copy_due<'t>(
+        &mut self,
+        number: u64,
+        rules: &[Rule],
+        looked: &Looked<'t>,
+    ) -> Option<DueCopy<'t>>
+        ensures due { IfSome result (λ copy. (past : Events) → AreOf rules.now looked.now past → HasUnsent rules.now self.old past →
             IsDueCopy rules.now copy past) }
-        ensures found { (past : Events) → AreOf rules.now looked.now past → HasUnsent rules.now self.now past → (l : law.Link) → l.number ≡ number →
+        ensures found { (past : Events) → AreOf rules.now looked.now past → HasUnsent rules.now self.old past → (l : law.Link) → l.number ≡ number →
             IsReady rules.now l past → is_some result ≡ true }
+        ensures kept { (past : Events) → AreOf rules.now looked.now past → HasUnsent rules.now self.old past → HasUnsent rules.now self.new past }
+        ensures links { self.new.lists.links ≡ self.old.lists.links }
     {
         let link = looked.receivers.get(number)?;
         if !may_take(&link, looked) {
@@ -127,19 +133,30 @@ impl UnsentCopies {
         })
     }
 
-    /// Of the link's unsent copies the one that was completed first.
-    fn earliest<'t>(&self, link: &Link, rules: &[Rule], looked: &Looked<'t>) -> Option<Incoming<'t>>
+    /// Of the live link's unsent copies the one that was completed first. What was sent before it is listed no more.
+    fn earliest<'t>(
+        &mut self,
+        link: &Link,
+        rules: &[Rule],
+        looked: &Looked<'t>,
+    ) -> Option<Incoming<'t>>
         ensures copy { (past : Events) → AreOf rules.now looked.now past → IsLiveLink (link_view link.now) past →
             IfSome (option_map incoming_view result) (IsKnownCopy rules.now looked.now.deliveries.now (link_view link.now) past) }
-        ensures ahead { (past : Events) → AreOf rules.now looked.now past → (d : law.Incoming) → IsUnsentOn rules.now (link_view link.now) d past →
-            lists self.now.lists link.now.number d.number ≡ true → is_ahead past (option_map incoming_view result) d ≡ true }
+        ensures first { (past : Events) → AreOf rules.now looked.now past → HasUnsent rules.now self.old past → IsLiveLink (link_view link.now) past →
+            IfSome (option_map incoming_view result) (λ f. has_earlier_unsent rules.now past (link_view link.now) f ≡ false) }
+        ensures none { (past : Events) → AreOf rules.now looked.now past → HasUnsent rules.now self.old past → IsLiveLink (link_view link.now) past →
+            result ≡ None → has_unsent rules.now (link_view link.now) past ≡ false }
+        ensures kept { (past : Events) → AreOf rules.now looked.now past → HasUnsent rules.now self.old past → IsLiveLink (link_view link.now) past →
+            HasUnsent rules.now self.new past }
+        ensures links { self.new.lists.links ≡ self.old.lists.links }
     {
-        let mut first = None;
-        for index in 0..self.lists.numbers.count(&link.number) {
-            let number = self.lists.numbers.get(&link.number, index);
-            first = earlier(first, unsent_copy(number, link, rules, looked), looked);
+        while let Some((completion, number)) = self.lists.copies.first(link.number) {
+            if let Some(delivery) = unsent_copy(number, link, rules, looked) {
+                return Some(delivery);
+            }
+            self.lists.copies.remove(link.number, completion);
         }
-        first
+        None
     }
 }
 
@@ -155,44 +172,20 @@ fn may_take(link: &Link, looked: &Looked<'_>) -> bool
 
 /// The delivery of this number, where a copy of it is unsent on the live link.
 fn unsent_copy<'t>(
-    number: Option<u64>,
+    number: u64,
     link: &Link,
     rules: &[Rule],
     looked: &Looked<'t>,
 ) -> Option<Incoming<'t>>
     ensures copy { (past : Events) → AreOf rules.now looked.now past → IsLiveLink (link_view link.now) past →
-        IfSome (option_map incoming_view result) (IsKnownCopy rules.now looked.now.deliveries.now (link_view link.now) past) }
-    ensures found { (past : Events) → AreOf rules.now looked.now past → (d : law.Incoming) → number ≡ Some d.number →
+        IfSome (option_map incoming_view result) (λ d. IsKnownCopy rules.now looked.now.deliveries.now (link_view link.now) past d × (d.number ≡ number)) }
+    ensures found { (past : Events) → AreOf rules.now looked.now past → (d : law.Incoming) → d.number ≡ number →
         IsUnsentOn rules.now (link_view link.now) d past → option_map incoming_view result ≡ Some d }
 {
-    let own = number?;
-    let delivery = looked.deliveries.to_carry(Note::Pair(own))?;
+    let delivery = looked.deliveries.to_carry(Note::Pair(number))?;
     if looked.is_unsent(rules, &delivery, link) {
         Some(delivery)
     } else {
         None
-    }
-}
-
-/// Of two deliveries that the tables know the one that was completed first.
-fn earlier<'t>(
-    first: Option<Incoming<'t>>,
-    second: Option<Incoming<'t>>,
-    looked: &Looked<'t>,
-) -> Option<Incoming<'t>>
-    ensures { (rules : List RuleText) (past : Events) → AreOf rules looked.now past → IfSome (option_map incoming_view first.entry) (Knows looked.now.deliveries.now) →
-        IfSome (option_map incoming_view second.entry) (Knows looked.now.deliveries.now) →
-        option_map incoming_view result ≡ earlier_of past (option_map incoming_view first.entry) (option_map incoming_view second.entry) }
-{
-    match (first, second) {
-        (Some(one), Some(other)) => {
-            if looked.deliveries.completed_before(&other, &one) {
-                second
-            } else {
-                first
-            }
-        }
-        (None, _) => second,
-        (_, None) => first,
     }
 }

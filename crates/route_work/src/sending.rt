@@ -5,18 +5,20 @@ ghost use Rattle.std.specs.Prelude.{◌≡◌, ◌∷◌, List, [], None, IfSome
 ghost use Rattle.capture_form.specs.Rules.{RuleText};
 ghost use Rattle.capture_form.specs.declared.records.Record.{Record};
 ghost use Rattle.trace_events.specs.History.{history};
-ghost use Rattle.trace_law.specs.View.{event_view};
+ghost use Rattle.trace_law.specs.View.{Events, event_view};
 ghost use Rattle.audit_tables.specs.Connections.{IsLawfulNext};
+ghost use Rattle.due_copies.specs.Copies.{IsDueCopy};
+ghost use Rattle.due_waiting.specs.Waiting.{IsDueWaiting};
 ghost use Rattle.due_frames.specs.Dues.{IsDue};
 ghost use Rattle.route_books.specs.Books.{TellsOf};
 ghost use Rattle.route_work.specs.Work.{HasSending, IsAllSent};
 
 use audit_answers::Looked;
 use capture_form::Rule;
-use due_copies::UnsentCopies;
+use due_copies::{DueCopy, UnsentCopies};
 use due_flows::Parts;
 use due_frames::{Due, DueBegin};
-use due_waiting::Waiting;
+use due_waiting::{DueWaiting, Waiting};
 use std::alloc::{AllocError, Global};
 use trace_law::Event;
 
@@ -64,8 +66,8 @@ impl Sending {
         Ok(())
     }
 
-    /// The first part of a delivery in progress; where none goes on, the first that waits and may begin; where none does, the
-    /// first copy.
+    /// The first part of a delivery in progress; where none goes on, of the deliveries that wait and may begin and of the copies
+    /// that may be sent the one that was completed first.
     pub(crate) fn next_due<'t>(&mut self, rules: &[Rule], looked: &Looked<'t>) -> Option<Due<'t>>
         ensures due { (records : List Record) → TellsOf rules.now looked.now (history rules.now records) →
             HasSending rules.now self.old (history rules.now records) → IfSome result (IsDue rules.now (history rules.now records)) }
@@ -77,16 +79,46 @@ impl Sending {
         if let Some(part) = self.parts.first_due(looked) {
             return Some(Due::Part(part));
         }
-        if let Some(begin) = self.waiting.first_due(rules, looked) {
-            return Some(Due::Waiting(DueBegin {
-                link: begin.link,
-                delivery: begin.delivery,
-                payload: begin.payload,
-            }));
-        }
-        if let Some(copy) = self.copies.first_due(rules, looked) {
-            return Some(Due::Copy(copy));
-        }
-        None
+        let waiting = self.waiting.first_due(rules, looked);
+        let copy = self.copies.first_due(rules, looked);
+        first_completed(waiting, copy, looked)
     }
+}
+
+/// Of a delivery that waits and of a copy the one whose delivery was completed first.
+fn first_completed<'t>(
+    waiting: Option<DueWaiting<'t>>,
+    copy: Option<DueCopy<'t>>,
+    looked: &Looked<'t>,
+) -> Option<Due<'t>>
+    ensures due { (rules : List RuleText) (past : Events) → IfSome waiting.entry (λ due. IsDueWaiting rules due past) → IfSome copy.entry (λ due. IsDueCopy rules due past) →
+        IfSome result (IsDue rules past) }
+    ensures none { result ≡ None → (waiting.entry ≡ None) × (copy.entry ≡ None) }
+{
+    match (waiting, copy) {
+        (Some(begin), Some(copy)) => {
+            if looked
+                .deliveries
+                .completed_before(&copy.delivery, &begin.delivery)
+            {
+                Some(Due::Copy(copy))
+            } else {
+                Some(due_of(begin))
+            }
+        }
+        (Some(begin), None) => Some(due_of(begin)),
+        (None, Some(copy)) => Some(Due::Copy(copy)),
+        (None, None) => None,
+    }
+}
+
+/// A delivery that waits, as what is due.
+fn due_of<'t>(begin: DueWaiting<'t>) -> Due<'t>
+    ensures { (rules : List RuleText) (past : Events) → IsDueWaiting rules begin.entry past → IsDue rules past result }
+{
+    Due::Waiting(DueBegin {
+        link: begin.link,
+        delivery: begin.delivery,
+        payload: begin.payload,
+    })
 }

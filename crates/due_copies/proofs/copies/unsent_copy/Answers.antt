@@ -1,4 +1,4 @@
-use Rattle.std.proofs.Common.{◌≡◌, sym, ap, ◌∙◌, ℕ, Option, Some, None, true, false, ◌&&◌, not, ◌==◌}
+use Rattle.std.proofs.Common.{◌≡◌, ◌<◌, length, sym, ap, ◌∙◌, ℕ, Option, Some, None, true, false, ◌&&◌, not, ◌==◌}
 use Rattle.pairing_cert.specs.declared.note.Note.TheVariants as notes
 use Rattle.trace_events.specs.Event.{Incoming}
 use Rattle.trace_events.specs.Due.{is_unsent}
@@ -6,7 +6,8 @@ use Rattle.trace_events.specs.Incoming.{incoming_at, incoming_deliveries, is_com
 use Rattle.trace_events.specs.Outgoing.{noted}
 use Rattle.trace_events.specs.Waiting.{is_gone}
 use Rattle.trace_clauses.specs.TransferClause.{to_carry}
-use Rattle.trace_clauses.proofs.OneConsumer.{passes-some}
+use Rattle.trace_clauses.proofs.OneConsumer.{incoming_at-is, passes-some}
+use Rattle.trace_clauses.proofs.Parts.{holds_some}
 use Rattle.trace_law.specs.View.{incoming_view, link_view}
 use Rattle.audit_held.proofs.GroupAnswers.{judged-of}
 use Rattle.due_flows.proofs.Members.{found-contained}
@@ -19,7 +20,7 @@ same_some a b is = cc
 pub returns-in_err-delivery-clause-found : goal.returns-in_err-delivery-clause-found
 returns-in_err-delivery-clause-found c = λ past are d is h.
     let rules = c.args.rules.now in
-    let own : c.in_ok-own.own ≡ d.number = same_some c.in_ok-own.own d.number (sym c.in_ok-own.was ∙ is) in
+    let own : c.args.number ≡ d.number = sym is in
     let never : ◌≡◌ {A = Option Incoming} None (Some d) =
     c.in_err-delivery.ensures.value rules past are.1.1.1.1.0.0
     ∙ (ap (λ (n : ℕ). to_carry rules (notes.Pair n) past) own ∙ copy-carried rules past (judged-of rules past are.0) (link_view c.args.link.now) d h) in
@@ -30,18 +31,20 @@ returns-then-is_unsent-clause-copy c = λ past are live.
     let rules = c.args.rules.now in
     let d = incoming_view c.in_ok-delivery.delivery in
     let known = c.in_ok-delivery.ensures.known rules past are.1.1.1.1.0.0 in
-    let carried : to_carry rules (notes.Pair c.in_ok-own.own) past ≡ Some d = sym (c.in_ok-delivery.ensures.value rules past are.1.1.1.1.0.0) in
-    let at : incoming_at c.in_ok-own.own past ≡ Some d = (passes-some (λ x. is_complete x past && not (is_gone rules x past)) (noted (notes.Pair c.in_ok-own.own) past) d carried).0 in
-    record {
-      known = known;
-      found = found-of rules past (judged-of rules past are.0) d (found-contained (λ (x : Incoming). x.number == c.in_ok-own.own) (incoming_deliveries past) d at);
-      unsent = sym (c.is_unsent.ensures past are live known) ∙ c.if-is_unsent.true;
-    }
+    let carried : to_carry rules (notes.Pair c.args.number) past ≡ Some d = sym (c.in_ok-delivery.ensures.value rules past are.1.1.1.1.0.0) in
+    let at : incoming_at c.args.number past ≡ Some d = (passes-some (λ x. is_complete x past && not (is_gone rules x past)) (noted (notes.Pair c.args.number) past) d carried).0 in (
+      record {
+        known = known;
+        found = found-of rules past (judged-of rules past are.0) d (found-contained (λ (x : Incoming). x.number == c.args.number) (incoming_deliveries past) d at);
+        unsent = sym (c.is_unsent.ensures past are live known) ∙ c.if-is_unsent.true;
+      },
+      (holds_some (λ (x : Incoming). (c.args.number < length past) × (x.number ≡ c.args.number)) (incoming_at c.args.number past) d at (incoming_at-is rules past c.args.number (judged-of rules past are.0))).1,
+    )
 
 pub returns-then-is_unsent-clause-found : goal.returns-then-is_unsent-clause-found
 returns-then-is_unsent-clause-found c = λ past are d is h.
     let rules = c.args.rules.now in
-    let own : c.in_ok-own.own ≡ d.number = same_some c.in_ok-own.own d.number (sym c.in_ok-own.was ∙ is) in
+    let own : c.args.number ≡ d.number = sym is in
     c.in_ok-delivery.ensures.value rules past are.1.1.1.1.0.0
     ∙ (ap (λ (n : ℕ). to_carry rules (notes.Pair n) past) own ∙ copy-carried rules past (judged-of rules past are.0) (link_view c.args.link.now) d h)
 
@@ -50,7 +53,7 @@ returns-else-is_unsent-clause-found c = λ past are d is h.
     let rules = c.args.rules.now in
     let l = link_view c.args.link.now in
     let x = incoming_view c.in_ok-delivery.delivery in
-    let own : c.in_ok-own.own ≡ d.number = same_some c.in_ok-own.own d.number (sym c.in_ok-own.was ∙ is) in
+    let own : c.args.number ≡ d.number = sym is in
     let some : Some x ≡ Some d =
     c.in_ok-delivery.ensures.value rules past are.1.1.1.1.0.0
     ∙ (ap (λ (n : ℕ). to_carry rules (notes.Pair n) past) own ∙ copy-carried rules past (judged-of rules past are.0) l d h) in

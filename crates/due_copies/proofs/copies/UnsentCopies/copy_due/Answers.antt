@@ -1,4 +1,4 @@
-use Rattle.std.proofs.Common.{◌≡◌, sym, ap, ◌∙◌, Option, Some, None, true, false}
+use Rattle.std.proofs.Common.{◌≡◌, refl, sym, ap, ◌∙◌, Option, Some, None, true, false}
 use Rattle.trace_events.specs.Event.{Link}
 use Rattle.trace_events.specs.Due.{has_unsent}
 use Rattle.trace_duties.specs.Pick.{may_take}
@@ -7,7 +7,7 @@ use Rattle.audit_held.proofs.GroupAnswers.{judged-of}
 use Rattle.audit_addresses.specs.ConsumerLinks.{consumer_at}
 use Rattle.due_flows.proofs.LiveOnes.{link-found}
 use Rattle.due_flows.proofs.PartsDue.{found-consumer}
-use Rattle.due_copies.proofs.CopiesDue.{ahead-earliest, one-unsent, ready-found, ready-same}
+use Rattle.due_copies.proofs.CopiesDue.{ready-found, ready-same}
 use Rattle.due_copies.proofs.copies.UnsentCopies.copy_due.Goals as goal
 
 pub returns-in_err-link-clause-found : goal.returns-in_err-link-clause-found
@@ -33,9 +33,22 @@ returns-in_err-delivery-clause-found c = λ past are has l own ready.
     let at : Some m ≡ consumer_at c.args.number past = c.in_ok-link.ensures ∙ are.1.1.1.1.1.0 c.args.number in
     let live = (found-consumer rules past judged c.args.number m (sym at)).0 in
     let some : has_unsent rules m past ≡ true = ap (λ (k : Link). has_unsent rules k past) (ready-same rules past judged c.args.number l own ready m at) ∙ ready.some in
-    let d = one-unsent rules past judged m live some in
-    let never : false ≡ true = c.in_err-delivery.ensures.ahead past are d.0 d.1 (has.listed m d.0 d.1) in
+    let never : false ≡ true = sym (c.in_err-delivery.ensures.none past are has live refl) ∙ some in
     absurd cc
+
+pub returns-in_err-delivery-clause-kept : goal.returns-in_err-delivery-clause-kept
+returns-in_err-delivery-clause-kept c = λ past are has.
+    let rules = c.args.rules.now in
+    let m = link_view c.in_ok-link.link in
+    let at : Some m ≡ consumer_at c.args.number past = c.in_ok-link.ensures ∙ are.1.1.1.1.1.0 c.args.number in
+    c.in_err-delivery.ensures.kept past are has (found-consumer rules past (judged-of rules past are.0) c.args.number m (sym at)).0
+
+pub returns-clause-kept : goal.returns-clause-kept
+returns-clause-kept c = λ past are has.
+    let rules = c.args.rules.now in
+    let m = link_view c.in_ok-link.link in
+    let at : Some m ≡ consumer_at c.args.number past = c.in_ok-link.ensures ∙ are.1.1.1.1.1.0 c.args.number in
+    c.in_ok-delivery.ensures.kept past are has (found-consumer rules past (judged-of rules past are.0) c.args.number m (sym at)).0
 
 pub returns-clause-due : goal.returns-clause-due
 returns-clause-due c = λ past are has.
@@ -53,6 +66,6 @@ returns-clause-due c = λ past are has.
       found = copy.found;
       takes = sym (c.may_take.ensures rules past are found.0) ∙ c.if-not-may_take.false;
       unsent = copy.unsent;
-      earliest = ahead-earliest rules past judged m found.0 f (λ d h. c.in_ok-delivery.ensures.ahead past are d h (has.listed m d h));
+      earliest = c.in_ok-delivery.ensures.first past are has found.0;
       payload = c.payload-payload.ensures rules past are.1.1.1.1.0.0 copy.known;
     }

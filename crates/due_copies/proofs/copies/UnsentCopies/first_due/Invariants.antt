@@ -1,12 +1,12 @@
 use Rattle.std.proofs.Common.{List}
 use Rattle.trace_events.specs.Event.{Event}
 use Rattle.due_flows.specs.Lent.{AreOf}
-use Rattle.due_copies.specs.Numbers.{count_of}
+use Rattle.due_copies.specs.Candidates.{count_of}
 use Rattle.due_copies.specs.Copies.{HasUnsent}
 use Rattle.due_copies.proofs.copies.UnsentCopies.first_due.Given as goal
 
-abbrev pub invariant-loop-number : goal.invariant-loop-number
-invariant-loop-number l = (past : List Event) → AreOf l.rules l.looked past → HasUnsent l.rules l.fn.self past → HasUnsent l.rules l.self past
+abbrev pub invariant-loop-completion : goal.invariant-loop-completion
+invariant-loop-completion l = (past : List Event) → AreOf l.rules l.looked past → HasUnsent l.rules l.fn.self past → HasUnsent l.rules l.self past
 
-abbrev pub decreases-loop-number : goal.decreases-loop-number
-decreases-loop-number l = count_of l.self.lists.links
+abbrev pub decreases-loop-completion : goal.decreases-loop-completion
+decreases-loop-completion l = count_of l.self.lists.links

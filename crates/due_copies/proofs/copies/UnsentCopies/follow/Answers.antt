@@ -2,6 +2,7 @@ use Rattle.std.proofs.Common.{◌≡◌, ◌∷◌, ◌++◌, [], ap, sym, subst
 use Rattle.trace_events.specs.Event as law
 use Rattle.trace_events.specs.Event.{Event}
 use Rattle.trace_events.specs.History.{history}
+use Rattle.trace_events.specs.Incoming.{completes}
 use Rattle.trace_events.proofs.Judged.{history-judged}
 use Rattle.trace_clauses.proofs.Lawful.{history-push}
 use Rattle.trace_law.specs.View.{event_view}
@@ -28,15 +29,16 @@ returns c = λ records r next tables first.
     let copies : AreCopies rules c.take.new.self (e ∷ past) = c.in_ok-take.ensures.kept records r next first.are (subst Ended (sym c.deref.ensures.value) ends) (subst Given (sym c.deref-2.ensures.value) given) in
     let Unsent : law.Link → law.Incoming → List Event → Type 0 = λ l d events. IsUnsentOn rules l d events in
     let on : e ∷ past ≡ history rules (records ++ r ∷ []) = ap (λ (x : Event). x ∷ past) next.0 ∙ sym (history-push rules records r) in
-    let came : (l : law.Link) (d : law.Incoming) → e.incoming ≡ Some d → receives c.deref-4.result.now l.number ≡ true → consumer_at l.number past ≡ Some l → IsUnsentOn rules l d (e ∷ past) → IsIn c.come.new.self l.session.number l.number d.number =
-    λ l d part receives at h.
+    let came : (l : law.Link) (d : law.Incoming) → e.incoming ≡ Some d → completes d e ≡ true → receives c.deref-4.result.now l.number ≡ true → consumer_at l.number past ≡ Some l → IsUnsentOn rules l d (e ∷ past) → IsIn c.come.new.self l.session.number l.number e.number d.number =
+    λ l d part whole receives at h.
     let there = subst (Unsent l d) on h in
-    c.in_ok-come.ensures.came rules (records ++ r ∷ []) (subst (AreCopies rules c.take.new.self) on copies) l d part receives
+    c.in_ok-come.ensures.came rules (records ++ r ∷ []) (subst (AreCopies rules c.take.new.self) on copies) l d part whole receives
     (tables.1.1.1.1.1.0 l.number ∙ at) there.live there.found there.unsent in
     let have = have-copies rules e past ((r, next.0), history-judged rules records) next.1
     (views c.deref-3.result.now) (subst Ended (sym c.deref-3.ensures.value) ends) c.deref-4.result.now (subst Given (sym c.deref-4.ensures.value) given)
     c.args.self.now.lists c.end.new.self c.send.new.self c.come.new.self c.touch.new.self c.wake.new.self
-    c.end.ensures.listed c.end.ensures.stood c.end.ensures.waited c.send.ensures.listed c.send.ensures.stood c.send.ensures.waited
-    came c.in_ok-come.ensures.kept c.in_ok-touch.ensures.own c.in_ok-touch.ensures.carrying c.in_ok-touch.ensures.kept
+    c.end.ensures.listed c.end.ensures.only c.end.ensures.stood c.end.ensures.waited
+    c.send.ensures.listed c.send.ensures.only c.send.ensures.stood c.send.ensures.waited
+    came c.in_ok-come.ensures.only c.in_ok-come.ensures.kept c.in_ok-touch.ensures.own c.in_ok-touch.ensures.carrying c.in_ok-touch.ensures.kept
     c.in_ok-wake.ensures.woken c.in_ok-wake.ensures.kept (have-of rules c.args.self.now past first) in
-    record { are = copies; listed = have.listed; stands = have.stands; waits = have.waits }
+    record { are = copies; ranked = have.ranked; listed = have.listed; stands = have.stands; waits = have.waits }

@@ -1,4 +1,4 @@
-use Rattle.std.proofs.Common.{◌≡◌, true, false}
+use Rattle.std.proofs.Common.{◌≡◌, sym, ◌∙◌, true, false}
 use Rattle.due_copies.proofs.copies.UnsentCopies.new.Goals as goal
 
 never : {A : Type 0} → false ≡ true → A
@@ -7,6 +7,7 @@ never is = absurd cc
 pub returns : goal.returns
 returns c = λ rules. record {
   are = c.new-copies.ensures rules;
+  ranked = λ link n m is. let none = sym (c.new-lists.ensures link n) ∙ is in absurd cc;
   listed = λ l d h. never h.unsent;
   stands = λ l d h. never h.unsent;
   waits = λ l d h takes. never h.unsent;

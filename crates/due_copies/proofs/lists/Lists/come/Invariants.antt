@@ -6,10 +6,10 @@ use Rattle.trace_events.specs.Due.{is_unsent}
 use Rattle.trace_events.specs.History.{history}
 use Rattle.trace_events.specs.Incoming.{incoming_at}
 use Rattle.trace_events.specs.Link.{IsLiveLink}
-use Rattle.trace_law.specs.View.{incoming_view}
+use Rattle.trace_law.specs.View.{event_view, incoming_view}
 use Rattle.audit_addresses.specs.ConsumerLinks.{link_in}
 use Rattle.audit_copies.specs.Copies.{AreCopies}
-use Rattle.due_copies.specs.Lists.{IsIn, IsKept, receives}
+use Rattle.due_copies.specs.Lists.{AreWith, IsIn, IsKeptBut, receives}
 use Rattle.due_copies.proofs.lists.Lists.come.Given as goal
 
 abbrev pub invariant-loop-receiver : goal.invariant-loop-receiver
@@ -17,5 +17,6 @@ invariant-loop-receiver l =
     ((rules : List RuleText) (records : List Record) → AreCopies rules l.copies (history rules records) → (m : law.Link) →
     receives (take l.receiver-index l.receivers) m.number ≡ true → link_in l.links m.number ≡ Some m → IsLiveLink m (history rules records) →
     incoming_at (incoming_view l.delivery).number (history rules records) ≡ Some (incoming_view l.delivery) → is_unsent rules (incoming_view l.delivery) m (history rules records) ≡ true →
-    IsIn l.self m.session.number m.number (incoming_view l.delivery).number)
-    × IsKept l.fn.self l.self
+    IsIn l.self m.session.number m.number (event_view l.event).number (incoming_view l.delivery).number)
+    × AreWith (event_view l.event).number (incoming_view l.delivery).number l.fn.self l.self
+    × IsKeptBut (event_view l.event).number l.fn.self l.self
