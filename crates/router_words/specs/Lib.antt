@@ -1,0 +1,6 @@
+pub mod Words
+pub mod Asking
+pub mod RuleWords
+pub mod Service
+pub mod Outcome
+pub mod Unread

@@ -1,0 +1,30 @@
+-- How a rule is spelled.
+use Rattle.std.specs.Prelude.{◌≢◌, ℕ, List, ◌∷◌, ◌++◌, Option, Some, None, codes, if◌then◌else◌}
+use Rattle.std.specs.Str.{bytes_eq}
+use Rattle.capture_form.specs.Rules.{RuleText}
+use Rattle.capture_form.specs.declared.rules.Distribution.{Distribution}
+use Rattle.capture_form.specs.declared.rules.Distribution.TheVariants.{Closest, Balanced, Multicast}
+
+-- the name of a distribution (own format)
+abbrev pub distribution_name : Distribution → List ℕ
+distribution_name Closest = codes "closest"
+distribution_name Balanced = codes "balanced"
+distribution_name Multicast = codes "multicast"
+
+-- the distribution of a name
+abbrev pub named_distribution : List ℕ → Option Distribution
+named_distribution name =
+    if bytes_eq name (codes "closest") then Some Closest
+    else (if bytes_eq name (codes "balanced") then Some Balanced
+    else (if bytes_eq name (codes "multicast") then Some Multicast else None))
+
+-- the word of a rule: the name of its distribution, a colon (58) and its prefix (own format)
+abbrev pub rule_word : Distribution → List ℕ → List ℕ
+rule_word distribution prefix = distribution_name distribution ++ 58 ∷ prefix
+
+abbrev pub rule_text : RuleText → List ℕ
+rule_text rule = rule_word rule.distribution rule.prefix
+
+-- the word is that of no rule
+abbrev pub SpellsNoRule : List ℕ → Type 0
+SpellsNoRule word = (distribution : Distribution) (prefix : List ℕ) → word ≢ rule_word distribution prefix

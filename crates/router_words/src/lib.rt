@@ -1,0 +1,30 @@
+//! The words of the router's command line, and the lines that tell how a run ended.
+//!
+//! `amqp_router LISTEN CAPTURE WORKERS CONNECTIONS [RULE]...`. The modules, in reading order:
+//!
+//! - `words`: what the parser makes of the words, as texts and numbers
+//! - `rule_words`: the rules that words spell
+//! - `service`: what the router is to serve, after all words were looked into
+//! - `fault`: what is wrong with words that the parser took
+//! - `outcome`: how a run ended, with its line and its exit status
+//! - `unread`: why the system did not give the words
+//! - `telling`: writing each of these where it belongs
+#![tactic(auto)]
+
+mod fault;
+mod outcome;
+mod rule_words;
+mod service;
+mod telling;
+mod unread;
+mod words;
+
+pub use fault::WordsFault;
+pub use outcome::Outcome;
+pub use service::Service;
+pub use telling::{NOT_WRITTEN, WORDS_FAULT, tell, tell_refused_words, tell_unread_words};
+pub use unread::UnreadWords;
+pub use words::Words;
+
+#[cfg(test)]
+mod tests;
