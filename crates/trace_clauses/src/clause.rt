@@ -2,7 +2,7 @@
 
 use std::fmt;
 
-/// A clause of the law of a capture. What each says of a record is in `docs/DEFINITIONS.md`.
+/// A clause of the law of a capture. What each says of a record is in `docs/LAW.md`.
 #[derive(Clone, Copy, Debug, PartialEq, Eq)]
 pub enum Clause {
     /// The frame may be written on its connection.

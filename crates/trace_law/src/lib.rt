@@ -17,8 +17,7 @@
 //!   `tally_capture` (`tally`) what a capture holds, in one walk over the records (`walk`).
 //!
 //! In `specs/`, `Check` is what is asked at one record; `View`, `LinkEvents`, `Payloads` and `OutcomeSize` say what the code's
-//! values stand for. The law itself stands in `trace_events` and `trace_clauses`, and `docs/DEFINITIONS.md` says it in
-//! words.
+//! values stand for. The law itself stands in `trace_events` and `trace_clauses`, and `docs/LAW.md` says it in words.
 #![tactic(auto)]
 
 mod ask;
