@@ -15,9 +15,9 @@ ghost use Rattle.due_flows.specs.Lent.{AreOf};
 ghost use Rattle.due_copies.specs.Copies.{HasUnsent, IsDueCopy, IsKnownCopy, IsReady, IsUnsentOn};
 
 use crate::lists::Lists;
-use audit_answers::Looked;
 use audit_copies::{Copies, receivers_of};
 use capture_form::Rule;
+use due_flows::Looked;
 use pairing_cert::Note;
 use std::alloc::{AllocError, Global};
 use trace_law::{Carriage, Counts, Event, Incoming, Link};

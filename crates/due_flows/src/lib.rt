@@ -20,6 +20,7 @@ mod numbers;
 mod parts;
 mod windows;
 
+pub use audit_answers::Looked;
 pub use credits::Credits;
 pub use drains::Drains;
 pub use parts::{DuePart, Parts};

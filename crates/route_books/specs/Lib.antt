@@ -1,1 +1,2 @@
 pub mod Books
+pub use Rattle.due_frames.specs.Dues

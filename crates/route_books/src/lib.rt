@@ -9,4 +9,5 @@ mod books;
 mod dues;
 
 pub use books::Books;
+pub use due_frames::{Due, DueBegin};
 pub use dues::Dues;

@@ -11,7 +11,7 @@ use Rattle.trace_events.specs.Frame.{Spoken}
 use Rattle.trace_events.specs.Event.{Event}
 use Rattle.trace_events.specs.History.{history}
 use Rattle.trace_clauses.specs.Written.{spoken_octets}
-use Rattle.due_frames.specs.Dues.{IsNextFrame}
+use Rattle.route_books.specs.Dues.{IsNextFrame}
 use Rattle.route_books.specs.declared.books.Books.{Books}
 use Rattle.route_books.specs.Books.{AreBooks, AreInOrder, IsUnbroken}
 use Rattle.route_dues.specs.Writing.{IsInOrder}

@@ -7,14 +7,14 @@ ghost use Rattle.capture_form.specs.declared.records.Record.{Record};
 ghost use Rattle.trace_events.specs.History.{history};
 ghost use Rattle.trace_law.specs.View.{event_view};
 ghost use Rattle.audit_tables.specs.Connections.{IsLawfulNext};
-ghost use Rattle.due_frames.specs.Dues.{IsDue};
+ghost use Rattle.route_books.specs.Dues.{IsDue};
 ghost use Rattle.route_books.specs.Books.{TellsOf};
 ghost use Rattle.route_work.specs.Work.{HasFlowing, IsAllGiven};
 
 use audit_answers::Looked;
 use capture_form::Rule;
 use due_flows::{Credits, Drains, Windows};
-use due_frames::Due;
+use route_books::Due;
 use std::alloc::{AllocError, Global};
 use trace_law::Event;
 

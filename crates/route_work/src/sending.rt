@@ -9,7 +9,7 @@ ghost use Rattle.trace_law.specs.View.{Events, event_view};
 ghost use Rattle.audit_tables.specs.Connections.{IsLawfulNext};
 ghost use Rattle.due_copies.specs.Copies.{IsDueCopy};
 ghost use Rattle.due_waiting.specs.Waiting.{IsDueWaiting};
-ghost use Rattle.due_frames.specs.Dues.{IsDue};
+ghost use Rattle.route_books.specs.Dues.{IsDue};
 ghost use Rattle.route_books.specs.Books.{TellsOf};
 ghost use Rattle.route_work.specs.Work.{HasSending, IsAllSent};
 
@@ -17,8 +17,8 @@ use audit_answers::Looked;
 use capture_form::Rule;
 use due_copies::{DueCopy, UnsentCopies};
 use due_flows::Parts;
-use due_frames::{Due, DueBegin};
 use due_waiting::{DueWaiting, Waiting};
+use route_books::{Due, DueBegin};
 use std::alloc::{AllocError, Global};
 use trace_law::Event;
 

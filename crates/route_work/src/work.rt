@@ -8,8 +8,7 @@ use crate::sending::Sending;
 use crate::telling::Telling;
 use audit_answers::Looked;
 use capture_form::Rule;
-use due_frames::Due;
-use route_books::Dues;
+use route_books::{Due, Dues};
 use std::alloc::{AllocError, Global};
 use trace_law::Event;
 
