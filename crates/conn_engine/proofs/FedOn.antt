@@ -35,7 +35,7 @@ all_kept fed unkept steps ahead none after = record {
   follow = after.follow;
 }
 
-kept_all : (fed : List ℕ) (steps : List StepText) (ahead : Ahead) → IsAfter fed steps ahead → IsAfter fed steps (and_unkept ahead [])
+pub kept_all : (fed : List ℕ) (steps : List StepText) (ahead : Ahead) → IsAfter fed steps ahead → IsAfter fed steps (and_unkept ahead [])
 kept_all fed steps ahead after = record { parts = after.parts ∙ ap (λ (t : List ℕ). octets_of steps ++ t) (sym (append-nil ahead.octets)); follow = after.follow }
 
 -- steps were taken of what was fed and a piece
@@ -51,7 +51,7 @@ steps_on fed unkept piece steps more ahead after none was parts follow =
     })
 
 -- their items
-items_on : (items items_then : List What) (steps more : List StepText) (none last : List What) → none ≡ [] → items ≡ items_of steps ++ none → items_then ≡ items ++ (items_of more ++ last)
+pub items_on : (items items_then : List What) (steps more : List StepText) (none last : List What) → none ≡ [] → items ≡ items_of steps ++ none → items_then ≡ items ++ (items_of more ++ last)
     → items_then ≡ items_of (steps ++ more) ++ last
 items_on items items_then steps more none last empty was next =
     next ∙ ap (λ (t : List What). t ++ (items_of more ++ last)) (was ∙ ap (λ (t : List What). items_of steps ++ t) empty ∙ append-nil (items_of steps))

@@ -27,7 +27,7 @@ use Rattle.conn_engine.proofs.FedOn.{piece_unkept, steps_on}
 
 -- ---- where frames are due, nothing else is answered
 
-open_stays : (phase next : Phase) (steps : List StepText) → phase ≡ Open → MayFollow phase steps next → next ≡ Open
+pub open_stays : (phase next : Phase) (steps : List StepText) → phase ≡ Open → MayFollow phase steps next → next ≡ Open
 open_stays phase next [] is follow = follow ∙ is
 open_stays phase next (step ∷ steps) is follow = open_stays _ next steps (by step.event (subst (λ (p : Phase). MayStand p step.event step.octets) is follow.0)) follow.1
   where
@@ -52,7 +52,7 @@ item_unsaid : (ahead : Ahead) (said : List ℕ) → ahead.phase ≡ Open → Ite
 item_unsaid ahead said open_phase (inl is) = is.0
 item_unsaid ahead said open_phase (inr is) = absurd (subst (λ (p : Phase). MayStand p AmqpHeader is.0) open_phase is.2)
 
-stop_unsaid : (fault : EngineFault) (ahead : Ahead) (last : List What) (said : List ℕ) → ahead.phase ≡ Open → StopsFor fault ahead last said → said ≡ []
+pub stop_unsaid : (fault : EngineFault) (ahead : Ahead) (last : List What) (said : List ℕ) → ahead.phase ≡ Open → StopsFor fault ahead last said → said ≡ []
 stop_unsaid faults.HeaderRefused ahead last said open_phase is = absurd (subst (λ (p : Phase). IsRefused p ahead.octets stops.HeaderRefused) open_phase is.0)
 stop_unsaid faults.Frame ahead last said open_phase is = is.2
 stop_unsaid (faults.Port fault) ahead last said open_phase is = item_unsaid ahead said open_phase is.1
@@ -83,7 +83,7 @@ unsaid_behind given waiting answers unsaid more said frames none no_more no_said
 no_frames : (frames : List (List ℕ)) → frames ≡ [] → concat frames ≡ []
 no_frames frames none = ap (λ (t : List (List ℕ)). concat t) none
 
-octets_on : (given waiting unsaid said : List ℕ) (steps more : List StepText) (frames : List (List ℕ)) (phase next : Phase) → unsaid ≡ [] → MayFollow phase more next → (phase ≡ Open → said ≡ [])
+pub octets_on : (given waiting unsaid said : List ℕ) (steps more : List StepText) (frames : List (List ℕ)) (phase next : Phase) → unsaid ≡ [] → MayFollow phase more next → (phase ≡ Open → said ≡ [])
     → (phase ≡ Open) ⊎ (frames ≡ []) → given ++ waiting ≡ (answers_to steps ++ unsaid) ++ concat frames
     → given ++ (waiting ++ (answers_to more ++ said)) ≡ (answers_to (steps ++ more) ++ said) ++ concat frames
 octets_on given waiting unsaid said steps more frames phase next none follow silent (inl is) was =
@@ -93,7 +93,7 @@ octets_on given waiting unsaid said steps more frames phase next none follow sil
     said_behind given waiting (answers_to steps) unsaid (answers_to more) said (concat frames) none (no_frames frames is) was
     ∙ ap (λ (t : List ℕ). (t ++ said) ++ concat frames) (sym (answers_all steps more))
 
-behind_on : (phase next : Phase) (steps : List StepText) (frames frames_then : List (List ℕ)) → MayFollow phase steps next → frames_then ≡ frames → (phase ≡ Open) ⊎ (frames ≡ []) → (next ≡ Open) ⊎ (frames_then ≡ [])
+pub behind_on : (phase next : Phase) (steps : List StepText) (frames frames_then : List (List ℕ)) → MayFollow phase steps next → frames_then ≡ frames → (phase ≡ Open) ⊎ (frames ≡ []) → (next ≡ Open) ⊎ (frames_then ≡ [])
 behind_on phase next steps frames frames_then follow same (inl is) = inl (open_stays phase next steps is follow)
 behind_on phase next steps frames frames_then follow same (inr is) = inr (same ∙ is)
 
@@ -259,13 +259,13 @@ pub given_gone : (extent : Extent) (before after : Connection) (fed given : List
 given_gone extent before after fed given result did h = given_lost (is_loss_due before.ahead.phase before.place) extent before after fed given result did h
 
 -- frames were taken
-is_open : (phase : Phase) → (phase ≡ Open) ⊎ (phase ≢ Open)
+pub is_open : (phase : Phase) → (phase ≡ Open) ⊎ (phase ≢ Open)
 is_open FirstHeader = inr (λ is. cc)
 is_open Exchange = inr (λ is. cc)
 is_open SecondHeader = inr (λ is. cc)
 is_open Open = inl refl
 
-refilled_behind : (phase : Phase) (frames frames_then : List (List ℕ)) → (phase ≢ Open → frames_then ≡ frames) → (phase ≡ Open) ⊎ (phase ≢ Open) → (phase ≡ Open) ⊎ (frames ≡ []) → (phase ≡ Open) ⊎ (frames_then ≡ [])
+pub refilled_behind : (phase : Phase) (frames frames_then : List (List ℕ)) → (phase ≢ Open → frames_then ≡ frames) → (phase ≡ Open) ⊎ (phase ≢ Open) → (phase ≡ Open) ⊎ (frames ≡ []) → (phase ≡ Open) ⊎ (frames_then ≡ [])
 refilled_behind phase frames frames_then closed (inl is) behind = inl is
 refilled_behind phase frames frames_then closed (inr not_open) (inl is) = inl is
 refilled_behind phase frames frames_then closed (inr not_open) (inr none) = inr (closed not_open ∙ none)

@@ -1,6 +1,6 @@
 mod Telling
-mod Going
-mod FedOn
-mod GivenOn
+pub mod Going
+pub mod FedOn
+pub mod GivenOn
 mod FramesOn
 mod Examples

@@ -1,6 +1,6 @@
 //! What an engine's octets come from and go to.
 
-ghost use Rattle.std.specs.Prelude.{◌≡◌, ◌<◌, ◌≤◌, ℕ, List, length};
+ghost use Rattle.std.specs.Prelude.{◌≡◌, ◌<◌, ◌≤◌, ℕ, Bool, List, length};
 ghost use Rattle.conn_engine.specs.declared.gate.Delivered.TheVariants as delivered_as;
 ghost use Rattle.conn_engine.specs.declared.gate.Taken.TheVariants as taken_as;
 ghost use Rattle.conn_engine.specs.declared.gate.Ready.TheVariants as ready_as;
@@ -36,7 +36,8 @@ pub enum Ready {
     Device,
 }
 
-/// A device. It tells which octets it may have delivered and taken: of a socket nothing is known, and then all may be.
+/// A device. It tells which octets it may have delivered and taken, and whether it answered that it ended or failed: of a
+/// socket nothing is known of the octets, and then all may be.
 pub trait Gate {
     ghost use Rattle.conn_engine.specs.Device.{AfterRead, AfterWrite, KeepsTold};
 
@@ -44,33 +45,49 @@ pub trait Gate {
 
     ghost took: { Self → List ℕ → Type 0 };
 
+    /// Whether a read answered `End`, or a read or a write `Fault`.
+    ghost has_ended: { Self → Bool };
+
     ghost failed: { Self → ℕ };
+
+    /// The second is the first, after some calls.
+    ghost follows: { Self → Self → Type 0 };
 
     /// Reads into the front of the buffer.
     fn read(&mut self, buffer: &mut [u8]) -> Delivered
         requires { 0 < length buffer.old }
-        ensures delivered { AfterRead delivered self.old self.new buffer.new result }
+        ensures delivered { AfterRead delivered has_ended self.old self.new buffer.new result }
         ensures took { KeepsTold took self.old self.new }
-        ensures fault { result ≡ delivered_as.Fault → failed self.old < failed self.new };
+        ensures fault { result ≡ delivered_as.Fault → failed self.old < failed self.new }
+        ensures follows { follows self.old self.new };
 
     /// Writes octets from the front of these.
     fn write(&mut self, octets: &[u8]) -> Taken
-        ensures took { AfterWrite took self.old self.new octets.now result }
+        ensures took { AfterWrite took has_ended self.old self.new octets.now result }
         ensures delivered { KeepsTold delivered self.old self.new }
-        ensures fault { result ≡ taken_as.Fault → failed self.old < failed self.new };
+        ensures fault { result ≡ taken_as.Fault → failed self.old < failed self.new }
+        ensures follows { follows self.old self.new };
 
     /// Waits at most 10 milliseconds for octets or room.
     fn ready(&mut self) -> Ready
         ensures took { KeepsTold took self.old self.new }
         ensures delivered { KeepsTold delivered self.old self.new }
-        ensures fault { result ≡ ready_as.Device → failed self.old < failed self.new };
+        ensures ended { has_ended self.new ≡ has_ended self.old }
+        ensures fault { result ≡ ready_as.Device → failed self.old < failed self.new }
+        ensures follows { follows self.old self.new };
 
     /// Ends the device.
     fn shut(&mut self)
         ensures took { KeepsTold took self.old self.new }
-        ensures delivered { KeepsTold delivered self.old self.new };
+        ensures delivered { KeepsTold delivered self.old self.new }
+        ensures ended { has_ended self.new ≡ has_ended self.old }
+        ensures follows { follows self.old self.new };
 
     /// How many calls failed.
     fn failures(&self) -> u64
         ensures { result ≡ failed self.now };
+
+    ghost follows_itself: { (gate : Self) → follows gate gate };
+
+    ghost follows_on: { (first second third : Self) → follows first second → follows second third → follows first third };
 }
