@@ -1,0 +1,101 @@
+//! A connection's way to a core that threads share.
+
+ghost use Rattle.std.specs.Prelude.{◌≡◌, []};
+
+use crate::exchange::Exchange;
+use crate::seat::Seat;
+use conn_engine::{Port, PortFault};
+use route_items::Item;
+use std::alloc::{AllocError, Global};
+use std::sync::Wait;
+
+/// Hands the items of a connection to the core of an exchange, and gives the frames that the core wrote to it. It keeps
+/// copies of the items that the core took and of the frames that were given.
+#[derive(Drop)]
+pub struct ExchangePort<'a, R: Wait> {
+    exchange: &'a Exchange<R>,
+    seat: Seat,
+    // From this record on nothing was written at this mark.
+    unwritten: Option<(u64, u64)>,
+}
+
+impl<'a, R: Wait> ExchangePort<'a, R> {
+    /// A port that has taken and given nothing.
+    pub(crate) fn new(exchange: &'a Exchange<R>, alloc: Global, conn: u32) -> ExchangePort<'a, R>
+        ensures conn { result.seat.conn ≡ conn }
+        ensures items { result.seat.items.items ≡ [] }
+        ensures frames { result.seat.frames.items ≡ [] }
+    {
+        ExchangePort {
+            exchange,
+            seat: Seat {
+                conn,
+                items: Vec::new(alloc),
+                frames: Vec::new(alloc),
+            },
+            unwritten: None,
+        }
+    }
+
+    /// What it took and gave. It takes no memory.
+    pub fn into_seat(self) -> Seat
+        ensures { result ≡ self.entry.seat }
+    {
+        let ExchangePort {
+            exchange: _,
+            seat,
+            unwritten: _,
+        } = self;
+        seat
+    }
+
+    /// Whether nothing was written from a record on since this was found last, so that there is no need for the lock.
+    fn has_seen_all(&self, from: u64, mark: u64) -> bool {
+        self.unwritten
+            .is_some_and(|(first, seen)| first <= from && seen == mark)
+    }
+}
+
+impl<'a, R: Wait> Port for ExchangePort<'a, R> {
+    ghost use Rattle.std.specs.Prelude.{map, true};
+
+    ghost connection = { λ port. port.seat.conn };
+
+    ghost items = { λ port. port.seat.items.items };
+
+    ghost frames = { λ port. map (λ frame. frame.items) port.seat.frames.items };
+
+    // What a core has under its lock is not known between two calls.
+    ghost is_idle = { λ port. true };
+
+    fn submit(&mut self, item: Item<'_>) -> Result<(), PortFault> {
+        let Ok(entry) = item.to_record(self.exchange.alloc()) else {
+            return Err(PortFault::Memory);
+        };
+        let Ok(()) = self.seat.items.reserve(1) else {
+            return Err(PortFault::Memory);
+        };
+        match self.exchange.step(item) {
+            Ok(()) => {
+                self.seat.items.push_reserved(entry.what);
+                Ok(())
+            }
+            Err(fault) => Err(PortFault::Step(fault)),
+        }
+    }
+
+    fn next_out(&mut self, from: u64, out: &mut Vec<u8>) -> Result<Option<u64>, AllocError> {
+        let mark = self.exchange.mark_of(self.seat.conn);
+        if self.has_seen_all(from, mark) {
+            return Ok(None);
+        }
+        let Some((number, frame)) = self.exchange.copy_out(self.seat.conn, from)? else {
+            self.unwritten = Some((from, mark));
+            return Ok(None);
+        };
+        self.seat.frames.reserve(1)?;
+        out.extend_from_slice(&frame)?;
+        self.seat.frames.push_reserved(frame);
+        Ok(Some(number))
+    }
+}
