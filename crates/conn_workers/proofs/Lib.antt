@@ -1,0 +1,5 @@
+mod Closes
+mod Serves
+mod ServedOn
+mod Opens
+mod Gathered

@@ -1,0 +1,10 @@
+use Rattle.std.proofs.Common.{refl, subst}
+use Rattle.conn_workers.specs.Lines.{IsDone}
+use Rattle.conn_workers.proofs.Gathered.{reported as is_reported}
+use Rattle.conn_workers.proofs.run.parts.reported.Goals as goal
+
+pub returns : goal.returns
+returns g c =
+    is_reported g.J.Origin.gates g.G.Gate.follows g.G.Gate.delivered g.G.Gate.took g.G.Gate.has_ended c.args._capture.now.records c.args._k c.args.seat _
+    (subst (λ s. IsDone g.J.Origin.gates g.G.Gate.follows g.G.Gate.delivered g.G.Gate.took g.G.Gate.has_ended c.opened-gate.result.0 c.opened-gate.result.1.items s) c.requires.same c.opened-gate.ensures)
+    c.requires.agrees refl refl

@@ -1,0 +1,157 @@
+//! What one worker does.
+
+ghost use Rattle.std.specs.Prelude.{◌≡◌, ◌<◌, ◌+◌, length, IfOk, OnOk, vec_len, All};
+ghost use Rattle.std.specs.VecDeque.{deque_len};
+ghost use Rattle.conn_workers.specs.declared.line.Status.TheVariants.{Open};
+
+use crate::alarm::Alarm;
+use crate::done::Done;
+use crate::line::{Line, Origin, Start};
+use crate::serving::{Stop, Turn};
+use conn_engine::Gate;
+use core_exchange::{Exchange, ExchangePort};
+use std::alloc::Global;
+use std::collections::VecDeque;
+use std::sync::Wait;
+
+/// The most octets of one read: some dozens of small messages, so that no connection keeps its worker long.
+const BUFFER: usize = 4096;
+
+/// Serves these gates to their ends, one after the other in each round. Where a round moves nothing, it waits a little at
+/// one gate, the next in turn. It tells the other workers where it stops, and stops where one of these has.
+///
+/// # Errors
+///
+/// As `Stop` says, its own reason or theirs; the gates are dropped then.
+pub(crate) fn work<G: Gate + Drop, R: Wait, W: Wait, J: Origin<G>>(
+    rt: &W,
+    alloc: Global,
+    exchange: &Exchange<R>,
+    alarm: &Alarm,
+    starts: Vec<Start<G, J>>,
+) -> Result<Vec<Done<G, J>>, Stop>
+    ensures { IfOk result (λ all. vec_len all ≡ vec_len starts) }
+{
+    match serve_all(rt, alloc, exchange, alarm, starts) {
+        Ok(done) => Ok(done),
+        Err(stop) => {
+            alarm.raise(stop);
+            Err(stop)
+        }
+    }
+}
+
+/// Serves these gates to their ends, unless another worker has stopped.
+fn serve_all<G: Gate + Drop, R: Wait, W: Wait, J: Origin<G>>(
+    rt: &W,
+    alloc: Global,
+    exchange: &Exchange<R>,
+    alarm: &Alarm,
+    starts: Vec<Start<G, J>>,
+) -> Result<Vec<Done<G, J>>, Stop>
+    ensures { IfOk result (λ all. vec_len all ≡ vec_len starts) }
+{
+    let mut lines = open_lines(alloc, exchange, starts)?;
+    let mut done = Vec::new(alloc);
+    let mut buffer = [0u8; BUFFER];
+    for _ in rt.forever() {
+        if lines.is_empty() {
+            return Ok(done);
+        }
+        if let Some(stop) = alarm.reason() {
+            return Err(stop);
+        }
+        if !serve_each(&mut lines, &mut done, &mut buffer)? {
+            wait_for_next(&mut lines)?;
+        }
+    }
+    unreachable!()
+}
+
+/// The lines of gates that are handed over in falling order of their numbers, in rising order.
+#[tactic(auto, using(crate::proofs::Opens::open_front, crate::proofs::Opens::open_pop))]
+fn open_lines<'a, G: Gate + Drop, R: Wait, J: Origin<G>>(
+    alloc: Global,
+    exchange: &'a Exchange<R>,
+    starts: Vec<Start<G, J>>,
+) -> Result<VecDeque<Line<G, ExchangePort<'a, R>, J>>, Stop>
+    ensures open { IfOk result (λ lines. All (λ s. s ≡ Open) lines.items) }
+    ensures len { IfOk result (λ lines. deque_len lines ≡ vec_len starts) }
+{
+    let mut lines = VecDeque::new(alloc);
+    for start in starts {
+        let port = exchange.port(start.conn());
+        let Ok(()) = lines.push_front(Line::new(alloc, start, port)) else {
+            return Err(Stop::Memory);
+        };
+    }
+    Ok(lines)
+}
+
+/// Gives each line one turn, and says whether any moved octets or ended.
+fn serve_each<'a, G: Gate + Drop, R: Wait, J: Origin<G>>(
+    lines: &mut VecDeque<Line<G, ExchangePort<'a, R>, J>>,
+    done: &mut Vec<Done<G, J>>,
+    buffer: &mut [u8],
+) -> Result<bool, Stop>
+    requires open { All (λ s. s ≡ Open) lines.old.items }
+    requires room { 0 < length buffer.old }
+    ensures open { OnOk result (All (λ s. s ≡ Open) lines.new.items) }
+    ensures len { OnOk result (deque_len lines.new + vec_len done.new ≡ deque_len lines.old + vec_len done.old) }
+{
+    let mut moved = false;
+    for _ in 0..lines.len() {
+        if serve_next(lines, done, buffer)? {
+            moved = true;
+        }
+    }
+    Ok(moved)
+}
+
+/// Gives the first line one turn, and puts it behind the others, or among those that have ended.
+#[tactic(auto, using(crate::proofs::Opens::open_push, crate::proofs::Opens::open_pop))]
+fn serve_next<'a, G: Gate + Drop, R: Wait, J: Origin<G>>(
+    lines: &mut VecDeque<Line<G, ExchangePort<'a, R>, J>>,
+    done: &mut Vec<Done<G, J>>,
+    buffer: &mut [u8],
+) -> Result<bool, Stop>
+    requires open { All (λ s. s ≡ Open) lines.old.items }
+    requires room { 0 < length buffer.old }
+    ensures open { OnOk result (All (λ s. s ≡ Open) lines.new.items) }
+    ensures len { OnOk result (deque_len lines.new + vec_len done.new ≡ deque_len lines.old + vec_len done.old) }
+{
+    let Some(mut line) = lines.pop_front() else {
+        return Ok(false);
+    };
+    let turn = line.turn(buffer)?;
+    if turn == Turn::Over {
+        return match done.push(Done::new(line)) {
+            Ok(()) => Ok(true),
+            Err(_) => Err(Stop::Memory),
+        };
+    }
+    let moved = turn == Turn::Moved;
+    let Ok(()) = lines.push_back(line) else {
+        return Err(Stop::Memory);
+    };
+    Ok(moved)
+}
+
+/// Waits at the first line, and puts it behind the others.
+#[tactic(auto, using(crate::proofs::Opens::open_push, crate::proofs::Opens::open_pop))]
+fn wait_for_next<'a, G: Gate + Drop, R: Wait, J: Origin<G>>(
+    lines: &mut VecDeque<Line<G, ExchangePort<'a, R>, J>>,
+) -> Result<(), Stop>
+    requires open { All (λ s. s ≡ Open) lines.old.items }
+    ensures open { OnOk result (All (λ s. s ≡ Open) lines.new.items) }
+    ensures len { OnOk result (deque_len lines.new ≡ deque_len lines.old) }
+{
+    let Some(mut line) = lines.pop_front() else {
+        return Ok(());
+    };
+    line.wait()?;
+    let Ok(()) = lines.push_back(line) else {
+        return Err(Stop::Memory);
+    };
+    Ok(())
+}
