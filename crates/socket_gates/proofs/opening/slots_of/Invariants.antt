@@ -1,0 +1,6 @@
+use Rattle.std.proofs.Common.{◌≡◌, vec_len}
+use Rattle.socket_gates.proofs.opening.slots_of.Given as goal
+
+-- a slot for each connection so far
+abbrev pub invariant-loop-number : goal.invariant-loop-number
+invariant-loop-number g l = vec_len l.slots ≡ l.number

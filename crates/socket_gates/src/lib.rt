@@ -1,0 +1,23 @@
+//! The gates of connections over sockets, with one poll for all sockets of a worker.
+//!
+//! Each gate is a slot (`Slot`) that takes one connection from a listener. The slots of a worker share a station: a poll in
+//! which all its sockets and the listener stand, what is known of each socket since, and a waker. So a read or a write
+//! asks the system only where it may do something, and a wait ends at the first sign of any socket. It ends too where a
+//! socket of another worker has delivered octets, since the router may have written frames because of them.
+//!
+//! In reading order: `signs` is what is known of one socket; `watch` is a worker's poll; `station` is what its slots share;
+//! `connection` is one socket; `slot` is a gate; `opening` makes the slots of a listener.
+#![tactic(auto)]
+
+mod connection;
+mod opening;
+mod signs;
+mod slot;
+mod station;
+mod watch;
+
+pub use opening::{open_slots, slots_at};
+pub use slot::Slot;
+
+#[cfg(test)]
+mod tests;

@@ -1,0 +1,97 @@
+//! The slots of a listener.
+
+ghost use Rattle.std.specs.Prelude.{◌≡◌, ◌<◌, IfOk, vec_len};
+
+use crate::slot::Slot;
+use crate::station::{Station, Stations};
+use mio::net::TcpListener;
+use std::alloc::{AllocError, Global};
+use std::io;
+use std::net::{Net, SocketAddr};
+use std::sync::{Arc, Mutex, Wait};
+
+/// Listens at an address, and makes a slot for each connection that is to be served. Slot k is of worker k modulo
+/// `workers`.
+///
+/// # Errors
+///
+/// Where the system refuses a listener, a poll or a waker; or, as `OutOfMemory` without a number of the system's, where
+/// memory is refused.
+pub fn open_slots<'a, R: Wait + Net>(
+    rt: &'a R,
+    alloc: Global,
+    addr: SocketAddr,
+    workers: usize,
+    connections: u32,
+) -> io::Result<Vec<Slot<&'a R>>>
+    requires { 0 < workers }
+    ensures { IfOk result (λ slots. vec_len slots ≡ connections) }
+{
+    let listener = TcpListener::bind(rt, addr)?;
+    slots_at(rt, alloc, listener, workers, connections)
+}
+
+/// The same, at a listener that is there.
+///
+/// # Errors
+///
+/// As those of `open_slots`.
+pub fn slots_at<'a, R: Wait + Net>(
+    rt: &'a R,
+    alloc: Global,
+    mut listener: TcpListener,
+    workers: usize,
+    connections: u32,
+) -> io::Result<Vec<Slot<&'a R>>>
+    requires { 0 < workers }
+    ensures { IfOk result (λ slots. vec_len slots ≡ connections) }
+{
+    let stations = stations_at(rt, alloc, &mut listener, workers)?;
+    let listener = Arc::new(alloc, Mutex::new(listener))?;
+    let slots = slots_of(rt, alloc, &listener, stations, connections)?;
+    Ok(slots)
+}
+
+/// A station for each worker.
+fn stations_at(
+    net: &impl Net,
+    alloc: Global,
+    listener: &mut TcpListener,
+    workers: usize,
+) -> io::Result<Vec<Arc<Station, Global>>>
+    ensures { IfOk result (λ stations. vec_len stations ≡ workers) }
+{
+    let mut stations = Vec::new(alloc);
+    for worker in 0..workers {
+        let station = Station::new(net, alloc, worker, listener)?;
+        stations.push(Arc::new(alloc, station)?)?;
+    }
+    Ok(stations)
+}
+
+/// So many slots, at the stations in turn.
+fn slots_of<'a, R: Wait + Net>(
+    rt: &'a R,
+    alloc: Global,
+    listener: &Arc<Mutex<TcpListener>, Global>,
+    stations: Vec<Arc<Station, Global>>,
+    connections: u32,
+) -> Result<Vec<Slot<&'a R>>, AllocError>
+    requires { 0 < vec_len stations }
+    ensures { IfOk result (λ slots. vec_len slots ≡ connections) }
+{
+    let stations = Arc::new(alloc, Stations::new(stations))?;
+    let mut slots = Vec::new(alloc);
+    for number in 0..connections {
+        let station = Arc::try_clone(stations.station_of(number))?;
+        let slot = Slot::new(
+            rt,
+            alloc,
+            Arc::try_clone(listener)?,
+            Arc::try_clone(&stations)?,
+            station,
+        );
+        slots.push(slot)?;
+    }
+    Ok(slots)
+}

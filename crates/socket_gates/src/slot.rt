@@ -1,0 +1,248 @@
+//! A gate that is a socket.
+
+ghost use Rattle.std.specs.Prelude.{◌≡◌, ◌<◌};
+ghost use Rattle.std.specs.Bool.{OnTrue};
+
+use crate::connection::{Connection, Moved};
+use crate::station::{Station, Stations};
+use conn_engine::{Delivered, Gate, Ready, Taken};
+use mio::net::{TcpListener, TcpStream};
+use std::alloc::Global;
+use std::io::ErrorKind;
+use std::sync::{Arc, Mutex, Wait};
+use std::{io, mem};
+
+/// Where a slot is.
+#[derive(Drop)]
+enum Place {
+    /// It has had no connection.
+    Vacant,
+    Taken(Connection),
+    /// Its connection is over.
+    Shut,
+}
+
+/// A gate that takes one connection from a listener, which stands behind a lock. What a socket delivers and takes is the
+/// system's affair, and no clause speaks of it.
+#[derive(Drop)]
+pub struct Slot<R: Wait> {
+    rt: R,
+    alloc: Global,
+    listener: Arc<Mutex<TcpListener>, Global>,
+    stations: Arc<Stations, Global>,
+    station: Arc<Station, Global>,
+    place: Place,
+    // The listener or the poll failed.
+    is_broken: bool,
+    ended: bool,
+    failed: u64,
+}
+
+impl<R: Wait> Slot<R> {
+    /// A slot without a connection.
+    pub(crate) fn new(
+        rt: R,
+        alloc: Global,
+        listener: Arc<Mutex<TcpListener>, Global>,
+        stations: Arc<Stations, Global>,
+        station: Arc<Station, Global>,
+    ) -> Slot<R> {
+        station.add_slot();
+        Slot {
+            rt,
+            alloc,
+            listener,
+            stations,
+            station,
+            place: Place::Vacant,
+            is_broken: false,
+            ended: false,
+            failed: 0,
+        }
+    }
+
+    /// Takes a connection, if one may wait and no other worker is at the listener.
+    fn accept(&mut self)
+        ensures ended { self.new.ended ≡ self.old.ended }
+        ensures failed { self.new.failed ≡ self.old.failed }
+    {
+        if !self.station.may_accept() {
+            return;
+        }
+        let Some(listener) = self.listener.try_lock() else {
+            return;
+        };
+        let accepted = listener.accept();
+        drop(listener);
+        match accepted {
+            Ok((stream, _)) => self.take_in(stream),
+            Err(error) => self.note_refusal(&error),
+        }
+    }
+
+    /// Notes why no connection was accepted. What befell a client that is gone already, or the network between, is no fault of
+    /// the listener. Where no descriptor was left, the connection goes on waiting.
+    fn note_refusal(&mut self, error: &io::Error)
+        ensures ended { self.new.ended ≡ self.old.ended }
+        ensures failed { self.new.failed ≡ self.old.failed }
+    {
+        match error.kind() {
+            ErrorKind::ConnectionAborted
+            | ErrorKind::ConnectionReset
+            | ErrorKind::TimedOut
+            | ErrorKind::Interrupted
+            | ErrorKind::HostUnreachable
+            | ErrorKind::NetworkUnreachable
+            | ErrorKind::NetworkDown => {}
+            ErrorKind::WouldBlock => self.station.none_is_there(),
+            _ if lacks_descriptors(error) => self.station.none_is_there(),
+            _ => self.is_broken = true,
+        }
+    }
+
+    /// What a gate delivered is handed to the router before any gate of its worker is called again. So it is time now to
+    /// tell the other workers, for whose connections frames may have come of it.
+    fn pass_on(&self) {
+        self.stations.pass_on(&self.station);
+    }
+
+    /// Makes a stream the connection of the slot.
+    fn take_in(&mut self, mut stream: TcpStream)
+        ensures ended { self.new.ended ≡ self.old.ended }
+        ensures failed { self.new.failed ≡ self.old.failed }
+    {
+        // Small frames are not to wait for one another.
+        let _ = stream.set_nodelay(true);
+        match self.station.admit(&self.rt, self.alloc, &mut stream) {
+            Ok((key, signs)) => self.place = Place::Taken(Connection::new(stream, key, signs)),
+            Err(_) => {
+                self.place = Place::Shut;
+                self.is_broken = true;
+            }
+        }
+    }
+
+    /// Counts a failed call, unless there were as many as can be counted.
+    fn count_failure(&mut self) -> bool
+        ensures counted { OnTrue result (self.old.failed < self.new.failed) }
+        ensures ended { self.new.ended ≡ self.old.ended }
+    {
+        if self.failed == u64::MAX {
+            return false;
+        }
+        self.failed += 1;
+        true
+    }
+}
+
+impl<R: Wait> Gate for Slot<R> {
+    ghost use Rattle.std.specs.Prelude.{⊤};
+
+    ghost delivered = { λ slot octets. ⊤ };
+
+    ghost took = { λ slot octets. ⊤ };
+
+    ghost has_ended = { λ slot. slot.ended };
+
+    ghost failed = { λ slot. slot.failed };
+
+    ghost follows = { λ slot later. ⊤ };
+
+    fn read(&mut self, buffer: &mut [u8]) -> Delivered {
+        self.pass_on();
+        if self.station.look(&self.rt).is_err() {
+            self.is_broken = true;
+        }
+        if matches!(self.place, Place::Vacant) {
+            self.accept();
+        }
+        let moved = match &mut self.place {
+            Place::Taken(connection) => connection.read(buffer),
+            _ => Moved::Nothing,
+        };
+        match moved {
+            Moved::Octets(n) => {
+                self.station.note_delivery();
+                Delivered::Octets(n)
+            }
+            Moved::Nothing => Delivered::Nothing,
+            Moved::End => {
+                self.ended = true;
+                Delivered::End
+            }
+            Moved::Fault => {
+                self.ended = true;
+                if self.count_failure() {
+                    Delivered::Fault
+                } else {
+                    Delivered::End
+                }
+            }
+        }
+    }
+
+    fn write(&mut self, octets: &[u8]) -> Taken {
+        self.pass_on();
+        let moved = match &mut self.place {
+            Place::Taken(connection) => connection.write(octets),
+            _ => Moved::Nothing,
+        };
+        match moved {
+            Moved::Octets(n) => Taken::Took(n),
+            Moved::Nothing | Moved::End => Taken::Nothing,
+            Moved::Fault => {
+                if !self.count_failure() {
+                    return Taken::Nothing;
+                }
+                self.ended = true;
+                Taken::Fault
+            }
+        }
+    }
+
+    fn ready(&mut self) -> Ready {
+        self.pass_on();
+        if !self.is_broken {
+            match self.station.wait(&self.rt) {
+                Ok(true) => return Ready::Yes,
+                Ok(false) => return Ready::No,
+                Err(_) => self.is_broken = true,
+            }
+        }
+        if self.count_failure() {
+            Ready::Device
+        } else {
+            Ready::No
+        }
+    }
+
+    fn shut(&mut self) {
+        // The router was told of the loss before, which may bring about frames as well.
+        self.station.note_delivery();
+        self.pass_on();
+        if let Place::Taken(mut connection) = mem::replace(&mut self.place, Place::Shut) {
+            connection.shut();
+            self.station.dismiss(&self.rt, connection.key());
+            // Its descriptor may be what a connection waits for that could not be accepted.
+            self.station.one_may_be_there();
+        }
+    }
+
+    fn failures(&self) -> u64 {
+        self.failed
+    }
+
+    ghost follows_itself = { λ slot. tt };
+
+    ghost follows_on = { λ first second third before then. tt };
+}
+
+/// The system's numbers for no descriptors left, in all and in this process.
+const TOO_MANY_IN_ALL: i32 = 23;
+
+const TOO_MANY_HERE: i32 = 24;
+
+/// Whether no descriptor was left for a connection.
+fn lacks_descriptors(error: &io::Error) -> bool {
+    matches!(error.raw_os_error(), Some(TOO_MANY_IN_ALL | TOO_MANY_HERE))
+}
