@@ -1,0 +1,7 @@
+-- How a run ends.
+use Rattle.std.specs.Prelude.{◌≡◌, ℕ, ◌⊎◌}
+use Rattle.loopback_clients.specs.declared.run.TheConstants.{UNFINISHED, WORDS_FAULT, NOT_WRITTEN}
+
+-- the exit status of a run (own format)
+abbrev pub IsStatus : ℕ → Type 0
+IsStatus status = (status ≡ 0) ⊎ (status ≡ UNFINISHED) ⊎ (status ≡ WORDS_FAULT) ⊎ (status ≡ NOT_WRITTEN)

@@ -1,0 +1,91 @@
+//! A run over any words, network and writer.
+
+ghost use Rattle.std.specs.Prelude.{◌≡◌, ◌⊎◌};
+ghost use Rattle.loopback_clients.specs.Run.{IsStatus};
+
+use crate::client::Client;
+use crate::exchange::exchange;
+use crate::fault::Fault;
+use crate::tally::Tally;
+use crate::words::{Task, USAGE};
+use std::alloc::Global;
+use std::fmt::Display;
+use std::io::Write;
+use std::net::{Net, OpenStream, SocketAddr, SocketAddrV4, TcpStream};
+use std::rt::Clock;
+use std::thread;
+use std::time::Duration;
+
+/// The exit status where the exchange was not finished.
+pub const UNFINISHED: u8 = 1;
+
+/// The exit status after words that ask for nothing.
+pub const WORDS_FAULT: u8 = 64;
+
+/// The exit status where standard output could not be written.
+pub const NOT_WRITTEN: u8 = 74;
+
+/// How often a connection is tried.
+const TRIES: u32 = 25;
+
+/// How many milliseconds each try may take, and the pause behind it.
+const PAUSE: u64 = 200;
+
+/// How many seconds a router may be silent.
+const PATIENCE: u64 = 20;
+
+/// Makes the exchange that the words ask for, those behind the program's name. Writes what happens to `out`, and answers
+/// the exit status.
+pub fn run_words<R: Net + Clock, O: Write>(
+    rt: &R,
+    alloc: Global,
+    words: &[String],
+    out: &mut O,
+) -> u8
+    ensures { IsStatus result }
+{
+    let Some(task) = Task::from_words(words) else {
+        return tell(out, &USAGE, WORDS_FAULT);
+    };
+    match made(rt, alloc, &task, out) {
+        Ok(tally) => tell(out, &tally, 0),
+        Err(fault) => tell(out, &fault, UNFINISHED),
+    }
+}
+
+/// Writes a line, and answers the status if it could.
+fn tell<D: Display, O: Write>(out: &mut O, line: &D, status: u8) -> u8
+    ensures { (result ≡ status) ⊎ (result ≡ NOT_WRITTEN) }
+{
+    match writeln!(out, "{line}") {
+        Ok(()) => status,
+        Err(_) => NOT_WRITTEN,
+    }
+}
+
+/// Connects both clients, and makes the exchange.
+fn made<R: Net + Clock, O: Write>(
+    rt: &R,
+    alloc: Global,
+    task: &Task,
+    out: &mut O,
+) -> Result<Tally, Fault> {
+    let mut consumer = Client::new(alloc, connected(rt, task.address)?);
+    let mut producer = Client::new(alloc, connected(rt, task.address)?);
+    exchange(alloc, &mut consumer, &mut producer, task.count, out)
+}
+
+/// A connection to the router at the address, which may still be starting.
+fn connected<R: Net + Clock>(rt: &R, address: SocketAddrV4) -> Result<R::Stream, Fault> {
+    let (addr, pause) = (SocketAddr::V4(address), Duration::from_millis(PAUSE));
+    for _ in 0..TRIES {
+        if let Ok(stream) = TcpStream::connect_timeout(rt, &addr, pause) {
+            stream.set_read_timeout(Some(Duration::from_secs(PATIENCE)))?;
+            // Each frame is to go at once.
+            stream.set_nodelay(true)?;
+            return Ok(stream);
+        }
+        thread::sleep(rt, pause);
+    }
+    Err(Fault::NoRouter(address))
+}

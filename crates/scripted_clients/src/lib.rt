@@ -1,0 +1,125 @@
+//! Two clients over loopback for tests, whose octets were worked out: a producer that sends a message to the address `q`,
+//! and a consumer that takes it. Served by a router over one core, their exchange makes 26 records, with one delivery and one
+//! outcome.
+#![tactic(auto)]
+
+use std::alloc::{AllocError, Global};
+use std::io::{Read, Write};
+use std::net::{Ipv4Addr, Net, SocketAddr, TcpStream};
+use std::thread;
+
+/// How often a client tries to connect.
+const TRIES: u32 = 100_000;
+
+/// What a client does next.
+#[derive(Clone, Copy, Debug)]
+pub enum Step {
+    Says(&'static [u8]),
+    Hears(&'static [u8]),
+}
+
+const HEADER: &[u8] = b"AMQP\x00\x01\x00\x00";
+
+const ROUTER_OPEN: &[u8] =
+    b"\x00\x00\x00\x24\x02\x00\x00\x00\x00\x53\x10\xc0\x17\x04\xa1\x0bamqp-router\x40\x70\x00\x00\x40\x00\x60\x00\xff";
+
+const BEGIN: &[u8] =
+    b"\x00\x00\x00\x14\x02\x00\x00\x00\x00\x53\x11\xc0\x07\x04\x40\x43\x52\x64\x52\x64";
+
+const ROUTER_BEGIN: &[u8] =
+    b"\x00\x00\x00\x21\x02\x00\x00\x00\x00\x53\x11\xc0\x14\x05\x60\x00\x00\x43\x70\x00\x00\x08\x00\x70\x7f\xff\xff\xff\x70\x00\x00\x03\xff";
+
+const ACCEPTED: &[u8] =
+    b"\x00\x00\x00\x16\x02\x00\x00\x00\x00\x53\x15\xc0\x09\x05\x41\x43\x40\x41\x00\x53\x24\x45";
+
+const CLOSE: &[u8] = b"\x00\x00\x00\x0c\x02\x00\x00\x00\x00\x53\x18\x45";
+
+/// Sends the message `hi` to the address `q`, and hears that it was accepted.
+pub const PRODUCER: &[Step] = &[
+    Step::Says(HEADER),
+    Step::Hears(HEADER),
+    Step::Says(b"\x00\x00\x00\x11\x02\x00\x00\x00\x00\x53\x10\xc0\x04\x01\xa1\x01p"),
+    Step::Hears(ROUTER_OPEN),
+    Step::Says(BEGIN),
+    Step::Hears(ROUTER_BEGIN),
+    Step::Says(
+        b"\x00\x00\x00\x22\x02\x00\x00\x00\x00\x53\x12\xc0\x15\x0a\xa1\x01s\x43\x42\x40\x40\x40\x00\x53\x29\xc0\x04\x01\xa1\x01q\x40\x40\x43",
+    ),
+    Step::Hears(
+        b"\x00\x00\x00\x30\x02\x00\x00\x00\x00\x53\x12\xc0\x23\x0b\xa1\x01s\x43\x41\x50\x02\x50\x00\x00\x53\x28\x45\x00\x53\x29\xc0\x04\x01\xa1\x01q\x40\x40\x40\x80\x00\x00\x00\x00\x01\x00\x00\x00",
+    ),
+    Step::Hears(
+        b"\x00\x00\x00\x1e\x02\x00\x00\x00\x00\x53\x13\xc0\x11\x07\x43\x70\x00\x00\x08\x00\x43\x70\x7f\xff\xff\xff\x43\x43\x52\xfa",
+    ),
+    Step::Says(
+        b"\x00\x00\x00\x1c\x02\x00\x00\x00\x00\x53\x14\xc0\x08\x05\x43\x43\xa0\x011\x43\x42\x00\x53\x77\xa1\x02hi",
+    ),
+    Step::Hears(ACCEPTED),
+    Step::Says(CLOSE),
+    Step::Hears(CLOSE),
+];
+
+/// Gives one credit at the address `q`, and accepts what comes.
+pub const CONSUMER: &[Step] = &[
+    Step::Says(HEADER),
+    Step::Hears(HEADER),
+    Step::Says(b"\x00\x00\x00\x11\x02\x00\x00\x00\x00\x53\x10\xc0\x04\x01\xa1\x01c"),
+    Step::Hears(ROUTER_OPEN),
+    Step::Says(BEGIN),
+    Step::Hears(ROUTER_BEGIN),
+    Step::Says(
+        b"\x00\x00\x00\x1e\x02\x00\x00\x00\x00\x53\x12\xc0\x11\x06\xa1\x01r\x43\x41\x40\x40\x00\x53\x28\xc0\x04\x01\xa1\x01q",
+    ),
+    Step::Hears(
+        b"\x00\x00\x00\x27\x02\x00\x00\x00\x00\x53\x12\xc0\x1a\x0a\xa1\x01r\x43\x42\x50\x02\x50\x00\x00\x53\x28\xc0\x04\x01\xa1\x01q\x00\x53\x29\x45\x40\x40\x43",
+    ),
+    Step::Says(
+        b"\x00\x00\x00\x18\x02\x00\x00\x00\x00\x53\x13\xc0\x0b\x07\x43\x52\x64\x43\x52\x64\x43\x43\x52\x01",
+    ),
+    Step::Hears(
+        b"\x00\x00\x00\x20\x02\x00\x00\x00\x00\x53\x14\xc0\x0c\x06\x43\x43\xa0\x04\x00\x00\x00\x00\x43\x42\x42\x00\x53\x77\xa1\x02hi",
+    ),
+    Step::Says(ACCEPTED),
+    Step::Says(CLOSE),
+    Step::Hears(CLOSE),
+];
+
+/// Connects to this port of the loopback, and does these steps. False where it can not connect, or hears something else.
+pub fn talks<R: Net<Stream = TcpStream>>(rt: &R, port: u16, steps: &[Step]) -> bool {
+    let addr = SocketAddr::from((Ipv4Addr::LOCALHOST, port));
+    for _ in 0..TRIES {
+        if let Ok(mut stream) = TcpStream::connect(rt, addr) {
+            return steps.iter().all(|step| is_done(&mut stream, step));
+        }
+        thread::yield_now();
+    }
+    false
+}
+
+fn is_done(stream: &mut TcpStream, step: &Step) -> bool {
+    match step {
+        Step::Says(octets) => stream.write_all(octets).is_ok(),
+        Step::Hears(octets) => {
+            let mut heard = [0u8; 64];
+            match heard.get_mut(..octets.len()) {
+                Some(heard) => stream.read_exact(heard).is_ok() && *heard == **octets,
+                None => false,
+            }
+        }
+    }
+}
+
+/// All octets that a client hears in these steps.
+///
+/// # Errors
+///
+/// Where memory is refused.
+pub fn heard(alloc: Global, steps: &[Step]) -> Result<Vec<u8>, AllocError> {
+    let mut heard = Vec::new(alloc);
+    for step in steps {
+        if let Step::Hears(octets) = step {
+            heard.extend_from_slice(octets)?;
+        }
+    }
+    Ok(heard)
+}
