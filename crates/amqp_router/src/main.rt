@@ -1,0 +1,31 @@
+//! The router: `amqp_router LISTEN CAPTURE WORKERS CONNECTIONS [RULE]...` serves so many connections at an address, by so
+//! many threads, and writes the capture of what it did to a file.
+//!
+//! It prints how the run ended as one line on standard output; the exit status tells it too (`router_words::Outcome`). A
+//! mistake in the words gives the parser's text on standard error, nothing on standard output, and status 64. The module
+//! `run` is a run over any words and writers.
+#![tactic(auto)]
+
+mod run;
+#[cfg(test)]
+mod tests;
+
+use router_words::tell_unread_words;
+use run::run_words;
+use std::process::ExitCode;
+use std::{env, io};
+
+fn main(rt: HostRuntime) -> ExitCode {
+    let (mut out, mut err) = (rt.stdout(), rt.stderr());
+    let status = match words_of(&rt) {
+        Ok(words) => run_words(&rt, rt.alloc(), words.as_slice(), &mut out, &mut err),
+        Err(error) => tell_unread_words(error, &mut out, &mut err),
+    };
+    ExitCode::from(status)
+}
+
+/// The words behind the program's name.
+fn words_of(rt: &HostRuntime) -> io::Result<Vec<String>> {
+    let words = env::args(rt)?.skip(1).collect(rt.alloc())?;
+    Ok(words)
+}
