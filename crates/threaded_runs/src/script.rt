@@ -1,0 +1,182 @@
+//! What clients say and take, in an exchange of two: a message goes from a producer to a consumer, and its outcome back.
+
+/// Octets that a client says as soon as it has taken so many, and the other client has.
+#[derive(Clone, Copy)]
+pub struct Turn {
+    pub octets: &'static [u8],
+    pub taken: usize,
+    pub others: usize,
+}
+
+/// All that a client says, and how many octets it takes of the router before it ends.
+#[derive(Clone, Copy)]
+pub struct Script {
+    pub turns: &'static [Turn],
+    pub wanted: usize,
+}
+
+/// A producer of `q`. It sends its message behind the router's flow, and closes behind the outcome.
+pub const PRODUCER: Script = Script {
+    turns: &[
+        Turn {
+            octets: AMQP_HEADER,
+            taken: 0,
+            others: 0,
+        },
+        Turn {
+            octets: PRODUCER_OPEN,
+            taken: 8,
+            others: 0,
+        },
+        Turn {
+            octets: BEGIN,
+            taken: 44,
+            others: 0,
+        },
+        Turn {
+            octets: PRODUCER_ATTACH,
+            taken: 77,
+            others: 0,
+        },
+        Turn {
+            octets: TRANSFER,
+            taken: 155,
+            others: 0,
+        },
+        Turn {
+            octets: CLOSE,
+            taken: 177,
+            others: 0,
+        },
+    ],
+    wanted: 189,
+};
+
+/// A consumer of `q` with credit for one message. It accepts that, and closes.
+pub const CONSUMER: Script = Script {
+    turns: &[
+        Turn {
+            octets: AMQP_HEADER,
+            taken: 0,
+            others: 0,
+        },
+        Turn {
+            octets: CONSUMER_OPEN,
+            taken: 8,
+            others: 0,
+        },
+        Turn {
+            octets: BEGIN,
+            taken: 44,
+            others: 0,
+        },
+        Turn {
+            octets: CONSUMER_ATTACH,
+            taken: 77,
+            others: 0,
+        },
+        Turn {
+            octets: ONE_CREDIT,
+            taken: 116,
+            others: 0,
+        },
+        Turn {
+            octets: ACCEPTED,
+            taken: 148,
+            others: 0,
+        },
+        Turn {
+            octets: CLOSE,
+            taken: 148,
+            others: 0,
+        },
+    ],
+    wanted: 160,
+};
+
+/// It says its begin only when the other client took the router's open, and ends behind the answer.
+pub const BEGINS_LATE: Script = Script {
+    turns: &[
+        Turn {
+            octets: AMQP_HEADER,
+            taken: 0,
+            others: 0,
+        },
+        Turn {
+            octets: PRODUCER_OPEN,
+            taken: 8,
+            others: 0,
+        },
+        Turn {
+            octets: BEGIN,
+            taken: 44,
+            others: 44,
+        },
+    ],
+    wanted: 77,
+};
+
+/// It says nothing until the other client took the router's open, and ends behind the answer to its own.
+pub const OPENS_LATE: Script = Script {
+    turns: &[
+        Turn {
+            octets: AMQP_HEADER,
+            taken: 0,
+            others: 44,
+        },
+        Turn {
+            octets: CONSUMER_OPEN,
+            taken: 8,
+            others: 44,
+        },
+    ],
+    wanted: 44,
+};
+
+/// It says all that it has at once.
+pub const STRANGER: Script = Script {
+    turns: &[Turn {
+        octets: &[0; 64],
+        taken: 0,
+        others: 0,
+    }],
+    wanted: usize::MAX,
+};
+
+/// Octets of another protocol; a SASL exchange that chooses PLAIN; a frame that is none; a frame that is no performative; and
+/// nothing at all.
+pub const STRANGERS: [&[u8]; 5] = [
+    b"GET / HTTP/1.1\r\n\r\n",
+    b"AMQP\x03\x01\x00\x00\x00\x00\x00\x15\x02\x01\x00\x00\x00\x53\x41\xc0\x08\x01\xa3\x05PLAIN",
+    b"AMQP\x00\x01\x00\x00\x00\x00\x00\x07\x01\x02",
+    b"AMQP\x00\x01\x00\x00\x00\x00\x00\x0c\x02\x00\x00\x00\xff\xff\xff\xff",
+    b"",
+];
+
+// ---- what clients say
+
+pub const AMQP_HEADER: &[u8] = b"AMQP\x00\x01\x00\x00";
+
+const PRODUCER_OPEN: &[u8] = b"\x00\x00\x00\x11\x02\x00\x00\x00\x00\x53\x10\xc0\x04\x01\xa1\x01p";
+
+const CONSUMER_OPEN: &[u8] = b"\x00\x00\x00\x11\x02\x00\x00\x00\x00\x53\x10\xc0\x04\x01\xa1\x01c";
+
+const BEGIN: &[u8] =
+    b"\x00\x00\x00\x14\x02\x00\x00\x00\x00\x53\x11\xc0\x07\x04\x40\x43\x52\x64\x52\x64";
+
+const PRODUCER_ATTACH: &[u8] =
+    b"\x00\x00\x00\x22\x02\x00\x00\x00\x00\x53\x12\xc0\x15\x0a\xa1\x01s\x43\x42\x40\x40\x40\x00\x53\x29\xc0\x04\x01\xa1\x01q\x40\x40\x43";
+
+const CONSUMER_ATTACH: &[u8] =
+    b"\x00\x00\x00\x1e\x02\x00\x00\x00\x00\x53\x12\xc0\x11\x06\xa1\x01r\x43\x41\x40\x40\x00\x53\x28\xc0\x04\x01\xa1\x01q";
+
+const ONE_CREDIT: &[u8] =
+    b"\x00\x00\x00\x18\x02\x00\x00\x00\x00\x53\x13\xc0\x0b\x07\x43\x52\x64\x43\x52\x64\x43\x43\x52\x01";
+
+const TRANSFER: &[u8] =
+    b"\x00\x00\x00\x1c\x02\x00\x00\x00\x00\x53\x14\xc0\x08\x05\x43\x43\xa0\x011\x43\x42\x00\x53\x77\xa1\x02hi";
+
+const ACCEPTED: &[u8] =
+    b"\x00\x00\x00\x16\x02\x00\x00\x00\x00\x53\x15\xc0\x09\x05\x41\x43\x40\x41\x00\x53\x24\x45";
+
+const CLOSE: &[u8] = b"\x00\x00\x00\x0c\x02\x00\x00\x00\x00\x53\x18\x45";
