@@ -22,6 +22,3 @@ pub use history::{AddressEvent, table_after};
 pub use laws::laws_of_tables;
 pub use rules::Rules;
 pub use table::Table;
-
-#[cfg(test)]
-mod tests;

@@ -28,6 +28,3 @@ pub use sasl::{SASL_AUTH, SASL_OK, SaslFrame, sasl_read};
 pub use sasl_writing::sasl_write;
 pub use splitter::Splitter;
 pub use writing::put_frame;
-
-#[cfg(test)]
-mod tests;

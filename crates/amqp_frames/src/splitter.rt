@@ -126,37 +126,3 @@ impl Splitter {
         }
     }
 }
-
-#[cfg(test)]
-pub(crate) mod tests {
-    use super::*;
-    use std::test::Fail;
-
-    // Whether a splitter gives this next.
-    pub(crate) fn gives(
-        splitter: &mut Splitter,
-        answer: Result<Option<&[u8]>, FrameFault>,
-    ) -> bool {
-        splitter.next() == answer
-    }
-
-    // What was given is let go, and behind a fault all is.
-    #[test]
-    fn keeps_what_is_left(rt: HostRuntime) -> Result<(), Fail> {
-        let empty = [0, 0, 0, 8, 2, 0, 0, 0];
-        let mut splitter = Splitter::new(rt.alloc());
-        for _ in 0..1000 {
-            splitter.feed(&empty)?;
-            assert!(rt; gives(&mut splitter, Ok(Some(&empty))));
-        }
-        assert!(rt; splitter.kept.len() <= 16);
-        splitter.feed(&empty[..3])?;
-        assert!(rt; gives(&mut splitter, Ok(None)));
-        assert_eq!(rt; splitter.kept.len(), 3);
-        splitter.feed(&[7])?;
-        assert!(rt; gives(&mut splitter, Err(FrameFault::TooSmall)));
-        splitter.feed(&empty)?;
-        assert_eq!(rt; splitter.kept.len(), 0);
-        Ok(())
-    }
-}

@@ -56,6 +56,3 @@ pub use table::{Field, FieldType};
 pub use terminus::{Address, Target, Terminus};
 pub use transfer::Transfer;
 pub use writing::{write_close, write_end};
-
-#[cfg(test)]
-mod tests;

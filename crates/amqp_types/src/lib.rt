@@ -35,6 +35,3 @@ pub use writing::{
     put_binary, put_bool, put_described_list, put_list, put_null, put_parts, put_str, put_symbol,
     put_ubyte, put_uint, put_ulong, put_ushort,
 };
-
-#[cfg(test)]
-mod tests;

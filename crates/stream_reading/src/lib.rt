@@ -16,6 +16,3 @@ pub use answer::{answer_to, answer_to_fault};
 pub use reader::StreamReader;
 pub use step::{Event, Phase, Step, StreamFault};
 pub use stream::front;
-
-#[cfg(test)]
-mod tests;
