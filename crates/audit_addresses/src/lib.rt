@@ -8,8 +8,6 @@
 mod addresses;
 mod consumer_links;
 mod consumers;
-#[cfg(test)]
-mod tests;
 
 pub use addresses::Addresses;
 pub use consumer_links::ConsumerLinks;

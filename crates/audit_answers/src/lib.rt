@@ -8,8 +8,6 @@
 mod closings;
 mod looked;
 mod tables;
-#[cfg(test)]
-mod tests;
 
 pub use looked::Looked;
 pub use tables::Tables;

@@ -14,8 +14,6 @@ mod held_event;
 mod held_parts;
 mod judging;
 mod tallied;
-#[cfg(test)]
-mod tests;
 
 pub use held_event::{HeldEvent, HeldFacts};
 pub use held_parts::{HeldIncoming, HeldOutgoing, HeldParts};

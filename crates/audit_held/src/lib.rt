@@ -14,8 +14,6 @@ mod entry_answers;
 mod group_answers;
 mod groups;
 mod held;
-#[cfg(test)]
-mod tests;
 mod touched;
 
 pub use deliveries::Deliveries;

@@ -20,8 +20,6 @@ mod earliest;
 mod groups;
 mod payload;
 mod sent;
-#[cfg(test)]
-mod tests;
 mod touched;
 
 pub use begun::LastNumbers;

@@ -26,8 +26,6 @@ mod link_answers;
 mod link_counts;
 mod links;
 mod sessions;
-#[cfg(test)]
-mod tests;
 mod unanswered;
 
 pub use channels::Channels;

@@ -32,7 +32,7 @@ pub enum Taken {
 pub enum Ready {
     Yes,
     No,
-    /// A poll or a listener failed.
+    /// A poll or a listener failed, or a connection could not be taken in.
     Device,
 }
 

@@ -20,6 +20,3 @@ pub use fault::EngineFault;
 pub use gate::{Delivered, Gate, Ready, Taken};
 pub use output::Output;
 pub use port::{Port, PortFault};
-
-#[cfg(test)]
-mod tests;

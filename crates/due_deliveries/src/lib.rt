@@ -7,8 +7,6 @@
 
 mod picks;
 mod queues;
-#[cfg(test)]
-mod tests;
 mod undecided;
 
 pub use picks::Picks;

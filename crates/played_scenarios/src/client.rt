@@ -12,7 +12,7 @@ const FLAGS: &str =
 /// The names that may stand before a value there.
 const NAMES: &str =
     "channel frame remote first-out window name handle snd rcv source target count awaited credit id tag \
-    format payload first last state as times";
+    format payload first last state as times refused";
 
 /// The first word of a client's line that says nothing here, where there is one.
 pub(crate) fn unknown_word<'a>(words: &Words<'a>) -> Option<&'a str> {

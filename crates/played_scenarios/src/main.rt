@@ -27,7 +27,7 @@ use std::{env, fs, io};
 use talk::{Difference, play};
 use words::Words;
 
-/// As many records as a core may have here.
+/// As many records as a core may have, where its scenario tells no limit.
 const LIMIT: u64 = 1_000_000;
 
 /// What came of a scenario.
@@ -75,7 +75,7 @@ fn play_through(alloc: Global, text: &str) -> Result<Played, AllocError> {
     let Ok(rules) = Rules::new(rules_of(alloc, lines.as_slice())?) else {
         return Ok(Played::NoRules);
     };
-    let core = Core::new(alloc, &rules, LIMIT)?;
+    let core = Core::new(alloc, &rules, limit_of(alloc, lines.as_slice())?)?;
     let (differences, capture) = run(alloc, core, lines.as_slice());
     let text = write_capture(alloc, &capture)?;
     let verdict = audit_bytes(alloc, text.as_slice());
@@ -111,6 +111,17 @@ fn rules_of(alloc: Global, lines: &[&str]) -> Result<Vec<Rule>, AllocError> {
         })?;
     }
     Ok(rules)
+}
+
+/// As many records as the core may have: the line `limit NUMBER` tells it.
+fn limit_of(alloc: Global, lines: &[&str]) -> Result<u64, AllocError> {
+    for line in lines {
+        let words = Words::of(alloc, line)?;
+        if words.at(0) == "limit" {
+            return Ok(words.at(1).parse::<u64>().unwrap_or(LIMIT));
+        }
+    }
+    Ok(LIMIT)
 }
 
 /// Whether the words name the scenario, or there are none.

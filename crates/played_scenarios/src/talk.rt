@@ -53,7 +53,7 @@ pub(crate) fn play(
 impl Stage {
     /// Plays a line, with all lines that it stands for.
     fn play(&mut self, core: &mut Core, text: &str) -> Result<(), AllocError> {
-        if text.starts_with("#") || text.starts_with("rule ") || text.trim().is_empty() {
+        if is_passed_over(text) {
             return Ok(());
         }
         let meant = lines_meant(self.alloc, &Words::of(self.alloc, text)?)?;
@@ -153,23 +153,49 @@ impl Stage {
         self.took(stepped, words)
     }
 
-    /// The core took an item, or did not; a record that begins a delivery gets its name.
+    /// The core took an item, or did not, as the line tells.
     fn took(
         &mut self,
         stepped: Result<(), StepFault>,
         words: &Words<'_>,
     ) -> Result<(), AllocError> {
-        match stepped {
-            Ok(()) => {
-                if let Some(name) = words.value("as") {
-                    self.names.give(self.told as u64, name)?;
-                }
-                self.told = self.told.saturating_add(1);
-                Ok(())
+        match (stepped, words.value("refused")) {
+            (Ok(()), None) => self.name(words),
+            (Ok(()), Some(_)) => {
+                self.differ("the core takes the item")?;
+                self.name(words)
             }
-            Err(StepFault::Memory) => Err(AllocError),
-            Err(_) => self.differ("the core takes no such item"),
+            (Err(StepFault::Memory), _) => Err(AllocError),
+            (Err(fault), Some(reason)) if reason == reason_of(fault) => Ok(()),
+            (Err(_), _) => self.differ("the core takes no such item"),
         }
+    }
+
+    /// The line tells the next record; one that begins a delivery gets its name.
+    fn name(&mut self, words: &Words<'_>) -> Result<(), AllocError> {
+        if let Some(name) = words.value("as") {
+            self.names.give(self.told as u64, name)?;
+        }
+        self.told = self.told.saturating_add(1);
+        Ok(())
+    }
+}
+
+/// A line of which nothing happens: a remark, what the core is made of, or an empty one.
+fn is_passed_over(text: &str) -> bool {
+    text.starts_with("#")
+        || text.starts_with("rule ")
+        || text.starts_with("limit ")
+        || text.trim().is_empty()
+}
+
+/// Why a core does not take an item, in the word of a line.
+fn reason_of(fault: StepFault) -> &'static str {
+    match fault {
+        StepFault::Memory => "memory",
+        StepFault::Full => "full",
+        StepFault::UnknownConn => "unknown",
+        StepFault::Failed => "failed",
     }
 }
 

@@ -11,8 +11,6 @@ mod answer;
 mod attach;
 mod laws;
 mod reply;
-#[cfg(test)]
-mod tests;
 mod writing;
 
 pub use answer::answer_to;

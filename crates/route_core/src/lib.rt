@@ -10,8 +10,6 @@
 mod group;
 mod kernel;
 mod replies;
-#[cfg(test)]
-mod tests;
 
 pub use kernel::Kernel;
 

@@ -14,8 +14,6 @@ mod dispositions;
 mod flows;
 mod frame;
 mod laws;
-#[cfg(test)]
-mod tests;
 mod transfers;
 
 pub use dispositions::{put_outcome, put_settling};

@@ -2,9 +2,9 @@
 
 ghost use Rattle.std.specs.Prelude.{◌≡◌};
 
-use crate::tests::{CONSUMER, PRODUCER};
-use crate::{Reply, Saying, Source};
+use crate::answers::{CONSUMER, PRODUCER};
 use amqp_perf::{ErrorCondition, Flow, SenderSettleMode};
+use route_answers::{Reply, Saying, Source};
 use std::test::Fail;
 
 /// The router's open.

@@ -4,31 +4,24 @@ mod asked;
 mod owed;
 mod written;
 
+use crate::fixtures::{self, link_of};
 use amqp_perf::{Address, Attach, Performative, Role, Target, Terminus};
 use pairing_cert::Note;
 use trace_events::{Fault, Session};
 use trace_law::{Body, Event, Frame, Link, Moment, Spoken};
 
 const SESSION: Session = Session {
-    number: 4,
     connection: 2,
     channel: 1,
-    our_first_id: 0,
-    their_first_id: 0,
-    their_window: 100,
+    ..fixtures::SESSION
 };
 
 /// A link of the session.
 fn link(role: Role) -> Link<'static> {
     Link {
-        number: 6,
         session: SESSION,
         handle: 3,
-        role,
-        address: b"q",
-        is_pre_settled: false,
-        our_first_count: 0,
-        their_first_count: 0,
+        ..link_of(role)
     }
 }
 

@@ -1,11 +1,10 @@
 //! The link of a consumer from its attach to its detach, an attach that is refused, and what outlives a session, with known
 //! answers.
 
-use super::{BEGIN, SESSION, event, on_session, spoken};
-use crate::{Connections, LinkCounts, Links};
-use amqp_perf::{
-    Address, Attach, Detach, ErrorCondition, Flow, Performative, Role, Terminus, Transfer,
-};
+use super::{BEGIN, on_session};
+use crate::fixtures::{self, FLOW, NARROW, PART, PRODUCER, detach, event, heard, says};
+use amqp_perf::{Attach, ErrorCondition, Flow, Performative, Role, Transfer};
+use audit_tables::{Connections, LinkCounts, Links};
 use pairing_cert::Note;
 use std::test::Fail;
 use trace_events::Session;
@@ -15,75 +14,41 @@ use trace_law::{Event, Fault, Frame, Link, Moment, Outgoing};
 const ATTACH: Attach = Attach {
     name: "in",
     handle: 4,
-    role: Role::Receiver,
-    snd_settle_mode: None,
-    rcv_settle_mode: None,
-    source: Some(Terminus {
-        address: Some(Address::Text("q")),
-        dynamic: None,
-    }),
-    target: None,
-    initial_delivery_count: None,
-    max_message_size: None,
+    ..fixtures::ATTACH
 };
 
 const LINK: Link<'static> = Link {
     number: 21,
-    session: SESSION,
+    session: NARROW,
     handle: 4,
     role: Role::Sender,
-    address: b"q",
-    is_pre_settled: false,
-    our_first_count: 0,
-    their_first_count: 0,
+    ..PRODUCER
 };
 
-const DETACH: Performative<'static> = Performative::Detach(Detach {
-    handle: 4,
-    closed: Some(true),
-    error: None,
-});
-
-const PART: Performative<'static> = Performative::Transfer(Transfer {
+const FIRST: Performative<'static> = Performative::Transfer(Transfer {
     handle: 4,
     delivery_id: Some(0),
-    delivery_tag: None,
-    message_format: None,
-    settled: None,
-    more: None,
-    resume: None,
-    aborted: None,
+    ..PART
 });
 
 fn on_handle<'a>(number: u64, moment: Moment<'a>, link: Option<Link<'a>>) -> Event<'a> {
-    Event {
-        session: Some(SESSION),
-        link,
-        is_heard: true,
-        ..event(number, 3, moment)
-    }
+    heard(number, NARROW, moment, link)
 }
 
 fn credit(count: u32, credit: u32, drain: bool) -> Frame<'static> {
-    spoken(Performative::Flow(Flow {
-        next_incoming_id: Some(0),
+    says(Performative::Flow(Flow {
         incoming_window: 2048,
-        next_outgoing_id: 0,
         outgoing_window: 2048,
         handle: Some(4),
         delivery_count: Some(count),
         link_credit: Some(credit),
         drain: Some(drain),
-        echo: None,
+        ..FLOW
     }))
 }
 
 fn asked<'a>(number: u64) -> Event<'a> {
-    on_handle(
-        number,
-        Moment::In(spoken(Performative::Attach(ATTACH))),
-        None,
-    )
+    on_handle(number, Moment::In(says(Performative::Attach(ATTACH))), None)
 }
 
 fn answered<'a>(number: u64, link: Option<Link<'a>>) -> Event<'a> {
@@ -91,11 +56,7 @@ fn answered<'a>(number: u64, link: Option<Link<'a>>) -> Event<'a> {
         role: Role::Sender,
         ..ATTACH
     };
-    on_handle(
-        number,
-        Moment::Out(spoken(Performative::Attach(ours))),
-        link,
-    )
+    on_handle(number, Moment::Out(says(Performative::Attach(ours))), link)
 }
 
 /// The client attaches, and gives a credit of 10; a delivery begins; the client asks to drain, not knowing of it, and is
@@ -104,14 +65,14 @@ fn answered<'a>(number: u64, link: Option<Link<'a>>) -> Event<'a> {
 fn a_link_from_its_attach_to_its_detach(rt: HostRuntime) -> Result<(), Fail> {
     let mut links = Links::new(rt.alloc());
     links.take(&asked(20))?;
-    let asking = links.asking(SESSION, 4).ok_or("an attach")?;
+    let asking = links.asking(NARROW, 4).ok_or("an attach")?;
     assert_eq!(rt; (asking.name, asking.role), ("in", Role::Receiver));
-    assert!(rt; links.session_link(SESSION, 4).is_none());
+    assert!(rt; links.session_link(NARROW, 4).is_none());
 
     links.take(&answered(21, Some(LINK)))?;
-    let link = links.session_link(SESSION, 4).ok_or("a link")?;
+    let link = links.session_link(NARROW, 4).ok_or("a link")?;
     assert_eq!(rt; (link.number, link.address), (21, b"q".as_slice()));
-    assert!(rt; links.is_live(&LINK) && links.asking(SESSION, 4).is_none());
+    assert!(rt; links.is_live(&LINK) && links.asking(NARROW, 4).is_none());
 
     links.take(&on_handle(22, Moment::In(credit(0, 10, false)), Some(LINK)))?;
     let begun = Event {
@@ -122,7 +83,7 @@ fn a_link_from_its_attach_to_its_detach(rt: HostRuntime) -> Result<(), Fail> {
             is_settled: false,
             note: Note::Pair(5),
         }),
-        ..on_handle(23, Moment::Out(spoken(PART)), Some(LINK))
+        ..on_handle(23, Moment::Out(says(FIRST)), Some(LINK))
     };
     links.take(&begun)?;
     assert_eq!(rt;
@@ -143,10 +104,10 @@ fn a_link_from_its_attach_to_its_detach(rt: HostRuntime) -> Result<(), Fail> {
         (0, 10)
     );
 
-    links.take(&on_handle(26, Moment::In(spoken(DETACH)), Some(LINK)))?;
-    assert!(rt; links.owes_detach(SESSION, 4) && !links.is_live(&LINK));
-    links.take(&on_handle(27, Moment::Out(spoken(DETACH)), None))?;
-    assert!(rt; !links.owes_detach(SESSION, 4) && !links.awaits_detach(SESSION, 4));
+    links.take(&on_handle(26, Moment::In(says(detach(4))), Some(LINK)))?;
+    assert!(rt; links.owes_detach(NARROW, 4) && !links.is_live(&LINK));
+    links.take(&on_handle(27, Moment::Out(says(detach(4))), None))?;
+    assert!(rt; !links.owes_detach(NARROW, 4) && !links.awaits_detach(NARROW, 4));
     Ok(())
 }
 
@@ -161,15 +122,15 @@ fn an_attach_that_is_refused(rt: HostRuntime) -> Result<(), Fail> {
     links.take(&faulty)?;
     assert!(rt;
         links
-            .asking(SESSION, 4)
+            .asking(NARROW, 4)
             .is_some_and(|asking| asking.fault == faulty.fault)
     );
     links.take(&answered(21, None))?;
-    assert!(rt; links.owes_detach(SESSION, 4) && links.session_link(SESSION, 4).is_none());
-    links.take(&on_handle(22, Moment::Out(spoken(DETACH)), None))?;
-    assert!(rt; links.awaits_detach(SESSION, 4) && !links.owes_detach(SESSION, 4));
-    links.take(&on_handle(23, Moment::In(spoken(DETACH)), None))?;
-    assert!(rt; !links.awaits_detach(SESSION, 4));
+    assert!(rt; links.owes_detach(NARROW, 4) && links.session_link(NARROW, 4).is_none());
+    links.take(&on_handle(22, Moment::Out(says(detach(4))), None))?;
+    assert!(rt; links.awaits_detach(NARROW, 4) && !links.owes_detach(NARROW, 4));
+    links.take(&on_handle(23, Moment::In(says(detach(4))), None))?;
+    assert!(rt; !links.awaits_detach(NARROW, 4));
     Ok(())
 }
 
@@ -190,7 +151,7 @@ fn nothing_outlives_a_session(rt: HostRuntime) -> Result<(), Fail> {
     let mut links = Links::new(rt.alloc());
     links.take(&asked(20))?;
     links.take(&answered(21, Some(LINK)))?;
-    links.take(&on_handle(22, Moment::In(spoken(Performative::End(None))), None))?;
+    links.take(&on_handle(22, Moment::In(says(Performative::End(None))), None))?;
     assert!(rt; !links.is_live(&LINK));
 
     links.take(&answered(21, Some(LINK)))?;
@@ -204,8 +165,8 @@ fn nothing_outlives_a_session(rt: HostRuntime) -> Result<(), Fail> {
 #[test]
 fn ids_of_deliveries_to_the_client(rt: HostRuntime) -> Result<(), Fail> {
     let mut connections = Connections::new(rt.alloc());
-    connections.take(&on_session(11, Moment::Out(spoken(Performative::Begin(BEGIN)))))?;
-    assert_eq!(rt; connections.next_delivery_id(SESSION), 0);
+    connections.take(&on_session(11, Moment::Out(says(Performative::Begin(BEGIN)))))?;
+    assert_eq!(rt; connections.next_delivery_id(NARROW), 0);
 
     let delivery = Outgoing {
         number: 23,
@@ -216,16 +177,16 @@ fn ids_of_deliveries_to_the_client(rt: HostRuntime) -> Result<(), Fail> {
     };
     let part = Event {
         outgoing: Some(delivery),
-        ..on_handle(23, Moment::Out(spoken(PART)), Some(LINK))
+        ..on_handle(23, Moment::Out(says(FIRST)), Some(LINK))
     };
     connections.take(&part)?;
-    assert_eq!(rt; connections.next_delivery_id(SESSION), 1);
+    assert_eq!(rt; connections.next_delivery_id(NARROW), 1);
     connections.take(&Event { number: 24, ..part })?;
-    assert_eq!(rt; connections.next_delivery_id(SESSION), 1);
+    assert_eq!(rt; connections.next_delivery_id(NARROW), 1);
 
     let beside = Session {
         number: 12,
-        ..SESSION
+        ..NARROW
     };
     let elsewhere = Outgoing {
         number: 25,
@@ -240,6 +201,6 @@ fn ids_of_deliveries_to_the_client(rt: HostRuntime) -> Result<(), Fail> {
         outgoing: Some(elsewhere),
         ..part
     })?;
-    assert_eq!(rt; connections.next_delivery_id(SESSION), 1);
+    assert_eq!(rt; connections.next_delivery_id(NARROW), 1);
     Ok(())
 }

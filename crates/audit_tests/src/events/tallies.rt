@@ -1,8 +1,8 @@
 //! What is counted of an event.
 
-use crate::counted;
-use crate::tests::{TRANSFER, consumer, event, says};
+use crate::events::{TRANSFER, consumer, event, says};
 use amqp_perf::{Disposition, Performative, Role};
+use audit_events::counted;
 use pairing_cert::Note;
 use std::test::Fail;
 use trace_law::{Event, Moment, Outgoing, Tally};

@@ -1,29 +1,18 @@
 //! Consumers that come and go at two addresses, with known answers.
 
-use crate::{ConsumerLinks, Consumers};
+use crate::fixtures::{self, NARROW, heard};
 use amqp_perf::Role;
-use pairing_cert::Note;
+use audit_addresses::{ConsumerLinks, Consumers};
 use std::test::Fail;
-use trace_events::Session;
 use trace_law::{Event, Link, Moment};
 
 // Consumers' links of the queue `q`, one of the queue `other`, and a producer's link of `q`.
 const FIRST: Link<'static> = Link {
     number: 21,
-    session: Session {
-        number: 11,
-        connection: 3,
-        channel: 0,
-        our_first_id: 0,
-        their_first_id: 7,
-        their_window: 2,
-    },
+    session: NARROW,
     handle: 4,
     role: Role::Sender,
-    address: b"q",
-    is_pre_settled: false,
-    our_first_count: 0,
-    their_first_count: 0,
+    ..fixtures::PRODUCER
 };
 
 const SECOND: Link<'static> = Link {
@@ -48,20 +37,7 @@ const PRODUCER: Link<'static> = Link {
 
 /// An event that names a link, or opens it where it has its number.
 fn names<'a>(number: u64, link: Option<Link<'a>>) -> Event<'a> {
-    Event {
-        number,
-        connection: 3,
-        moment: Moment::Opened,
-        note: Note::None,
-        session: Some(FIRST.session),
-        link,
-        incoming: None,
-        outgoing: None,
-        told: None,
-        settled: None,
-        is_heard: true,
-        fault: None,
-    }
+    heard(number, NARROW, Moment::Opened, link)
 }
 
 fn opens<'a>(link: Link<'a>) -> Event<'a> {

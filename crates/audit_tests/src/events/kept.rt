@@ -1,8 +1,8 @@
 //! Events that are kept.
 
-use crate::HeldEvent;
-use crate::tests::{SESSION, TRANSFER, consumer, event, says};
+use crate::events::{SESSION, TRANSFER, consumer, event, says};
 use amqp_perf::{ErrorCondition, Role};
+use audit_events::HeldEvent;
 use pairing_cert::{Note, Why};
 use std::test::Fail;
 use trace_events::Fault;

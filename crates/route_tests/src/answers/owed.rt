@@ -1,12 +1,12 @@
 //! What is owed for an event.
 
-use crate::tests::asked::OneConnection;
-use crate::tests::{CONSUMER, PRODUCER, SESSION, event, heard, link};
-use crate::{Answer, Reply, Saying, Source, answer_to};
+use crate::answers::asked::OneConnection;
+use crate::answers::{CONSUMER, PRODUCER, SESSION, event, heard, link};
 use amqp_perf::{
     Attach, Begin, Detach, ErrorCondition, Flow, Performative, Role, SenderSettleMode, Terminus,
 };
 use capture_form::{Distribution, Rule};
+use route_answers::{Answer, Reply, Saying, Source, answer_to};
 use std::alloc::AllocError;
 use std::test::Fail;
 use trace_events::Fault;

@@ -3,12 +3,12 @@
 
 mod links;
 
-use crate::{Connections, Counted, Seen, Unanswered};
-use amqp_perf::{Begin, Flow, Performative, Transfer};
-use pairing_cert::Note;
+use crate::fixtures::{FLOW, NARROW, PART, event, frame, heard, says};
+use amqp_perf::{Begin, Flow, Performative};
+use audit_tables::{Connections, Counted, Seen, Unanswered};
 use std::test::Fail;
 use trace_events::Session;
-use trace_law::{Body, Event, Frame, Moment, Spoken};
+use trace_law::{Event, Frame, Moment};
 
 // An open of the container `a` with a max-frame-size of 600, and one with 700.
 const OPEN_600: [u8; 23] = [
@@ -25,62 +25,16 @@ const CLOSE: [u8; 12] = [
     0x00, 0x00, 0x00, 0x0C, 0x02, 0x00, 0x00, 0x00, 0x00, 0x53, 0x18, 0x45,
 ];
 
-fn event<'a>(number: u64, connection: u32, moment: Moment<'a>) -> Event<'a> {
-    Event {
-        number,
-        connection,
-        moment,
-        note: Note::None,
-        session: None,
-        link: None,
-        incoming: None,
-        outgoing: None,
-        told: None,
-        settled: None,
-        is_heard: false,
-        fault: None,
-    }
-}
-
-fn spoken<'a>(performative: Performative<'a>) -> Frame<'a> {
-    on_channel(0, performative)
-}
-
-fn on_channel<'a>(channel: u16, performative: Performative<'a>) -> Frame<'a> {
-    Frame {
-        octets: &[],
-        body: Body::Says(Spoken {
-            channel,
-            performative,
-            payload: &[],
-        }),
-    }
-}
-
 fn flow(next_incoming_id: Option<u32>, incoming_window: u32) -> Performative<'static> {
     Performative::Flow(Flow {
         next_incoming_id,
         incoming_window,
-        next_outgoing_id: 0,
         outgoing_window: 0,
-        handle: None,
-        delivery_count: None,
-        link_credit: None,
-        drain: None,
-        echo: None,
+        ..FLOW
     })
 }
 
-const TRANSFER: Performative<'static> = Performative::Transfer(Transfer {
-    handle: 0,
-    delivery_id: None,
-    delivery_tag: None,
-    message_format: None,
-    settled: None,
-    more: None,
-    resume: None,
-    aborted: None,
-});
+const TRANSFER: Performative<'static> = Performative::Transfer(PART);
 
 /// Two transfers fill a window of 2; what is left after flows that lag, that know all, that know none, and one from the
 /// future. The client sends two transfers, and is told.
@@ -94,7 +48,7 @@ fn windows_of_a_session(rt: HostRuntime) {
         their_first_id: 4294967295,
         their_window: 2,
     });
-    let sent = event(8, 3, Moment::Out(spoken(TRANSFER)));
+    let sent = event(8, 3, Moment::Out(says(TRANSFER)));
     let full = counted.after(&sent).after(&sent);
     assert_eq!(rt; (full.window, full.next_outgoing_id), (0, 2));
     let flows = [
@@ -104,14 +58,14 @@ fn windows_of_a_session(rt: HostRuntime) {
         (Some(3), 5, 0),
     ];
     for (expected, window, left) in flows {
-        let told = event(9, 3, Moment::In(spoken(flow(expected, window))));
+        let told = event(9, 3, Moment::In(says(flow(expected, window))));
         assert_eq!(rt; full.after(&told).window, left);
     }
 
-    let received = event(10, 3, Moment::In(spoken(TRANSFER)));
+    let received = event(10, 3, Moment::In(says(TRANSFER)));
     let behind = full.after(&received).after(&received);
     assert_eq!(rt; (behind.given_window, behind.next_incoming_id), (2046, 1));
-    let told = event(11, 3, Moment::Out(spoken(flow(None, 0))));
+    let told = event(11, 3, Moment::Out(says(flow(None, 0))));
     assert_eq!(rt; behind.after(&told).given_window, 2048);
 }
 
@@ -148,22 +102,13 @@ fn a_connection_from_its_opening_to_its_end(rt: HostRuntime) -> Result<(), Fail>
     Ok(())
 }
 
-// A begin of the client with ids from 7 and a window of 2, and the session that an answer to it begins.
+// A begin of the client with ids from 7 and a window of 2; an answer to it begins the narrow session.
 const BEGIN: Begin = Begin {
     remote_channel: None,
     next_outgoing_id: 7,
     incoming_window: 2,
     outgoing_window: 0,
     handle_max: None,
-};
-
-const SESSION: Session = Session {
-    number: 11,
-    connection: 3,
-    channel: 0,
-    our_first_id: 0,
-    their_first_id: 7,
-    their_window: 2,
 };
 
 const NOTHING: Unanswered = Unanswered {
@@ -173,11 +118,7 @@ const NOTHING: Unanswered = Unanswered {
 };
 
 fn on_session<'a>(number: u64, moment: Moment<'a>) -> Event<'a> {
-    Event {
-        session: Some(SESSION),
-        is_heard: true,
-        ..event(number, 3, moment)
-    }
+    heard(number, NARROW, moment, None)
 }
 
 /// The client asks for a session, and the router begins it; a transfer goes out; the client ends it, and the router answers.
@@ -186,7 +127,7 @@ fn a_session_from_its_begin_to_its_end(rt: HostRuntime) -> Result<(), Fail> {
     let mut connections = Connections::new(rt.alloc());
     let asked = Event {
         is_heard: true,
-        ..event(10, 3, Moment::In(spoken(Performative::Begin(BEGIN))))
+        ..event(10, 3, Moment::In(says(Performative::Begin(BEGIN))))
     };
     connections.take(&asked)?;
     assert_eq!(rt; connections.last_in_begin(3, 0), Some(BEGIN));
@@ -197,23 +138,23 @@ fn a_session_from_its_begin_to_its_end(rt: HostRuntime) -> Result<(), Fail> {
         next_outgoing_id: 0,
         ..BEGIN
     };
-    connections.take(&on_session(11, Moment::Out(spoken(Performative::Begin(answer)))))?;
+    connections.take(&on_session(11, Moment::Out(says(Performative::Begin(answer)))))?;
     assert_eq!(rt; connections.unanswered(3, 0), NOTHING);
     assert_eq!(rt;
         connections.live_session(3, 0).map(|session| session.number),
         Some(11)
     );
-    assert_eq!(rt; connections.session_window(SESSION), 2);
-    assert_eq!(rt; connections.next_incoming_id(SESSION), 7);
+    assert_eq!(rt; connections.session_window(NARROW), 2);
+    assert_eq!(rt; connections.next_incoming_id(NARROW), 7);
 
-    connections.take(&on_session(12, Moment::Out(spoken(TRANSFER))))?;
-    assert_eq!(rt; connections.session_window(SESSION), 1);
-    assert_eq!(rt; connections.next_outgoing_id(SESSION), 1);
-    assert_eq!(rt; connections.given_window(SESSION), 2048);
+    connections.take(&on_session(12, Moment::Out(says(TRANSFER))))?;
+    assert_eq!(rt; connections.session_window(NARROW), 1);
+    assert_eq!(rt; connections.next_outgoing_id(NARROW), 1);
+    assert_eq!(rt; connections.given_window(NARROW), 2048);
 
-    connections.take(&on_session(13, Moment::In(spoken(Performative::End(None)))))?;
+    connections.take(&on_session(13, Moment::In(says(Performative::End(None)))))?;
     assert!(rt; connections.owes_end(3, 0) && connections.live_session(3, 0).is_none());
-    connections.take(&event(14, 3, Moment::Out(spoken(Performative::End(None)))))?;
+    connections.take(&event(14, 3, Moment::Out(says(Performative::End(None)))))?;
     assert_eq!(rt; connections.unanswered(3, 0), NOTHING);
     Ok(())
 }
@@ -223,26 +164,26 @@ fn a_session_from_its_begin_to_its_end(rt: HostRuntime) -> Result<(), Fail> {
 #[test]
 fn a_session_that_the_router_ends(rt: HostRuntime) -> Result<(), Fail> {
     let mut connections = Connections::new(rt.alloc());
-    connections.take(&on_session(11, Moment::Out(spoken(Performative::Begin(BEGIN)))))?;
+    connections.take(&on_session(11, Moment::Out(says(Performative::Begin(BEGIN)))))?;
     let beside = Session {
         number: 12,
         channel: 5,
-        ..SESSION
+        ..NARROW
     };
     let begun = Event {
         session: Some(beside),
         ..event(
             12,
             3,
-            Moment::Out(on_channel(5, Performative::Begin(BEGIN))),
+            Moment::Out(frame(5, Performative::Begin(BEGIN), &[])),
         )
     };
     connections.take(&begun)?;
-    connections.take(&on_session(13, Moment::Out(spoken(Performative::End(None)))))?;
+    connections.take(&on_session(13, Moment::Out(says(Performative::End(None)))))?;
     assert!(rt; connections.awaits_end(3, 0) && connections.live_session(3, 0).is_none());
     assert_eq!(rt; connections.session_window(beside), 2);
 
-    connections.take(&event(14, 3, Moment::In(spoken(Performative::End(None)))))?;
+    connections.take(&event(14, 3, Moment::In(says(Performative::End(None)))))?;
     assert_eq!(rt; connections.unanswered(3, 0), NOTHING);
     connections.take(&event(15, 3, Moment::Lost))?;
     assert!(rt; connections.is_over(3) && connections.live_session(3, 5).is_none());

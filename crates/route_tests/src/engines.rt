@@ -2,12 +2,12 @@
 
 ghost use Rattle.std.specs.Prelude.{◌≡◌, ◌≤◌, length};
 
-use super::*;
 use capture_form::What;
+use conn_engine::{Engine, EngineFault, Output, Port, PortFault};
 use route_items::{Item, StepFault};
 use std::alloc::{AllocError, Global};
 use std::process::Abort;
-use std::test::*;
+use std::test::Fail;
 
 const SASL: &[u8] = b"AMQP\x03\x01\x00\x00";
 

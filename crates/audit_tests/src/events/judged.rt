@@ -1,9 +1,9 @@
 //! The next record of a connection, judged.
 
-use crate::next_event;
-use crate::tests::asked::OneConnection;
-use crate::tests::says;
+use crate::events::asked::OneConnection;
+use crate::events::says;
 use amqp_perf::{Begin, Open, Performative};
+use audit_events::next_event;
 use flow_counts::INCOMING_WINDOW;
 use pairing_cert::Note;
 use std::test::Fail;

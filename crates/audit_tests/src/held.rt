@@ -1,32 +1,12 @@
 //! A delivery from a client from its first part to its end, with known answers.
 
-use crate::HeldDelivery;
-use amqp_perf::{Detach, Disposition, Performative, Role, Transfer};
+use crate::fixtures::{PART, PRODUCER, SESSION, detach, frame, heard};
+use amqp_perf::{Disposition, Performative, Role, Transfer};
+use audit_held::HeldDelivery;
 use capture_form::{Distribution, Rule};
 use pairing_cert::Note;
 use std::test::Fail;
-use trace_events::Session;
-use trace_law::{Body, Event, Frame, Incoming, Link, Moment, Outgoing, Spoken};
-
-const SESSION: Session = Session {
-    number: 4,
-    connection: 0,
-    channel: 0,
-    our_first_id: 0,
-    their_first_id: 0,
-    their_window: 100,
-};
-
-const PRODUCER: Link<'static> = Link {
-    number: 6,
-    session: SESSION,
-    handle: 0,
-    role: Role::Receiver,
-    address: b"q",
-    is_pre_settled: false,
-    our_first_count: 0,
-    their_first_count: 0,
-};
+use trace_law::{Event, Frame, Incoming, Link, Moment, Outgoing};
 
 const DELIVERY: Incoming<'static> = Incoming {
     number: 15,
@@ -35,43 +15,12 @@ const DELIVERY: Incoming<'static> = Incoming {
     format: 7,
 };
 
-const PART: Transfer<'static> = Transfer {
-    handle: 0,
-    delivery_id: None,
-    delivery_tag: None,
-    message_format: None,
-    settled: None,
-    more: None,
-    resume: None,
-    aborted: None,
-};
-
 fn event<'a>(number: u64, moment: Moment<'a>) -> Event<'a> {
-    Event {
-        number,
-        connection: 0,
-        moment,
-        note: Note::None,
-        session: Some(SESSION),
-        link: None,
-        incoming: None,
-        outgoing: None,
-        told: None,
-        settled: None,
-        is_heard: true,
-        fault: None,
-    }
+    heard(number, SESSION, moment, None)
 }
 
 fn says<'a>(performative: Performative<'a>, payload: &'a [u8]) -> Frame<'a> {
-    Frame {
-        octets: &[],
-        body: Body::Says(Spoken {
-            channel: 0,
-            performative,
-            payload,
-        }),
-    }
+    frame(0, performative, payload)
 }
 
 fn part<'a>(number: u64, transfer: Transfer<'a>, payload: &'a [u8]) -> Event<'a> {
@@ -186,17 +135,7 @@ fn deliveries_that_end_early(rt: HostRuntime) -> Result<(), Fail> {
         aborted: Some(true),
         ..PART
     };
-    let detached = event(
-        16,
-        Moment::In(says(
-            Performative::Detach(Detach {
-                handle: 0,
-                closed: Some(true),
-                error: None,
-            }),
-            &[],
-        )),
-    );
+    let detached = event(16, Moment::In(says(detach(0), &[])));
     if let Some(mut held) = HeldDelivery::begin(rt.alloc(), &[], &part(15, MORE, b"he"), true)? {
         assert!(rt; !held.take(&[], &part(16, aborted, &[]), true)?);
     }

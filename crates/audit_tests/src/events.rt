@@ -5,18 +5,16 @@ mod judged;
 mod kept;
 mod tallies;
 
+use crate::fixtures::{self, PART, frame};
 use amqp_perf::{Performative, Role, Transfer};
-use pairing_cert::Note;
 use trace_events::Session;
-use trace_law::{Body, Event, Frame, Link, Moment, Spoken};
+use trace_law::{Event, Frame, Link, Moment};
 
 const SESSION: Session = Session {
-    number: 4,
     connection: 2,
     channel: 1,
-    our_first_id: 0,
     their_first_id: 7,
-    their_window: 100,
+    ..fixtures::SESSION
 };
 
 fn consumer<'a>(address: &'a [u8]) -> Link<'a> {
@@ -35,38 +33,13 @@ fn consumer<'a>(address: &'a [u8]) -> Link<'a> {
 const TRANSFER: Performative<'static> = Performative::Transfer(Transfer {
     handle: 3,
     delivery_id: Some(5),
-    delivery_tag: None,
-    message_format: None,
-    settled: None,
-    more: None,
-    resume: None,
-    aborted: None,
+    ..PART
 });
 
 fn event<'a>(number: u64, moment: Moment<'a>) -> Event<'a> {
-    Event {
-        number,
-        connection: 2,
-        moment,
-        note: Note::None,
-        session: None,
-        link: None,
-        incoming: None,
-        outgoing: None,
-        told: None,
-        settled: None,
-        is_heard: false,
-        fault: None,
-    }
+    fixtures::event(number, 2, moment)
 }
 
 fn says<'a>(performative: Performative<'a>) -> Frame<'a> {
-    Frame {
-        octets: &[],
-        body: Body::Says(Spoken {
-            channel: 1,
-            performative,
-            payload: &[],
-        }),
-    }
+    frame(1, performative, &[])
 }

@@ -3,13 +3,15 @@
 mod asked;
 
 use self::asked::Numbers;
-use crate::*;
+use crate::fixtures::{SESSION, link_of};
 use amqp_perf::{Outcome, Role, State};
 use capture_form::Rule;
 use pairing_cert::Note;
-use std::test::*;
-use trace_events::Session;
-use trace_law::{Incoming, Link, Outgoing};
+use route_dues::{
+    put_credit, put_drain, put_first, put_next, put_outcome, put_settling, put_window,
+};
+use std::test::Fail;
+use trace_law::{Incoming, Outgoing};
 
 const NUMBERS: Numbers = Numbers {
     next_incoming_id: 0,
@@ -18,28 +20,6 @@ const NUMBERS: Numbers = Numbers {
     undecided: 0,
     frame_limit: 512,
 };
-
-const SESSION: Session = Session {
-    number: 4,
-    connection: 0,
-    channel: 0,
-    our_first_id: 0,
-    their_first_id: 0,
-    their_window: 100,
-};
-
-fn link_of(role: Role) -> Link<'static> {
-    Link {
-        number: 6,
-        session: SESSION,
-        handle: 0,
-        role,
-        address: b"q",
-        is_pre_settled: false,
-        our_first_count: 0,
-        their_first_count: 0,
-    }
-}
 
 fn delivery() -> Incoming<'static> {
     Incoming {

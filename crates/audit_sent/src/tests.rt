@@ -1,3 +1,0 @@
-//! What the crate does, with known answers.
-
-mod earliest;
