@@ -13,3 +13,4 @@ mod copies;
 mod lists;
 
 pub use copies::{DueCopy, UnsentCopies};
+pub use due_flows::{Credits, Drains, DuePart, Parts, Windows};

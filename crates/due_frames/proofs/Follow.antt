@@ -29,11 +29,11 @@ use Rattle.route_dues.proofs.StatesWritable.{row_state}
 use Rattle.due_outcomes.specs.DueOutcomes.{IsDueOutcome}
 use Rattle.due_outcomes.specs.Settlings.{IsDueSettling}
 use Rattle.due_outcomes.specs.declared.outcome.DueOutcome.{DueOutcome}
-use Rattle.due_flows.specs.Parts.{IsDuePart}
-use Rattle.due_flows.specs.Draining.{IsDrainable}
-use Rattle.due_flows.specs.Topping.{IsToppable}
-use Rattle.due_flows.specs.Lacking.{IsLacking}
-use Rattle.due_flows.specs.declared.parts.DuePart.{DuePart}
+use Rattle.due_copies.specs.Parts.{IsDuePart}
+use Rattle.due_copies.specs.Draining.{IsDrainable}
+use Rattle.due_copies.specs.Topping.{IsToppable}
+use Rattle.due_copies.specs.Lacking.{IsLacking}
+use Rattle.due_copies.specs.DuePart.{DuePart}
 use Rattle.due_copies.specs.Copies.{IsDueCopy}
 use Rattle.due_copies.specs.declared.copies.DueCopy.{DueCopy}
 use Rattle.due_frames.specs.declared.due.DueBegin.{DueBegin}

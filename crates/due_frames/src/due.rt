@@ -1,7 +1,6 @@
 //! What may be due.
 
-use due_copies::DueCopy;
-use due_flows::DuePart;
+use due_copies::{DueCopy, DuePart};
 use due_outcomes::DueOutcome;
 use trace_events::Session;
 use trace_law::{Incoming, Link, Outgoing};

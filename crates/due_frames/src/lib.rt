@@ -8,4 +8,6 @@ mod due;
 mod writing;
 
 pub use due::{Due, DueBegin};
+pub use due_copies::{Credits, Drains, DueCopy, Parts, UnsentCopies, Windows};
+pub use due_outcomes::{Unsettled, Untold};
 pub use writing::record_of;

@@ -18,7 +18,7 @@ ghost use Rattle.due_waiting.specs.Waking.{IsGranted};
 
 use crate::by_session::BySession;
 use audit_addresses::ConsumerLinks;
-use audit_answers::Looked;
+use due_flows::Looked;
 use flow_counts::WindowEvent;
 use indexmap::IndexSet;
 use std::alloc::{AllocError, Global};

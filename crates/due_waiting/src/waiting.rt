@@ -17,9 +17,9 @@ ghost use Rattle.due_waiting.specs.Waiting.{HasWaiting, IsDueWaiting, IsEarliest
 
 use crate::awake::Awake;
 use crate::by_session::BySession;
-use audit_answers::Looked;
 use capture_form::Rule;
 use due_deliveries::{Picks, Queues};
+use due_flows::Looked;
 use std::alloc::{AllocError, Global};
 use trace_law::{Event, Incoming, Link};
 

@@ -1,2 +1,10 @@
 pub mod Books
 pub use Rattle.due_frames.specs.Dues
+pub use Rattle.due_frames.specs.Copies
+pub use Rattle.due_frames.specs.Credits
+pub use Rattle.due_frames.specs.Drains
+pub use Rattle.due_frames.specs.Parts
+pub use Rattle.due_frames.specs.Unsettled
+pub use Rattle.due_frames.specs.Untold
+pub use Rattle.due_frames.specs.Windows
+pub use Rattle.audit_answers.specs.declared.looked.Looked

@@ -8,6 +8,9 @@
 mod books;
 mod dues;
 
+pub use audit_answers::Looked;
 pub use books::Books;
-pub use due_frames::{Due, DueBegin};
+pub use due_frames::{
+    Credits, Drains, Due, DueBegin, DueCopy, Parts, UnsentCopies, Unsettled, Untold, Windows,
+};
 pub use dues::Dues;

@@ -11,9 +11,9 @@ use Rattle.trace_events.specs.Frame.{Spoken}
 use Rattle.trace_events.specs.Event.{Event}
 use Rattle.trace_events.specs.History.{history}
 use Rattle.trace_clauses.specs.Written.{spoken_octets}
-use Rattle.route_books.specs.Dues.{IsNextFrame}
-use Rattle.route_books.specs.declared.books.Books.{Books}
-use Rattle.route_books.specs.Books.{AreBooks, AreInOrder, IsUnbroken}
+use Rattle.route_work.specs.Dues.{IsNextFrame}
+use Rattle.route_work.specs.HandedOn.{Books}
+use Rattle.route_work.specs.Books.{AreBooks, AreInOrder, IsUnbroken}
 use Rattle.route_dues.specs.Writing.{IsInOrder}
 use Rattle.route_steps.specs.Steps.{IsAnswering, IsUnderWay}
 use Rattle.route_steps.proofs.Steps as steps

@@ -11,8 +11,8 @@ use Rattle.trace_events.specs.History.{judge_moment}
 use Rattle.trace_clauses.specs.Written.{spoken_octets}
 use Rattle.route_answers.specs.Answering.{IsReady, may_happen}
 use Rattle.trace_duties.specs.Answer.{answer}
-use Rattle.audit_answers.specs.declared.looked.Looked.{Looked}
-use Rattle.route_books.specs.Books.{TellsOf}
+use Rattle.route_work.specs.HandedOn.{Looked}
+use Rattle.route_work.specs.Books.{TellsOf}
 use Rattle.route_dues.specs.Writing.{IsReadAgain}
 use Rattle.route_core.specs.declared.replies.Replies.{Replies}
 use Rattle.route_core.specs.declared.replies.Replies.TheVariants.{Nothing, One, Two}

@@ -7,11 +7,11 @@ ghost use Rattle.audit_events.specs.HeldEvents.{held_event_view};
 ghost use Rattle.route_answers.specs.Replies.{answer_view, reply_view, CanBeSaid, CanBeWritten};
 ghost use Rattle.route_core.specs.Replies.{IsReply, AreReplies, IsAnswerable, IsAnswerOf, AreAnswers, replies_of};
 
-use audit_answers::Looked;
 use audit_events::HeldEvent;
 use capture_form::{Frame, Record, Rule, What};
 use pairing_cert::Note;
 use route_answers::{Answer, Reply, answer_to};
+use route_work::Looked;
 use std::alloc::{AllocError, Global};
 use trace_law::{Event, Moment};
 

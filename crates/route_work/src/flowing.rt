@@ -11,10 +11,8 @@ ghost use Rattle.route_books.specs.Dues.{IsDue};
 ghost use Rattle.route_books.specs.Books.{TellsOf};
 ghost use Rattle.route_work.specs.Work.{HasFlowing, IsAllGiven};
 
-use audit_answers::Looked;
 use capture_form::Rule;
-use due_flows::{Credits, Drains, Windows};
-use route_books::Due;
+use route_books::{Credits, Drains, Due, Looked, Windows};
 use std::alloc::{AllocError, Global};
 use trace_law::Event;
 

@@ -11,4 +11,5 @@ mod sending;
 mod telling;
 mod work;
 
+pub use route_books::{Books, Dues, Looked};
 pub use work::Work;

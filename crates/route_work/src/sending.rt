@@ -7,18 +7,15 @@ ghost use Rattle.capture_form.specs.declared.records.Record.{Record};
 ghost use Rattle.trace_events.specs.History.{history};
 ghost use Rattle.trace_law.specs.View.{Events, event_view};
 ghost use Rattle.audit_tables.specs.Connections.{IsLawfulNext};
-ghost use Rattle.due_copies.specs.Copies.{IsDueCopy};
+ghost use Rattle.route_books.specs.Copies.{IsDueCopy};
 ghost use Rattle.due_waiting.specs.Waiting.{IsDueWaiting};
 ghost use Rattle.route_books.specs.Dues.{IsDue};
 ghost use Rattle.route_books.specs.Books.{TellsOf};
 ghost use Rattle.route_work.specs.Work.{HasSending, IsAllSent};
 
-use audit_answers::Looked;
 use capture_form::Rule;
-use due_copies::{DueCopy, UnsentCopies};
-use due_flows::Parts;
 use due_waiting::{DueWaiting, Waiting};
-use route_books::{Due, DueBegin};
+use route_books::{Due, DueBegin, DueCopy, Looked, Parts, UnsentCopies};
 use std::alloc::{AllocError, Global};
 use trace_law::Event;
 

@@ -11,10 +11,8 @@ ghost use Rattle.route_books.specs.Dues.{IsDue};
 ghost use Rattle.route_books.specs.Books.{TellsOf};
 ghost use Rattle.route_work.specs.Work.{HasTelling, IsAllTold};
 
-use audit_answers::Looked;
 use capture_form::Rule;
-use due_outcomes::{Unsettled, Untold};
-use route_books::Due;
+use route_books::{Due, Looked, Unsettled, Untold};
 use std::alloc::{AllocError, Global};
 use trace_law::Event;
 

@@ -6,9 +6,8 @@ ghost use Rattle.route_work.specs.Work.{HasWork};
 use crate::flowing::Flowing;
 use crate::sending::Sending;
 use crate::telling::Telling;
-use audit_answers::Looked;
 use capture_form::Rule;
-use route_books::{Due, Dues};
+use route_books::{Due, Dues, Looked};
 use std::alloc::{AllocError, Global};
 use trace_law::Event;
 

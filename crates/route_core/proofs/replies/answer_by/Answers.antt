@@ -1,6 +1,6 @@
 use Rattle.std.proofs.Common.{subst, sym, ap, ◌∙◌, ◌∷◌}
 use Rattle.trace_duties.specs.Answer as duties
-use Rattle.route_books.specs.Books.{TellsOf}
+use Rattle.route_work.specs.Books.{TellsOf}
 use Rattle.route_core.proofs.replies.answer_by.Goals as goal
 
 pub returns-clause-says : goal.returns-clause-says
