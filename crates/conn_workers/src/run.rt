@@ -26,12 +26,14 @@ mod parts;
 
 use parts::{apart_all, together};
 
-/// Serves the gates to their ends by so many threads, as far as the system has them, over one core of these rules that takes
-/// items while it has fewer than `limit` records. Gate k is connection k, of worker k modulo `workers`. Where a worker stops,
-/// the others do too.
+/// Serves the gates to their ends by so many threads, over one core of these rules that takes items while it has fewer than
+/// `limit` records. Gate k is connection k, of worker k modulo `workers`. Where a worker stops, the others do too. Where the
+/// system makes no thread, the gates of one worker are served only after those of another have ended, so that clients that
+/// wait for each other may wait for good.
 ///
 /// No gate was called before. Each worker owns its gates and engines, and holds the lock of the core for one step or one
-/// copy of a frame; never while it reads, writes or waits. A gate that fails is no fault of the run: its connection is lost.
+/// copy of a frame; never while it reads, writes or waits. A gate whose read or write fails is no fault of the run: its
+/// connection is lost. One whose `ready` answers `Device` ends the run.
 ///
 /// # Errors
 ///

@@ -13,7 +13,7 @@ use conn_engine::{Delivered, Engine, EngineFault, Gate, Port, Taken};
 pub(crate) enum Stop {
     /// Memory was refused outside the core.
     Memory,
-    /// A poll or a listener failed.
+    /// A poll or a listener failed, or a connection could not be taken in.
     Device,
     /// The core refused a step.
     Core,

@@ -15,7 +15,7 @@ use std::sync::Wait;
 pub struct ExchangePort<'a, R: Wait> {
     exchange: &'a Exchange<R>,
     seat: Seat,
-    // From this record on nothing was written at this mark.
+    // A record's number and a mark: while the mark stands, nothing was written in that record or a later one.
     unwritten: Option<(u64, u64)>,
 }
 
@@ -85,6 +85,7 @@ impl<'a, R: Wait> Port for ExchangePort<'a, R> {
     }
 
     fn next_out(&mut self, from: u64, out: &mut Vec<u8>) -> Result<Option<u64>, AllocError> {
+        // Read before the core is looked at: a frame that is written in between changes the mark, so that the next call looks.
         let mark = self.exchange.mark_of(self.seat.conn);
         if self.has_seen_all(from, mark) {
             return Ok(None);

@@ -8,7 +8,7 @@ use std::fmt;
 pub enum Outcome {
     /// All connections were served, and the capture was written.
     Served { connections: u64, records: u64 },
-    /// The listener or a poll failed.
+    /// A poll or a listener failed, or a connection could not be taken in.
     DeviceFault,
     /// The capture could not be written.
     NotWritten,
