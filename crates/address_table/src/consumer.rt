@@ -83,7 +83,8 @@ impl Consumer {
         self.undecided
     }
 
-    /// The link of the least rank comes first.
+    /// How late the link comes: that of the least rank is picked. For closest it is one above a record number, so that a
+    /// link on which none began is before all; hence the `u128`.
     pub(crate) fn rank(&self, distribution: Distribution) -> u128
         ensures { result ≡ rank_of distribution (Some self.now) }
     {

@@ -26,7 +26,8 @@ pub const NOT_WRITTEN: u8 = 74;
 /// Audits the capture that `words`, those behind the program's name, ask for: the file that they name,
 /// or `input`. Writes the line of its verdict to `out`, and answers the exit status.
 ///
-/// A fault of the words is told on `err` alone; the help goes to `out`, with status 0.
+/// A fault of the words is told on `err` alone, with `WORDS_FAULT`; the help goes to `out`, with status 0. Where `out` fails
+/// the status is `NOT_WRITTEN`, and nothing is said of what stands there.
 pub fn run_words<F: Files, S: AsStr, R: Read, O: Write, E: Write>(
     files: &F,
     alloc: Global,
@@ -49,7 +50,8 @@ pub fn run_words<F: Files, S: AsStr, R: Read, O: Write, E: Write>(
     }
 }
 
-/// Tells why the system did not give the words: one is no text, or memory was refused.
+/// Tells why the system did not give the words: one is no text, on `err` with `WORDS_FAULT`; or memory was refused, by the
+/// line of `NoMemory` on `out` with its status, or with `NOT_WRITTEN` where `out` fails.
 pub fn tell_unread_words<O: Write, E: Write>(error: io::Error, out: &mut O, err: &mut E) -> u8
     ensures memory { IsRefusedGrowth error → result ≢ NOT_WRITTEN
         → Tells (O.contents out.old) (O.contents out.new) result (NoMemory 0) }
@@ -110,7 +112,8 @@ fn tell_refused_words<O: Write, E: Write>(error: &clap::Error, out: &mut O, err:
     }
 }
 
-/// Writes the line of `verdict`, and answers its status.
+/// Writes the line of `verdict` to `out`, and answers its status; or `NOT_WRITTEN` where `out` fails, and then nothing is
+/// said of what stands there.
 pub fn tell<O: Write>(verdict: &Verdict, out: &mut O) -> u8
     ensures told { result ≢ NOT_WRITTEN → Tells (O.contents out.old) (O.contents out.new) result verdict.now }
     ensures status { (result ≡ status_of verdict.now) ⊎ (result ≡ NOT_WRITTEN) }

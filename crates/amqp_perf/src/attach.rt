@@ -1,4 +1,4 @@
-//! What an attach says: the sender's end of a link (part 2, section 2.7.3).
+//! What an attach says: the end of a link, by its role, of the peer that writes it (part 2, section 2.7.3).
 
 use crate::checked::CheckedFields;
 use crate::terminus::{Target, Terminus};
@@ -38,7 +38,7 @@ pub struct Attach<'a> {
     pub rcv_settle_mode: Option<ReceiverSettleMode>,
     pub source: Option<Terminus<'a>>,
     pub target: Option<Target<'a>>,
-    /// Of a sender, the count of deliveries from which the link starts.
+    /// The delivery-count from which the link starts. Where the role is sender the standard asks for it.
     pub initial_delivery_count: Option<u32>,
     /// The largest message that the sender of the attach takes, in octets, where it is an ulong.
     pub max_message_size: Option<u64>,

@@ -1,4 +1,5 @@
-//! The items of a list as fields that are taken and checked in one go.
+//! The items of a list as fields that are taken and checked in one go, so that each is read once. It tells only whether
+//! all fit: where they do not, `fields` goes over them again to name the fault.
 
 use crate::attach::{ReceiverSettleMode, Role, SenderSettleMode};
 use crate::descriptor::{Descriptor, described_list};

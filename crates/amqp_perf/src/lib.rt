@@ -8,7 +8,7 @@
 //! - `descriptor`: what a descriptor names;
 //! - `table`: the fields of each performative, in the standard's order;
 //! - `fields`: a list's items, taken and checked as such fields;
-//! - `checked`: the same in one go;
+//! - `checked`: the same in one go, without the name of a fault;
 //! - `condition`: the names of errors;
 //! - `state`, `terminus`: what is nested in a disposition and in an attach;
 //! - `opening`, `begin`, `attach`, `flow`, `transfer`, `disposition`, `detach`: what each says; an end and a close

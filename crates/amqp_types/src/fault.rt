@@ -18,7 +18,7 @@ pub enum ValueFaultKind {
     BadSize = 3,
     /// A string isn't UTF-8, or a symbol isn't ASCII.
     BadText = 4,
-    /// The value lies more than 32 values deep.
+    /// The value is on a level over `MAX_DEPTH`, where the outermost value is on level 1.
     TooDeep = 5,
     /// The octet of a boolean is neither 0 nor 1.
     BadBoolean = 6,

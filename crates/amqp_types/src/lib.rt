@@ -4,8 +4,8 @@
 //! `Value::read` takes the value at the front of any octets. What it takes is a value of the
 //! standard's grammar, and wherever a front of the input is one, it takes exactly that front: so no
 //! value begins another, and a value reads the same whatever follows it, and wherever it lies, as long
-//! as it isn't too deep there. Where no front is a value, the fault is the first one from left to right, with its offset. Values are
-//! nested at most 32 deep. The items of a list, a map or an array, a descriptor and what it describes
+//! as it isn't too deep there. Where no front is a value, the fault is the first one from left to right, with its
+//! offset. Values are nested at most 32 deep. The items of a list, a map or an array, a descriptor and what it describes
 //! were read with the value that holds them: to take them out cannot fail.
 //!
 //! Reading order: `fault`, `code`, `value`, `sequence`, `constructor`, `described`, `primitive`,

@@ -141,8 +141,8 @@ impl<'a> Items<'a> {
         self.left as usize
     }
 
-    /// Takes the next value, where it is null, a boolean or a number without a sign, and gives what it says. Another is
-    /// left: then, and behind the last, nothing is given.
+    /// Takes the next value, where it is null, a boolean or a number without a sign, and gives what it says. `None`
+    /// where it is another one, which is not taken, and behind the last.
     #[tactic(auto, unfolding(crate::specs::Items::items_in))]
     #[inline(always)]
     pub fn next_simple(&mut self) -> Option<Simple>
@@ -165,8 +165,8 @@ impl<'a> Items<'a> {
         }
     }
 
-    /// Takes the next value, where it is null or an uint, and gives its number: none for null. Another is
-    /// left: then, and behind the last, nothing is given.
+    /// Takes the next value, where it is null or an uint, and gives its number: `Some(None)` for null. `None` where it is
+    /// another one, which is not taken, and behind the last.
     #[tactic(auto, unfolding(crate::specs::Items::items_in))]
     #[inline(always)]
     pub fn next_uint(&mut self) -> Option<Option<u32>>
@@ -203,8 +203,8 @@ impl<'a> Items<'a> {
         Some(value)
     }
 
-    /// Takes the next value, where it is null or a boolean, and gives it: none for null. Another is
-    /// left: then, and behind the last, nothing is given.
+    /// Takes the next value, where it is null or a boolean, and gives it: `Some(None)` for null. `None` where it is
+    /// another one, which is not taken, and behind the last.
     #[tactic(auto, unfolding(crate::specs::Items::items_in))]
     #[inline(always)]
     pub fn next_bool(&mut self) -> Option<Option<bool>>

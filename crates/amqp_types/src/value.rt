@@ -284,8 +284,8 @@ impl<'a> Value<'a> {
         }
     }
 
-    /// The number that describes the value, if this shows a list that a number of one octet describes; of others it may give
-    /// nothing, and they have to be asked for their descriptor.
+    /// The number of the value's descriptor, where that is an ulong of one octet (`53`) and describes a list: a look at the
+    /// first octets alone. `None` says nothing of the value, whose `descriptor` is to be asked then.
     #[inline(always)]
     pub fn list_number(&self) -> Option<u64>
         ensures { IfSome result (IsNumbered (view self.now).part) }

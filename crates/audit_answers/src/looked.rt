@@ -13,7 +13,8 @@ use capture_form::Rule;
 use trace_events::Session;
 use trace_law::{Asking, Counts, History, Incoming, Inputs, Link, Openings, Questions};
 
-/// The tables, lent.
+/// The tables, lent. `consumers` has the live links of consumers by address, and `receivers` the same links by number;
+/// `deliveries` are those from clients, `sent` those to clients.
 #[derive(Clone, Copy)]
 pub struct Looked<'t> {
     pub connections: &'t Connections,

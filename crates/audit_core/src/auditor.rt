@@ -60,16 +60,18 @@ impl Auditor {
         self.follow(&entry)
     }
 
-    /// What the records that it took hold.
+    /// What the records that it took hold, while it has not stopped; once it refused one, no clause says of which records
+    /// this is the tally.
     pub fn tally(&self) -> Tally
         ensures { result ≡ tally_by self.now }
     {
         self.ledger.tally()
     }
 
-    /// How many things it keeps of these records: connections of which one stands; sessions that are live or await their
-    /// end; links that are live or await their detach; begins, attaches, detaches and ends of clients that are still to be
-    /// answered; and deliveries. The greatest number where there are more.
+    /// How many entries it has: connections of which a record stands; sessions that are live or await their end; links that
+    /// are live or await their detach; begins, attaches, detaches and ends of clients that are still to be answered; and the
+    /// deliveries from clients that are kept. A delivery to a client is no entry, though it is kept to the end, so this does
+    /// not bound the memory. The greatest number where there are more.
     pub fn entries(&self) -> usize
         ensures { result ≡ entries_by self.now }
     {

@@ -24,7 +24,8 @@ pub enum Verdict {
     Refused(u64, Clause),
     /// They are no text of a capture, by a fault at this offset; each whole record in front of it meets the clauses.
     Malformed(u64, FormKind),
-    /// The system had no memory left for the rule or record that starts at this offset. It is no verdict on the octets.
+    /// The system had no memory left for the rule or record that starts at this offset, or, at 0, for the room into which a
+    /// reader's octets are read. It is no verdict on the octets.
     NoMemory(u64),
     /// The octets could not be read from this offset on. Octets that lie in memory are never judged so.
     Unreadable(u64),

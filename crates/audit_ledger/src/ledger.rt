@@ -48,7 +48,7 @@ impl Ledger {
         self.tally
     }
 
-    /// How many entries its tables have.
+    /// How many entries its tables have; a delivery to a client is none.
     pub fn entries(&self) -> usize
         ensures { result ≡ entries_of self.now.tables }
     {

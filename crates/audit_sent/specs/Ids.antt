@@ -1,4 +1,4 @@
--- The id of a delivery, on its session (part 2 of the standard, section 2.8.9).
+-- The id of a delivery, on its session (part 2 of the standard, section 2.8.8).
 use Rattle.std.specs.Prelude.{Bool, ◌&&◌, ◌==◌}
 use Rattle.audit_sent.specs.declared.groups.IdOn.{IdOn}
 

@@ -60,8 +60,8 @@ impl SentDeliveries {
         self.entries.get(&number)
     }
 
-    /// With these octets behind what was sent of a delivery that is in the table, or begins, the payload so far is the first
-    /// part of this payload, and all of it where no more follows: that of the delivery which it carries, in a lawful capture.
+    /// These octets are the next ones of this payload behind as many as were sent of the delivery, and where no more follows
+    /// its last ones. What was sent is not compared again: in a lawful capture it is the front of what the delivery carries.
     pub fn is_payload_so_far(&self, number: u64, more: bool, payload: &[u8], octets: &[u8]) -> bool
         ensures stored { result ≡ kept.goes_on_with more payload.now (sent_count_in self.now number) octets.now }
         ensures known { (rules : List RuleText) (records : List Record) (j : Outgoing) (d : Incoming) → AreSent self.now (history rules records) →

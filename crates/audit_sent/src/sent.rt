@@ -164,8 +164,8 @@ impl SentDelivery {
         self.is_unsettled && self.decision.is_some() && is_closed
     }
 
-    /// With these octets behind what was sent, the payload so far is the first part of this payload, and all of it where no
-    /// more follows: that of the delivery which it carries, in a lawful capture.
+    /// These octets are the next ones of this payload behind as many as were sent, and where no more follows its last ones.
+    /// What was sent is not compared again: in a lawful capture it is the front of what the delivery carries.
     pub fn is_payload_so_far(&self, more: bool, payload: &[u8], octets: &[u8]) -> bool
         ensures stored { result ≡ kept.goes_on_with more payload.now self.now.sent_count octets.now }
         ensures known { (rules : List RuleText) (records : List Record) (d : Incoming) → IsEntry (history rules records) (sent_view self.now) →

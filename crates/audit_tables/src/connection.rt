@@ -18,13 +18,14 @@ use trace_law::Event;
 /// What a connection has come to.
 #[derive(Clone, Copy, Debug, PartialEq, Eq)]
 pub struct Seen {
-    /// A close in either direction, the loss of the connection, or octets that are no frames stand.
+    /// A close in either direction, a lost or a broken stands. A client's record whose octets are no frame is a fault, and
+    /// ends nothing by itself.
     pub is_over: bool,
     /// The connection was opened.
     pub was_opened: bool,
     /// It is lost, or the router has closed it.
     pub was_finished: bool,
-    /// The client has closed it, or sent octets that are no frames.
+    /// A close of the client's or a broken stands.
     pub was_stopped: bool,
     /// A frame was written.
     pub has_out_frame: bool,

@@ -13,7 +13,8 @@ pub enum EngineFault {
     /// the connection is over.
     HeaderRefused,
     /// Octets that begin no frame, or a frame that may not stand there. Behind the header of AMQP the router was told,
-    /// and its close is to be given; each further call answers this. In the SASL exchange the connection is over.
+    /// and its close is to be given: until it is, or the device is gone, each further `feed` answers this too, and then
+    /// `Over`. In the SASL exchange the connection is over.
     Frame,
     /// The router did not take an item. Those before it were taken, and the connection is over.
     Port(StepFault),

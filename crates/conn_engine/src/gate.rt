@@ -68,7 +68,8 @@ pub trait Gate {
         ensures fault { result ≡ taken_as.Fault → failed self.old < failed self.new }
         ensures follows { follows self.old self.new };
 
-    /// Waits at most 10 milliseconds for octets or room.
+    /// Waits for octets or room, here or at a gate that shares the wait; a socket's waits 10 milliseconds at most. Of the
+    /// time, and of `Yes` and `No`, the contract says nothing: whether there are any, `read` and `write` tell.
     fn ready(&mut self) -> Ready
         ensures took { KeepsTold took self.old self.new }
         ensures delivered { KeepsTold delivered self.old self.new }

@@ -25,7 +25,8 @@ pub trait Port {
 
     ghost frames: { Self → List (List ℕ) };
 
-    /// Whether it may be that it had no frame more when it was asked last. One of which nothing is known says so always.
+    /// True wherever `next_out`, asked last, found no frame. It may be true elsewhere too: a port of which nothing is
+    /// known is idle always.
     ghost is_idle: { Self → Bool };
 
     /// Hands an item of this connection to the router.

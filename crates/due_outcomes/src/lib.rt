@@ -1,6 +1,7 @@
 //! Two lists of a router's work, each found without a look at what is not due: outcomes to tell, and deliveries to settle.
 //! A list keeps candidates, the numbers of deliveries, among which is all that is due, and asks the tables of `audit_answers`
-//! of each, the lowest first.
+//! of each, the lowest first: this is the code's doing, shown by worked captures; neither law nor duties ask for it, so no
+//! clause says it.
 //!
 //! - `candidates`: numbers in their order;
 //! - `sent_numbers`: numbers by the deliveries to clients that they stand for: by their link, their session and their id there;

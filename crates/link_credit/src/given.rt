@@ -91,7 +91,7 @@ impl GivenCredit {
         self.left
     }
 
-    /// The delivery-count.
+    /// The delivery-count that the link's receiver, which the router is, has come to (part 2, 2.6.7).
     pub fn rcv(&self) -> u32
         ensures value { result ≡ self.now.rcv }
         ensures count { IsCount self.now result received_count }

@@ -88,7 +88,7 @@ impl SenderCredit {
         self.left
     }
 
-    /// The delivery-count.
+    /// The delivery-count that the link's sender, which the router is, has come to (part 2, 2.6.7).
     pub fn snd(&self) -> u32
         ensures value { result ≡ self.now.snd }
         ensures count { IsCount self.now result delivery_count }

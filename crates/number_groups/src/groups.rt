@@ -28,7 +28,7 @@ impl<K: Copy + Eq + Hash + Drop> Groups<K> {
         }
     }
 
-    /// The number is in the group of the key, if it was not yet.
+    /// Puts the number into the group of the key; one that is there already stays as it was.
     ///
     /// # Errors
     ///
@@ -56,8 +56,8 @@ impl<K: Copy + Eq + Hash + Drop> Groups<K> {
         Ok(())
     }
 
-    /// The number is not in the group of the key, whether it was or not. The last number of the group takes its place, and a
-    /// group without numbers goes.
+    /// Takes the number out of the group of the key, if it is there. A group without numbers goes. The last number of the
+    /// group takes the place of this one, which no clause says.
     pub fn remove(&mut self, key: &K, number: u64)
         ensures left { Left K.eq key.now number self.old self.new }
         ensures gone { numbers K.eq self.new key.now ≡ [] → is_kept K.eq self.new key.now ≡ false }
@@ -99,7 +99,8 @@ impl<K: Copy + Eq + Hash + Drop> Groups<K> {
         }
     }
 
-    /// The first number of the group, in an order that stays until a number of it is removed.
+    /// The first number of the group; `None` where it has none. While none is removed, no call changes the order: the code
+    /// keeps this, and no clause says it.
     pub fn first(&self, key: &K) -> Option<u64>
         ensures { result ≡ slice_get (numbers K.eq self.now key.now) 0 }
     {

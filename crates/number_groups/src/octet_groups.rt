@@ -26,7 +26,7 @@ impl OctetGroups {
         }
     }
 
-    /// The number is in the group of the key, if it was not yet.
+    /// Puts the number into the group of the key; one that is there already stays as it was.
     ///
     /// # Errors
     ///
@@ -55,8 +55,8 @@ impl OctetGroups {
         Ok(())
     }
 
-    /// The number is not in the group of the key, whether it was or not. The last number of the group takes its place, and a
-    /// group without numbers goes.
+    /// Takes the number out of the group of the key, if it is there. A group without numbers goes. The last number of the
+    /// group takes the place of this one, which no clause says.
     pub fn remove(&mut self, key: &[u8], number: u64)
         ensures left { Left key.now number self.old self.new }
         ensures gone { numbers self.new key.now ≡ [] → is_kept self.new key.now ≡ false }
@@ -98,7 +98,8 @@ impl OctetGroups {
         }
     }
 
-    /// The first number of the group, in an order that stays until a number of it is removed.
+    /// The first number of the group; `None` where it has none. While none is removed, no call changes the order: the code
+    /// keeps this, and no clause says it.
     pub fn first(&self, key: &[u8]) -> Option<u64>
         ensures { result ≡ slice_get (numbers self.now key.now) 0 }
     {

@@ -11,8 +11,8 @@ pub enum StepFault {
     Memory = 1,
     /// The capture has as many records as it may have. Nothing changed.
     Full,
-    /// A connection that was opened before is opened, or something else happens on one that was not opened, that is
-    /// lost, or whose octets stopped being frames and that is not lost. Nothing changed.
+    /// A connection that was opened before is opened; anything else happens on one that was not opened, or is lost; or
+    /// anything but its loss on one whose octets stopped being frames. Nothing changed.
     UnknownConn,
     /// An earlier growth was refused. Nothing changed.
     Failed,

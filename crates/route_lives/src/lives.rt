@@ -41,7 +41,7 @@ impl Life {
     }
 }
 
-/// What became of each connection of which an input stands.
+/// What became of each connection, by the inputs that came; one without any was not opened.
 #[derive(Drop)]
 pub struct Lives {
     entries: IndexMap<u32, Life>,
@@ -88,7 +88,7 @@ impl Lives {
     ///
     /// # Errors
     ///
-    /// Where memory is refused; then nothing changed.
+    /// Where memory is refused. Of the table nothing is said then: the router takes no item from then on.
     pub fn come(&mut self, item: Item<'_>) -> Result<(), AllocError>
         ensures { OnOk result ((inputs : List Record) → AreLives self.old inputs → AreLives self.new (inputs ++ record_of item.entry ∷ [])) }
     {

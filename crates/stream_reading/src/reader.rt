@@ -69,7 +69,7 @@ impl StreamReader {
     ///
     /// # Errors
     ///
-    /// Why the stream ends here. It is answered until a step is taken, which there is none.
+    /// Why the stream ends here. Each later call answers it again, since no step stands here that could be taken.
     pub fn peek(&self) -> Result<Option<Step<'_>>, StreamFault>
         ensures { Answers self.now.phase self.now.octets result }
     {

@@ -12,8 +12,8 @@ abbrev pub is_open_in_place : ℕ → Meaning → List Event → Bool
 is_open_in_place c meaning past =
     if has_out_frame c past then is_none (as_open meaning) else is_some (as_open meaning)
 
--- the connection was opened, and is neither lost nor closed by the router; behind the client's close, or octets that
--- are no frames, stands an open or a close alone
+-- the connection was opened, and is neither lost nor closed by the router; behind the client's close or a broken stands
+-- an open or a close alone
 abbrev pub may_be_written : ℕ → Meaning → List Event → Bool
 may_be_written c meaning past =
     was_opened c past && not (was_finished c past) && is_open_in_place c meaning past

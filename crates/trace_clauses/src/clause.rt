@@ -5,27 +5,27 @@ use std::fmt;
 /// A clause of the law of a capture. What each says of a record is in `docs/LAW.md`.
 #[derive(Clone, Copy, Debug, PartialEq, Eq)]
 pub enum Clause {
-    /// The frame may be written on its connection.
+    /// A frame is a performative within the frame limit, on an open connection, in the order of opens and closes.
     L1,
     /// A begin answers the client's.
     L2,
-    /// An attach answers the client's.
+    /// An attach answers the client's: same name, opposite role, its address and settle modes; or refuses it.
     L3,
-    /// A transfer stands within its session's window.
+    /// A transfer stands on a consumer's live link, within its session's window.
     L4,
     /// A delivery begins within its link's credit, with the next delivery-id.
     L5,
     /// A later transfer goes on with the delivery that is in progress.
     L6,
-    /// A transfer names the incoming delivery that it carries.
+    /// A transfer names an incoming delivery that is complete, not gone, and of its link's address.
     L7,
-    /// A delivery's payload is that of the incoming delivery.
+    /// It carries the first octets of that delivery's payload, and at its end all of them.
     L8,
     /// An anycast delivery goes to one consumer, a multicast one once to each, in order.
     L9,
     /// A flow tells what its session and link have come to.
     L10,
-    /// An outcome is the consumer's, or that of the table.
+    /// An outcome is the consumer's, or that of the outcome table of `docs/LAW.md`, and is told once.
     L11,
     /// A settling follows the consumer's decision.
     L12,

@@ -8,13 +8,17 @@ use amqp_perf::Begin;
 /// A session, named by the record of its Out begin.
 #[derive(Clone, Copy, Debug)]
 pub struct Session {
+    /// The number of that record.
     pub number: u64,
+    /// The connection, by its number in the capture.
     pub connection: u32,
+    /// The channel, the same in both directions.
     pub channel: u16,
-    /// next-outgoing-id of the Out begin, and of the client's.
+    /// next-outgoing-id of the Out begin.
     pub our_first_id: u32,
+    /// next-outgoing-id of the client's begin, 0 without one.
     pub their_first_id: u32,
-    /// incoming-window of the client's begin, in transfers.
+    /// incoming-window of the client's begin, in transfers, 0 without one.
     pub their_window: u32,
 }
 

@@ -390,8 +390,8 @@ pub fn judge_unopened<'a, P: Inputs<'a> + Outcomes<'a> + Carriage<'a>>(
     judge_moment(past, rules, number, entry.connection, moment, entry.note)
 }
 
-/// The same of what happened on a connection, with the octets of its frame read, and of its note: whoever keeps what was read
-/// longer than what the past lends reads it once.
+/// The same where the octets of the frame are read already, of this moment and note: without what it opens, too. (The law's
+/// `judge_moment` has what it opens: it is this, and then `opened`.)
 pub fn judge_moment<'a, P: Inputs<'a> + Outcomes<'a> + Carriage<'a>>(
     past: &P,
     rules: &[Rule],

@@ -52,8 +52,9 @@ impl Outstanding {
         self.ids.remove(&number);
     }
 
-    /// The record numbers and delivery-ids of the deliveries of which a disposition with this range speaks, in the order
-    /// of the numbers. To go over them takes time linear in the deliveries that are kept, and no memory.
+    /// The record numbers and delivery-ids of the deliveries of which a disposition from `first` to `last` speaks, in the
+    /// order of the record numbers. Both ids are included, and count as serial numbers: a last one that stands before the
+    /// first covers none. To go over them takes time linear in the deliveries that are kept, and no memory.
     pub fn cover(&self, first: u32, last: u32) -> Covered<'_>
         ensures { result ≡ counts.covered first last self.now }
     {

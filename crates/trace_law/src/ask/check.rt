@@ -119,7 +119,8 @@ impl Asked for BrokenByNext {
     }
 }
 
-/// Whether the record of this number meets the law, by those below it. It takes no memory.
+/// Whether the record of this number meets the law, by those before it. It takes no memory of the heap, but a call on the
+/// stack for each of these: for many thousand records that is more stack than a thread has.
 ///
 /// # Errors
 ///
@@ -137,7 +138,7 @@ pub fn slow_check<'a>(capture: &'a Capture, i: usize) -> Result<(), Clause>
 }
 
 /// How many transfers may still be sent on the live session of a channel, by the records below this number (by all, where
-/// there are fewer); `None` where no session is live there. It takes no memory.
+/// there are fewer); `None` where no session is live there. It takes stack as `slow_check` does, and no other memory.
 pub fn window_at<'a>(capture: &'a Capture, i: usize, conn: u32, channel: u16) -> Option<u32>
     ensures { result ≡ checked.window_on conn channel (checked.events_below i capture.now) }
 {
@@ -152,7 +153,7 @@ pub fn window_at<'a>(capture: &'a Capture, i: usize, conn: u32, channel: u16) ->
 }
 
 /// How many deliveries may still begin on the live link of a handle, by the records below this number (by all, where there
-/// are fewer); `None` where no consumer's link is live there. It takes no memory.
+/// are fewer); `None` where no consumer's link is live there. It takes stack as `slow_check` does, and no other memory.
 pub fn credit_at<'a>(
     capture: &'a Capture,
     i: usize,
@@ -174,7 +175,7 @@ pub fn credit_at<'a>(
 }
 
 /// Whether the delivery that begins in record `d` waits for a consumer, by the records below this number (by all, where
-/// there are fewer). It takes no memory.
+/// there are fewer). It takes stack as `slow_check` does, and no other memory.
 pub fn waiting_at<'a>(capture: &'a Capture, i: usize, d: u64) -> bool
     ensures { result ≡ checked.waits capture.now.rules d (checked.events_below i capture.now) }
 {

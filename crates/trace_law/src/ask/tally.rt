@@ -99,7 +99,7 @@ ghost use Rattle.std.specs.Prelude.{◌≡◌};
 ghost use Rattle.trace_events.specs.History.{history};
 ghost use Rattle.trace_clauses.specs.Verdict.{tally_of};
 
-/// What the capture holds. It takes no memory.
+/// What the capture holds. It takes stack as `slow_check` does, and no other memory.
 pub fn tally_capture<'a>(capture: &'a Capture) -> Tally
     ensures { result ≡ tally_of (history capture.now.rules capture.now.records) }
 {

@@ -18,8 +18,8 @@ fn is_open_in_place<'a, P: Openings<'a>>(past: &P, connection: u32, spoken: &Spo
     matches!(spoken.performative, Performative::Open(_)) != past.has_out_frame(connection)
 }
 
-/// The connection was opened, and is neither lost nor closed by the router; behind the client's close, or octets
-/// that are no frames, stands an open or a close alone.
+/// The connection was opened, and is neither lost nor closed by the router; behind the client's close or a broken stands
+/// an open or a close alone.
 pub(crate) fn may_be_written<'a, P: Openings<'a>>(
     past: &P,
     connection: u32,

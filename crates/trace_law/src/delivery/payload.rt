@@ -146,7 +146,7 @@ impl<'p, 'a> Past<'p, 'a> {
         }
     }
 
-    /// The payload of the outgoing delivery with these octets behind it is the first part of the incoming one's, and
+    /// The payload of the outgoing delivery with these octets behind it are the first octets of the incoming one's, and
     /// all of it where no more follows.
     #[tactic(auto, using(crate::proofs::Payloads::begins_reverse, crate::proofs::Payloads::same_reverse))]
     pub(crate) fn is_payload_so_far(

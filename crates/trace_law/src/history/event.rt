@@ -15,8 +15,9 @@ pub struct Link<'a> {
     pub role: Role,
     pub address: &'a [u8],
     pub is_pre_settled: bool,
-    /// initial-delivery-count of the Out attach, and of the client's.
+    /// initial-delivery-count of the Out attach, 0 where it has none.
     pub our_first_count: u32,
+    /// initial-delivery-count of the client's attach that it answers, 0 where that has none.
     pub their_first_count: u32,
 }
 
@@ -43,10 +44,15 @@ pub struct Outgoing<'a> {
 /// What happened.
 #[derive(Clone, Copy)]
 pub enum Moment<'a> {
+    /// The client's AMQP header was accepted.
     Opened,
+    /// The client sent these octets.
     In(Frame<'a>),
+    /// The router wrote these octets.
     Out(Frame<'a>),
+    /// The device ended or failed.
     Lost,
+    /// The client's octets stopped being frames.
     Broken,
 }
 
@@ -61,13 +67,17 @@ pub struct Event<'a> {
     pub session: Option<Session>,
     /// The live link whose handle a flow, transfer or detach names; an Out attach's own.
     pub link: Option<Link<'a>>,
-    /// The delivery that a transfer begins or goes on with, by its direction.
+    /// The delivery from a client that an In transfer begins or goes on with, where it is heard and has no fault.
     pub incoming: Option<Incoming<'a>>,
+    /// The delivery to a client that an Out transfer begins or goes on with.
     pub outgoing: Option<Outgoing<'a>>,
-    /// The incoming delivery whose outcome an Out disposition tells, and the outgoing one that it settles.
+    /// The number of the incoming delivery whose outcome an Out disposition of role receiver tells.
     pub told: Option<u64>,
+    /// The number of the outgoing delivery that an Out disposition of role sender settles.
     pub settled: Option<u64>,
+    /// An In frame that is not passed over.
     pub is_heard: bool,
+    /// The fault of a heard frame.
     pub fault: Option<Fault>,
 }
 

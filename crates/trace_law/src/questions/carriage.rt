@@ -43,8 +43,8 @@ pub trait Carriage<'a>: History {
         ensures { (rules : List RuleText) (history : Events) → Self.stands_for self.now rules history → Self.knows_incoming self.now (incoming_view a.now) history →
             Self.knows_incoming self.now (incoming_view b.now) history → (result ≡ received.completed_before (incoming_view a.now) (incoming_view b.now) history) };
 
-    /// The payload of the outgoing delivery with these octets behind it is the first part of the incoming one's, and all of
-    /// it where no more follows; asked of an outgoing delivery that begins, or whose note names the incoming one.
+    /// The payload of the outgoing delivery with these octets behind it are the first octets of the incoming one's, and all
+    /// of it where no more follows; asked of an outgoing delivery that begins, or whose note names the incoming one.
     fn is_payload_so_far(
         &self,
         more: bool,

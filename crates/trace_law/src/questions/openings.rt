@@ -27,7 +27,7 @@ pub trait Openings<'a>: History {
     fn was_finished(&self, connection: u32) -> bool
         ensures { (rules : List RuleText) (history : Events) → Self.stands_for self.now rules history → (result ≡ connections.was_finished connection history) };
 
-    /// The client has closed it, or sent octets that are no frames.
+    /// A close of the client's or a broken stands.
     fn was_stopped(&self, connection: u32) -> bool
         ensures { (rules : List RuleText) (history : Events) → Self.stands_for self.now rules history → (result ≡ connections.was_stopped connection history) };
 
