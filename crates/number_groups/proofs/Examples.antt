@@ -1,9 +1,10 @@
 -- What groups with known numbers say.
-use Rattle.std.proofs.Common.{◌≡◌, ℕ, ap, not, ◌&&◌, ◌||◌, ◌==◌, Bool, true, false, List, [], ◌∷◌, None, nat_eq, bytes_eq, refl, if◌then◌else◌}
+use Rattle.std.proofs.Common.{◌≡◌, ℕ, ap, not, ◌&&◌, ◌||◌, ◌==◌, Bool, true, false, List, [], ◌∷◌, Some, None, nat_eq, bytes_eq, refl, if◌then◌else◌}
 use Rattle.std.specs.Map.{lookup}
 use Rattle.number_groups.specs.Numbers.{is_among, listed}
 use Rattle.number_groups.specs.Groups as groups
 use Rattle.number_groups.specs.OctetGroups as octets
+use Rattle.number_groups.specs.declared.group.Group.TheVariants.{One}
 use Rattle.number_groups.specs.declared.groups.Groups.{Groups}
 use Rattle.number_groups.specs.declared.octet_groups.OctetGroups.{OctetGroups}
 
@@ -18,8 +19,11 @@ among-other = refl
 among-none : is_among [] 0 ≡ false
 among-none = refl
 
-listed-none : (S : Type 0) → listed {S = S} None ≡ []
-listed-none S = refl
+listed-none : listed None ≡ []
+listed-none = refl
+
+listed-alone : listed (Some (One 40)) ≡ 40 ∷ []
+listed-alone = refl
 
 -- ---- 40 and 41 under the key 7, and nothing under any other
 

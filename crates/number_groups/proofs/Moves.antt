@@ -1,9 +1,10 @@
 -- One group changes, and the others stay.
-use Rattle.std.proofs.Common.{◌≡◌, refl, sym, ap, ◌∙◌, ℕ, Bool, true, false, cond, not, ◌&&◌, ◌||◌, ◌==◌, List, [], ◌∷◌, length, Option, Some, None, is_some, nat_eq, subst, IsTrue, ◌↔◌, Result, Ok, Err, OnErr, arith}
+use Rattle.std.proofs.Common.{◌≡◌, refl, sym, ap, ◌∙◌, ℕ, Bool, true, false, cond, not, ◌&&◌, ◌||◌, ◌==◌, List, [], ◌∷◌, length, Option, Some, None, is_some, nat_eq, subst, IsTrue, ◌↔◌, arith}
 use Rattle.std.proofs.lemmas.Bool.Decides.{nat_tests}
 use Rattle.std.specs.List.{IsDistinct}
-use Rattle.indexmap.specs.IndexSet.{IndexSet}
-use Rattle.number_groups.specs.Numbers.{is_among, listed}
+use Rattle.number_groups.specs.Numbers.{is_among, listed, members}
+use Rattle.number_groups.specs.declared.group.Group.{Group}
+use Rattle.number_groups.specs.declared.group.Group.TheVariants.{One}
 
 cond_or : (b other : Bool) → cond b true other ≡ (b || other)
 cond_or true other = refl
@@ -36,7 +37,7 @@ pub none_among : (xs : List ℕ) → ((n : ℕ) → is_among xs n ≡ false) →
 none_among [] none = refl
 none_among (x ∷ xs) none = let never : true ≡ false = sym (ap (λ b. b || is_among xs x) (nat_same x)) ∙ none x in absurd cc
 
-module _ {K S : Type 0} (eq : K → K → Bool) (old new : K → Option (IndexSet ℕ S)) (k : K) (w : Option (IndexSet ℕ S)) (moved : (at : K) → new at ≡ cond (eq k at) w (old at)) where
+module _ {K : Type 0} (eq : K → K → Bool) (old new : K → Option Group) (k : K) (w : Option Group) (moved : (at : K) → new at ≡ cond (eq k at) w (old at)) where
   pub same : ((at : K) → eq k at ≡ true → old at ≡ old k) → listed w ≡ listed (old k) → (at : K) → listed (new at) ≡ listed (old at)
   same alike is at = ap listed (moved at) ∙ by (eq k at) (alike at)
     where
@@ -61,9 +62,14 @@ module _ {K S : Type 0} (eq : K → K → Bool) (old new : K → Option (IndexSe
       by false here = and_true (is_among (listed (old at)) n)
 
 -- a group that is not there repeats nothing
-pub none_distinct : {S : Type 0} {o : Option (IndexSet ℕ S)} → None ≡ o → IsDistinct nat_eq (listed o)
+pub none_distinct : {o : Option Group} → None ≡ o → IsDistinct nat_eq (listed o)
 unfolding IsDistinct
 none_distinct is = subst (λ p. IsDistinct nat_eq (listed p)) is tt
+
+-- a number alone repeats nothing
+pub one_distinct : {group : Group} {n : ℕ} → group ≡ One n → IsDistinct nat_eq (members group)
+unfolding IsDistinct
+one_distinct is = subst (λ g. IsDistinct nat_eq (members g)) (sym is) (tt, tt)
 
 -- a group has no numbers just where its count is 0
 pub empty-none : (xs : List ℕ) (count : ℕ) → count ≡ length xs → IsTrue (nat_eq count 0) ↔ ((n : ℕ) → is_among xs n ≡ false)
@@ -75,10 +81,10 @@ empty-none xs count is = (none, zero)
     zero : ((n : ℕ) → is_among xs n ≡ false) → IsTrue (nat_eq count 0)
     zero none = let is_nil : count ≡ 0 = is ∙ ap length (none_among xs none) in grind (arith, nat_tests)
 
-pub on_err : {A E : Type 0} {P : Type 0} (r : Result A E) → P → OnErr r P
-on_err (Ok x) p = tt
-on_err (Err e) p = p
-
-pub absent : {S : Type 0} (o : Option (IndexSet ℕ S)) → is_some o ≡ false → listed o ≡ []
+pub absent : (o : Option Group) → is_some o ≡ false → listed o ≡ []
 absent None is = refl
 absent (Some x) is = absurd cc
+
+-- of a number alone
+pub alone_among : (number n : ℕ) → is_among (members (One number)) n ≡ cond (nat_eq number n) true (is_among [] n)
+alone_among number n = grind (arith, nat_tests)

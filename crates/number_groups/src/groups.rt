@@ -4,7 +4,8 @@ ghost use Rattle.std.specs.Prelude.{◌≡◌, ◌↔◌, ℕ, [], None, IsTrue,
 ghost use Rattle.std.specs.List.{IsDistinct};
 ghost use Rattle.indexmap.specs.IndexMap.{get};
 
-use indexmap::{IndexMap, IndexSet};
+use crate::group::Group;
+use indexmap::IndexMap;
 use std::alloc::{AllocError, Global};
 use std::hash::Hash;
 
@@ -12,7 +13,7 @@ use std::hash::Hash;
 #[derive(Drop)]
 pub struct Groups<K: Copy + Eq + Hash + Drop> {
     alloc: Global,
-    entries: IndexMap<K, IndexSet<u64>>,
+    entries: IndexMap<K, Group>,
 }
 
 impl<K: Copy + Eq + Hash + Drop> Groups<K> {
@@ -37,11 +38,11 @@ impl<K: Copy + Eq + Hash + Drop> Groups<K> {
         ensures joined { OnOk result (Joined K.eq key number self.old self.new) }
         ensures unchanged { OnErr result (AreSame K.eq self.old self.new) }
     {
+        let alloc = self.alloc;
         let Some(group) = self.entries.get_mut(&key) else {
             return self.insert_first(key, number);
         };
-        group.insert(number)?;
-        Ok(())
+        group.insert(alloc, number)
     }
 
     /// The number is the first of the group of the key.
@@ -50,9 +51,7 @@ impl<K: Copy + Eq + Hash + Drop> Groups<K> {
         ensures joined { OnOk result (Joined K.eq key number self.old self.new) }
         ensures unchanged { OnErr result (AreSame K.eq self.old self.new) }
     {
-        let mut group = IndexSet::new(self.alloc);
-        group.insert(number)?;
-        self.entries.insert(key, group)?;
+        self.entries.insert(key, Group::One(number))?;
         Ok(())
     }
 
@@ -62,11 +61,12 @@ impl<K: Copy + Eq + Hash + Drop> Groups<K> {
         ensures left { Left K.eq key.now number self.old self.new }
         ensures gone { numbers K.eq self.new key.now ≡ [] → is_kept K.eq self.new key.now ≡ false }
     {
+        let alloc = self.alloc;
         let Some(group) = self.entries.get_mut(key) else {
             return;
         };
-        group.swap_remove(&number);
-        if group.is_empty() {
+        group.remove(alloc, number);
+        if group.count() == 0 {
             self.entries.swap_remove(key);
         }
     }
@@ -76,7 +76,7 @@ impl<K: Copy + Eq + Hash + Drop> Groups<K> {
         ensures { result ≡ is_member K.eq self.now key.now number }
     {
         match self.entries.get(key) {
-            Some(group) => group.contains(&number),
+            Some(group) => group.has(number),
             None => false,
         }
     }
@@ -94,7 +94,7 @@ impl<K: Copy + Eq + Hash + Drop> Groups<K> {
         ensures distinct { IsDistinct nat_eq (numbers K.eq self.now key.now) }
     {
         match self.entries.get(key) {
-            Some(group) => group.len(),
+            Some(group) => group.count(),
             None => 0,
         }
     }
@@ -111,6 +111,6 @@ impl<K: Copy + Eq + Hash + Drop> Groups<K> {
     pub fn get(&self, key: &K, index: usize) -> Option<u64>
         ensures { result ≡ slice_get (numbers K.eq self.now key.now) index }
     {
-        self.entries.get(key)?.get_index(index).copied()
+        self.entries.get(key)?.get(index)
     }
 }

@@ -3,14 +3,15 @@
 ghost use Rattle.std.specs.Prelude.{◌≡◌, ◌↔◌, ℕ, List, [], IsTrue, OnOk, OnErr, false, length, nat_eq, slice_get};
 ghost use Rattle.std.specs.List.{IsDistinct};
 
-use indexmap::{IndexMap, IndexSet};
+use crate::group::Group;
+use indexmap::IndexMap;
 use std::alloc::{AllocError, Global};
 
 /// Sets of numbers by key. A key without numbers takes no memory.
 #[derive(Drop)]
 pub struct OctetGroups {
     alloc: Global,
-    entries: IndexMap<Vec<u8>, IndexSet<u64>>,
+    entries: IndexMap<Vec<u8>, Group>,
 }
 
 impl OctetGroups {
@@ -35,11 +36,11 @@ impl OctetGroups {
         ensures joined { OnOk result (Joined key.now number self.old self.new) }
         ensures unchanged { OnErr result (AreSame self.old self.new) }
     {
+        let alloc = self.alloc;
         let Some(group) = self.entries.get_mut(key) else {
             return self.insert_first(key, number);
         };
-        group.insert(number)?;
-        Ok(())
+        group.insert(alloc, number)
     }
 
     /// The number is the first of the group of the key.
@@ -48,10 +49,8 @@ impl OctetGroups {
         ensures joined { OnOk result (Joined key.now number self.old self.new) }
         ensures unchanged { OnErr result (AreSame self.old self.new) }
     {
-        let mut group = IndexSet::new(self.alloc);
-        group.insert(number)?;
         let key = key.to_vec(self.alloc)?;
-        self.entries.insert(key, group)?;
+        self.entries.insert(key, Group::One(number))?;
         Ok(())
     }
 
@@ -61,11 +60,12 @@ impl OctetGroups {
         ensures left { Left key.now number self.old self.new }
         ensures gone { numbers self.new key.now ≡ [] → is_kept self.new key.now ≡ false }
     {
+        let alloc = self.alloc;
         let Some(group) = self.entries.get_mut(key) else {
             return;
         };
-        group.swap_remove(&number);
-        if group.is_empty() {
+        group.remove(alloc, number);
+        if group.count() == 0 {
             self.entries.swap_remove(key);
         }
     }
@@ -75,7 +75,7 @@ impl OctetGroups {
         ensures { result ≡ is_member self.now key.now number }
     {
         match self.entries.get(key) {
-            Some(group) => group.contains(&number),
+            Some(group) => group.has(number),
             None => false,
         }
     }
@@ -93,7 +93,7 @@ impl OctetGroups {
         ensures distinct { IsDistinct nat_eq (numbers self.now key.now) }
     {
         match self.entries.get(key) {
-            Some(group) => group.len(),
+            Some(group) => group.count(),
             None => 0,
         }
     }
@@ -110,6 +110,6 @@ impl OctetGroups {
     pub fn get(&self, key: &[u8], index: usize) -> Option<u64>
         ensures { result ≡ slice_get (numbers self.now key.now) index }
     {
-        self.entries.get(key)?.get_index(index).copied()
+        self.entries.get(key)?.get(index)
     }
 }
