@@ -17,6 +17,9 @@ use std::alloc::AllocError;
 /// How many words of four octets a frame's header has that nothing extends.
 const DATA_OFFSET: u8 = 2;
 
+/// Room for all but few performatives, so that none of these has to move while it is written, in octets.
+const USUAL_OCTETS: usize = 96;
+
 /// Appends a whole frame of type AMQP: a performative on a channel, and behind it the payload, which only a transfer
 /// has.
 ///
@@ -40,7 +43,7 @@ pub fn put_frame(
     // Its body says this performative again, with this payload.
     ensures again { performative_at (performative_octets (view performative.now) ++ payload.now) ≡ Ok (view performative.now, payload.now) }
 {
-    let mut body = Vec::new(*out.allocator());
+    let mut body = Vec::with_capacity(*out.allocator(), USUAL_OCTETS)?;
     performative.write(&mut body)?;
     put_around(out, FrameKind::Amqp, channel, &body, payload)
 }
@@ -65,6 +68,7 @@ pub(crate) fn put_around(
         → whole_frame limit (frame_octets kind channel (body.now ++ payload.now)) ≡ Some (frame_with kind channel (body.now ++ payload.now)) }
 {
     let size = (HEADER_OCTETS + body.len() + payload.len()) as u32;
+    out.reserve(size as usize)?;
     let shape = [DATA_OFFSET, kind as u8];
     put_parts(
         out,

@@ -218,6 +218,9 @@ impl<'a> Slot<'a> {
     }
 }
 
+/// Room for the fields of all but few performatives, so that none of these has to move while it is written, in octets.
+const USUAL_OCTETS: usize = 96;
+
 /// Appends a list that this code describes, with these fields up to the last that is there.
 pub fn put_fields(out: &mut Vec<u8>, code: u8, slots: &[Slot<'_>]) -> Result<(), AllocError>
     requires fields { AllCanStand levels_in_described (slots_view slots.now) }
@@ -225,7 +228,7 @@ pub fn put_fields(out: &mut Vec<u8>, code: u8, slots: &[Slot<'_>]) -> Result<(),
     requires count { length slots.now < 256 }
     ensures appended { Puts out.old.items out.new.items result (fields_octets code (slots_view slots.now)) }
 {
-    let mut fields = Vec::new(*out.allocator());
+    let mut fields = Vec::with_capacity(*out.allocator(), USUAL_OCTETS)?;
     let mut count = 0;
     let mut len = 0;
     for (i, slot) in slots.iter().enumerate() {

@@ -5,9 +5,13 @@ ghost use Rattle.audit_tables.specs.HeldViews.{held_link_view};
 ghost use Rattle.trace_law.specs.View.{link_view};
 
 use amqp_perf::Role;
+use smallvec::SmallVec;
 use std::alloc::{AllocError, Global};
 use trace_events::Session;
 use trace_law::Link;
+
+/// An address of so many octets stands with its link, and takes no memory of its own.
+const USUAL_OCTETS: usize = 40;
 
 /// A link with an address of its own.
 #[doc(hidden)]
@@ -17,7 +21,7 @@ pub struct HeldLink {
     session: Session,
     handle: u32,
     role: Role,
-    address: Vec<u8>,
+    address: SmallVec<u8, USUAL_OCTETS>,
     is_pre_settled: bool,
     our_first_count: u32,
     their_first_count: u32,
@@ -28,12 +32,11 @@ impl HeldLink {
     ///
     /// # Errors
     ///
-    /// Memory was refused, for the address.
+    /// Memory was refused, for a long address.
     pub fn new(alloc: Global, link: &Link) -> Result<HeldLink, AllocError>
         ensures { IfOk result (λ own. held_link_view own ≡ link_view link.now) }
     {
-        let mut address = Vec::new(alloc);
-        address.extend_from_slice(link.address)?;
+        let address = SmallVec::from_slice(alloc, link.address)?;
         Ok(HeldLink {
             number: link.number,
             session: link.session,
