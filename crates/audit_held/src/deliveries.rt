@@ -1,7 +1,7 @@
 //! The deliveries from clients that are kept, by the record that began each, and in groups.
 
 ghost use Rattle.std.specs.Prelude.{◌≡◌, ◌∷◌, ℕ, List, [], None, OnOk, OnErr, is_some, true, map, nat_eq, option_and_then, option_map};
-ghost use Rattle.indexmap.specs.IndexSet.{contains};
+ghost use Rattle.number_groups.specs.Numbers.{is_among};
 ghost use Rattle.std.specs.Option.{option_copied};
 ghost use Rattle.capture_form.specs.Rules.{RuleText};
 ghost use Rattle.capture_form.specs.declared.records.Record.{Record};
@@ -21,7 +21,8 @@ use crate::groups::{HeldGroups, Marks};
 use crate::held::HeldDelivery;
 use audit_addresses::Addresses;
 use capture_form::Rule;
-use indexmap::{IndexMap, IndexSet};
+use indexmap::IndexMap;
+use number_groups::NumberSet;
 use std::alloc::{AllocError, Global};
 use trace_law::{Event, Link};
 
@@ -136,14 +137,14 @@ impl Deliveries {
     /// The event touches each of these.
     fn touch_all<A: Addresses>(
         &mut self,
-        mut touched: IndexSet<u64>,
+        mut touched: NumberSet,
         rules: &[Rule],
         event: &Event,
         addresses: &A,
     ) -> Result<(), AllocError>
-        ensures touched { OnOk result (AreMovedBy (contains nat_eq touched) rules.now (event_view event.now) (A.has_one addresses.now) self.old self.new) }
+        ensures touched { OnOk result (AreMovedBy (is_among touched) rules.now (event_view event.now) (A.has_one addresses.now) self.old self.new) }
         ensures grouped { OnOk result (AreGrouped self.old.groups (held_in self.old) → AreGrouped self.new.groups (held_in self.new)) }
-        ensures refused { OnErr result ((n : ℕ) × (contains nat_eq touched n ≡ true)) }
+        ensures refused { OnErr result ((n : ℕ) × (is_among touched n ≡ true)) }
     {
         while let Some(number) = touched.pop() {
             let has_consumer = self.is_served(number, addresses);

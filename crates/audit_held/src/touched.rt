@@ -2,7 +2,7 @@
 
 ghost use Rattle.std.specs.Prelude.{◌≡◌, ℕ, ◌||◌, IfOk, OnOk, OnErr, is_some, true, map, nat_eq};
 ghost use Rattle.std.specs.List.{list_any};
-ghost use Rattle.indexmap.specs.IndexSet.{contains};
+ghost use Rattle.number_groups.specs.Numbers.{is_among};
 ghost use Rattle.number_groups.specs.Groups.{is_member};
 ghost use Rattle.number_groups.specs.OctetGroups as octets;
 ghost use Rattle.trace_events.specs.Words.{is_number, is_some_and};
@@ -12,15 +12,14 @@ ghost use Rattle.trace_law.specs.View.{event_view, link_view};
 use crate::groups::HeldGroups;
 use amqp_perf::Role;
 use audit_addresses::Addresses;
-use indexmap::IndexSet;
-use number_groups::{Groups, OctetGroups};
+use number_groups::{Groups, NumberSet, OctetGroups};
 use pairing_cert::Note;
 use std::alloc::{AllocError, Global};
 use trace_law::{Event, Link};
 
 /// The number comes in, if there is one.
-fn add(touched: &mut IndexSet<u64>, number: Option<u64>) -> Result<(), AllocError>
-    ensures added { OnOk result ((n : ℕ) → contains nat_eq touched.new n ≡ (contains nat_eq touched.old n || is_number number n)) }
+fn add(touched: &mut NumberSet, number: Option<u64>) -> Result<(), AllocError>
+    ensures added { OnOk result ((n : ℕ) → is_among touched.new n ≡ (is_among touched.old n || is_number number n)) }
     ensures refused { OnErr result (is_some number ≡ true) }
 {
     if let Some(number) = number {
@@ -30,8 +29,8 @@ fn add(touched: &mut IndexSet<u64>, number: Option<u64>) -> Result<(), AllocErro
 }
 
 /// All numbers of the group come in.
-fn add_group(touched: &mut IndexSet<u64>, groups: &Groups<u64>, key: u64) -> Result<(), AllocError>
-    ensures added { OnOk result ((n : ℕ) → contains nat_eq touched.new n ≡ (contains nat_eq touched.old n || is_member nat_eq groups.now key n)) }
+fn add_group(touched: &mut NumberSet, groups: &Groups<u64>, key: u64) -> Result<(), AllocError>
+    ensures added { OnOk result ((n : ℕ) → is_among touched.new n ≡ (is_among touched.old n || is_member nat_eq groups.now key n)) }
     ensures refused { OnErr result ((n : ℕ) × (is_member nat_eq groups.now key n ≡ true)) }
 {
     for index in 0..groups.count(&key) {
@@ -42,11 +41,11 @@ fn add_group(touched: &mut IndexSet<u64>, groups: &Groups<u64>, key: u64) -> Res
 
 /// All numbers of the group of an address come in.
 fn add_waiting(
-    touched: &mut IndexSet<u64>,
+    touched: &mut NumberSet,
     groups: &OctetGroups,
     address: &[u8],
 ) -> Result<(), AllocError>
-    ensures added { OnOk result ((n : ℕ) → contains nat_eq touched.new n ≡ (contains nat_eq touched.old n || octets.is_member groups.now address.now n)) }
+    ensures added { OnOk result ((n : ℕ) → is_among touched.new n ≡ (is_among touched.old n || octets.is_member groups.now address.now n)) }
     ensures refused { OnErr result ((n : ℕ) × (octets.is_member groups.now address.now n ≡ true)) }
 {
     for index in 0..groups.count(address) {
@@ -89,12 +88,12 @@ impl HeldGroups {
     /// What a link that ended leaves comes in.
     fn add_left<A: Addresses>(
         &self,
-        touched: &mut IndexSet<u64>,
+        touched: &mut NumberSet,
         addresses: &A,
         link: &Link,
     ) -> Result<(), AllocError>
-        ensures added { OnOk result ((n : ℕ) → contains nat_eq touched.new n
-            ≡ (contains nat_eq touched.old n || law.is_left self.now (A.has_one addresses.now) n (link_view link.now))) }
+        ensures added { OnOk result ((n : ℕ) → is_among touched.new n
+            ≡ (is_among touched.old n || law.is_left self.now (A.has_one addresses.now) n (link_view link.now))) }
         ensures refused { OnErr result ((n : ℕ) × (law.is_left self.now (A.has_one addresses.now) n (link_view link.now) ≡ true)) }
     {
         add_group(touched, &self.undecided, link.number)?;
@@ -105,9 +104,9 @@ impl HeldGroups {
     }
 
     /// What the producer of a session may settle comes in.
-    fn add_settled(&self, touched: &mut IndexSet<u64>, event: &Event) -> Result<(), AllocError>
-        ensures added { OnOk result ((n : ℕ) → contains nat_eq touched.new n
-            ≡ (contains nat_eq touched.old n || is_some_and (law.settled_session (event_view event.now)) (λ session. is_member nat_eq self.now.of_session session n))) }
+    fn add_settled(&self, touched: &mut NumberSet, event: &Event) -> Result<(), AllocError>
+        ensures added { OnOk result ((n : ℕ) → is_among touched.new n
+            ≡ (is_among touched.old n || is_some_and (law.settled_session (event_view event.now)) (λ session. is_member nat_eq self.now.of_session session n))) }
         ensures refused { OnErr result ((n : ℕ)
             × (is_some_and (law.settled_session (event_view event.now)) (λ session. is_member nat_eq self.now.of_session session n) ≡ true)) }
     {
@@ -120,12 +119,12 @@ impl HeldGroups {
     /// What the links that ended leave comes in.
     fn add_all_left<A: Addresses>(
         &self,
-        touched: &mut IndexSet<u64>,
+        touched: &mut NumberSet,
         addresses: &A,
         ended: &[Link],
     ) -> Result<(), AllocError>
-        ensures added { OnOk result ((n : ℕ) → contains nat_eq touched.new n
-            ≡ (contains nat_eq touched.old n || list_any (λ l. law.is_left self.now (A.has_one addresses.now) n (link_view l)) ended.now)) }
+        ensures added { OnOk result ((n : ℕ) → is_among touched.new n
+            ≡ (is_among touched.old n || list_any (λ l. law.is_left self.now (A.has_one addresses.now) n (link_view l)) ended.now)) }
         ensures refused { OnErr result ((n : ℕ) × (list_any (λ l. law.is_left self.now (A.has_one addresses.now) n (link_view l)) ended.now ≡ true)) }
     {
         for link in ended {
@@ -145,13 +144,13 @@ impl HeldGroups {
         addresses: &A,
         ended: &[Link],
         event: &Event,
-    ) -> Result<IndexSet<u64>, AllocError>
-        ensures found { IfOk result (λ touched. (n : ℕ) → contains nat_eq touched n
+    ) -> Result<NumberSet, AllocError>
+        ensures found { IfOk result (λ touched. (n : ℕ) → is_among touched n
             ≡ law.may_touch self.now (A.has_one addresses.now) (map link_view ended.now) (event_view event.now) n) }
         ensures refused { OnErr result ((n : ℕ)
             × (law.may_touch self.now (A.has_one addresses.now) (map link_view ended.now) (event_view event.now) n ≡ true)) }
     {
-        let mut touched = IndexSet::new(alloc);
+        let mut touched = NumberSet::new(alloc);
         add(&mut touched, part_number(event))?;
         add(&mut touched, event.told)?;
         add(&mut touched, carried_number(event))?;

@@ -2,7 +2,7 @@
 
 ghost use Rattle.std.specs.Prelude.{◌≡◌, ◌∷◌, ◌++◌, List, [], None, OnOk, map, nat_eq, option_map};
 ghost use Rattle.std.specs.Option.{option_copied};
-ghost use Rattle.indexmap.specs.IndexSet.{contains};
+ghost use Rattle.number_groups.specs.Numbers.{is_among};
 ghost use Rattle.capture_form.specs.Rules.{RuleText};
 ghost use Rattle.capture_form.specs.declared.records.Record.{Record};
 ghost use Rattle.trace_events.specs.Words.{or_else};
@@ -26,8 +26,8 @@ use crate::begun::LastNumbers;
 use crate::groups::{IdOn, SentGroups};
 use crate::payload::goes_on_with;
 use crate::sent::SentDelivery;
-use indexmap::{IndexMap, IndexSet};
-use number_groups::Groups;
+use indexmap::IndexMap;
+use number_groups::{Groups, NumberSet};
 use std::alloc::{AllocError, Global};
 use trace_law::{Event, Link};
 
@@ -157,8 +157,8 @@ impl SentDeliveries {
     }
 
     /// The event touches each of these.
-    fn touch_all(&mut self, mut touched: IndexSet<u64>, event: &Event) -> Result<(), AllocError>
-        ensures touched { OnOk result (AreMovedBy (contains nat_eq touched) (event_view event.now) self.old self.new) }
+    fn touch_all(&mut self, mut touched: NumberSet, event: &Event) -> Result<(), AllocError>
+        ensures touched { OnOk result (AreMovedBy (is_among touched) (event_view event.now) self.old self.new) }
         ensures grouped { OnOk result (AreGrouped self.old.groups (sent_in self.old) → AreGrouped self.new.groups (sent_in self.new)) }
         ensures same { OnOk result (self.new.begun ≡ self.old.begun) }
     {

@@ -3,7 +3,7 @@
 ghost use Rattle.std.specs.Prelude.{◌≡◌, ◌<◌, ◌^◌, ℕ, ◌||◌, IfOk, IfSome, OnOk, map, nat_eq};
 ghost use Rattle.std.specs.List.{list_any};
 ghost use Rattle.amqp_perf.specs.View.{disposition_fields};
-ghost use Rattle.indexmap.specs.IndexSet.{contains};
+ghost use Rattle.number_groups.specs.Numbers.{is_among};
 ghost use Rattle.number_groups.specs.Groups.{is_member};
 ghost use Rattle.trace_events.specs.Words.{is_number, is_some_and};
 ghost use Rattle.audit_sent.specs.Ids.{same_id};
@@ -12,14 +12,13 @@ ghost use Rattle.trace_law.specs.View.{event_view, link_view};
 
 use crate::groups::{IdOn, SentGroups};
 use amqp_perf::{Disposition, Role};
-use indexmap::IndexSet;
-use number_groups::Groups;
+use number_groups::{Groups, NumberSet};
 use std::alloc::{AllocError, Global};
 use trace_law::{Event, Link};
 
 /// The number comes in, if there is one.
-fn add(touched: &mut IndexSet<u64>, number: Option<u64>) -> Result<(), AllocError>
-    ensures { OnOk result ((n : ℕ) → contains nat_eq touched.new n ≡ (contains nat_eq touched.old n || is_number number n)) }
+fn add(touched: &mut NumberSet, number: Option<u64>) -> Result<(), AllocError>
+    ensures { OnOk result ((n : ℕ) → is_among touched.new n ≡ (is_among touched.old n || is_number number n)) }
 {
     if let Some(number) = number {
         touched.insert(number)?;
@@ -28,8 +27,8 @@ fn add(touched: &mut IndexSet<u64>, number: Option<u64>) -> Result<(), AllocErro
 }
 
 /// All numbers of the group come in.
-fn add_group(touched: &mut IndexSet<u64>, groups: &Groups<u64>, key: u64) -> Result<(), AllocError>
-    ensures { OnOk result ((n : ℕ) → contains nat_eq touched.new n ≡ (contains nat_eq touched.old n || is_member nat_eq groups.now key n)) }
+fn add_group(touched: &mut NumberSet, groups: &Groups<u64>, key: u64) -> Result<(), AllocError>
+    ensures { OnOk result ((n : ℕ) → is_among touched.new n ≡ (is_among touched.old n || is_member nat_eq groups.now key n)) }
 {
     for index in 0..groups.count(&key) {
         add(touched, groups.get(&key, index))?;
@@ -39,11 +38,11 @@ fn add_group(touched: &mut IndexSet<u64>, groups: &Groups<u64>, key: u64) -> Res
 
 /// All numbers of the group of an id come in.
 fn add_group_of_id(
-    touched: &mut IndexSet<u64>,
+    touched: &mut NumberSet,
     groups: &Groups<IdOn>,
     key: IdOn,
 ) -> Result<(), AllocError>
-    ensures { OnOk result ((n : ℕ) → contains nat_eq touched.new n ≡ (contains nat_eq touched.old n || is_member same_id groups.now key n)) }
+    ensures { OnOk result ((n : ℕ) → is_among touched.new n ≡ (is_among touched.old n || is_member same_id groups.now key n)) }
 {
     for index in 0..groups.count(&key) {
         add(touched, groups.get(&key, index))?;
@@ -111,9 +110,9 @@ fn answered_session(event: &Event) -> Option<u64>
 
 impl SentGroups {
     /// What its consumer speaks of comes in, where it names one id.
-    fn add_answered(&self, touched: &mut IndexSet<u64>, id: Option<IdOn>) -> Result<(), AllocError>
-        ensures { OnOk result ((n : ℕ) → contains nat_eq touched.new n
-            ≡ (contains nat_eq touched.old n || is_some_and id (λ at. is_member same_id self.now.of_id at n))) }
+    fn add_answered(&self, touched: &mut NumberSet, id: Option<IdOn>) -> Result<(), AllocError>
+        ensures { OnOk result ((n : ℕ) → is_among touched.new n
+            ≡ (is_among touched.old n || is_some_and id (λ at. is_member same_id self.now.of_id at n))) }
     {
         match id {
             Some(at) => add_group_of_id(touched, &self.of_id, at),
@@ -122,13 +121,9 @@ impl SentGroups {
     }
 
     /// What stands on its session, where it names more.
-    fn add_session(
-        &self,
-        touched: &mut IndexSet<u64>,
-        session: Option<u64>,
-    ) -> Result<(), AllocError>
-        ensures { OnOk result ((n : ℕ) → contains nat_eq touched.new n
-            ≡ (contains nat_eq touched.old n || is_some_and session (λ number. is_member nat_eq self.now.of_session number n))) }
+    fn add_session(&self, touched: &mut NumberSet, session: Option<u64>) -> Result<(), AllocError>
+        ensures { OnOk result ((n : ℕ) → is_among touched.new n
+            ≡ (is_among touched.old n || is_some_and session (λ number. is_member nat_eq self.now.of_session number n))) }
     {
         match session {
             Some(number) => add_group(touched, &self.of_session, number),
@@ -137,9 +132,9 @@ impl SentGroups {
     }
 
     /// What stands on the links that ended.
-    fn add_all_of(&self, touched: &mut IndexSet<u64>, ended: &[Link]) -> Result<(), AllocError>
-        ensures { OnOk result ((n : ℕ) → contains nat_eq touched.new n
-            ≡ (contains nat_eq touched.old n || list_any (λ l. is_member nat_eq self.now.of_link (link_view l).number n) ended.now)) }
+    fn add_all_of(&self, touched: &mut NumberSet, ended: &[Link]) -> Result<(), AllocError>
+        ensures { OnOk result ((n : ℕ) → is_among touched.new n
+            ≡ (is_among touched.old n || list_any (λ l. is_member nat_eq self.now.of_link (link_view l).number n) ended.now)) }
     {
         for link in ended {
             add_group(touched, &self.of_link, link.number)?;
@@ -157,11 +152,11 @@ impl SentGroups {
         alloc: Global,
         ended: &[Link],
         event: &Event,
-    ) -> Result<IndexSet<u64>, AllocError>
-        ensures touched { IfOk result (λ touched. (n : ℕ) → contains nat_eq touched n ≡ law.may_touch self.now (map link_view ended.now) (event_view event.now) n) }
+    ) -> Result<NumberSet, AllocError>
+        ensures touched { IfOk result (λ touched. (n : ℕ) → is_among touched n ≡ law.may_touch self.now (map link_view ended.now) (event_view event.now) n) }
         ensures counted { OnOk result (IfSome (law.answered_id (event_view event.now)) (λ at. at.id < 2 ^ 32)) }
     {
-        let mut touched = IndexSet::new(alloc);
+        let mut touched = NumberSet::new(alloc);
         let id = answered_id(event);
         add(&mut touched, part_number(event))?;
         add(&mut touched, event.settled)?;

@@ -1,15 +1,18 @@
 //! Sets of numbers, each under a key: the links of an address, say.
 //!
-//! In reading order: `group` has the numbers of one key; `groups` has keys that are copied, as numbers or pairs of them; `octet_groups` has keys of octets. Each call
-//! takes the time of a look-up, however many numbers and keys there are.
+//! In reading order: `group` has the numbers of one key, `number_set` some numbers without one; `groups` has keys that are
+//! copied, as numbers or pairs of them; `octet_groups` has keys of octets. Each call takes the time of a look-up, however many
+//! numbers and keys there are.
 #![tactic(auto)]
 
 mod group;
 mod groups;
+mod number_set;
 mod octet_groups;
 #[cfg(test)]
 mod tests;
 
 pub use group::Group;
 pub use groups::Groups;
+pub use number_set::NumberSet;
 pub use octet_groups::OctetGroups;

@@ -56,3 +56,17 @@ fn octets_are_keys(rt: HostRuntime) -> Result<(), Fail> {
     assert!(rt; groups.is_empty(b"q") && !groups.is_empty(b""));
     Ok(())
 }
+
+#[test]
+fn numbers_come_once(rt: HostRuntime) -> Result<(), Fail> {
+    let mut numbers = NumberSet::new(rt.alloc());
+    assert_eq!(rt; numbers.pop(), None);
+    for number in [40, 40, 41, 40, 42] {
+        numbers.insert(number)?;
+    }
+    assert_eq!(rt; numbers.pop(), Some(42));
+    assert_eq!(rt; numbers.pop(), Some(41));
+    assert_eq!(rt; numbers.pop(), Some(40));
+    assert_eq!(rt; numbers.pop(), None);
+    Ok(())
+}

@@ -1,6 +1,6 @@
 use Rattle.std.proofs.Common.{◌≡◌, inl, inr, ap, sym, ◌∙◌, ℕ, map, nat_eq, Some, false, if◌then◌else◌, ◌==◌, ◌∷◌}
 use Rattle.std.proofs.lemmas.Result.{err_from_is_err_and}
-use Rattle.indexmap.specs.IndexSet.{contains}
+use Rattle.number_groups.specs.Numbers.{is_among}
 use Rattle.trace_events.specs.Words.{is_some_and, or_else}
 use Rattle.trace_events.specs.Incoming.{address_of, incoming_begun}
 use Rattle.trace_events.specs.History.{history}
@@ -24,7 +24,7 @@ returns-clause-kept g c = λ records r next table same ends.
     let ended = map link_view c.args.ended.now in
     let old = held_in c.args.self.now in
     let mid = held_in c.touch_all.new.self in
-    let all = contains nat_eq c.in_ok-touched.touched in
+    let all = is_among c.in_ok-touched.touched in
     let of = ended-of rules e past has ended old table.0 (are-ended rules e past are has same ended ends) in
     let off : (n : ℕ) (x : Held) → old n ≡ Some x → all n ≡ false → is_touched e (has (address_of x.delivery)) x ≡ false = λ n x at none. found c.args.self.now.groups old table.1 n x at has ended e of (sym (c.in_ok-touched.ensures.found n) ∙ none) in
     let put : (n : ℕ) → held_in c.begin.new.self n ≡ (if e.number == n then or_else (held_begun rules e (is_some_and (incoming_begun e) (λ d. has (address_of d)))) (mid n) else mid n) = λ n. c.in_ok-begin.ensures.begun n ∙ ap (λ b. if e.number == n then or_else (held_begun rules e b) (mid n) else mid n) c.begins_served-has_consumer.ensures in (

@@ -1,24 +1,24 @@
 use Rattle.std.proofs.Common.{nat_eq}
 use Rattle.std.proofs.lemmas.List.Folds.{list_any_at}
 use Rattle.std.proofs.lemmas.Result.{err_from_is_err_and}
-use Rattle.indexmap.specs.IndexSet.{contains}
+use Rattle.number_groups.specs.Numbers.{is_among}
 use Rattle.audit_held.specs.Touched as law
 use Rattle.trace_law.specs.View.{link_view}
 use Rattle.audit_held.proofs.GroupLists.{nothing-yet, each-more, each-in}
 use Rattle.audit_held.proofs.groups.HeldGroups.add_all_left.Goals as goal
 
 pub loop-link-init : goal.loop-link-init
-loop-link-init g c = λ n. nothing-yet (λ link. law.is_left c.args.self.now (g.A.Addresses.has_one c.args.addresses.now) n (link_view link)) c.args.ended.now (contains nat_eq c.args.touched.now n)
+loop-link-init g c = λ n. nothing-yet (λ link. law.is_left c.args.self.now (g.A.Addresses.has_one c.args.addresses.now) n (link_view link)) c.args.ended.now (is_among c.args.touched.now n)
 
 pub loop-link-preserved : goal.loop-link-preserved
 loop-link-preserved g c = λ n.
     each-more (λ link. law.is_left c.args.self.now (g.A.Addresses.has_one c.args.addresses.now) n (link_view link)) c.args.ended.now c.loop-link.link-index _
-    (contains nat_eq c.args.touched.now n) _ _ c.loop-link-test.true (c.loop-link.invariant n) (c.in_ok-add_left.ensures.added n)
+    (is_among c.args.touched.now n) _ _ c.loop-link-test.true (c.loop-link.invariant n) (c.in_ok-add_left.ensures.added n)
 
 pub returns-clause-added : goal.returns-clause-added
 returns-clause-added g c = λ n.
     each-in (λ link. law.is_left c.args.self.now (g.A.Addresses.has_one c.args.addresses.now) n (link_view link)) c.args.ended.now c.loop-link.link-index
-    (contains nat_eq c.args.touched.now n) _ c.loop-link-test.false (c.loop-link.invariant n)
+    (is_among c.args.touched.now n) _ c.loop-link-test.false (c.loop-link.invariant n)
 
 pub returns-in_err-add_left-clause-refused : goal.returns-in_err-add_left-clause-refused
 returns-in_err-add_left-clause-refused g c =

@@ -10,7 +10,7 @@ use Rattle.audit_held.proofs.groups.HeldGroups.touched.Goals as goal
 
 pub returns-clause-found : goal.returns-clause-found
 returns-clause-found g c = λ n.
-    five-in _ _ _ _ _ _ _ _ _ _ _ _ _ _ (ap (list_any (nat_eq n)) c.new-touched.ensures.empty) (c.in_ok-add.ensures.added n) (c.in_ok-add-2.ensures.added n) (c.in_ok-add-3.ensures.added n) (c.in_ok-add_settled.ensures.added n) (c.in_ok-add_all_left.ensures.added n)
+    five-in _ _ _ _ _ _ _ _ _ _ _ _ _ _ (ap (list_any (nat_eq n)) c.new-touched.ensures) (c.in_ok-add.ensures.added n) (c.in_ok-add-2.ensures.added n) (c.in_ok-add-3.ensures.added n) (c.in_ok-add_settled.ensures.added n) (c.in_ok-add_all_left.ensures.added n)
     (ap (λ o. is_number o n) c.part_number.ensures) (ap (λ o. is_number o n) c.carried_number.ensures)
     (any-map link_view (law.is_left c.args.self.now (g.A.Addresses.has_one c.args.addresses.now) n) c.args.ended.now)
 

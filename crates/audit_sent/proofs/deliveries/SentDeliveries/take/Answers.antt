@@ -1,5 +1,5 @@
 use Rattle.std.proofs.Common.{◌≡◌, sym, subst, ◌∙◌, ℕ, map, nat_eq, Some, false, ◌∷◌}
-use Rattle.indexmap.specs.IndexSet.{contains}
+use Rattle.number_groups.specs.Numbers.{is_among}
 use Rattle.trace_events.specs.History.{history}
 use Rattle.trace_events.proofs.Judged.{AreJudged, history-judged}
 use Rattle.trace_law.specs.View.{event_view, link_view}
@@ -20,7 +20,7 @@ returns c = λ rules records r next table ends.
     let ended = map link_view c.args.ended.now in
     let old = sent_in c.args.self.now in
     let mid = sent_in c.touch_all.new.self in
-    let all = contains nat_eq c.in_ok-touched.touched in
+    let all = is_among c.in_ok-touched.touched in
     let groups = c.args.self.now.groups in
     let off : (n : ℕ) (x : Sent) → old n ≡ Some x → all n ≡ false → touches e x ≡ false = λ n x at none.
     found groups old table.groups n x at e ended c.in_ok-touched.ensures.counted

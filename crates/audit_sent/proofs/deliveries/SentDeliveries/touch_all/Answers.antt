@@ -1,12 +1,12 @@
 use Rattle.std.proofs.Common.{refl, ◌∙◌, nat_eq, arith}
-use Rattle.indexmap.specs.IndexSet.{contains}
+use Rattle.number_groups.specs.Numbers.{is_among}
 use Rattle.trace_law.specs.View.{event_view}
 use Rattle.audit_sent.specs.SentTables.{sent_in}
 use Rattle.audit_sent.proofs.SentTaken.{nothing-moved, all-moved, still-within, one-more, popped-in, none-left}
 use Rattle.audit_sent.proofs.deliveries.SentDeliveries.touch_all.Goals as goal
 
 pub loop-number-init : goal.loop-number-init
-loop-number-init c = ((λ n is. is), (λ n. nothing-moved (event_view c.args.event.now) (sent_in c.args.self.now n) (contains nat_eq c.args.touched n)), (λ grouped. grouped), refl)
+loop-number-init c = ((λ n is. is), (λ n. nothing-moved (event_view c.args.event.now) (sent_in c.args.self.now n) (is_among c.args.touched n)), (λ grouped. grouped), refl)
 
 pub loop-number-smaller : goal.loop-number-smaller
 loop-number-smaller c = let len = c.in-Some.ensures.len in omega (arith, len)
@@ -14,19 +14,19 @@ loop-number-smaller c = let len = c.in-Some.ensures.len in omega (arith, len)
 pub loop-number-preserved : goal.loop-number-preserved
 loop-number-preserved c =
     let e = event_view c.args.event.now in
-    let left = popped-in c.loop-number.touched.keys c.pop.new.self.keys c.in-Some.number c.in-Some.ensures.keys in (
-      still-within e (sent_in c.args.self.now) (sent_in c.loop-number.self) (sent_in c.touch.new.self) (contains nat_eq c.args.touched) (contains nat_eq c.loop-number.touched) (contains nat_eq c.pop.new.self) c.in-Some.number
-          c.loop-number.invariant.0 c.loop-number.invariant.1 c.in-Some.ensures.updates.0 left c.in_ok-touch.ensures.touched,
-      one-more e (sent_in c.args.self.now) (sent_in c.loop-number.self) (sent_in c.touch.new.self) (contains nat_eq c.args.touched) (contains nat_eq c.loop-number.touched) (contains nat_eq c.pop.new.self) c.in-Some.number
-          c.loop-number.invariant.0 c.loop-number.invariant.1 c.in-Some.ensures.updates.0 left c.in_ok-touch.ensures.touched,
+    let left = popped-in c.loop-number.touched c.pop.new.self c.in-Some.number c.in-Some.ensures.last in (
+      still-within e (sent_in c.args.self.now) (sent_in c.loop-number.self) (sent_in c.touch.new.self) (is_among c.args.touched) (is_among c.loop-number.touched) (is_among c.pop.new.self) c.in-Some.number
+          c.loop-number.invariant.0 c.loop-number.invariant.1 c.in-Some.ensures.left left c.in_ok-touch.ensures.touched,
+      one-more e (sent_in c.args.self.now) (sent_in c.loop-number.self) (sent_in c.touch.new.self) (is_among c.args.touched) (is_among c.loop-number.touched) (is_among c.pop.new.self) c.in-Some.number
+          c.loop-number.invariant.0 c.loop-number.invariant.1 c.in-Some.ensures.left left c.in_ok-touch.ensures.touched,
       (λ grouped. c.in_ok-touch.ensures.grouped (c.loop-number.invariant.2 grouped)),
       c.in_ok-touch.ensures.same ∙ c.loop-number.invariant.3,
     )
 
 pub returns-clause-touched : goal.returns-clause-touched
 returns-clause-touched c = λ n.
-    let none = none-left c.loop-number.touched.keys n c.in_default.ensures.found.1 in
-    all-moved (event_view c.args.event.now) (sent_in c.args.self.now n) (contains nat_eq c.args.touched n) (contains nat_eq c.loop-number.touched n) _ none (c.loop-number.invariant.1 n)
+    let none = none-left c.loop-number.touched n c.in_default.ensures.found.1 in
+    all-moved (event_view c.args.event.now) (sent_in c.args.self.now n) (is_among c.args.touched n) (is_among c.loop-number.touched n) _ none (c.loop-number.invariant.1 n)
 
 pub returns-clause-grouped : goal.returns-clause-grouped
 returns-clause-grouped c = c.loop-number.invariant.2

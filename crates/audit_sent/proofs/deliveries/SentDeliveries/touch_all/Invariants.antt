@@ -1,5 +1,5 @@
 use Rattle.std.proofs.Common.{◌≡◌, ℕ, true, ◌&&◌, not, nat_eq, length, if◌then◌else◌}
-use Rattle.indexmap.specs.IndexSet.{contains}
+use Rattle.number_groups.specs.Numbers.{is_among}
 use Rattle.trace_law.specs.View.{event_view}
 use Rattle.audit_sent.specs.SentGrouped.{AreGrouped}
 use Rattle.audit_sent.specs.SentTables.{sent_in}
@@ -8,10 +8,10 @@ use Rattle.audit_sent.proofs.deliveries.SentDeliveries.touch_all.Given as goal
 
 abbrev pub invariant-loop-number : goal.invariant-loop-number
 invariant-loop-number l =
-    ((n : ℕ) → contains nat_eq l.touched n ≡ true → contains nat_eq l.fn.touched n ≡ true)
-    × ((n : ℕ) → sent_in l.self n ≡ (if contains nat_eq l.fn.touched n && not (contains nat_eq l.touched n) then on (event_view l.event) (sent_in l.fn.self n) else sent_in l.fn.self n))
+    ((n : ℕ) → is_among l.touched n ≡ true → is_among l.fn.touched n ≡ true)
+    × ((n : ℕ) → sent_in l.self n ≡ (if is_among l.fn.touched n && not (is_among l.touched n) then on (event_view l.event) (sent_in l.fn.self n) else sent_in l.fn.self n))
     × (AreGrouped l.fn.self.groups (sent_in l.fn.self) → AreGrouped l.self.groups (sent_in l.self))
     × (l.self.begun ≡ l.fn.self.begun)
 
 abbrev pub decreases-loop-number : goal.decreases-loop-number
-decreases-loop-number l = length l.touched.keys
+decreases-loop-number l = length l.touched
