@@ -14,8 +14,9 @@ use std::alloc::Global;
 use std::collections::VecDeque;
 use std::sync::Wait;
 
-/// The most octets of one read: some dozens of small messages, so that no connection keeps its worker long.
-const BUFFER: usize = 4096;
+/// The most octets of one read: those of the largest frame, or of some hundred small messages, so that no connection keeps its
+/// worker long.
+const BUFFER: usize = 16384;
 
 /// Serves these gates to their ends, one after the other in each round. Where a round moves nothing, it waits a little at
 /// one gate, the next in turn. It tells the other workers where it stops, and stops where one of these has.

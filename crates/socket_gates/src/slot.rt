@@ -223,8 +223,9 @@ impl<R: Wait> Gate for Slot<R> {
         if let Place::Taken(mut connection) = mem::replace(&mut self.place, Place::Shut) {
             connection.shut();
             self.station.dismiss(&self.rt, connection.key());
-            // Its descriptor may be what a connection waits for that could not be accepted.
-            self.station.one_may_be_there();
+            // Here its descriptor is let go.
+            drop(connection);
+            self.stations.one_may_be_there();
         }
     }
 

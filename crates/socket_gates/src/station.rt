@@ -16,6 +16,10 @@ use std::time::Duration;
 /// The longest wait for a sign, in milliseconds.
 const PATIENCE: u64 = 10;
 
+/// So many times a worker looks for signs before it waits for them, where there were some a moment ago. To be put to sleep and
+/// woken takes longer than these looks, and what a client or another worker answers often comes while they last.
+const LOOKS: u32 = 40;
+
 /// So many deliveries a worker takes before it looks at the signs of its other sockets: often enough that they need not wait
 /// long, and seldom enough that the looks cost little.
 const DELIVERIES: u64 = 16;
@@ -29,6 +33,8 @@ pub(crate) struct Station {
     is_waiting: AtomicBool,
     // Since the last wait.
     was_called: AtomicBool,
+    // The last wait ended by a sign, a call or a connection.
+    was_busy: AtomicBool,
     // Octets were delivered, of which the other workers were not told yet.
     has_delivered: AtomicBool,
     // How many deliveries there were since the last look at the signs.
@@ -57,6 +63,7 @@ impl Station {
             waker,
             is_waiting: AtomicBool::new(false),
             was_called: AtomicBool::new(false),
+            was_busy: AtomicBool::new(false),
             has_delivered: AtomicBool::new(false),
             deliveries: AtomicU64::new(0),
             may_accept: AtomicBool::new(true),
@@ -136,13 +143,45 @@ impl Station {
     ///
     /// Where the poll fails.
     pub(crate) fn wait(&self, rt: &impl Wait) -> io::Result<bool> {
+        if self.was_busy.load(Ordering::SeqCst) && self.look_often(rt)? {
+            return Ok(true);
+        }
+        let any = self.wait_once(rt)?;
+        self.was_busy.store(any, Ordering::SeqCst);
+        Ok(any)
+    }
+
+    /// Looks for a sign, a call or a connection to accept a few times, without waiting. Answers whether there was any.
+    ///
+    /// # Errors
+    ///
+    /// Where the poll fails.
+    fn look_often(&self, rt: &impl Wait) -> io::Result<bool> {
+        for _ in 0..LOOKS {
+            if self.is_pressed() || self.poll(rt, Duration::from_millis(0))? {
+                return Ok(true);
+            }
+        }
+        Ok(false)
+    }
+
+    /// Waits for a sign, for a connection to accept or for a call. Answers whether there was any.
+    ///
+    /// # Errors
+    ///
+    /// Where the poll fails.
+    fn wait_once(&self, rt: &impl Wait) -> io::Result<bool> {
         self.is_waiting.store(true, Ordering::SeqCst);
-        let called = self.was_called.swap(false, Ordering::SeqCst);
-        let pressing = called || self.may_take_connection();
-        let patience = if pressing { 0 } else { PATIENCE };
+        let pressed = self.is_pressed();
+        let patience = if pressed { 0 } else { PATIENCE };
         let polled = self.poll(rt, Duration::from_millis(patience));
         self.is_waiting.store(false, Ordering::SeqCst);
-        Ok(pressing || polled?)
+        Ok(pressed || polled?)
+    }
+
+    /// Whether a call came since this was asked last, or a slot may take a connection.
+    fn is_pressed(&self) -> bool {
+        self.was_called.swap(false, Ordering::SeqCst) || self.may_take_connection()
     }
 
     /// Looks for signs without waiting, if there were many deliveries since the last look. A worker waits only where none of
@@ -192,6 +231,14 @@ impl Stations {
         requires { 0 < vec_len self.now.stations }
     {
         &self.stations[slot as usize % self.stations.len()]
+    }
+
+    /// A descriptor is free again, which may be what a connection waits for that no worker could accept.
+    pub(crate) fn one_may_be_there(&self) {
+        for station in self.stations.iter() {
+            station.one_may_be_there();
+            station.end_wait();
+        }
     }
 
     /// Ends the waits of all other workers, if octets were delivered to this one since the last time: behind a delivery
