@@ -5,7 +5,7 @@ use Rattle.number_groups.specs.OctetGroups as octets
 use Rattle.trace_events.specs.Words.{is_some_and}
 use Rattle.trace_events.specs.Event.{Incoming}
 use Rattle.audit_held.specs.Held.{Held, says_arriving, says_waiting}
-use Rattle.audit_held.specs.Ids.{same_id}
+use Rattle.number_groups.specs.Ids.{same_id}
 use Rattle.audit_held.specs.Grouped.{AreGrouped, IsPut, marks_of, unmarked, is_of_link, is_of_session, has_id, is_for}
 use Rattle.audit_held.specs.declared.groups.HeldGroups.{HeldGroups}
 use Rattle.audit_held.specs.declared.groups.Marks.{Marks}

@@ -6,9 +6,9 @@ use Rattle.trace_events.specs.Words.{is_number, is_some_and}
 use Rattle.trace_events.specs.Event.{Incoming}
 use Rattle.trace_events.specs.Incoming.{address_of}
 use Rattle.audit_held.specs.Held.{Held, says_arriving, says_waiting}
-use Rattle.audit_held.specs.Ids.{same_id}
+use Rattle.number_groups.specs.Ids.{same_id}
 use Rattle.audit_held.specs.declared.groups.HeldGroups.{HeldGroups}
-use Rattle.audit_held.specs.declared.groups.IdOn.{IdOn}
+use Rattle.number_groups.specs.declared.id_on.IdOn.{IdOn}
 use Rattle.audit_held.specs.declared.groups.Marks.{Marks}
 
 -- what a delivery is found by: none where it is not kept

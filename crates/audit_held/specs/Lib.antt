@@ -1,7 +1,6 @@
 pub mod Held
 pub mod HeldViews
 pub mod HeldTouched
-pub mod Ids
 pub mod Grouped
 pub mod Touched
 pub mod HeldTables

@@ -12,7 +12,7 @@ ghost use Rattle.audit_held.specs.EntryAnswers.{Knows};
 ghost use Rattle.audit_held.specs.HeldTables.{AreHeld, IsHistory, IsTable, held_in};
 
 use crate::deliveries::Deliveries;
-use crate::groups::IdOn;
+use number_groups::IdOn;
 use trace_events::Session;
 use trace_law::{Incoming, Link};
 

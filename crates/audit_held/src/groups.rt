@@ -6,11 +6,11 @@ ghost use Rattle.number_groups.specs.Groups.{is_member};
 ghost use Rattle.number_groups.specs.OctetGroups as octets;
 ghost use Rattle.audit_held.specs.Grouped.{AreGrouped, IsPut, marks_of, unmarked};
 ghost use Rattle.audit_held.specs.HeldViews.{held_view};
-ghost use Rattle.audit_held.specs.Ids.{same_id};
+ghost use Rattle.number_groups.specs.Ids.{same_id};
 ghost use Rattle.trace_law.specs.View.{incoming_view};
 
 use crate::held::HeldDelivery;
-use number_groups::{Groups, OctetGroups};
+use number_groups::{Groups, IdOn, OctetGroups};
 use std::alloc::{AllocError, Global};
 use trace_law::Incoming;
 
@@ -33,13 +33,6 @@ impl Marks {
             is_waiting: is_kept && held.is_waiting(),
         }
     }
-}
-
-/// The id of a delivery, on its session.
-#[derive(Clone, Copy, PartialEq, Eq, Hash)]
-pub(crate) struct IdOn {
-    pub(crate) session: u64,
-    pub(crate) id: u32,
 }
 
 /// The numbers of the deliveries that are kept, in groups.

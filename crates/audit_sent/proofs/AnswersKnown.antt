@@ -19,13 +19,13 @@ use Rattle.trace_events.proofs.SettlingSteps.{is_to_settle-parts}
 use Rattle.trace_clauses.specs.TransferClause.{carried_before}
 use Rattle.number_groups.specs.Groups.{numbers}
 use Rattle.audit_sent.specs.Earliest.{least}
-use Rattle.audit_sent.specs.Ids.{same_id}
+use Rattle.number_groups.specs.Ids.{same_id}
 use Rattle.audit_sent.specs.LastBegun.{carrier_number, last_number}
 use Rattle.audit_sent.specs.Sent.{IsKnownTo, Sent, sent, outgoing_at, sent_at, is_left_unsettled}
 use Rattle.audit_sent.specs.SentAnswers.{AreClosings, Knows, KnowsOrBegins, carried, closes, decided, delivery_in, is_settleable, number_of, says_sent, unsent}
 use Rattle.audit_sent.specs.SentTables.{AreSent, IsTable, sent_in}
 use Rattle.audit_sent.specs.declared.deliveries.SentDeliveries.{SentDeliveries}
-use Rattle.audit_sent.specs.declared.groups.IdOn.{IdOn}
+use Rattle.number_groups.specs.declared.id_on.IdOn.{IdOn}
 use Rattle.audit_sent.proofs.Carriers.{paired-entry, pairing-entry}
 use Rattle.audit_sent.proofs.LastBegun.{carried-entry, progress-entry, progress-known}
 use Rattle.audit_sent.proofs.SentBegun.{at-number, found-below, sent-none}

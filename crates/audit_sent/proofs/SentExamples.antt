@@ -17,10 +17,10 @@ use Rattle.trace_events.specs.History.{history, judge}
 use Rattle.trace_clauses.specs.Written.{spoken_octets}
 use Rattle.trace_clauses.proofs.Made.{from, to, carry, tell, gives, first, next, with_more, as_settled, disposes, accepted, released, detach_of, hi, sent, sent_by}
 use Rattle.audit_sent.specs.Sent.{Sent, sent_at, sent_next, sent_begun, sent_behind, begins_number, ends_delivery, decided_with, takes_state, to_settle, goes_on_with}
-use Rattle.audit_sent.specs.Ids.{same_id}
+use Rattle.number_groups.specs.Ids.{same_id}
 use Rattle.audit_sent.specs.SentGrouped.{is_of_link, is_of_session, has_id}
 use Rattle.audit_sent.specs.SentTouched.{touches, part_number, answered_id, answered_session}
-use Rattle.audit_sent.specs.declared.groups.IdOn.{IdOn}
+use Rattle.number_groups.specs.declared.id_on.IdOn.{IdOn}
 
 -- how many octets were sent, whether the last part is, the octets of the state that is decided, and whether it is unsettled
 abbrev Shown : Type 0

@@ -19,11 +19,11 @@ use Rattle.trace_events.proofs.Judged.{AreJudged}
 use Rattle.trace_clauses.proofs.LinkEnds.{lives-live}
 use Rattle.trace_clauses.proofs.WaitingQueue.{contains_none, contains_cases}
 use Rattle.audit_sent.specs.Sent.{Sent, sent_at}
-use Rattle.audit_sent.specs.Ids.{same_id}
+use Rattle.number_groups.specs.Ids.{same_id}
 use Rattle.audit_sent.specs.SentGrouped.{AreGrouped, is_of_link, is_of_session, has_id}
 use Rattle.audit_sent.specs.SentTouched.{touches, part_number, names_one, names_more, answered_id, answered_session, may_touch}
 use Rattle.audit_sent.specs.declared.groups.SentGroups.{SentGroups}
-use Rattle.audit_sent.specs.declared.groups.IdOn.{IdOn}
+use Rattle.number_groups.specs.declared.id_on.IdOn.{IdOn}
 use Rattle.audit_sent.proofs.SentKnown.{sent-of}
 use Rattle.audit_sent.proofs.SentLinks.{found-linked}
 

@@ -1,6 +1,5 @@
 pub mod Sent
 pub mod SentViews
-pub mod Ids
 pub mod SentGrouped
 pub mod SentTouched
 pub mod Earliest

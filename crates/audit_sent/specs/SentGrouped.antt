@@ -4,9 +4,9 @@ use Rattle.number_groups.specs.Groups.{is_member}
 use Rattle.trace_events.specs.Words.{is_number, is_some_and}
 use Rattle.trace_events.specs.Event.{Outgoing}
 use Rattle.audit_sent.specs.Sent.{Sent}
-use Rattle.audit_sent.specs.Ids.{same_id}
+use Rattle.number_groups.specs.Ids.{same_id}
 use Rattle.audit_sent.specs.declared.groups.SentGroups.{SentGroups}
-use Rattle.audit_sent.specs.declared.groups.IdOn.{IdOn}
+use Rattle.number_groups.specs.declared.id_on.IdOn.{IdOn}
 
 -- the keys of a delivery: its link, its session, its id there
 abbrev pub is_of_link : ℕ → Outgoing → Bool

@@ -10,9 +10,9 @@ use Rattle.trace_events.specs.Ends.{ends_link}
 use Rattle.trace_events.specs.Link.{is_receiver}
 use Rattle.trace_events.specs.Outgoing.{is_part, answering}
 use Rattle.audit_sent.specs.Sent.{Sent}
-use Rattle.audit_sent.specs.Ids.{same_id}
+use Rattle.number_groups.specs.Ids.{same_id}
 use Rattle.audit_sent.specs.declared.groups.SentGroups.{SentGroups}
-use Rattle.audit_sent.specs.declared.groups.IdOn.{IdOn}
+use Rattle.number_groups.specs.declared.id_on.IdOn.{IdOn}
 
 -- the event touches a delivery: it is a part of it; or it is still unsettled, and its consumer says something of it, the event
 -- ends its link, or the router settles it

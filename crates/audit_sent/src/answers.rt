@@ -17,7 +17,7 @@ ghost use Rattle.trace_law.specs.View.{decision_view, incoming_view, link_view, 
 use crate::closings::{Closings, Settleable};
 use crate::deliveries::SentDeliveries;
 use crate::earliest::least;
-use crate::groups::IdOn;
+use number_groups::IdOn;
 use pairing_cert::Note;
 use trace_events::Session;
 use trace_law::{Decision, Incoming, Link, Outgoing};

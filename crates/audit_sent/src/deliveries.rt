@@ -23,11 +23,11 @@ ghost use Rattle.trace_law.specs.Known.{IsCarriedBy};
 ghost use Rattle.trace_law.specs.View.{Events, event_view, link_view};
 
 use crate::begun::LastNumbers;
-use crate::groups::{IdOn, SentGroups};
+use crate::groups::SentGroups;
 use crate::payload::goes_on_with;
 use crate::sent::SentDelivery;
 use indexmap::IndexMap;
-use number_groups::{Groups, NumberSet};
+use number_groups::{Groups, IdOn, NumberSet};
 use std::alloc::{AllocError, Global};
 use trace_law::{Event, Link};
 

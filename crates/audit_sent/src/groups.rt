@@ -2,20 +2,13 @@
 
 ghost use Rattle.std.specs.Prelude.{◌≡◌, ◌<◌, ◌^◌, ℕ, None, IfSome, OnOk, nat_eq, ◌==◌, ◌&&◌, if◌then◌else◌};
 ghost use Rattle.number_groups.specs.Groups.{is_member};
-ghost use Rattle.audit_sent.specs.Ids.{same_id};
+ghost use Rattle.number_groups.specs.Ids.{same_id};
 ghost use Rattle.audit_sent.specs.SentGrouped.{AreGrouped, IsPut};
 ghost use Rattle.trace_law.specs.View.{outgoing_view};
 
-use number_groups::Groups;
+use number_groups::{Groups, IdOn};
 use std::alloc::{AllocError, Global};
 use trace_law::Outgoing;
-
-/// The id of a delivery, on its session.
-#[derive(Clone, Copy, PartialEq, Eq, Hash)]
-pub(crate) struct IdOn {
-    pub(crate) session: u64,
-    pub(crate) id: u32,
-}
 
 /// The numbers of the deliveries that are unsettled, in groups.
 #[doc(hidden)]

@@ -6,13 +6,13 @@ ghost use Rattle.amqp_perf.specs.View.{disposition_fields};
 ghost use Rattle.number_groups.specs.Numbers.{is_among};
 ghost use Rattle.number_groups.specs.Groups.{is_member};
 ghost use Rattle.trace_events.specs.Words.{is_number, is_some_and};
-ghost use Rattle.audit_sent.specs.Ids.{same_id};
+ghost use Rattle.number_groups.specs.Ids.{same_id};
 ghost use Rattle.audit_sent.specs.SentTouched as law;
 ghost use Rattle.trace_law.specs.View.{event_view, link_view};
 
-use crate::groups::{IdOn, SentGroups};
+use crate::groups::SentGroups;
 use amqp_perf::{Disposition, Role};
-use number_groups::{Groups, NumberSet};
+use number_groups::{Groups, IdOn, NumberSet};
 use std::alloc::{AllocError, Global};
 use trace_law::{Event, Link};
 

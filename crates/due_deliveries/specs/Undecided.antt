@@ -10,11 +10,9 @@ use Rattle.trace_events.specs.Link.{is_live, is_receiver}
 use Rattle.trace_events.specs.Outgoing.{decision}
 use Rattle.trace_events.specs.Work.{decides_now}
 use Rattle.audit_sent.specs.Sent.{Sent, outgoing_at}
-use Rattle.due_deliveries.specs.declared.undecided.IdOn.{IdOn}
+use Rattle.number_groups.specs.declared.id_on.IdOn.{IdOn}
+use Rattle.number_groups.specs.Ids.{same_id}
 use Rattle.due_deliveries.specs.declared.undecided.Undecided.{Undecided}
-
-abbrev pub same_id : IdOn → IdOn → Bool
-same_id a b = (a.session == b.session) && (a.id == b.id)
 
 -- its consumer may still decide it
 abbrev pub is_open : List Event → Outgoing → Bool

@@ -9,17 +9,10 @@ ghost use Rattle.trace_events.specs.Outgoing.{outgoing_begun};
 ghost use Rattle.trace_law.specs.View.{event_view, outgoing_view};
 
 use amqp_perf::{Disposition, Role};
-use number_groups::Groups;
+use number_groups::{Groups, IdOn};
 use std::alloc::{AllocError, Global};
 use std::hash::Hash;
 use trace_law::{Event, Outgoing};
-
-/// The id of a delivery, on its session.
-#[derive(Clone, Copy, PartialEq, Eq, Hash)]
-pub(crate) struct IdOn {
-    pub(crate) session: u64,
-    pub(crate) id: u32,
-}
 
 /// The numbers of the deliveries to clients that their consumers may still decide. One that is over without a decision stays
 /// among them.

@@ -12,9 +12,9 @@ use Rattle.trace_events.specs.Said.{in_disposition}
 use Rattle.trace_events.specs.Link.{is_receiver}
 use Rattle.trace_events.specs.Outgoing.{answering}
 use Rattle.due_outcomes.specs.Answered.{names_one, names_more, answered_id, answered_session}
-use Rattle.due_outcomes.specs.Ids.{same_id}
+use Rattle.number_groups.specs.Ids.{same_id}
 use Rattle.due_outcomes.specs.SentNumbers.{IsUnder}
-use Rattle.due_outcomes.specs.declared.sent_numbers.IdOn.{IdOn}
+use Rattle.number_groups.specs.declared.id_on.IdOn.{IdOn}
 use Rattle.due_outcomes.specs.declared.sent_numbers.SentNumbers.{SentNumbers}
 
 and-both : (a b : Bool) → a && b ≡ true → (a ≡ true) × (b ≡ true)

@@ -2,8 +2,8 @@
 use Rattle.std.proofs.Common.{◌≡◌, refl, sym, ap, ◌∙◌, ℕ, Bool, true, false, ◌&&◌, ◌||◌, not, Option, Some, None, IfSome, ◌==◌, eq-eqb}
 use Rattle.number_groups.specs.Groups.{Joined, Left, is_member}
 use Rattle.number_groups.specs.declared.groups.Groups.{Groups}
-use Rattle.due_outcomes.specs.Ids.{same_id}
-use Rattle.due_outcomes.specs.declared.sent_numbers.IdOn.{IdOn}
+use Rattle.number_groups.specs.Ids.{same_id}
+use Rattle.number_groups.specs.declared.id_on.IdOn.{IdOn}
 
 pub if-such : {A : Type 0} (P Q : A → Type 0) (o : Option A) → ((x : A) → P x → Q x) → IfSome o P → IfSome o Q
 if-such P Q None so h = tt

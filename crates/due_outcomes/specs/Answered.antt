@@ -5,7 +5,7 @@ use Rattle.amqp_perf.specs.Meaning.{DispositionFields, last_id}
 use Rattle.trace_events.specs.Event.{Event}
 use Rattle.trace_events.specs.Said.{in_disposition}
 use Rattle.trace_events.specs.Link.{is_receiver}
-use Rattle.due_outcomes.specs.declared.sent_numbers.IdOn.{IdOn}
+use Rattle.number_groups.specs.declared.id_on.IdOn.{IdOn}
 
 -- a disposition of a consumer names one id, or more
 abbrev pub names_one : DispositionFields → Bool

@@ -1,6 +1,5 @@
 pub mod Candidates
 pub mod Answered
-pub mod Ids
 pub mod SentNumbers
 pub mod Unsettled
 pub mod Untold

@@ -3,7 +3,7 @@ use Rattle.std.specs.Prelude.{◌≡◌, ◌<◌, ◌^◌, ℕ, true, IfSome, na
 use Rattle.number_groups.specs.Groups.{is_member}
 use Rattle.trace_events.specs.Event.{Outgoing}
 use Rattle.due_outcomes.specs.Candidates.{has}
-use Rattle.due_outcomes.specs.Ids.{same_id}
+use Rattle.number_groups.specs.Ids.{same_id}
 use Rattle.due_outcomes.specs.declared.candidates.Candidates.{Candidates}
 use Rattle.due_outcomes.specs.declared.sent_numbers.SentNumbers.{SentNumbers}
 

@@ -11,22 +11,15 @@ ghost use Rattle.trace_events.specs.Words.{is_number, is_some_and};
 ghost use Rattle.trace_law.specs.View.{event_view, link_view, outgoing_view};
 ghost use Rattle.due_outcomes.specs.Answered as law;
 ghost use Rattle.due_outcomes.specs.Candidates.{has};
-ghost use Rattle.due_outcomes.specs.Ids.{same_id};
+ghost use Rattle.number_groups.specs.Ids.{same_id};
 ghost use Rattle.due_outcomes.specs.SentNumbers.{Grows, IsUnder, KeepsAll};
 
 use crate::candidates::Candidates;
 use amqp_perf::{Disposition, Role};
-use number_groups::Groups;
+use number_groups::{Groups, IdOn};
 use std::alloc::{AllocError, Global};
 use std::hash::Hash;
 use trace_law::{Event, Link, Outgoing};
-
-/// The id of a delivery, on its session.
-#[derive(Clone, Copy, PartialEq, Eq, Hash)]
-pub(crate) struct IdOn {
-    pub(crate) session: u64,
-    pub(crate) id: u32,
-}
 
 /// Numbers by the deliveries to clients that they stand for.
 #[doc(hidden)]

@@ -2,6 +2,7 @@
 use Rattle.std.proofs.Common.{◌≡◌, ℕ, ap, not, ◌&&◌, ◌||◌, ◌==◌, Bool, true, false, List, [], ◌∷◌, Some, None, nat_eq, bytes_eq, refl, if◌then◌else◌}
 use Rattle.std.specs.Map.{lookup}
 use Rattle.number_groups.specs.Numbers.{is_among, listed}
+use Rattle.number_groups.specs.Ids.{same_id}
 use Rattle.number_groups.specs.Groups as groups
 use Rattle.number_groups.specs.OctetGroups as octets
 use Rattle.number_groups.specs.declared.group.Group.TheVariants.{One}
@@ -49,6 +50,17 @@ module _ (table : OctetGroups) (found : (key : List ℕ) → octets.numbers tabl
 
   member-longer : octets.is_member table (113 ∷ 113 ∷ []) 40 ≡ false
   member-longer = ap (λ xs. is_among xs 40) (found (113 ∷ 113 ∷ []))
+
+-- ---- an id is that of its session
+
+id-same : same_id (record { session = 3; id = 1 }) (record { session = 3; id = 1 }) ≡ true
+id-same = refl
+
+id-elsewhere : same_id (record { session = 3; id = 1 }) (record { session = 4; id = 1 }) ≡ false
+id-elsewhere = refl
+
+id-other : same_id (record { session = 3; id = 1 }) (record { session = 3; id = 2 }) ≡ false
+id-other = refl
 
 -- ---- 42 joins them, or 41 leaves: what `Joined` and `Left` ask of each key and number
 

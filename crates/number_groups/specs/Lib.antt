@@ -1,3 +1,4 @@
 pub mod Numbers
 pub mod Groups
 pub mod OctetGroups
+pub mod Ids

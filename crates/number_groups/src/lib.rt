@@ -1,12 +1,13 @@
 //! Sets of numbers, each under a key: the links of an address, say.
 //!
 //! In reading order: `group` has the numbers of one key, `number_set` some numbers without one; `groups` has keys that are
-//! copied, as numbers or pairs of them; `octet_groups` has keys of octets. Each call takes the time of a look-up, however many
-//! numbers and keys there are.
+//! copied, as numbers or `id_on`, the id of a delivery; `octet_groups` has keys of octets. Each call takes the time of a
+//! look-up, however many numbers and keys there are.
 #![tactic(auto)]
 
 mod group;
 mod groups;
+mod id_on;
 mod number_set;
 mod octet_groups;
 #[cfg(test)]
@@ -14,5 +15,6 @@ mod tests;
 
 pub use group::Group;
 pub use groups::Groups;
+pub use id_on::IdOn;
 pub use number_set::NumberSet;
 pub use octet_groups::OctetGroups;

@@ -1,7 +1,7 @@
 use Rattle.std.proofs.Common.{nat_eq, subst, ◌<◌, ◌≤◌}
 use Rattle.number_groups.specs.Numbers.{is_among}
 use Rattle.number_groups.specs.Groups.{numbers}
-use Rattle.audit_sent.specs.Ids.{same_id}
+use Rattle.number_groups.specs.Ids.{same_id}
 use Rattle.audit_sent.proofs.GroupLists.{none-yet, one-more, all-in}
 use Rattle.audit_sent.proofs.touched.add_group_of_id.Goals as goal
 

@@ -2,7 +2,7 @@ use Rattle.std.proofs.Common.{◌≡◌, ℕ, ◌||◌, nat_eq, take}
 use Rattle.std.specs.List.{list_any}
 use Rattle.number_groups.specs.Numbers.{is_among}
 use Rattle.number_groups.specs.Groups.{numbers}
-use Rattle.audit_sent.specs.Ids.{same_id}
+use Rattle.number_groups.specs.Ids.{same_id}
 use Rattle.audit_sent.proofs.touched.add_group_of_id.Given as goal
 
 abbrev pub invariant-loop-index : goal.invariant-loop-index

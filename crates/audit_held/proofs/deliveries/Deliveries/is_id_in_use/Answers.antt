@@ -3,8 +3,8 @@ use Rattle.trace_events.specs.Waiting.{is_undecided}
 use Rattle.number_groups.specs.Groups.{is_member}
 use Rattle.audit_held.specs.Grouped.{has_id}
 use Rattle.audit_held.specs.HeldTables.{held_in}
-use Rattle.audit_held.specs.Ids.{same_id}
-use Rattle.audit_held.specs.declared.groups.IdOn.{IdOn}
+use Rattle.number_groups.specs.Ids.{same_id}
+use Rattle.number_groups.specs.declared.id_on.IdOn.{IdOn}
 use Rattle.audit_held.proofs.HeldAnswers.{undecided-kept}
 use Rattle.audit_held.proofs.GroupAnswers.{judged-of, any-is}
 use Rattle.audit_held.proofs.deliveries.Deliveries.is_id_in_use.Goals as goal

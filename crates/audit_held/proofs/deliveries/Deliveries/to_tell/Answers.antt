@@ -3,8 +3,8 @@ use Rattle.trace_events.specs.Waiting.{is_undecided}
 use Rattle.number_groups.specs.Groups.{is_member, numbers}
 use Rattle.audit_held.specs.Grouped.{has_id}
 use Rattle.audit_held.specs.HeldTables.{held_in}
-use Rattle.audit_held.specs.Ids.{same_id}
-use Rattle.audit_held.specs.declared.groups.IdOn.{IdOn}
+use Rattle.number_groups.specs.Ids.{same_id}
+use Rattle.number_groups.specs.declared.id_on.IdOn.{IdOn}
 use Rattle.audit_held.proofs.HeldAnswers.{undecided-kept}
 use Rattle.audit_held.proofs.GroupAnswers.{undecided-one, judged-of, first-is}
 use Rattle.trace_events.specs.Event.{Incoming}

@@ -4,10 +4,10 @@ use Rattle.trace_events.proofs.Judged.{history-judged}
 use Rattle.number_groups.specs.Groups.{numbers}
 use Rattle.number_groups.specs.declared.groups.Groups.{Groups}
 use Rattle.audit_sent.specs.Earliest.{least}
-use Rattle.audit_sent.specs.Ids.{same_id}
+use Rattle.number_groups.specs.Ids.{same_id}
 use Rattle.audit_sent.specs.SentAnswers.{delivery_in, is_settleable}
 use Rattle.audit_sent.specs.SentTables.{sent_in}
-use Rattle.audit_sent.specs.declared.groups.IdOn.{IdOn}
+use Rattle.number_groups.specs.declared.id_on.IdOn.{IdOn}
 use Rattle.audit_sent.proofs.AnswersKnown.{settle-table}
 use Rattle.audit_sent.proofs.deliveries.SentDeliveries.to_settle.Goals as goal
 

@@ -1,8 +1,8 @@
 use Rattle.std.proofs.Common.{◌≡◌, ◌<◌, ◌^◌, true, nat_eq}
 use Rattle.number_groups.specs.Groups.{is_member}
 use Rattle.trace_law.specs.View.{outgoing_view}
-use Rattle.due_outcomes.specs.Ids.{same_id}
-use Rattle.due_outcomes.specs.declared.sent_numbers.IdOn.{IdOn}
+use Rattle.number_groups.specs.Ids.{same_id}
+use Rattle.number_groups.specs.declared.id_on.IdOn.{IdOn}
 use Rattle.due_outcomes.proofs.UnderKeys.{if-such, left-kept}
 use Rattle.due_outcomes.proofs.sent_numbers.SentNumbers.remove.Goals as goal
 

@@ -1,6 +1,0 @@
--- The id of a delivery, on its session (part 2 of the standard, section 2.8.8).
-use Rattle.std.specs.Prelude.{Bool, ◌&&◌, ◌==◌}
-use Rattle.audit_held.specs.declared.groups.IdOn.{IdOn}
-
-abbrev pub same_id : IdOn → IdOn → Bool
-same_id a b = (a.session == b.session) && (a.id == b.id)
