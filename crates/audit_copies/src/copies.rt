@@ -4,10 +4,8 @@ ghost use Rattle.std.specs.Prelude.{◌≡◌, ◌≤◌, ◌-◌, ◌||◌, ◌
 ghost use Rattle.std.specs.List.{IsDistinct};
 ghost use Rattle.capture_form.specs.Rules.{RuleText};
 ghost use Rattle.capture_form.specs.declared.records.Record.{Record};
-ghost use Rattle.amqp_perf.specs.View.{transfer_fields};
 ghost use Rattle.number_groups.specs.Groups.{numbers};
 ghost use Rattle.number_groups.specs.Numbers.{is_among};
-ghost use Rattle.trace_events.specs.Address as addresses;
 ghost use Rattle.trace_events.specs.Due as due;
 ghost use Rattle.trace_events.specs.History.{history};
 ghost use Rattle.trace_events.specs.Incoming as received;
@@ -19,12 +17,11 @@ ghost use Rattle.audit_tables.specs.Connections.{IsLawfulNext};
 ghost use Rattle.audit_tables.specs.EndedLinks.{AreEnded, views};
 ghost use Rattle.audit_copies.specs.Copies.{AreCopies, AreCounted, AreReceivers, comes_to, copied_by, has_room, is_ended, names_at, stands};
 
-use amqp_perf::Transfer;
-use capture_form::{Distribution, Rule, distribution_of};
+use capture_form::Rule;
 use number_groups::Groups;
 use pairing_cert::Note;
 use std::alloc::{AllocError, Global};
-use trace_law::{Event, Incoming, Link};
+use trace_law::{Event, Incoming, Link, has_multicast};
 
 /// A live link of a consumer of the address, with its credit.
 #[derive(Clone, Copy)]
@@ -42,35 +39,11 @@ pub struct Copies {
     unsent: Groups<u64>,
 }
 
-/// A part without more that isn't aborted completes its delivery (part 2 of the standard, section 2.7.5).
-fn is_last_part(transfer: &Transfer) -> bool
-    ensures { result ≡ received.is_last_part (transfer_fields transfer.now) }
-{
-    !transfer.has_more() && !transfer.is_aborted()
-}
-
-/// The delivery that the event completes.
-fn completed<'a>(event: &Event<'a>) -> Option<Incoming<'a>>
-    ensures { option_map incoming_view result ≡ received.completed_by (event_view event.now) }
-{
-    match event.in_transfer() {
-        Some(transfer) if is_last_part(&transfer) => event.incoming,
-        _ => None,
-    }
-}
-
-/// Each delivery of the address goes to all its consumers.
-fn has_multicast(rules: &[Rule], address: &[u8]) -> bool
-    ensures { result ≡ addresses.has_multicast rules.now address.now }
-{
-    matches!(distribution_of(rules, address), Distribution::Multicast)
-}
-
 /// The delivery of multicast that the event completes.
 pub(crate) fn copied<'a>(rules: &[Rule], event: &Event<'a>) -> Option<Incoming<'a>>
     ensures { option_map incoming_view result ≡ copied_by rules.now (event_view event.now) }
 {
-    match completed(event) {
+    match event.completed_by() {
         Some(delivery) if has_multicast(rules, delivery.link.address) => Some(delivery),
         _ => None,
     }

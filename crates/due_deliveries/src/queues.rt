@@ -5,7 +5,6 @@ ghost use Rattle.indexmap.specs.IndexMap.{get_by};
 ghost use Rattle.capture_form.specs.Rules.{RuleText};
 ghost use Rattle.capture_form.specs.declared.records.Record.{Record};
 ghost use Rattle.trace_events.specs.Words.{where_passes};
-ghost use Rattle.trace_events.specs.Address.{has_multicast};
 ghost use Rattle.trace_events.specs.Incoming as received;
 ghost use Rattle.trace_events.specs.Incoming.{completed_by};
 ghost use Rattle.trace_events.specs.Queue.{waiting_queue};
@@ -19,11 +18,11 @@ ghost use Rattle.due_deliveries.specs.Queues.{HaveQueues, IsPushed, IsShorter, q
 
 use audit_answers::Looked;
 use audit_held::Deliveries;
-use capture_form::{Distribution, Rule, distribution_of};
+use capture_form::Rule;
 use indexmap::IndexMap;
 use std::alloc::{AllocError, Global};
 use std::collections::VecDeque;
-use trace_law::{Event, Incoming};
+use trace_law::{Event, Incoming, has_multicast};
 
 /// The numbers of the deliveries that wait at each address, the first completed first. One that waits no more stays until it
 /// comes to the front and is asked for.
@@ -33,25 +32,12 @@ pub struct Queues {
     entries: IndexMap<Vec<u8>, VecDeque<u64>>,
 }
 
-/// Each delivery of the address goes to all its consumers.
-fn is_multicast(rules: &[Rule], address: &[u8]) -> bool
-    ensures { result ≡ has_multicast rules.now address.now }
-{
-    matches!(distribution_of(rules, address), Distribution::Multicast)
-}
-
 /// The delivery that the event completes, if it goes to one consumer.
 fn completed<'a>(rules: &[Rule], event: &Event<'a>) -> Option<Incoming<'a>>
     ensures { option_map incoming_view result ≡ where_passes (λ d. not (is_of_multicast rules.now d)) (completed_by (event_view event.now)) }
 {
-    match event.incoming {
-        Some(delivery) if event.completes(&delivery) => {
-            if is_multicast(rules, delivery.link.address) {
-                None
-            } else {
-                Some(delivery)
-            }
-        }
+    match event.completed_by() {
+        Some(delivery) if !has_multicast(rules, delivery.link.address) => Some(delivery),
         _ => None,
     }
 }

@@ -5,12 +5,10 @@ ghost use Rattle.capture_form.specs.Rules.{RuleText};
 ghost use Rattle.capture_form.specs.declared.records.Record.{Record};
 ghost use Rattle.number_groups.specs.Groups.{is_member};
 ghost use Rattle.number_groups.specs.OctetGroups as octets;
-ghost use Rattle.trace_events.specs.Address as addresses;
 ghost use Rattle.trace_events.specs.Event as law;
 ghost use Rattle.trace_events.specs.History.{history};
-ghost use Rattle.trace_events.specs.Link.{IsLiveLink, is_producer, own_link};
+ghost use Rattle.trace_events.specs.Link.{is_producer, own_link};
 ghost use Rattle.trace_events.specs.Words.{is_some_and, where_passes};
-ghost use Rattle.trace_clauses.specs.FlowClause.{may_be_topped_up};
 ghost use Rattle.trace_duties.specs.Quiet.{none_lacks_credit};
 ghost use Rattle.audit_held.specs.EntryAnswers.{Knows};
 ghost use Rattle.audit_tables.specs.Connections.{IsLawfulNext};
@@ -25,12 +23,11 @@ use crate::candidates::Candidates;
 use crate::numbers::Numbers;
 use amqp_perf::Role;
 use audit_answers::Looked;
-use capture_form::{Distribution, Rule, distribution_of};
-use flow_counts::LOW_MARK;
+use capture_form::Rule;
 use number_groups::{Groups, OctetGroups};
 use pairing_cert::Note;
 use std::alloc::{AllocError, Global};
-use trace_law::{Counts, Event, Inputs, Link};
+use trace_law::{Counts, Event, Inputs, Link, may_be_topped_up};
 
 /// Where a link is found.
 #[derive(Clone, Copy, Debug)]
@@ -239,27 +236,9 @@ fn credit_due<'t>(
     let place = place?;
     let session = looked.live_session(place.connection, place.channel)?;
     let link = looked.session_link(session, place.handle)?;
-    if link.number == number && link.is_producer() && may_be_topped_up(rules, &link, looked) {
+    if link.number == number && link.is_producer() && may_be_topped_up(looked, rules, &link) {
         Some(link)
     } else {
         None
     }
-}
-
-/// A producer's live link is to be given more credit: that and its undecided deliveries have come down so far, and someone
-/// may take its deliveries.
-fn may_be_topped_up(rules: &[Rule], link: &Link, looked: &Looked<'_>) -> bool
-    ensures { (past : Events) → AreOf rules.now looked.now past → IsLiveLink (link_view link.now) past →
-        result ≡ may_be_topped_up rules.now past (link_view link.now) }
-{
-    let given = u64::from(looked.given_credit(link));
-    given.saturating_add(looked.undecided_count(rules, link)) <= u64::from(LOW_MARK)
-        && (has_multicast(rules, link.address) || looked.has_consumer(link.address))
-}
-
-/// Each delivery of the address goes to all its consumers.
-fn has_multicast(rules: &[Rule], address: &[u8]) -> bool
-    ensures { result ≡ addresses.has_multicast rules.now address.now }
-{
-    matches!(distribution_of(rules, address), Distribution::Multicast)
 }

@@ -148,10 +148,7 @@ impl Awake {
 fn completed<'a>(event: &Event<'a>) -> Option<&'a [u8]>
     ensures { option_map (λ octets. octets.now) result ≡ option_map address_of (completed_by (event_view event.now)) }
 {
-    match event.incoming {
-        Some(delivery) if event.completes(&delivery) => Some(delivery.link.address),
-        _ => None,
-    }
+    Some(event.completed_by()?.link.address)
 }
 
 /// The event is a flow of the client.

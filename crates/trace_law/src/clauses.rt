@@ -14,7 +14,7 @@ ghost use Rattle.trace_clauses.specs.TransferClause as transfers;
 
 mod connection;
 mod disposition;
-mod flow;
+pub(crate) mod flow;
 pub(crate) mod link;
 mod session;
 mod transfer;

@@ -28,7 +28,7 @@ fn has_session_numbers<P: Counts>(past: &P, flow: &Flow, session: Session) -> bo
 
 /// A producer's link is to be given more credit: that and its undecided deliveries have come down so far, and
 /// someone may take its deliveries.
-fn may_be_topped_up<'a, P: Inputs<'a> + Counts>(past: &P, rules: &[Rule], link: &Link) -> bool
+pub fn may_be_topped_up<'a, P: Inputs<'a> + Counts>(past: &P, rules: &[Rule], link: &Link) -> bool
     requires few { P.is_short past.now }
     ensures { (history : Events) → P.stands_for past.now rules.now history → IsLiveLink (link_view link.now) history →
         (result ≡ law.may_be_topped_up rules.now history (link_view link.now)) }

@@ -55,7 +55,7 @@ impl<'a> Event<'a> {
     }
 
     /// The delivery that it completes.
-    pub(crate) fn completed_by(&self) -> Option<Incoming<'a>>
+    pub fn completed_by(&self) -> Option<Incoming<'a>>
         ensures { option_map incoming_view result ≡ law.completed_by (event_view self.now) }
     {
         match self.in_transfer() {

@@ -7,7 +7,7 @@ use crate::history::event::{Link, Past};
 use capture_form::{Distribution, Rule, distribution_of};
 
 /// Each delivery of the address goes to all its consumers, or to one.
-pub(crate) fn has_multicast(rules: &[Rule], address: &[u8]) -> bool
+pub fn has_multicast(rules: &[Rule], address: &[u8]) -> bool
     ensures { result ≡ law.has_multicast rules.now address.now }
 {
     matches!(distribution_of(rules, address), Distribution::Multicast)
