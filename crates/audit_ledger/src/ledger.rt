@@ -1,17 +1,18 @@
 //! What the records of a capture have come to.
 
-ghost use Rattle.std.specs.Prelude.{◌≡◌, ◌<◌, ◌^◌, ◌∷◌, [], ◌++◌, List, None, IfErr, IfOk, OnOk, length};
+ghost use Rattle.std.specs.Prelude.{◌≡◌, ◌≢◌, ◌<◌, ◌^◌, ◌∷◌, [], ◌++◌, List, None, IfErr, IfOk, OnOk, length};
 ghost use Rattle.capture_form.specs.Rules.{RuleText};
 ghost use Rattle.capture_form.specs.declared.records.Record.{Record};
-ghost use Rattle.trace_events.specs.History.{moment_of};
+ghost use Rattle.trace_events.specs.History.{history, moment_of};
 ghost use Rattle.audit_tables.specs.Connections.{IsLawfulNext};
-ghost use Rattle.audit_answers.specs.Tables.{entries_of};
+ghost use Rattle.audit_answers.specs.Tables.{StandFor, entries_of};
 ghost use Rattle.audit_events.specs.HeldEvents.{held_event_view};
+ghost use Rattle.audit_ledger.specs.declared.not_entered.NotEntered.TheVariants.{Memory};
 ghost use Rattle.audit_ledger.specs.Ledger.{IsReason, Stands, broken_behind};
 ghost use Rattle.trace_law.specs.View.{event_view};
 
 use crate::not_entered::NotEntered;
-use audit_answers::Tables;
+use audit_answers::{Looked, Tables};
 use audit_events::{HeldEvent, counted, next_event};
 use capture_form::{Record, Rule};
 use std::alloc::{AllocError, Global};
@@ -48,6 +49,15 @@ impl Ledger {
         self.tally
     }
 
+    /// What can be asked of the records so far, lent.
+    pub fn looked(&self) -> Looked<'_>
+        ensures { (rules : List RuleText) (records : List Record) → Stands rules self.now records →
+            StandFor rules result.connections.now result.links.now result.consumers.now result.deliveries.now
+            result.receivers.now result.copies.now result.sent.now (history rules records) }
+    {
+        self.tables.looked()
+    }
+
     /// How many entries its tables have; a delivery to a client is none.
     pub fn entries(&self) -> usize
         ensures { result ≡ entries_of self.now.tables }
@@ -59,12 +69,14 @@ impl Ledger {
     ///
     /// # Errors
     ///
-    /// The first clause that it breaks, or memory was refused; then the ledger may agree with no records any more.
+    /// The first clause that it breaks; then the ledger is as it was. Or memory was refused; then it may agree with no records
+    /// any more.
     pub fn enter(&mut self, rules: &[Rule], entry: &Record) -> Result<(), NotEntered>
         requires few { self.old.tally.records < 2 ^ 63 }
         ensures met { OnOk result ((records : List Record) → Stands rules.now self.old records → broken_behind rules.now records entry.now ≡ None) }
         ensures entered { OnOk result ((records : List Record) → Stands rules.now self.old records → Stands rules.now self.new (records ++ entry.now ∷ [])) }
         ensures reason { IfErr result (λ why. (records : List Record) → Stands rules.now self.old records → IsReason rules.now records entry.now why) }
+        ensures same { IfErr result (λ why. why ≢ Memory → self.new ≡ self.old) }
     {
         let held = self.judged(rules, entry)?;
         let event = made_again(&held, entry);
