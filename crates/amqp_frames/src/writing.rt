@@ -1,6 +1,6 @@
 //! Writing whole frames.
 
-ghost use Rattle.std.specs.Prelude.{◌≡◌, ◌<◌, ◌≤◌, ◌^◌, ◌++◌, ℕ, Some, Ok};
+ghost use Rattle.std.specs.Prelude.{◌≡◌, ◌<◌, ◌≤◌, ◌^◌, ◌++◌, ℕ, [], Some, Ok};
 ghost use Rattle.amqp_types.specs.Writing.{Puts};
 ghost use Rattle.amqp_perf.specs.Reading.{performative_at};
 ghost use Rattle.amqp_perf.specs.View.{view};
@@ -12,7 +12,7 @@ ghost use Rattle.amqp_frames.specs.Writing.{frame_size, frame_octets, frame_with
 use crate::frame::{FrameKind, HEADER_OCTETS};
 use amqp_perf::Performative;
 use amqp_types::put_parts;
-use std::alloc::AllocError;
+use std::alloc::{AllocError, Global};
 
 /// How many words of four octets a frame's header has that nothing extends.
 const DATA_OFFSET: u8 = 2;
@@ -43,9 +43,19 @@ pub fn put_frame(
     // Its body says this performative again, with this payload.
     ensures again { performative_at (performative_octets (view performative.now) ++ payload.now) ≡ Ok (view performative.now, payload.now) }
 {
-    let mut body = Vec::with_capacity(*out.allocator(), USUAL_OCTETS)?;
+    let mut body = with_room(*out.allocator());
     performative.write(&mut body)?;
     put_around(out, FrameKind::Amqp, channel, &body, payload)
+}
+
+/// No octets, with room for those of a usual performative, if there is memory for it.
+fn with_room(alloc: Global) -> Vec<u8>
+    ensures { result.items ≡ [] }
+{
+    match Vec::with_capacity(alloc, USUAL_OCTETS) {
+        Ok(body) => body,
+        Err(_) => Vec::new(alloc),
+    }
 }
 
 /// Appends a frame whose body is these octets, and behind them the payload.
