@@ -3,7 +3,7 @@ use Rattle.std.proofs.Common.{◌≡◌, refl, sym, ap, subst, ◌∙◌, ◌↔
 use Rattle.std.proofs.lemmas.Bool.{eq-eqb}
 use Rattle.std.specs.List.{Contains}
 use Rattle.indexmap.specs.IndexMap.{get}
-use Rattle.amqp_perf.specs.Meaning.{AttachFields}
+use Rattle.amqp_perf.specs.Meaning.{AttachFields, DetachFields}
 use Rattle.capture_form.specs.Rules.{RuleText}
 use Rattle.trace_events.specs.Words.{is_number, is_some_and, or_else}
 use Rattle.trace_events.specs.Event.{Event, Link, channel_of}
@@ -11,7 +11,7 @@ use Rattle.trace_events.specs.declared.session.Session.{Session}
 use Rattle.trace_events.specs.Connection.{is_final, is_over}
 use Rattle.trace_events.specs.Ends.{ends_link}
 use Rattle.trace_events.specs.Link.{session_link, IsLiveLink}
-use Rattle.trace_events.specs.Said.{out_attach}
+use Rattle.trace_events.specs.Said.{in_detach, out_attach, out_detach}
 use Rattle.trace_events.specs.Session.{last_session, live_session}
 use Rattle.trace_events.proofs.Ends.{is_live-going}
 use Rattle.trace_events.proofs.Judged.{AreJudged, judged-number}
@@ -21,7 +21,7 @@ use Rattle.trace_events.proofs.SessionNumbers.{last_session-known}
 use Rattle.trace_events.proofs.Standing.{live-on}
 use Rattle.trace_clauses.proofs.LiveLinks.{live-link}
 use Rattle.trace_clauses.proofs.Undecided.{link_of_session}
-use Rattle.audit_tables.specs.EndedLinks.{AreEnded, IsEndedOf, ends_at, ends_channel, ends_handle}
+use Rattle.audit_tables.specs.EndedLinks.{AreEnded, IsEndedOf, ends_at, ends_channel, ends_handle, ends_named, may_end}
 use Rattle.audit_tables.specs.Links.{Counted, Standing, attaches_out, begun, counted_next, detaches_in, detaches_out, link_of, named_handle, nothing, standing, standing_at, standing_behind, standing_next}
 use Rattle.audit_tables.specs.LinkTables.{AreLinked, standing_in, standing_of}
 use Rattle.audit_tables.specs.declared.channels.Channels.{Channels}
@@ -57,6 +57,18 @@ next-link l e false false false opened (Some x) is apart = ap (is_it l) is ∙ i
 some_of : {A : Type 0} (o : Option A) (test : A → Bool) → is_some_and o test ≡ true → is_some o ≡ true
 some_of None test is = absurd cc
 some_of (Some x) test is = refl
+
+quiet_handle : {A B C : Type 0} (entering : Option A) (leaving : Option B) (attached : Option C) (p : A → Bool) (q : B → Bool) (r : C → Bool) (link : Bool)
+    → is_some entering || is_some leaving || is_some attached && link ≡ false → is_some_and entering p || is_some_and leaving q || is_some_and attached r && link ≡ false
+quiet_handle None None None p q r link is = refl
+quiet_handle None None (Some z) p q r true is = absurd cc
+quiet_handle None None (Some z) p q r false is = by (r z)
+  where
+    by : (b : Bool) → b && false ≡ false
+    by true = refl
+    by false = refl
+quiet_handle None (Some y) attached p q r link is = absurd cc
+quiet_handle (Some x) leaving attached p q r link is = absurd cc
 
 module _ (rules : List RuleText) (e : Event) (past : List Event) (are : AreJudged rules (e ∷ past)) where
   known : (l : Link) → IsLiveLink l past → IsKnown past l
@@ -129,6 +141,29 @@ module _ (rules : List RuleText) (e : Event) (past : List Event) (are : AreJudge
   and_both : (a b : Bool) → a && b ≡ true → (a ≡ true) × (b ≡ true)
   and_both true b is = (refl, is)
   and_both false b is = absurd cc
+
+  -- of an event that may end none
+  ends-never : (channel handle : ℕ) → may_end e ≡ false → ends_at channel handle e ≡ false
+  ends-never channel handle quiet =
+      by (is_final e.moment) (is_number (channel_of e.moment) channel) (ends_channel e) (is_some e.session) quiet
+    where
+      by : (final on ended session : Bool) → final || ended || ends_named e ≡ false → final || on && (ended || session && ends_handle handle e) ≡ false
+      by true on ended session is = absurd cc
+      by false on true session is = absurd cc
+      by false false false session is = refl
+      by false true false false is = refl
+      by false true false true is =
+          quiet_handle (in_detach e) (out_detach e) (out_attach e) (λ (fields : DetachFields). fields.handle == handle) (λ (fields : DetachFields). fields.handle == handle)
+          (λ (fields : AttachFields). fields.handle == handle) (is_some e.link) is
+
+  pub none-ending : (links : List Link) → may_end e ≡ false → links ≡ [] → AreEnded e past links
+  none-ending links quiet is l = ((λ in_it. none_in l (subst (λ xs. Contains xs l) is in_it)), (λ on. ours on.0 on.1))
+    where
+      ours : IsLiveLink l past → ends_link l e ≡ true → Contains links l
+      ours live ends =
+          let both = and_both (e.connection == l.session.connection) (ends_at l.session.channel l.handle e) (sym (link-ends l live) ∙ ends) in
+          let never : false ≡ true = sym (ends-never l.session.channel l.handle quiet) ∙ both.1 in
+          absurd cc
 
   module _ (table : Links) (linked_to : AreLinked table past) (links : List Link) where
     pub found-ended : (x : Channels) → get nat_eq table.entries e.connection ≡ Some x → ((l : Link) → Contains links l ↔ IsEndedOf e x l) → AreEnded e past links

@@ -38,6 +38,10 @@ ends_on handle e = ends_channel e || is_some e.session && ends_handle handle e
 abbrev pub ends_at : ℕ → ℕ → Event → Bool
 ends_at channel handle e = is_final e.moment || is_number (channel_of e.moment) channel && ends_on handle e
 
+-- it may end links of some channel and handle
+abbrev pub may_end : Event → Bool
+may_end e = is_final e.moment || ends_channel e || ends_named e
+
 -- ---- the links of the tables
 
 abbrev pub views : List Link → List law.Link

@@ -7,7 +7,7 @@ ghost use Rattle.capture_form.specs.Rules.{RuleText};
 ghost use Rattle.capture_form.specs.declared.records.Record.{Record};
 ghost use Rattle.trace_events.specs.Event as law;
 ghost use Rattle.trace_events.specs.History.{history, judge};
-ghost use Rattle.audit_tables.specs.EndedLinks.{AreEnded, IsEndedOf, IsEndedOn, ends_channel, ends_named, link_named, links_of, links_on, views};
+ghost use Rattle.audit_tables.specs.EndedLinks.{AreEnded, IsEndedOf, IsEndedOn, ends_channel, ends_named, link_named, may_end, links_of, links_on, views};
 ghost use Rattle.audit_tables.specs.declared.handles.Handles as declared;
 ghost use Rattle.audit_tables.specs.LinkTables.{AreLinked};
 ghost use Rattle.trace_law.specs.View.{event_view, link_view};
@@ -34,6 +34,13 @@ fn ends_named(event: &Event) -> bool
         || event.out_attach().is_some() && event.link.is_some()
 }
 
+/// The event may end links, as far as its kind tells. Few do.
+fn may_end(event: &Event) -> bool
+    ensures { result ≡ may_end (event_view event.now) }
+{
+    event.moment.is_final() || ends_channel(event) || ends_named(event)
+}
+
 impl Links {
     /// The links that the event ends, asked before it is taken: those of its connection, where that ends; those of its
     /// channel, where a session ends or another begins there; or that of the handle that it detaches or attaches anew. It
@@ -46,6 +53,9 @@ impl Links {
         ensures { IfOk result (λ links. (rules : List RuleText) (records : List Record) (r : Record) → event_view event.now ≡ judge rules (history rules records) r →
             AreLinked self.now (history rules records) → AreEnded (event_view event.now) (history rules records) (views links.items)) }
     {
+        if !may_end(event) {
+            return Ok(Vec::new(alloc));
+        }
         match self.entries.get(&event.connection) {
             Some(connection) => connection.ended(alloc, event),
             None => Ok(Vec::new(alloc)),

@@ -1,11 +1,10 @@
 -- What a set of numbers has.
 use Rattle.std.specs.Prelude.{ℕ, Bool}
-use Rattle.std.specs.BTreeSet.{btree_set_len, contains}
-use Rattle.std.specs.Ordering.{nat_cmp}
+use Rattle.number_groups.specs.Ascending as ascending
 use Rattle.due_flows.specs.declared.numbers.Numbers.{Numbers}
 
 abbrev pub has : Numbers → ℕ → Bool
-has numbers n = contains nat_cmp numbers.members n
+has numbers n = ascending.has numbers.members n
 
 abbrev pub count_of : Numbers → ℕ
-count_of numbers = btree_set_len numbers.members
+count_of numbers = ascending.count_of numbers.members

@@ -6,14 +6,13 @@ ghost use Rattle.number_groups.specs.OctetGroups as octets;
 ghost use Rattle.trace_events.specs.Words.{is_number};
 ghost use Rattle.due_flows.specs.Numbers.{count_of, has};
 
-use number_groups::{Groups, OctetGroups};
+use number_groups::{Ascending, Groups, OctetGroups};
 use std::alloc::{AllocError, Global};
-use std::collections::BTreeSet;
 
 /// Numbers, the lowest first.
 #[derive(Drop)]
 pub struct Numbers {
-    members: BTreeSet<u64>,
+    members: Ascending,
 }
 
 impl Numbers {
@@ -22,7 +21,7 @@ impl Numbers {
         ensures { (n : ℕ) → has result n ≡ false }
     {
         Numbers {
-            members: BTreeSet::new(alloc),
+            members: Ascending::new(alloc),
         }
     }
 
@@ -34,8 +33,7 @@ impl Numbers {
     pub fn insert(&mut self, number: u64) -> Result<(), AllocError>
         ensures { OnOk result ((n : ℕ) → has self.new n ≡ (has self.old n || number == n)) }
     {
-        self.members.insert(number)?;
-        Ok(())
+        self.members.insert(number)
     }
 
     /// The number comes in, if there is one.
@@ -85,7 +83,7 @@ impl Numbers {
         ensures removed { (n : ℕ) → has self.new n ≡ (has self.old n && not (number == n)) }
         ensures fewer { has self.old number ≡ true → count_of self.new < count_of self.old }
     {
-        self.members.remove(&number);
+        self.members.remove(number);
     }
 
     /// The lowest.
@@ -93,6 +91,6 @@ impl Numbers {
         ensures stands { IfSome result (λ n. has self.now n ≡ true) }
         ensures none { result ≡ None → (n : ℕ) → has self.now n ≡ false }
     {
-        self.members.first().copied()
+        self.members.first()
     }
 }

@@ -23,7 +23,7 @@ use Rattle.audit_held.specs.declared.held.Fate.TheVariants.{Arriving, Waiting, G
 use Rattle.audit_held.proofs.CarriedHeld.{carried-closed, carried-of, entry-at}
 use Rattle.audit_held.proofs.GroupAnswers.{judged-of}
 use Rattle.audit_answers.specs.declared.looked.Looked.{Looked}
-use Rattle.due_outcomes.specs.Candidates.{has}
+use Rattle.number_groups.specs.Ascending.{has}
 use Rattle.due_outcomes.specs.LookedTables.{AreLooked}
 use Rattle.due_outcomes.specs.SentNumbers.{IsUnder}
 use Rattle.due_outcomes.specs.Untold.{HasUntold, waits_in}

@@ -22,7 +22,7 @@ use Rattle.audit_sent.specs.Sent.{Sent, sent, outgoing_at, to_settle}
 use Rattle.audit_sent.specs.SentAnswers.{closes}
 use Rattle.audit_sent.specs.SentTables.{sent_in}
 use Rattle.audit_answers.specs.declared.looked.Looked.{Looked}
-use Rattle.due_outcomes.specs.Candidates.{has}
+use Rattle.number_groups.specs.Ascending.{has}
 use Rattle.due_outcomes.specs.LookedTables.{AreLooked}
 use Rattle.due_outcomes.specs.SentNumbers.{IsUnder}
 use Rattle.due_outcomes.specs.Settlings.{IsDueSettling, due_in, says_open, waits_in}

@@ -19,7 +19,7 @@ use Rattle.trace_clauses.specs.Clauses.{first_broken}
 use Rattle.trace_clauses.proofs.BegunDeliveries.{IsBegun, judged-begun}
 use Rattle.trace_clauses.proofs.LinkEnds.{is_live-next}
 use Rattle.trace_clauses.proofs.WaitingQueue.{all_contained, contains_cases}
-use Rattle.due_outcomes.specs.Candidates.{has}
+use Rattle.number_groups.specs.Ascending.{has}
 use Rattle.due_outcomes.specs.SentNumbers.{Grows, IsUnder, KeepsAll}
 use Rattle.due_outcomes.specs.Unsettled.{HasUnsettled, is_decided, is_open}
 use Rattle.due_outcomes.specs.declared.unsettled.Unsettled.{Unsettled}

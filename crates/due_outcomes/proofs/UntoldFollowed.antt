@@ -17,10 +17,10 @@ use Rattle.trace_events.specs.Waiting.{is_of_multicast}
 use Rattle.trace_events.proofs.Judged.{AreJudged}
 use Rattle.trace_clauses.proofs.WaitingQueue.{contains_none, contains_cases}
 use Rattle.audit_tables.specs.EndedLinks.{AreEnded}
-use Rattle.due_outcomes.specs.Candidates.{has}
+use Rattle.number_groups.specs.Ascending.{has}
 use Rattle.due_outcomes.specs.SentNumbers.{Grows, IsUnder, KeepsAll}
 use Rattle.due_outcomes.specs.Untold.{waits_in}
-use Rattle.due_outcomes.specs.declared.candidates.Candidates.{Candidates}
+use Rattle.number_groups.specs.declared.ascending.Ascending.{Ascending}
 use Rattle.due_outcomes.specs.declared.sent_numbers.SentNumbers.{SentNumbers}
 use Rattle.due_outcomes.specs.declared.untold.Untold.{Untold}
 use Rattle.due_outcomes.proofs.LostConsumers.{lost-link}
@@ -34,7 +34,7 @@ contained-any p (y ∷ ys) x there is = elim (contains_cases y ys x there) [
   | inr later ↦ or-last (p y) (list_any p ys) (contained-any p ys x later is)
 ]
 
-module _ (rules : List RuleText) (e : Event) (past : List Event) (are : AreJudged rules (e ∷ past)) (u0 u1 u2 u3 : Untold) (c3 c4 c5 : Candidates) (ended : List Link) (carried : Option ℕ)
+module _ (rules : List RuleText) (e : Event) (past : List Event) (are : AreJudged rules (e ∷ past)) (u0 u1 u2 u3 : Untold) (c3 c4 c5 : Ascending) (ended : List Link) (carried : Option ℕ)
     (completes1 : (n : ℕ) → has u1.candidates n ≡ (has u0.candidates n || is_some_and (completed_by e) (λ d. d.number == n)))
     (waits1 : IfSome (completed_by e) (λ d. is_of_multicast rules d ≡ false → waits_in u1 (address_of d) d.number ≡ true))
     (kept1 : (address : List ℕ) (n : ℕ) → waits_in u0 address n ≡ true → waits_in u1 address n ≡ true)

@@ -39,7 +39,7 @@ use Rattle.trace_clauses.proofs.OutgoingProgress.{judged-carrying, judged-outgoi
 use Rattle.trace_clauses.proofs.OutgoingProgress.{IsPartOf as PartOut}
 use Rattle.trace_clauses.proofs.Parts.{IsKept, each_delivery}
 use Rattle.trace_clauses.proofs.WaitingQueue.{all_contained, find_has}
-use Rattle.due_outcomes.specs.Candidates.{has}
+use Rattle.number_groups.specs.Ascending.{has}
 use Rattle.due_outcomes.specs.SentNumbers.{Grows, IsUnder, KeepsAll}
 use Rattle.due_outcomes.specs.Untold.{HasUntold, waits_in}
 use Rattle.due_outcomes.specs.declared.untold.Untold.{Untold}

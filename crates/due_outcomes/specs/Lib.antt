@@ -1,4 +1,3 @@
-pub mod Candidates
 pub mod Answered
 pub mod SentNumbers
 pub mod Unsettled

@@ -2,9 +2,9 @@
 use Rattle.std.specs.Prelude.{◌≡◌, ◌<◌, ◌^◌, ℕ, true, IfSome, nat_eq}
 use Rattle.number_groups.specs.Groups.{is_member}
 use Rattle.trace_events.specs.Event.{Outgoing}
-use Rattle.due_outcomes.specs.Candidates.{has}
+use Rattle.number_groups.specs.Ascending.{has}
 use Rattle.number_groups.specs.Ids.{same_id}
-use Rattle.due_outcomes.specs.declared.candidates.Candidates.{Candidates}
+use Rattle.number_groups.specs.declared.ascending.Ascending.{Ascending}
 use Rattle.due_outcomes.specs.declared.sent_numbers.SentNumbers.{SentNumbers}
 
 -- the number stands under the delivery: under its link, its session, and its id there, which is one of 32 bits
@@ -18,5 +18,5 @@ abbrev pub KeepsAll : SentNumbers → SentNumbers → Type 0
 KeepsAll earlier later = (j : Outgoing) (n : ℕ) → IsUnder earlier j n → IsUnder later j n
 
 -- all that were candidates still are
-abbrev pub Grows : Candidates → Candidates → Type 0
+abbrev pub Grows : Ascending → Ascending → Type 0
 Grows earlier later = (n : ℕ) → has earlier n ≡ true → has later n ≡ true

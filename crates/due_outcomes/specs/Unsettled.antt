@@ -3,7 +3,7 @@ use Rattle.std.specs.Prelude.{◌≡◌, Bool, true, ◌&&◌, not, List, Contai
 use Rattle.trace_events.specs.Event.{Event, Outgoing}
 use Rattle.trace_events.specs.Outgoing.{decision, outgoing_deliveries}
 use Rattle.trace_events.specs.Work.{stands_unsettled}
-use Rattle.due_outcomes.specs.Candidates.{has}
+use Rattle.number_groups.specs.Ascending.{has}
 use Rattle.due_outcomes.specs.SentNumbers.{IsUnder}
 use Rattle.due_outcomes.specs.declared.unsettled.Unsettled.{Unsettled}
 

@@ -8,7 +8,7 @@ use Rattle.trace_events.specs.Outgoing.{noted, outgoing_deliveries}
 use Rattle.trace_events.specs.Settling.{is_closed}
 use Rattle.trace_events.specs.Waiting.{is_of_multicast, is_waiting}
 use Rattle.trace_clauses.specs.Outcome.{is_to_tell}
-use Rattle.due_outcomes.specs.Candidates.{has}
+use Rattle.number_groups.specs.Ascending.{has}
 use Rattle.due_outcomes.specs.SentNumbers.{IsUnder}
 use Rattle.due_outcomes.specs.declared.untold.Untold.{Untold}
 

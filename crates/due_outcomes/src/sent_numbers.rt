@@ -10,13 +10,12 @@ ghost use Rattle.trace_events.specs.Outgoing.{answering};
 ghost use Rattle.trace_events.specs.Words.{is_number, is_some_and};
 ghost use Rattle.trace_law.specs.View.{event_view, link_view, outgoing_view};
 ghost use Rattle.due_outcomes.specs.Answered as law;
-ghost use Rattle.due_outcomes.specs.Candidates.{has};
+ghost use Rattle.number_groups.specs.Ascending.{has};
 ghost use Rattle.number_groups.specs.Ids.{same_id};
 ghost use Rattle.due_outcomes.specs.SentNumbers.{Grows, IsUnder, KeepsAll};
 
-use crate::candidates::Candidates;
 use amqp_perf::{Disposition, Role};
-use number_groups::{Groups, IdOn};
+use number_groups::{Ascending, Groups, IdOn};
 use std::alloc::{AllocError, Global};
 use std::hash::Hash;
 use trace_law::{Event, Link, Outgoing};
@@ -34,18 +33,18 @@ pub struct SentNumbers {
 }
 
 /// The number becomes a candidate, if there is one.
-fn add(candidates: &mut Candidates, number: Option<u64>) -> Result<(), AllocError>
+fn add(candidates: &mut Ascending, number: Option<u64>) -> Result<(), AllocError>
     ensures { OnOk result ((n : ℕ) → has candidates.new n ≡ (has candidates.old n || is_number number n)) }
 {
     if let Some(number) = number {
-        candidates.add(number)?;
+        candidates.insert(number)?;
     }
     Ok(())
 }
 
 /// All numbers of the group become candidates.
 fn add_group<K: Copy + Eq + Hash + Drop>(
-    candidates: &mut Candidates,
+    candidates: &mut Ascending,
     groups: &Groups<K>,
     key: &K,
 ) -> Result<(), AllocError>
@@ -160,7 +159,7 @@ impl SentNumbers {
     /// Memory was refused; then some of them may be candidates already.
     pub(crate) fn add_answered(
         &self,
-        candidates: &mut Candidates,
+        candidates: &mut Ascending,
         event: &Event,
     ) -> Result<(), AllocError>
         ensures grown { OnOk result (Grows candidates.old candidates.new) }
@@ -174,7 +173,7 @@ impl SentNumbers {
     }
 
     /// The numbers of the id become candidates, if there is one.
-    fn add_of_id(&self, candidates: &mut Candidates, id: Option<IdOn>) -> Result<(), AllocError>
+    fn add_of_id(&self, candidates: &mut Ascending, id: Option<IdOn>) -> Result<(), AllocError>
         ensures { OnOk result ((n : ℕ) → has candidates.new n
             ≡ (has candidates.old n || is_some_and id (λ at. is_member same_id self.now.of_id at n))) }
     {
@@ -187,7 +186,7 @@ impl SentNumbers {
     /// Those of the session do, if there is one.
     fn add_of_session(
         &self,
-        candidates: &mut Candidates,
+        candidates: &mut Ascending,
         session: Option<u64>,
     ) -> Result<(), AllocError>
         ensures { OnOk result ((n : ℕ) → has candidates.new n
@@ -206,7 +205,7 @@ impl SentNumbers {
     /// Memory was refused; then some of them may be candidates already.
     pub(crate) fn add_links(
         &self,
-        candidates: &mut Candidates,
+        candidates: &mut Ascending,
         links: &[Link],
     ) -> Result<(), AllocError>
         ensures { OnOk result ((n : ℕ) → has candidates.new n

@@ -15,16 +15,16 @@ ghost use Rattle.audit_sent.specs.SentViews.{sent_view};
 ghost use Rattle.audit_held.specs.EntryAnswers.{says_closed};
 ghost use Rattle.audit_held.specs.HeldTables.{held_in};
 ghost use Rattle.audit_tables.specs.Connections.{IsLawfulNext};
-ghost use Rattle.due_outcomes.specs.Candidates.{count_of, has};
+ghost use Rattle.number_groups.specs.Ascending.{count_of, has};
 ghost use Rattle.due_outcomes.specs.LookedTables.{AreLooked};
 ghost use Rattle.due_outcomes.specs.SentNumbers.{IsUnder, KeepsAll};
 ghost use Rattle.due_outcomes.specs.Settlings.{IsDueSettling, due_in, says_open, waits_in};
 ghost use Rattle.due_outcomes.specs.Unsettled.{HasUnsettled};
 
-use crate::candidates::{Candidates, NumberTest};
 use crate::sent_numbers::SentNumbers;
 use audit_answers::Looked;
 use audit_sent::SentDelivery;
+use number_groups::{Ascending, NumberTest};
 use pairing_cert::Note;
 use std::alloc::{AllocError, Global};
 use trace_law::{Event, Outgoing};
@@ -33,7 +33,7 @@ use trace_law::{Event, Outgoing};
 #[derive(Drop)]
 pub struct Unsettled {
     alloc: Global,
-    candidates: Candidates,
+    candidates: Ascending,
     /// Those that are unsettled, under themselves.
     numbers: SentNumbers,
 }
@@ -45,7 +45,7 @@ impl Unsettled {
     {
         Unsettled {
             alloc,
-            candidates: Candidates::new(alloc),
+            candidates: Ascending::new(alloc),
             numbers: SentNumbers::new(alloc),
         }
     }

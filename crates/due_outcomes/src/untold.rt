@@ -20,54 +20,46 @@ ghost use Rattle.audit_held.specs.EntryAnswers.{says_closed};
 ghost use Rattle.audit_held.specs.Held.{says_waiting};
 ghost use Rattle.audit_held.specs.HeldTables.{held_in};
 ghost use Rattle.audit_tables.specs.Connections.{IsLawfulNext};
-ghost use Rattle.due_outcomes.specs.Candidates.{count_of, has};
+ghost use Rattle.number_groups.specs.Ascending.{count_of, has};
 ghost use Rattle.due_outcomes.specs.DueOutcomes.{IsDueOutcome};
 ghost use Rattle.due_outcomes.specs.LookedTables.{AreLooked};
 ghost use Rattle.due_outcomes.specs.SentNumbers.{IsUnder, KeepsAll};
 ghost use Rattle.due_outcomes.specs.Untold.{HasUntold, waits_in};
 
-use crate::candidates::Candidates;
 use crate::outcome::{DueOutcome, outcome_of};
 use crate::sent_numbers::SentNumbers;
 use audit_answers::Looked;
 use audit_held::HeldDelivery;
-use capture_form::{Distribution, Rule, distribution_of};
-use number_groups::OctetGroups;
+use capture_form::Rule;
+use number_groups::{Ascending, OctetGroups};
 use pairing_cert::Note;
 use std::alloc::{AllocError, Global};
-use trace_law::{Event, Incoming, Link, Outcomes};
+use trace_law::{Event, Link, Outcomes, has_multicast};
 
 /// The outcomes to tell.
 #[derive(Drop)]
 pub struct Untold {
     alloc: Global,
-    candidates: Candidates,
+    candidates: Ascending,
     /// Those that wait, by their address.
     waiting: OctetGroups,
     /// Those of anycast that went to a consumer, by the delivery that carries them.
     carried: SentNumbers,
 }
 
-/// The address goes to all its consumers.
-fn is_of_multicast(rules: &[Rule], address: &[u8]) -> bool
-    ensures { result ≡ has_multicast rules.now address.now }
-{
-    matches!(distribution_of(rules, address), Distribution::Multicast)
-}
-
 /// The number becomes a candidate, if there is one.
-fn add(candidates: &mut Candidates, number: Option<u64>) -> Result<(), AllocError>
+fn add(candidates: &mut Ascending, number: Option<u64>) -> Result<(), AllocError>
     ensures { OnOk result ((n : ℕ) → has candidates.new n ≡ (has candidates.old n || is_number number n)) }
 {
     if let Some(number) = number {
-        candidates.add(number)?;
+        candidates.insert(number)?;
     }
     Ok(())
 }
 
 /// All numbers of the group of an address become candidates.
 fn add_group(
-    candidates: &mut Candidates,
+    candidates: &mut Ascending,
     groups: &OctetGroups,
     address: &[u8],
 ) -> Result<(), AllocError>
@@ -80,11 +72,7 @@ fn add_group(
 }
 
 /// What waits at the address of a consumer's link becomes a candidate.
-fn add_left(
-    candidates: &mut Candidates,
-    groups: &OctetGroups,
-    link: &Link,
-) -> Result<(), AllocError>
+fn add_left(candidates: &mut Ascending, groups: &OctetGroups, link: &Link) -> Result<(), AllocError>
     ensures { OnOk result ((n : ℕ) → has candidates.new n
         ≡ (has candidates.old n || is_consumer (link_view link.now) && octets.is_member groups.now (link_view link.now).address n)) }
 {
@@ -92,16 +80,6 @@ fn add_left(
         add_group(candidates, groups, link.address)?;
     }
     Ok(())
-}
-
-/// The delivery that the event completes.
-fn completed<'a>(event: &Event<'a>) -> Option<Incoming<'a>>
-    ensures { option_map incoming_view result ≡ completed_by (event_view event.now) }
-{
-    match event.incoming {
-        Some(delivery) if event.completes(&delivery) => Some(delivery),
-        _ => None,
-    }
 }
 
 /// The number of the delivery from a client that the one carries of which the event is a part.
@@ -121,7 +99,7 @@ impl Untold {
     {
         Untold {
             alloc,
-            candidates: Candidates::new(alloc),
+            candidates: Ascending::new(alloc),
             waiting: OctetGroups::new(alloc),
             carried: SentNumbers::new(alloc),
         }
@@ -181,11 +159,11 @@ impl Untold {
         ensures kept { OnOk result ((address : List ℕ) (n : ℕ) → waits_in self.old address n ≡ true → waits_in self.new address n ≡ true) }
         ensures same { self.new.carried ≡ self.old.carried }
     {
-        let Some(delivery) = completed(event) else {
+        let Some(delivery) = event.completed_by() else {
             return Ok(());
         };
-        self.candidates.add(delivery.number)?;
-        if !is_of_multicast(rules, delivery.link.address) {
+        self.candidates.insert(delivery.number)?;
+        if !has_multicast(rules, delivery.link.address) {
             self.waiting.insert(delivery.link.address, delivery.number)?;
         }
         Ok(())
@@ -207,7 +185,7 @@ impl Untold {
             return Ok(());
         };
         self.waiting.remove(delivery.link.address, number);
-        if !is_of_multicast(rules, delivery.link.address) {
+        if !has_multicast(rules, delivery.link.address) {
             self.carried.put(&delivery, number)?;
         }
         Ok(())

@@ -1,3 +1,4 @@
 pub mod Moves
 pub mod Octets
 mod Examples
+pub mod Passing

@@ -1,10 +1,11 @@
 //! Sets of numbers, each under a key: the links of an address, say.
 //!
-//! In reading order: `group` has the numbers of one key, `number_set` some numbers without one; `groups` has keys that are
-//! copied, as numbers or `id_on`, the id of a delivery; `octet_groups` has keys of octets. Each call takes the time of a
-//! look-up, however many numbers and keys there are.
+//! In reading order: `group` has the numbers of one key, `number_set` some numbers without one, `ascending` those too, the
+//! lowest first; `groups` has keys that are copied, as numbers or `id_on`, the id of a delivery; `octet_groups` has keys of
+//! octets. Each call takes the time of a look-up, however many numbers and keys there are.
 #![tactic(auto)]
 
+mod ascending;
 mod group;
 mod groups;
 mod id_on;
@@ -13,6 +14,7 @@ mod octet_groups;
 #[cfg(test)]
 mod tests;
 
+pub use ascending::{Ascending, Ascent, NumberTest};
 pub use group::Group;
 pub use groups::Groups;
 pub use id_on::IdOn;

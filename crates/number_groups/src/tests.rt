@@ -70,3 +70,18 @@ fn numbers_come_once(rt: HostRuntime) -> Result<(), Fail> {
     assert_eq!(rt; numbers.pop(), None);
     Ok(())
 }
+
+#[test]
+fn the_lowest_comes_first(rt: HostRuntime) -> Result<(), Fail> {
+    let mut numbers = Ascending::new(rt.alloc());
+    assert_eq!(rt; numbers.first(), None);
+    for number in [41, 41, 40, 42] {
+        numbers.insert(number)?;
+    }
+    for number in [40, 41, 42] {
+        assert_eq!(rt; numbers.first(), Some(number));
+        numbers.remove(number);
+    }
+    assert_eq!(rt; numbers.first(), None);
+    Ok(())
+}

@@ -1,7 +1,7 @@
 use Rattle.std.proofs.Common.{◌≡◌, ℕ, ◌||◌, nat_eq, take}
 use Rattle.std.specs.List.{list_any}
 use Rattle.number_groups.specs.Groups.{numbers}
-use Rattle.due_outcomes.specs.Candidates.{has}
+use Rattle.number_groups.specs.Ascending.{has}
 use Rattle.due_outcomes.proofs.sent_numbers.add_group.Given as goal
 
 abbrev pub invariant-loop-index : goal.invariant-loop-index

@@ -1,6 +1,6 @@
 use Rattle.std.proofs.Common.{subst, ◌<◌, ◌≤◌}
 use Rattle.number_groups.specs.OctetGroups.{numbers}
-use Rattle.due_outcomes.specs.Candidates.{has}
+use Rattle.number_groups.specs.Ascending.{has}
 use Rattle.due_outcomes.proofs.GroupLists.{none-yet, one-more, all-in}
 use Rattle.due_outcomes.proofs.untold.add_group.Goals as goal
 

@@ -1,5 +1,5 @@
 use Rattle.trace_law.specs.View.{event_view}
-use Rattle.due_outcomes.specs.Candidates.{has}
+use Rattle.number_groups.specs.Ascending.{has}
 use Rattle.due_outcomes.proofs.Spoken.{found-both}
 use Rattle.due_outcomes.proofs.sent_numbers.SentNumbers.add_answered.Goals as goal
 

@@ -1,5 +1,5 @@
 use Rattle.std.proofs.Common.{nat_eq}
-use Rattle.due_outcomes.specs.Candidates.{has}
+use Rattle.number_groups.specs.Ascending.{has}
 use Rattle.number_groups.specs.Groups.{is_member}
 use Rattle.trace_law.specs.View.{link_view}
 use Rattle.due_outcomes.proofs.GroupLists.{nothing-yet, each-more, each-in}

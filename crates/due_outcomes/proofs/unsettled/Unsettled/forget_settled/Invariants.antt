@@ -2,7 +2,7 @@ use Rattle.std.proofs.Common.{List}
 use Rattle.capture_form.specs.Rules.{RuleText}
 use Rattle.capture_form.specs.declared.records.Record.{Record}
 use Rattle.trace_events.specs.History.{history}
-use Rattle.due_outcomes.specs.Candidates.{count_of}
+use Rattle.number_groups.specs.Ascending.{count_of}
 use Rattle.due_outcomes.specs.LookedTables.{AreLooked}
 use Rattle.due_outcomes.specs.Unsettled.{HasUnsettled}
 use Rattle.due_outcomes.proofs.unsettled.Unsettled.forget_settled.Given as goal
