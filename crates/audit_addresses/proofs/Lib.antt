@@ -2,3 +2,4 @@ pub mod ConsumerSteps
 pub mod ConsumersOf
 pub mod ConsumerLinkSteps
 mod ConsumerExamples
+mod Leaving
