@@ -1,0 +1,7 @@
+pub mod HeaderLemmas
+pub mod Joining
+pub mod BlockLemmas
+pub mod TextLemmas
+pub mod LawLemmas
+pub mod PacketLemmas
+mod Examples
