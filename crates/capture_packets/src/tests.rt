@@ -100,3 +100,14 @@ fn a_writer_that_takes_nine_hundred_octets(rt: HostRuntime) -> Result<(), Fail> 
     );
     Ok(())
 }
+
+#[test]
+fn faults_in_words(rt: HostRuntime) -> Result<(), Fail> {
+    let fault = PacketFault::Write(WriteFault { taken: 20 });
+    let told = format!(in rt.alloc(); "{}, {fault}", PacketFault::Memory)?;
+    assert_eq!(rt;
+        told.as_str(),
+        "out of memory, not written behind 20 octets"
+    );
+    Ok(())
+}
