@@ -1,0 +1,52 @@
+-- The error that a state of a delivery tells (part 3, 3.4.3; part 2, 2.8.14).
+use Rattle.std.specs.Prelude.{ℕ, Bool, false, List, Option, Some, None, Ok, Err, codes, ◌==◌, if◌then◌else◌}
+use Rattle.std.specs.Str.{bytes_eq}
+use Rattle.flow_counts.specs.declared.profile.TheConstants.{MAX_DEPTH}
+use Rattle.amqp_types.specs.Part.{Part, Seen}
+use Rattle.amqp_types.specs.Listed.{listed_in}
+use Rattle.amqp_types.specs.Reading.{Read, seen_at}
+use Rattle.amqp_types.specs.Typed.{symbol_in, ulong_in}
+use Rattle.amqp_perf.specs.declared.descriptor.Outcome.{Outcome}
+use Rattle.amqp_perf.specs.declared.descriptor.Outcome.TheVariants.{Accepted, Rejected, Released, Modified}
+use Rattle.amqp_perf.specs.FieldPlaces.{first}
+use Rattle.amqp_perf.specs.Nested.{StateFields}
+
+-- whether a name is that of an error (part 2, 2.8.14)
+abbrev pub names_error : Option (List ℕ) → Bool
+names_error None = false
+names_error (Some name) = bytes_eq name (codes "amqp:error:list")
+
+-- whether a descriptor that says a number, or else a name, is that of an error
+abbrev pub describes_error : Option ℕ → Option (List ℕ) → Bool
+describes_error (Some code) name = code == 0x1D
+describes_error None name = names_error name
+
+abbrev pub is_error : Part → Bool
+is_error descriptor = describes_error (ulong_in descriptor) (symbol_in descriptor)
+
+-- the condition of an error, which is its first field
+abbrev pub condition_in : Option (Seen × List Seen) → Option (List ℕ)
+condition_in None = None
+condition_in (Some list) = if is_error list.0.part then symbol_in (first list.1).part else None
+
+-- the condition of the error that is the first field of a list
+abbrev pub condition_of : Option (Seen × List Seen) → Option (List ℕ)
+condition_of None = None
+condition_of (Some list) = condition_in (listed_in (first list.1).part)
+
+-- that of a state whose octets were read so
+abbrev pub condition_read : Read Seen → Option (List ℕ)
+condition_read (Ok x) = condition_of (listed_in x.0.part)
+condition_read (Err fault) = None
+
+-- only a rejected state tells an error
+abbrev pub condition_by : Option Outcome → List ℕ → Option (List ℕ)
+condition_by None octets = None
+condition_by (Some Accepted) octets = None
+condition_by (Some Rejected) octets = condition_read (seen_at MAX_DEPTH 0 octets)
+condition_by (Some Released) octets = None
+condition_by (Some Modified) octets = None
+
+-- the condition that a state tells
+abbrev pub condition_told : StateFields → Option (List ℕ)
+condition_told state = condition_by state.outcome state.octets
