@@ -1,0 +1,7 @@
+-- The totals of a summary.
+use Rattle.capture_totals.specs.declared.totals.Totals.{Totals}
+use Rattle.capture_summary.specs.declared.summary.Summary.{Summary}
+
+-- its totals
+abbrev pub totals_of : Summary → Totals
+totals_of summary = summary.totals
