@@ -55,7 +55,9 @@ impl Trail {
             return Ok(false);
         };
         match performative {
-            Performative::Transfer(transfer) => self.take_transfer(view, writer, channel, &transfer),
+            Performative::Transfer(transfer) => self.take_transfer(
+                view, writer, channel, &transfer,
+            ),
             Performative::Disposition(disposition) => {
                 Ok(self.take_disposition(view.connection, writer, channel, &disposition))
             }
@@ -139,14 +141,21 @@ impl Trail {
     }
 
     /// Takes a disposition that names deliveries of clients. Behind one that is settled the id may be another's.
-    fn take_outcome(&mut self, connection: u32, channel: u16, disposition: &Disposition<'_>) -> bool {
+    fn take_outcome(
+        &mut self,
+        connection: u32,
+        channel: u16,
+        disposition: &Disposition<'_>,
+    ) -> bool {
         let Some(source) = self.source else {
             return false;
         };
         let is_named = source.is_named
             && source.link.connection == connection
             && source.link.channel == channel
-            && source.id.is_some_and(|id| covers(disposition.first, disposition.last_id(), id));
+            && source
+                .id
+                .is_some_and(|id| covers(disposition.first, disposition.last_id(), id));
         if is_named && disposition.is_settled() {
             self.source = Some(Source {
                 is_named: false,
@@ -158,7 +167,8 @@ impl Trail {
 
     /// Another session begins on the channel: ids of the one before name nothing any more.
     fn end_session(&mut self, connection: u32, channel: u16) {
-        self.copies.clear(scope_of(connection, channel, Sender::Router));
+        self.copies
+            .clear(scope_of(connection, channel, Sender::Router));
         if let Some(source) = self.source {
             if source.link.connection == connection && source.link.channel == channel {
                 self.source = Some(Source {

@@ -1,9 +1,8 @@
 //! How a run ended, and the line and the exit status that tell it.
 
 use capture_form::{FormFault, FormKind};
-use std::fmt;
-use std::io;
 use std::io::ErrorKind;
+use std::{fmt, io};
 
 /// How the reading of a capture ended.
 #[derive(Clone, Copy, Debug, PartialEq, Eq)]

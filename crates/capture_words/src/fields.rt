@@ -2,15 +2,18 @@
 
 use crate::page::Page;
 use amqp_perf::{
-    Address, Attach, Begin, Detach, Disposition, Flow, Open, Outcome, Performative, ReceiverSettleMode,
-    Role, SenderSettleMode, State, Target, Terminus, Transfer,
+    Address, Attach, Begin, Detach, Disposition, Flow, Open, Outcome, Performative,
+    ReceiverSettleMode, Role, SenderSettleMode, State, Target, Terminus, Transfer,
 };
 use capture_view::condition_told;
 use std::alloc::AllocError;
 
 impl Page {
     /// Appends the name of a performative and its fields.
-    pub(crate) fn put_performative(&mut self, performative: &Performative<'_>) -> Result<(), AllocError> {
+    pub(crate) fn put_performative(
+        &mut self,
+        performative: &Performative<'_>,
+    ) -> Result<(), AllocError> {
         match performative {
             Performative::Open(open) => self.put_open(open),
             Performative::Begin(begin) => self.put_begin(begin),

@@ -54,7 +54,11 @@ impl Page {
             self.put(DIGITS[usize::from(*octet >> 4)])?;
             self.put(DIGITS[usize::from(*octet & 15)])?;
         }
-        if most < octets.len() { self.put("..") } else { Ok(()) }
+        if most < octets.len() {
+            self.put("..")
+        } else {
+            Ok(())
+        }
     }
 
     /// Appends a number.

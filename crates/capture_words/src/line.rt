@@ -148,6 +148,9 @@ impl Page {
 fn is_of_session(performative: &Performative<'_>) -> bool {
     matches!(
         performative,
-        Performative::Begin(_) | Performative::Flow(_) | Performative::Disposition(_) | Performative::End(_)
+        Performative::Begin(_)
+            | Performative::Flow(_)
+            | Performative::Disposition(_)
+            | Performative::End(_)
     )
 }

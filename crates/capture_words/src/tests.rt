@@ -30,19 +30,40 @@ fn texts_are_cut_and_written_out(rt: HostRuntime) -> Result<(), Fail> {
     page.put_octets(&[1, 2, 3])?;
     page.put("|")?;
     page.put_octets(&[])?;
-    assert_eq!(rt; page.text(), "plai..|full|\"\"|\"a b\"|\"é\\u{1b}[2\"|00ff|0102..|\"\"");
+    assert_eq!(rt;
+        page.text(),
+        "plai..|full|\"\"|\"a b\"|\"é\\u{1b}[2\"|00ff|0102..|\"\""
+    );
     Ok(())
 }
 
 #[test]
 fn faults_are_told_with_their_places(rt: HostRuntime) -> Result<(), Fail> {
     let told: [(&[u8], &str); 8] = [
-        (b"AMQP\0\x01\0\0", "     7   1 in  - no frame: the size is over the limit (octet 0)\n"),
-        (b"\0\0\0\x09\x01\0\0\0x", "     7   1 in  - no frame: the body starts outside the frame (octet 4)\n"),
-        (b"\0\0\0\x08\x02\x07\0\0", "     7   1 in  - no frame: the type is neither AMQP nor SASL (octet 5)\n"),
-        (b"\0\0\0\x09\x02\0\0\0", "     7   1 in  - no frame: it ends too early (octet 8)\n"),
-        (b"\0\0\0\x08\x02\0\0\x03x", "     7   1 in  - no frame: octets stand behind it (octet 8)\n"),
-        (b"\0\0\0\x08\x02\x01\0\0", "     7   1 in  - no frame of AMQP: one of SASL (octet 5)\n"),
+        (
+            b"AMQP\0\x01\0\0",
+            "     7   1 in  - no frame: the size is over the limit (octet 0)\n",
+        ),
+        (
+            b"\0\0\0\x09\x01\0\0\0x",
+            "     7   1 in  - no frame: the body starts outside the frame (octet 4)\n",
+        ),
+        (
+            b"\0\0\0\x08\x02\x07\0\0",
+            "     7   1 in  - no frame: the type is neither AMQP nor SASL (octet 5)\n",
+        ),
+        (
+            b"\0\0\0\x09\x02\0\0\0",
+            "     7   1 in  - no frame: it ends too early (octet 8)\n",
+        ),
+        (
+            b"\0\0\0\x08\x02\0\0\x03x",
+            "     7   1 in  - no frame: octets stand behind it (octet 8)\n",
+        ),
+        (
+            b"\0\0\0\x08\x02\x01\0\0",
+            "     7   1 in  - no frame of AMQP: one of SASL (octet 5)\n",
+        ),
         (b"\0\0\0\x08\x02\0\0\x03", "     7   1 in  3 empty frame\n"),
         (
             b"\0\0\0\x0d\x02\0\0\x03\0\x53\x10\xc0\x04",

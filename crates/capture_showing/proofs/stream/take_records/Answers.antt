@@ -8,33 +8,31 @@ use Rattle.capture_showing.proofs.Streaming.{EndsWith, ends_of, follows_end, fol
 use Rattle.capture_showing.proofs.stream.take_records.Goals as goal
 
 pub loop-number-init : goal.loop-number-init
-loop-number-init g c =
-    (
-      record {
-        runs = c.requires;
-        read = [];
-        many = refl;
-        follows = follows_start (offset_of c.args.records) (left_of g.R.Read.remaining c.args.records);
-        took = λ begins. begins;
-      },
-      appends_some (g.O.Write.contents c.args.out.now),
-      λ unwatched. refl,
-    )
+loop-number-init g c = (
+  record {
+    runs = c.requires;
+    read = [];
+    many = refl;
+    follows = follows_start (offset_of c.args.records) (left_of g.R.Read.remaining c.args.records);
+    took = λ begins. begins;
+  },
+  appends_some (g.O.Write.contents c.args.out.now),
+  λ unwatched. refl,
+)
 
 pub loop-number-preserved : goal.loop-number-preserved
 loop-number-preserved g c =
     let some = c.in-Ok-Some in
     let so = c.loop-number.invariant.0 in
     let next = found_so _ _ some.field-0 (Some some.entry) some.field-0-is some.ensures.next in
-    let moved = moved_so _ _ some.field-0 some.entry some.field-0-is some.ensures.moved in
-    (
+    let moved = moved_so _ _ some.field-0 some.entry some.field-0-is some.ensures.moved in (
       record {
         runs = some.ensures.sound refl;
         read = so.read ++ some.entry ∷ [];
         many = omega (arith, so.many, length-append so.read (some.entry ∷ []));
         follows = follows_next _ _ _ _ so.read _ _ some.entry so.follows next moved;
         took = took_more g.V.View.agrees _ _ _ so.read some.entry _ so.many so.took
-        (subst (TakesOneMore g.V.View.agrees _ _) c.view_of.ensures c.in-Ok.ensures);
+            (subst (TakesOneMore g.V.View.agrees _ _) c.view_of.ensures c.in-Ok.ensures);
       },
       some_some _ _ _ c.loop-number.invariant.1 c.in_ok-write_full.ensures,
       λ unwatched. search (c.tell_progress.ensures, c.loop-number.invariant.2),

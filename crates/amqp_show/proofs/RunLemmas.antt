@@ -1,0 +1,75 @@
+-- What a run leaves.
+use Rattle.std.proofs.Common.{◌≡◌, ◌≢◌, ◌⊎◌, ◌++◌, ◌∷◌, ℕ, Bool, true, List, [], Option, None, Some, Ok, Err, ap, cond, inl, inr, refl, subst, sym}
+use Rattle.std.specs.Prelude.{IfSome, if◌then◌else◌}
+use Rattle.std.specs.Io.KnownBytes.{Appends}
+use Rattle.clap.specs.Words.{kind_of}
+use Rattle.clap.specs.declared.error.Error.{Error}
+use Rattle.clap.specs.declared.error.kind.ErrorKind.TheVariants.{OutOfMemory, UnknownArgument}
+use Rattle.capture_showing.specs.declared.ending.Ending.{Ending}
+use Rattle.capture_showing.specs.declared.ending.Ending.TheVariants.{NoMemory}
+use Rattle.capture_showing.specs.Ending.{line_of, status_of}
+use Rattle.capture_showing.specs.Shown.{AppendsSome, EndsText}
+use Rattle.capture_showing.proofs.Known.{appends_nothing, appends_then}
+use Rattle.amqp_show.specs.declared.words.Words.{Words}
+use Rattle.amqp_show.specs.Run.{IsRunOn, ShowsInput, Tells, TellsEnd, TellsSome, is_whole, tail_of}
+use Rattle.amqp_show.specs.Words.{AnswersWords, path_of}
+
+-- of a whole capture no line is told
+pub nothing_told : (known : Option (List ℕ)) (ending : Ending) → is_whole ending ≡ true → TellsEnd known known ending
+nothing_told known ending whole =
+    let none : tail_of ending ≡ [] = ap (λ b. if b then [] else line_of ending ++ 10 ∷ []) whole in
+    subst (Appends known known) (sym none) (appends_nothing known)
+
+status_so : (status : ℕ) (ending : Ending) → (status ≡ status_of ending) ⊎ (status ≡ 74) → status ≢ 74 → status ≡ status_of ending
+status_so status ending (inl is) written = is
+status_so status ending (inr not) written = absurd (written not)
+
+-- the line of a fault alone
+pub tells_alone : (before after : Option (List ℕ)) (status : ℕ) (ending : Ending) → (status ≢ 74 → TellsEnd before after ending)
+    → (status ≡ status_of ending) ⊎ (status ≡ 74) → status ≢ 74 → Tells before after status ending
+tells_alone before after status ending told is written = record {
+  shown = [];
+  text = told written;
+  same_status = status_so status ending is written;
+}
+
+-- the line of a fault behind what was shown
+pub tells_behind : (before between after : Option (List ℕ)) (status : ℕ) (ending : Ending) → AppendsSome before between
+    → (status ≢ 74 → TellsEnd between after ending) → (status ≡ status_of ending) ⊎ (status ≡ 74) → status ≢ 74 → Tells before after status ending
+tells_behind before between after status ending shown told is written = record {
+  shown = shown.0;
+  text = appends_then before between after shown.0 (tail_of ending) shown.1 (told written);
+  same_status = status_so status ending is written;
+}
+
+-- want of memory says nothing of the input
+on_nothing : (held : Option (List ℕ)) → IfSome held (λ octets. EndsText octets NoMemory)
+on_nothing None = tt
+on_nothing (Some octets) = tt
+
+-- refused memory is told as its ending, and an unknown argument by its status
+pub refused_run : (words : List (List ℕ)) (error : Error) (held before after : Option (List ℕ)) (status : ℕ)
+    → AnswersWords words (Err error)
+    → (kind_of error ≡ OutOfMemory → status ≢ 74 → Tells before after status NoMemory)
+    → (kind_of error ≡ UnknownArgument → status ≡ 64)
+    → (kind_of error ≡ OutOfMemory → (status ≡ 3) ⊎ (status ≡ 74))
+    → IsRunOn words held before after status
+refused_run [] error held before after status answer told unknown memory =
+    λ written. record { ending = NoMemory; told = told answer written; ends = on_nothing held }
+refused_run (word ∷ []) error held before after status answer told unknown memory =
+    λ plain written. (NoMemory, told (answer plain) written)
+refused_run (first ∷ second ∷ more) error held before after status answer told unknown memory =
+    λ plain plain'. elim (answer plain plain') [
+      | inl refused ↦ inr (memory refused)
+      | inr mistaken ↦ inl (unknown mistaken)
+    ]
+
+-- the parser took the words, and the source that they ask for was shown
+pub shown_run : (words : List (List ℕ)) (asked : Words) (held before after : Option (List ℕ)) (status : ℕ)
+    → AnswersWords words (Ok asked)
+    → (path_of asked.source ≡ None → status ≢ 74 → ShowsInput held before after status)
+    → (status ≢ 74 → TellsSome before after status)
+    → IsRunOn words held before after status
+shown_run [] asked held before after status answer input told = λ written. input answer written
+shown_run (word ∷ []) asked held before after status answer input told = λ plain written. told written
+shown_run (first ∷ second ∷ more) asked held before after status answer input told = λ plain plain'. absurd (answer plain plain')

@@ -1,0 +1,12 @@
+use Rattle.std.proofs.Common.{map}
+use Rattle.amqp_show.proofs.RunLemmas.{refused_run, shown_run}
+use Rattle.amqp_show.proofs.run.run_words.Goals as goal
+
+pub returns-in-Ok-clause-run : goal.returns-in-Ok-clause-run
+returns-in-Ok-clause-run g c =
+    shown_run (map g.S.AsStr.text c.args.words.now) c.in-Ok.words _ _ _ _ c.in-Ok.ensures c.show_source.ensures.input c.show_source.ensures.told
+
+pub returns-in-Err-clause-run : goal.returns-in-Err-clause-run
+returns-in-Err-clause-run g c =
+    let told = c.tell_refused_words.ensures in
+    refused_run (map g.S.AsStr.text c.args.words.now) c.in-Err.error _ _ _ _ c.in-Err.ensures told.no_memory told.unknown told.memory

@@ -1,0 +1,52 @@
+-- What a run leaves.
+use Rattle.std.specs.Prelude.{◌≡◌, ◌≢◌, ◌⊎◌, ◌≤◌, ℕ, Bool, true, false, if◌then◌else◌, List, [], ◌∷◌, ◌++◌, Option, IfSome}
+use Rattle.std.specs.Io.KnownBytes.{Appends}
+use Rattle.capture_showing.specs.declared.ending.Ending.{Ending}
+use Rattle.capture_showing.specs.declared.ending.Ending.TheVariants.{Whole, Malformed, NoMemory, Unreadable}
+use Rattle.capture_showing.specs.Ending.{line_of, status_of}
+use Rattle.capture_showing.specs.Shown.{EndsText}
+use Rattle.amqp_show.specs.Words.{is_option}
+
+-- whether a capture was whole
+abbrev pub is_whole : Ending → Bool
+is_whole Whole = true
+is_whole (Malformed offset) = false
+is_whole NoMemory = false
+is_whole (Unreadable offset) = false
+
+-- what is written behind what was shown: the line of a fault
+abbrev pub tail_of : Ending → List ℕ
+tail_of ending = if is_whole ending then [] else line_of ending ++ 10 ∷ []
+
+-- what standard output is known to hold gained the line of a fault
+abbrev pub TellsEnd : Option (List ℕ) → Option (List ℕ) → Ending → Type 0
+TellsEnd before after ending = Appends before after (tail_of ending)
+
+-- what standard output is known to hold gained what was shown, and behind that the line of a fault; the status is that
+-- of the ending (own format)
+pub record Tells (before after : Option (List ℕ)) (status : ℕ) (ending : Ending) : Type 0 where
+  pub shown : List ℕ
+  pub text : Appends before after (shown ++ tail_of ending)
+  pub same_status : status ≡ status_of ending
+
+-- the same of some ending
+abbrev pub TellsSome : Option (List ℕ) → Option (List ℕ) → ℕ → Type 0
+TellsSome before after status = (ending : Ending) × Tells before after status ending
+
+-- the statuses of the endings, of a fault of the words and of an output that can't be written (own format)
+abbrev pub IsStatus : ℕ → Type 0
+IsStatus status = (status ≤ 4) ⊎ (status ≡ 64) ⊎ (status ≡ 74)
+
+-- an ending is told, which is that of all the octets that the reader is known to give
+pub record ShowsInput (held before after : Option (List ℕ)) (status : ℕ) : Type 0 where
+  pub ending : Ending
+  pub told : Tells before after status ending
+  pub ends : IfSome held (λ octets. EndsText octets ending)
+
+-- without words standard input is shown; with one word that is no option an ending is told; two are a mistake, unless
+-- memory for the parser was refused; all this where standard output could be written (own format)
+abbrev pub IsRunOn : List (List ℕ) → Option (List ℕ) → Option (List ℕ) → Option (List ℕ) → ℕ → Type 0
+IsRunOn [] held before after status = status ≢ 74 → ShowsInput held before after status
+IsRunOn (word ∷ []) held before after status = is_option word ≡ false → status ≢ 74 → TellsSome before after status
+IsRunOn (first ∷ second ∷ more) held before after status =
+    is_option first ≡ false → is_option second ≡ false → (status ≡ 64) ⊎ (status ≡ 3) ⊎ (status ≡ 74)

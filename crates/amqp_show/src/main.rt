@@ -1,0 +1,49 @@
+//! A capture in words: `amqp_show [FILE]` reads a capture from the file, or from standard input where no word is given
+//! or the word is `-`, and prints a line for each record; with `--summary` one table.
+//!
+//! The exit status tells whether the capture is whole (`Ending::status`). What was read in front of a fault is printed, and
+//! then the line of the fault. A mistake in the words gives the parser's text on standard error alone, and status 64. The
+//! modules, in reading order:
+//!
+//! - `words`: what the words of the command line ask for
+//! - `lines`, `table`: the two ways in which records are shown
+//! - `run`: a run over any words, reader and writers
+//!
+//! Another way to show a capture is a variant of `Mode`, its word in `words`, and its arm in `run::show_from`.
+#![tactic(auto)]
+
+mod lines;
+mod run;
+mod table;
+#[cfg(test)]
+mod tests;
+mod words;
+
+use run::{run_words, tell_unread_words};
+use std::io::IsTerminal;
+use std::process::ExitCode;
+use std::{env, io};
+
+fn main(rt: HostRuntime) -> ExitCode {
+    let (mut out, mut err) = (rt.stdout(), rt.stderr());
+    let is_watched = err.is_terminal() && !out.is_terminal();
+    let status = match words_of(&rt) {
+        Ok(words) => run_words(
+            &rt,
+            rt.alloc(),
+            words.as_slice(),
+            is_watched,
+            &mut rt.stdin(),
+            &mut out,
+            &mut err,
+        ),
+        Err(error) => tell_unread_words(error, &mut out, &mut err),
+    };
+    ExitCode::from(status)
+}
+
+/// The words behind the program's name.
+fn words_of(rt: &HostRuntime) -> io::Result<Vec<String>> {
+    let words = env::args(rt)?.skip(1).collect(rt.alloc())?;
+    Ok(words)
+}
