@@ -5,6 +5,7 @@ ghost use Rattle.capture_form.specs.Rules.{RuleText};
 ghost use Rattle.capture_form.specs.declared.records.Record.{Record};
 ghost use Rattle.number_groups.specs.Groups.{is_member};
 ghost use Rattle.number_groups.specs.OctetGroups as octets;
+ghost use Rattle.trace_events.specs.Address as addresses;
 ghost use Rattle.trace_events.specs.Event as law;
 ghost use Rattle.trace_events.specs.History.{history};
 ghost use Rattle.trace_events.specs.Link.{is_producer, own_link};
