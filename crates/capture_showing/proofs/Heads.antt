@@ -23,7 +23,7 @@ reads_by : (octets : List ℕ) (head : Result (List RuleText × List ℕ) FormFa
 unfolding reading
 reads_by octets head is = ap (reads_behind (length octets)) is
 
-behind_head : (octets : List ℕ) (rules : List RuleText) (rest : List ℕ) (place : ℕ) → head_at octets ≡ Ok (rules, rest)
+pub behind_head : (octets : List ℕ) (rules : List RuleText) (rest : List ℕ) (place : ℕ) → head_at octets ≡ Ok (rules, rest)
     → octets ≡ text_of_head rules ++ rest → place ≡ length (text_of_head rules)
     → ((records_behind place rest).fault ≡ (reading octets).fault) × ((records_behind place rest).records ≡ (reading octets).records)
 behind_head octets rules rest place read spelled at_is =
@@ -52,10 +52,10 @@ taken_behind_head agrees first now (Some octets) left rules place ending head at
     subst (λ (rs : List Record). TakesAll agrees rs ending first now) (behind_head octets rules head.0 place head.1.read head.1.spelled at_is).1 here
 
 -- a fault in the head, behind which nothing is read
-abbrev HeadFault : List ℕ → ℕ → Type 0
+abbrev pub HeadFault : List ℕ → ℕ → Type 0
 HeadFault octets place = ((k : FormKind) × ((reading octets).fault ≡ Some (record { offset = place; kind = k }))) × ((reading octets).records ≡ [])
 
-head_fault : (octets : List ℕ) (kind : FormKind) (place : ℕ) → head_at octets ≡ Err (record { offset = place; kind = kind }) → HeadFault octets place
+pub head_fault : (octets : List ℕ) (kind : FormKind) (place : ℕ) → head_at octets ≡ Err (record { offset = place; kind = kind }) → HeadFault octets place
 head_fault octets kind place is =
     let by = reads_by octets (Err (record { offset = place; kind = kind })) is in
     ((kind, ap (λ (r : Reads). r.fault) by), ap (λ (r : Reads). r.records) by)
