@@ -12,7 +12,7 @@ use Rattle.capture_showing.specs.Shown.{AppendsSome, EndsText}
 use Rattle.capture_showing.proofs.Known.{appends_nothing, appends_then}
 use Rattle.amqp_show.specs.declared.words.Words.{Words}
 use Rattle.amqp_show.specs.Run.{IsRunOn, ShowsInput, Tells, TellsEnd, TellsSome, is_whole, tail_of}
-use Rattle.amqp_show.specs.Words.{AnswersWords, path_of}
+use Rattle.amqp_show.specs.Words.{AnswersWords, packets_of, path_of}
 
 -- of a whole capture no line is told
 pub nothing_told : (known : Option (List ℕ)) (ending : Ending) → is_whole ending ≡ true → TellsEnd known known ending
@@ -67,9 +67,10 @@ refused_run (first ∷ second ∷ more) error held before after status answer to
 -- the parser took the words, and the source that they ask for was shown
 pub shown_run : (words : List (List ℕ)) (asked : Words) (held before after : Option (List ℕ)) (status : ℕ)
     → AnswersWords words (Ok asked)
-    → (path_of asked.source ≡ None → status ≢ 74 → ShowsInput held before after status)
-    → (status ≢ 74 → TellsSome before after status)
+    → (path_of asked.source ≡ None → status ≢ 74 → status ≢ 5 → ShowsInput held before after status)
+    → (status ≢ 74 → status ≢ 5 → TellsSome before after status)
+    → (packets_of asked.mode ≡ None → status ≢ 5)
     → IsRunOn words held before after status
-shown_run [] asked held before after status answer input told = λ written. input answer written
-shown_run (word ∷ []) asked held before after status answer input told = λ plain written. told written
-shown_run (first ∷ second ∷ more) asked held before after status answer input told = λ plain plain'. absurd (answer plain plain')
+shown_run [] asked held before after status answer input told unasked = λ written. input answer.0 written (unasked answer.1)
+shown_run (word ∷ []) asked held before after status answer input told unasked = λ plain written. told written (unasked (answer plain).1)
+shown_run (first ∷ second ∷ more) asked held before after status answer input told unasked = λ plain plain'. absurd (answer plain plain')

@@ -7,7 +7,7 @@ use Rattle.clap.specs.declared.error.kind.ErrorKind.TheVariants.{OutOfMemory, Un
 use Rattle.clap.specs.declared.error.Error.{Error}
 use Rattle.clap.specs.Lexer.{strip_byte}
 use Rattle.clap.proofs.OnLiterals.{clap_on_literals}
-use Rattle.amqp_show.specs.Words.{AnswersWords, command_line, is_option, path_asked, path_of}
+use Rattle.amqp_show.specs.Words.{AnswersWords, command_line, is_option, packets_of, path_asked, path_of}
 use Rattle.amqp_show.specs.declared.words.Words.{Words}
 
 command_line-is_simple : is_simple command_line ≡ true
@@ -27,6 +27,10 @@ file-none : first_of (codes "FILE") (matches_of command_line []) ≡ None
 unfolding clap_on_literals
 file-none = refl
 
+packets-none : first_of (codes "pcapng") (matches_of command_line []) ≡ None
+unfolding clap_on_literals
+packets-none = refl
+
 -- a word that is no option has no hyphen to strip
 strip_byte-plain : (word : List ℕ) → is_option word ≡ false → strip_byte 45 word ≡ None
 strip_byte-plain [] plain = refl
@@ -45,6 +49,10 @@ fault_of-one word plain = rw (dashes-plain word plain, strip_byte-plain word pla
 file-one : (word : List ℕ) → is_option word ≡ false → first_of (codes "FILE") (matches_of command_line (word ∷ [])) ≡ Some word
 unfolding clap_on_literals
 file-one word plain = rw (dashes-plain word plain, strip_byte-plain word plain, strip_byte-plain word plain) refl
+
+packets-one : (word : List ℕ) → is_option word ≡ false → first_of (codes "pcapng") (matches_of command_line (word ∷ [])) ≡ None
+unfolding clap_on_literals
+packets-one word plain = rw (dashes-plain word plain, strip_byte-plain word plain, strip_byte-plain word plain) refl
 
 -- two words: the second is not taken
 fault_of-more : (first second : List ℕ) (more : List (List ℕ)) → is_option first ≡ false → is_option second ≡ false
@@ -67,10 +75,12 @@ asked-plain (octet ∷ octets) plain = rw plain refl
 
 -- the parser took the words, and this was read with the file that it met
 pub answers_taken : (words : List (List ℕ)) (asked : Words) → fault_of command_line words ≡ []
-    → path_of asked.source ≡ path_asked (first_of (codes "FILE") (matches_of command_line words)) → AnswersWords words (Ok asked)
-answers_taken [] asked taken met = met ∙ ap path_asked file-none
-answers_taken (word ∷ []) asked taken met = λ plain. met ∙ ap path_asked (file-one word plain) ∙ asked-plain word plain
-answers_taken (first ∷ second ∷ more) asked taken met = λ plain plain'.
+    → path_of asked.source ≡ path_asked (first_of (codes "FILE") (matches_of command_line words))
+    → packets_of asked.mode ≡ first_of (codes "pcapng") (matches_of command_line words) → AnswersWords words (Ok asked)
+answers_taken [] asked taken met packets = (met ∙ ap path_asked file-none, packets ∙ packets-none)
+answers_taken (word ∷ []) asked taken met packets = λ plain.
+    (met ∙ ap path_asked (file-one word plain) ∙ asked-plain word plain, packets ∙ packets-one word plain)
+answers_taken (first ∷ second ∷ more) asked taken met packets = λ plain plain'.
     let clash : [] ≡ UnknownArgument ∷ [] = sym taken ∙ fault_of-more first second more plain plain' in cc
 
 -- where the words have no fault, only memory fails
@@ -98,9 +108,9 @@ pub faults_of : (app : App) (words : List (List ℕ)) (P : Kinds → Type 0) →
 faults_of app words P same known =
     subst (λ a. P (fault_of a words)) same (known (ap is_simple_and_free same ∙ command_line-is_free))
 
--- the file that the matches of the command have
-pub file_of : (app : App) (words : List (List ℕ)) (matches : ArgMatches) → app ≡ command_line → HasMatchesOf app words matches
-    → first_value (found_of matches) (codes "FILE") ≡ first_of (codes "FILE") (matches_of command_line words)
-file_of app words matches same known =
-    first_value-rows (found_of matches) (codes "FILE") ∙ ap (first_of (codes "FILE")) (
+-- the word that the matches of the command have under a name
+pub word_of : (name : List ℕ) (app : App) (words : List (List ℕ)) (matches : ArgMatches) → app ≡ command_line → HasMatchesOf app words matches
+    → first_value (found_of matches) name ≡ first_of name (matches_of command_line words)
+word_of name app words matches same known =
+    first_value-rows (found_of matches) name ∙ ap (first_of name) (
     (known (ap is_simple same ∙ command_line-is_simple)).0 ∙ ap (λ a. matches_of a words) same)

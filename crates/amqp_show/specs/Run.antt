@@ -1,5 +1,5 @@
 -- What a run leaves.
-use Rattle.std.specs.Prelude.{◌≡◌, ◌≢◌, ◌⊎◌, ◌≤◌, ℕ, Bool, true, false, if◌then◌else◌, List, [], ◌∷◌, ◌++◌, Option, IfSome}
+use Rattle.std.specs.Prelude.{◌≡◌, ◌≢◌, ◌⊎◌, ◌≤◌, ℕ, Bool, true, false, if◌then◌else◌, List, [], ◌∷◌, ◌++◌, Option, IfSome, codes}
 use Rattle.std.specs.Io.KnownBytes.{Appends}
 use Rattle.capture_showing.specs.declared.ending.Ending.{Ending}
 use Rattle.capture_showing.specs.declared.ending.Ending.TheVariants.{Whole, Malformed, NoMemory, Unreadable}
@@ -33,9 +33,18 @@ pub record Tells (before after : Option (List ℕ)) (status : ℕ) (ending : End
 abbrev pub TellsSome : Option (List ℕ) → Option (List ℕ) → ℕ → Type 0
 TellsSome before after status = (ending : Ending) × Tells before after status ending
 
--- the statuses of the endings, of a fault of the words and of an output that can't be written (own format)
+-- the same, and nothing was shown
+abbrev pub TellsAlone : Option (List ℕ) → Option (List ℕ) → ℕ → Type 0
+TellsAlone before after status = (ending : Ending) × TellsEnd before after ending × (status ≡ status_of ending)
+
+-- the line that tells that packets could not be written (own format)
+abbrev pub no_packets : List ℕ
+no_packets = codes "packets not written" ++ 10 ∷ []
+
+-- the statuses of the endings, of packets that can't be written, of a fault of the words and of an output that can't be
+-- written (own format)
 abbrev pub IsStatus : ℕ → Type 0
-IsStatus status = (status ≤ 4) ⊎ (status ≡ 64) ⊎ (status ≡ 74)
+IsStatus status = (status ≤ 5) ⊎ (status ≡ 64) ⊎ (status ≡ 74)
 
 -- an ending is told, which is that of all the octets that the reader is known to give
 pub record ShowsInput (held before after : Option (List ℕ)) (status : ℕ) : Type 0 where

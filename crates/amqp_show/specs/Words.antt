@@ -9,12 +9,20 @@ use Rattle.clap.specs.declared.error.Error.{Error}
 use Rattle.clap.specs.declared.error.kind.ErrorKind.TheVariants.{OutOfMemory, UnknownArgument}
 use Rattle.amqp_show.specs.declared.words.Source.{Source}
 use Rattle.amqp_show.specs.declared.words.Source.TheVariants.{StandardInput, File}
+use Rattle.amqp_show.specs.declared.words.Mode.{Mode}
+use Rattle.amqp_show.specs.declared.words.Mode.TheVariants.{Lines, Summary, Packets}
 use Rattle.amqp_show.specs.declared.words.Words.{Words}
 
 -- the file that is asked for; none is standard input (own format)
 abbrev pub path_of : Source → Option (List ℕ)
 path_of StandardInput = None
 path_of (File path) = Some path.now
+
+-- the file that packets are asked for in (own format)
+abbrev pub packets_of : Mode → Option (List ℕ)
+packets_of Lines = None
+packets_of Summary = None
+packets_of (Packets path) = Some path.now
 
 -- the file that a word names; a hyphen (45) alone names standard input
 abbrev pub path_asked : Option (List ℕ) → Option (List ℕ)
@@ -26,19 +34,21 @@ abbrev pub is_option : List ℕ → Bool
 is_option [] = false
 is_option (octet ∷ octets) = octet == 45
 
--- the words ask for this source, want of memory aside (own format)
-abbrev pub AsksFor : Option (List ℕ) → Result Words Error → Type 0
-AsksFor path result = MatchResult result (λ words. path_of words.source ≡ path) (λ error. kind_of error ≡ OutOfMemory)
+-- the words ask for this source, and for packets in this file or none, want of memory aside (own format)
+abbrev pub AsksFor : Option (List ℕ) → Option (List ℕ) → Result Words Error → Type 0
+AsksFor path packets result = MatchResult result (λ words. (path_of words.source ≡ path) × (packets_of words.mode ≡ packets))
+    (λ error. kind_of error ≡ OutOfMemory)
 
 -- the words are a mistake, or memory was refused (own format)
 abbrev pub IsMistake : Result Words Error → Type 0
 IsMistake result = MatchResult result (λ words. ⊥)
     (λ error. (kind_of error ≡ OutOfMemory) ⊎ (kind_of error ≡ UnknownArgument))
 
--- no word asks for standard input and one word that is no option for the file that it names; two such are a mistake
+-- no word asks for standard input and one word that is no option for the file that it names, and neither for packets; two
+-- such are a mistake
 abbrev pub AnswersWords : List (List ℕ) → Result Words Error → Type 0
-AnswersWords [] result = AsksFor None result
-AnswersWords (word ∷ []) result = is_option word ≡ false → AsksFor (Some word) result
+AnswersWords [] result = AsksFor None None result
+AnswersWords (word ∷ []) result = is_option word ≡ false → AsksFor (Some word) None result
 AnswersWords (first ∷ second ∷ more) result =
     is_option first ≡ false → is_option second ≡ false → IsMistake result
 
@@ -76,6 +86,11 @@ choosing_command =
     let numbered = with_rule (with_rule (with_rule bare_command file_argument) (number_argument (codes "from"))) (number_argument (codes "to")) in
     with_rule (with_rule (with_rule numbered connection_argument) link_argument) (number_argument (codes "delivery"))
 
+abbrev pub packets_argument : Rule
+packets_argument = asking_argument (codes "pcapng") String
+
 -- the command line, as the parser reads it (own format)
 abbrev pub command_line : App
-command_line = with_rule (with_rule choosing_command (flag_argument (codes "wide"))) (flag_argument (codes "summary"))
+command_line =
+    let shown = with_rule (with_rule choosing_command (flag_argument (codes "wide"))) (flag_argument (codes "summary")) in
+    with_rule shown packets_argument

@@ -1,17 +1,19 @@
 //! A run over any words, reader and writers.
 
-ghost use Rattle.std.specs.Prelude.{◌≡◌, ◌≢◌, ◌<◌, ◌≤◌, ◌⊎◌, false, map, None, IfOk, IfSome, OnOk};
+ghost use Rattle.std.specs.Prelude.{◌≡◌, ◌≢◌, ◌<◌, ◌≤◌, ◌⊎◌, false, map, None};
 ghost use Rattle.clap.specs.Words.{kind_of};
 ghost use Rattle.capture_showing.specs.declared.ending.Ending.TheVariants.{NoMemory};
-ghost use Rattle.capture_showing.specs.Ending.{IsRefusedGrowth, status_of};
-ghost use Rattle.capture_showing.specs.Shown.{AppendsSome, EndsText};
-ghost use Rattle.amqp_show.specs.Run.{IsRunOn, IsStatus, ShowsInput, Tells, TellsEnd, TellsSome, is_whole};
-ghost use Rattle.amqp_show.specs.Words.{path_of};
+ghost use Rattle.std.specs.Io.KnownBytes.{Appends};
+ghost use Rattle.capture_showing.specs.Ending.{IsRefusedGrowth};
+ghost use Rattle.amqp_show.specs.Run.{IsRunOn, IsStatus, ShowsInput, Tells, TellsSome, no_packets};
+ghost use Rattle.amqp_show.specs.Words.{packets_of, path_of};
 
 use crate::lines::Lines;
+use crate::packets::write_packets;
 use crate::table::Table;
+use crate::telling::{NO_PACKETS, NOT_WRITTEN, tell};
 use crate::words::{Mode, Source, Words};
-use capture_showing::{Ending, NotWritten, show_capture};
+use capture_showing::{Ending, NotWritten, View, show_capture};
 use capture_words::Page;
 use clap::error::ErrorKind;
 use std::alloc::Global;
@@ -23,11 +25,9 @@ use std::{fs, io};
 /// The exit status after a fault of the words.
 pub const WORDS_FAULT: u8 = 64;
 
-/// The exit status where standard output could not be written.
-pub const NOT_WRITTEN: u8 = 74;
-
 /// Shows the capture that `words`, those behind the program's name, ask for: the file that they name, or `input`. Writes
-/// it to `out`, behind it the line of a fault, and answers the exit status.
+/// it to `out`, behind it the line of a fault, and answers the exit status. Where packets are asked for they go to the file
+/// that is named, and the line of a fault alone to `out`; `NO_PACKETS` tells that they could not be written.
 ///
 /// A fault of the words is told on `err` alone, with `WORDS_FAULT`; the help goes to `out`, with status 0. Where `out`
 /// fails the status is `NOT_WRITTEN`, and nothing is said of what stands there. Where it is watched, `err` has a line of
@@ -45,6 +45,7 @@ pub fn run_words<F: Files, S: AsStr, R: Read, O: Write, E: Write>(
 
     // Statuses 2 to 4 come only behind what was shown, with the line of a fault, which has that status.
     ensures told { 0 < result → result ≤ 4 → TellsSome (O.contents out.old) (O.contents out.new) result }
+    ensures packets { result ≡ NO_PACKETS → Appends (O.contents out.old) (O.contents out.new) no_packets }
     ensures mistake { result ≡ WORDS_FAULT → out.new ≡ out.old }
     ensures quiet { is_watched ≡ false → result ≢ WORDS_FAULT → err.new ≡ err.old }
     ensures status { IsStatus result }
@@ -65,25 +66,60 @@ fn show_source<F: Files, R: Read, O: Write, E: Write>(
     out: &mut O,
     err: &mut E,
 ) -> u8
-    ensures input { path_of words.entry.source ≡ None → result ≢ NOT_WRITTEN
+    ensures input { path_of words.entry.source ≡ None → result ≢ NOT_WRITTEN → result ≢ NO_PACKETS
         → ShowsInput (R.remaining input.old) (O.contents out.old) (O.contents out.new) result }
-    ensures told { result ≢ NOT_WRITTEN → TellsSome (O.contents out.old) (O.contents out.new) result }
+    ensures told { result ≢ NOT_WRITTEN → result ≢ NO_PACKETS → TellsSome (O.contents out.old) (O.contents out.new) result }
+    ensures unasked { packets_of words.entry.mode ≡ None → result ≢ NO_PACKETS }
+    ensures packets { result ≡ NO_PACKETS → Appends (O.contents out.old) (O.contents out.new) no_packets }
     ensures quiet { is_watched ≡ false → err.new ≡ err.old }
-    ensures status { (result ≤ 4) ⊎ (result ≡ NOT_WRITTEN) }
+    ensures status { (result ≤ NO_PACKETS) ⊎ (result ≡ NOT_WRITTEN) }
 {
     match words.source {
-        Source::StandardInput => show_input(alloc, words, is_watched, input, out, err),
+        Source::StandardInput => show_input(files, alloc, words, is_watched, input, out, err),
         Source::File(path) => match fs::open(files, path) {
-            Ok(file) => show_input(alloc, words, is_watched, file, out, err),
+            Ok(file) => show_input(files, alloc, words, is_watched, file, out, err),
             Err(error) => tell(&Ending::from(error), out),
         },
     }
 }
 
-/// Shows the capture that is read, and tells how its reading ended.
-fn show_input<R: Read, O: Write, E: Write>(
+/// Shows the capture that is read in the mode that is asked for, and tells how its reading ended.
+fn show_input<F: Files, R: Read, O: Write, E: Write>(
+    files: &F,
     alloc: Global,
     words: Words<'_>,
+    is_watched: bool,
+    input: R,
+    out: &mut O,
+    err: &mut E,
+) -> u8
+where
+    R: Drop,
+    ensures shown { result ≢ NOT_WRITTEN → result ≢ NO_PACKETS → ShowsInput (R.remaining input) (O.contents out.old) (O.contents out.new) result }
+    ensures unasked { packets_of words.entry.mode ≡ None → result ≢ NO_PACKETS }
+    ensures packets { result ≡ NO_PACKETS → Appends (O.contents out.old) (O.contents out.new) no_packets }
+    ensures quiet { is_watched ≡ false → err.new ≡ err.old }
+    ensures status { (result ≤ NO_PACKETS) ⊎ (result ≡ NOT_WRITTEN) }
+{
+    let mut page = Page::new(alloc, words.width);
+    match words.mode {
+        Mode::Lines => {
+            let mut lines = Lines::new(alloc, words.choice);
+            show_by(alloc, &mut lines, &mut page, is_watched, input, out, err)
+        }
+        Mode::Summary => {
+            let mut table = Table::new(alloc);
+            show_by(alloc, &mut table, &mut page, is_watched, input, out, err)
+        }
+        Mode::Packets(path) => write_packets(files, alloc, path, input, out),
+    }
+}
+
+/// Shows the capture that is read by a view, and tells how its reading ended.
+fn show_by<V: View, R: Read, O: Write, E: Write>(
+    alloc: Global,
+    view: &mut V,
+    page: &mut Page,
     is_watched: bool,
     input: R,
     out: &mut O,
@@ -95,37 +131,9 @@ where
     ensures quiet { is_watched ≡ false → err.new ≡ err.old }
     ensures status { (result ≤ 4) ⊎ (result ≡ NOT_WRITTEN) }
 {
-    match show_from(alloc, words, is_watched, input, out, err) {
+    match show_capture(alloc, input, view, page, out, is_watched, err) {
         Ok(ending) => tell(&ending, out),
         Err(NotWritten) => NOT_WRITTEN,
-    }
-}
-
-/// Shows the capture that is read, in the mode that is asked for.
-fn show_from<R: Read, O: Write, E: Write>(
-    alloc: Global,
-    words: Words<'_>,
-    is_watched: bool,
-    input: R,
-    out: &mut O,
-    err: &mut E,
-) -> Result<Ending, NotWritten>
-where
-    R: Drop,
-    ensures shown { OnOk result (AppendsSome (O.contents out.old) (O.contents out.new)) }
-    ensures ending { IfOk result (λ ending. IfSome (R.remaining input) (λ octets. EndsText octets ending)) }
-    ensures quiet { is_watched ≡ false → err.new ≡ err.old }
-{
-    let mut page = Page::new(alloc, words.width);
-    match words.mode {
-        Mode::Lines => {
-            let mut lines = Lines::new(alloc, words.choice);
-            show_capture(alloc, input, &mut lines, &mut page, out, is_watched, err)
-        }
-        Mode::Summary => {
-            let mut table = Table::new(alloc);
-            show_capture(alloc, input, &mut table, &mut page, out, is_watched, err)
-        }
     }
 }
 
@@ -170,34 +178,4 @@ fn tell_refused_words<O: Write, E: Write>(error: &clap::Error, out: &mut O, err:
         Ok(()) => 0,
         Err(_) => NOT_WRITTEN,
     }
-}
-
-/// Writes the line of a fault to `out`, and answers the status; or `NOT_WRITTEN` where `out` fails, and then nothing is said
-/// of what stands there. A whole capture has no line.
-pub fn tell<O: Write>(ending: &Ending, out: &mut O) -> u8
-    ensures told { result ≢ NOT_WRITTEN → Tells (O.contents out.old) (O.contents out.new) result ending.now }
-    ensures alone { result ≢ NOT_WRITTEN → TellsEnd (O.contents out.old) (O.contents out.new) ending.now }
-    ensures status { (result ≡ status_of ending.now) ⊎ (result ≡ NOT_WRITTEN) }
-{
-    tell_end(ending, out)
-}
-
-#[tactic(auto, using(crate::proofs::RunLemmas::nothing_told))]
-fn tell_end<O: Write>(ending: &Ending, out: &mut O) -> u8
-    ensures alone { result ≢ NOT_WRITTEN → TellsEnd (O.contents out.old) (O.contents out.new) ending.now }
-    ensures status { (result ≡ status_of ending.now) ⊎ (result ≡ NOT_WRITTEN) }
-{
-    if is_whole(ending) {
-        return ending.status();
-    }
-    match writeln!(out, "{ending}") {
-        Ok(()) => ending.status(),
-        Err(_) => NOT_WRITTEN,
-    }
-}
-
-fn is_whole(ending: &Ending) -> bool
-    ensures { result ≡ is_whole ending.now }
-{
-    matches!(ending, Ending::Whole)
 }

@@ -1,11 +1,12 @@
 //! Runs over fake readers and writers; the texts were worked out by hand from the octets.
 
-use crate::run::{run_words, tell, tell_unread_words};
+use crate::run::{run_words, tell_unread_words};
+use crate::telling::{tell, tell_no_packets};
 use capture_showing::Ending;
 use std::alloc::AllocError;
-use std::io;
 use std::io::{ErrorKind, Read, Write};
 use std::test::Fail;
+use std::{fs, io};
 
 /// A delivery in two parts that its consumer rejects, and octets that are no frame: two links are attached without their
 /// opens and begins, which an auditor would refuse.
@@ -30,6 +31,10 @@ const REJECTED: &[u8] = b"AMQPCAP1\0\0\
     \x01\0\0\0\x01\0\0\0\0\0\0\0\0\0\0\0\0\x0a\
     GET / HTTP\
     \x04\0\0\0\x01\0\0\0\0\0\0\0\0\0\0\0\0\0";
+
+/// The packets of a capture without records.
+const NO_PACKETS: &[u8] =
+    b"\x0a\x0d\x0d\x0a\x00\x00\x00\x1c\x1a+<M\x00\x01\x00\x00\xff\xff\xff\xff\xff\xff\xff\xff\x00\x00\x00\x1c\x00\x00\x00\x01\x00\x00\x00\x14\x00\xe4\x00\x00\x00\x00\x00\x00\x00\x00\x00\x14";
 
 /// What a run left: its status, standard output, standard error.
 type Left = (u8, String, String);
@@ -171,5 +176,25 @@ fn words_and_outputs_that_fail(rt: HostRuntime) -> Result<(), Fail> {
     let mut out = Vec::new(rt.alloc());
     let status = tell_unread_words(io::Error::from(AllocError), &mut out, &mut err);
     assert_eq!(rt; (status, out.as_slice()), (3, b"no memory\n".as_slice()));
+    Ok(())
+}
+
+#[test]
+fn packets_are_written_to_a_new_file(rt: HostRuntime) -> Result<(), Fail> {
+    let path = "amqp_show.pcapng";
+    let _ = fs::remove_file(&rt, path);
+    let words = ["--pcapng", path];
+    let (status, out, _) = run(&rt, &words, &mut &REJECTED[..10])?;
+    assert_eq!(rt; (status, out.as_str()), (0, ""));
+    assert_eq!(rt; fs::read(&rt, path)?.as_slice(), NO_PACKETS);
+    let (status, out, _) = run(&rt, &words, &mut &*REJECTED)?;
+    assert_eq!(rt; (status, out.as_str()), (5, "packets not written\n"));
+    fs::remove_file(&rt, path)?;
+    // One record is whole: the connection is opened, by a handshake and the AMQP headers.
+    let (status, out, _) = run(&rt, &words, &mut &REJECTED[..81])?;
+    assert_eq!(rt; (status, out.as_str()), (2, "malformed offset=28\n"));
+    assert_eq!(rt; fs::read(&rt, path)?.len(), 880);
+    fs::remove_file(&rt, path)?;
+    assert_eq!(rt; tell_no_packets(&mut Full), 74);
     Ok(())
 }

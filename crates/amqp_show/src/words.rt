@@ -19,18 +19,20 @@ pub enum Source<'a> {
 
 /// How the capture is shown.
 #[derive(Clone, Copy, Debug, PartialEq, Eq)]
-pub enum Mode {
+pub enum Mode<'a> {
     /// A line for each record that is asked for.
     Lines,
     /// One table.
     Summary,
+    /// As packets, in a new file of this path.
+    Packets(&'a str),
 }
 
 /// What is asked for.
 #[derive(Clone, Copy, Debug)]
 pub struct Words<'a> {
     pub source: Source<'a>,
-    pub mode: Mode,
+    pub mode: Mode<'a>,
     pub choice: Choice<'a>,
     /// At how many characters texts and octets are cut.
     pub width: Option<usize>,
@@ -54,6 +56,22 @@ impl<'a> Source<'a> {
     }
 }
 
+impl<'a> Mode<'a> {
+    ghost use Rattle.std.specs.Prelude.{◌≡◌, option_map};
+    ghost use Rattle.amqp_show.specs.Words.{packets_of};
+
+    /// The mode that the path of packets and the flag of a summary ask for.
+    fn of_words(packets: Option<&'a str>, is_summary: bool) -> Mode<'a>
+        ensures { packets_of result ≡ option_map (λ path. path.now) packets.entry }
+    {
+        match packets {
+            Some(path) => Mode::Packets(path),
+            None if is_summary => Mode::Summary,
+            None => Mode::Lines,
+        }
+    }
+}
+
 impl<'a> Words<'a> {
     ghost use Rattle.std.specs.Prelude.{map};
     ghost use Rattle.amqp_show.specs.Words.{AnswersWords};
@@ -65,11 +83,7 @@ impl<'a> Words<'a> {
     {
         let matches = command_line(alloc)?.try_get_matches_from(words)?;
         let source = Source::of_word(matches.get_str("FILE"));
-        let mode = if matches.get_flag("summary") {
-            Mode::Summary
-        } else {
-            Mode::Lines
-        };
+        let mode = Mode::of_words(matches.get_str("pcapng"), matches.get_flag("summary"));
         let choice = Choice {
             from: matches.get_one("from"),
             to: matches.get_one("to"),
@@ -93,7 +107,10 @@ follow the channel, the performative with those of its fields that are read and 
 the link or the session that it names, and what the record notes: which delivery a transfer carries, or why an outcome is told.
 
 The whole capture is read, whatever is asked for. Status 0: it is whole. 2: malformed. 3: no memory. 4: unreadable. \
-64: a mistake in the words. 74: standard output could not be written.";
+5: the packets could not be written. 64: a mistake in the words. 74: standard output could not be written.
+
+Packets are those of all records, whatever else is asked for. Where the capture has a fault they are those of the whole \
+records in front of it.";
 
 /// The command line: a file, which records, and how they are shown.
 fn command_line<'a>(alloc: Global) -> Result<Command<'a>, AllocError>
@@ -119,6 +136,9 @@ fn command_line<'a>(alloc: Global) -> Result<Command<'a>, AllocError>
     let summary = flag(alloc, "summary").help(
         "Shows one table of the whole capture instead of its records",
     );
+    let pcapng = asking(alloc, "pcapng", ValueParser::string(), "OUT").help(
+        "Writes the whole capture as packets to OUT, which must not exist, and shows nothing",
+    );
     bare_command(alloc)
         .arg(file)?
         .arg(from)?
@@ -127,7 +147,8 @@ fn command_line<'a>(alloc: Global) -> Result<Command<'a>, AllocError>
         .arg(link)?
         .arg(delivery)?
         .arg(wide)?
-        .arg(summary)
+        .arg(summary)?
+        .arg(pcapng)
 }
 
 /// The command without its arguments.

@@ -4,7 +4,7 @@ use Rattle.amqp_show.proofs.run.run_words.Goals as goal
 
 pub returns-in-Ok-clause-run : goal.returns-in-Ok-clause-run
 returns-in-Ok-clause-run g c =
-    shown_run (map g.S.AsStr.text c.args.words.now) c.in-Ok.words _ _ _ _ c.in-Ok.ensures c.show_source.ensures.input c.show_source.ensures.told
+    shown_run (map g.S.AsStr.text c.args.words.now) c.in-Ok.words _ _ _ _ c.in-Ok.ensures c.show_source.ensures.input c.show_source.ensures.told c.show_source.ensures.unasked
 
 pub returns-in-Err-clause-run : goal.returns-in-Err-clause-run
 returns-in-Err-clause-run g c =

@@ -4,7 +4,7 @@ use Rattle.std.specs.Prelude.{Bool, Some}
 use Rattle.clap.specs.Words.{Rule, rule_of, with_rule}
 use Rattle.clap.specs.declared.builder.arg.Arg.{Arg}
 use Rattle.clap.specs.declared.builder.ArgAction.TheVariants.{Set}
-use Rattle.amqp_show.specs.Words.{asking_argument, connection_argument, file_argument, flag_argument, link_argument, number_argument}
+use Rattle.amqp_show.specs.Words.{asking_argument, connection_argument, file_argument, flag_argument, link_argument, number_argument, packets_argument}
 use Rattle.amqp_show.proofs.words.command_line.Goals as goal
 
 abbrev is_global : Arg → Bool
@@ -33,4 +33,7 @@ returns c =
     let with_link = c.in_ok-arg-5.ensures.shape (ap is_global c.help-link.ensures ∙ c.asking-4.ensures.local) ∙ ap₂ with_rule with_connection link_is in
     let with_delivery = c.in_ok-arg-6.ensures.shape (ap is_global c.help-delivery.ensures ∙ c.asking-5.ensures.local) ∙ ap₂ with_rule with_link delivery_is in
     let with_wide = c.in_ok-arg-7.ensures.shape (ap is_global c.help-wide.ensures ∙ c.flag.ensures.local) ∙ ap₂ with_rule with_delivery wide_is in
-    IfOk-weaker c.arg-8.result _ _ (λ command adds. adds.shape (ap is_global c.help-summary.ensures ∙ c.flag-2.ensures.local) ∙ ap₂ with_rule with_wide summary_is) c.arg-8.ensures
+    let with_summary = c.in_ok-arg-8.ensures.shape (ap is_global c.help-summary.ensures ∙ c.flag-2.ensures.local) ∙ ap₂ with_rule with_wide summary_is in
+    let packets_is : rule_of c.help-pcapng.result ≡ packets_argument =
+    ap rule_of c.help-pcapng.ensures ∙ (c.asking-6.ensures.rule ∙ ap (asking_argument (codes "pcapng")) c.string-2.ensures) in
+    IfOk-weaker c.arg-9.result _ _ (λ command adds. adds.shape (ap is_global c.help-pcapng.ensures ∙ c.asking-6.ensures.local) ∙ ap₂ with_rule with_summary packets_is) c.arg-9.ensures

@@ -1,5 +1,5 @@
 use Rattle.amqp_show.proofs.RunLemmas.{tells_behind}
-use Rattle.amqp_show.proofs.run.show_input.Goals as goal
+use Rattle.amqp_show.proofs.run.show_by.Goals as goal
 
 pub returns-in-Ok-clause-shown : goal.returns-in-Ok-clause-shown
 returns-in-Ok-clause-shown g c = λ written. record {

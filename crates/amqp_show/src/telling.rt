@@ -1,0 +1,56 @@
+//! What is told behind what was shown, and the exit status.
+
+ghost use Rattle.std.specs.Prelude.{◌≡◌, ◌≢◌, ◌⊎◌};
+ghost use Rattle.capture_showing.specs.Ending.{status_of};
+ghost use Rattle.std.specs.Io.KnownBytes.{Appends};
+ghost use Rattle.amqp_show.specs.Run.{Tells, TellsEnd, is_whole, no_packets};
+
+use capture_showing::Ending;
+use std::io::Write;
+
+/// The exit status where packets could not be written.
+pub const NO_PACKETS: u8 = 5;
+
+/// The exit status where standard output could not be written.
+pub const NOT_WRITTEN: u8 = 74;
+
+/// Writes the line of a fault to `out`, and answers the status; or `NOT_WRITTEN` where `out` fails, and then nothing is said
+/// of what stands there. A whole capture has no line.
+pub fn tell<O: Write>(ending: &Ending, out: &mut O) -> u8
+    ensures told { result ≢ NOT_WRITTEN → Tells (O.contents out.old) (O.contents out.new) result ending.now }
+    ensures alone { result ≢ NOT_WRITTEN → TellsEnd (O.contents out.old) (O.contents out.new) ending.now }
+    ensures status { (result ≡ status_of ending.now) ⊎ (result ≡ NOT_WRITTEN) }
+{
+    tell_end(ending, out)
+}
+
+#[tactic(auto, using(crate::proofs::RunLemmas::nothing_told))]
+fn tell_end<O: Write>(ending: &Ending, out: &mut O) -> u8
+    ensures alone { result ≢ NOT_WRITTEN → TellsEnd (O.contents out.old) (O.contents out.new) ending.now }
+    ensures status { (result ≡ status_of ending.now) ⊎ (result ≡ NOT_WRITTEN) }
+{
+    if is_whole(ending) {
+        return ending.status();
+    }
+    match writeln!(out, "{ending}") {
+        Ok(()) => ending.status(),
+        Err(_) => NOT_WRITTEN,
+    }
+}
+
+fn is_whole(ending: &Ending) -> bool
+    ensures { result ≡ is_whole ending.now }
+{
+    matches!(ending, Ending::Whole)
+}
+
+/// Writes to `out` that packets could not be written, and answers `NO_PACKETS`; or `NOT_WRITTEN` where `out` fails.
+pub fn tell_no_packets<O: Write>(out: &mut O) -> u8
+    ensures told { result ≢ NOT_WRITTEN → Appends (O.contents out.old) (O.contents out.new) no_packets }
+    ensures status { (result ≡ NO_PACKETS) ⊎ (result ≡ NOT_WRITTEN) }
+{
+    match writeln!(out, "packets not written") {
+        Ok(()) => NO_PACKETS,
+        Err(_) => NOT_WRITTEN,
+    }
+}
