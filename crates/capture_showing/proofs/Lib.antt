@@ -1,3 +1,4 @@
 pub mod Heads
 pub mod Known
 pub mod Streaming
+mod Examples
