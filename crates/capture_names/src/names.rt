@@ -39,7 +39,7 @@ pub struct Names {
 }
 
 impl Names {
-    ghost use Rattle.std.specs.Prelude.{◌≡◌, ◌↔◌, List, [], IsTrue, IsSome, OnOk, option_map};
+    ghost use Rattle.std.specs.Prelude.{◌≡◌, ◌↔◌, List, [], IsTrue, IsSome, OnOk, option_and_then, option_map};
     ghost use Rattle.std.specs.Option.{option_copied};
     ghost use Rattle.capture_view.specs.Saying.{saying};
     ghost use Rattle.capture_view.specs.Viewed.{Viewed, viewed};
@@ -47,7 +47,7 @@ impl Names {
     ghost use Rattle.capture_names.specs.declared.names.ChannelKey.{ChannelKey};
     ghost use Rattle.capture_names.specs.declared.names.LinkKey.{LinkKey};
     ghost use Rattle.capture_names.specs.Told.{told_text};
-    ghost use Rattle.capture_names.specs.Named.{attached_or, begun_or, is_channel, is_link, last_begin, link_named, link_text};
+    ghost use Rattle.capture_names.specs.Named.{attached_or, begun_or, is_channel, is_link, last_begin, key_of, link_named, link_text};
     ghost use Rattle.capture_names.specs.Tables.{StandsFor, TakesOneMore, TakesSaid, attachment};
 
     /// Knows no link.
@@ -153,6 +153,24 @@ impl Names {
         match self.begun.get(&channel) {
             Some(begun) if attached.number < *begun => None,
             _ => Some(&attached.link),
+        }
+    }
+
+    /// The link that a record's frame names.
+    pub fn named_by(&self, view: &RecordView<'_>) -> Option<LinkTold<'_>>
+        ensures { (past : List Viewed) → StandsFor self.now past → option_map told_text result ≡ option_and_then (link_named past) (key_of (viewed view.now)) }
+    {
+        let key = key_of(view)?;
+        let link = self.link(key)?;
+        Some(link.told())
+    }
+
+    /// Whether a record's frame stands on a session that has begun.
+    pub fn has_session_of(&self, view: &RecordView<'_>) -> bool {
+        match view.happened {
+            Happened::In(Said::Says { channel, .. }) | Happened::Out(Said::Says { channel, .. }) =>
+                { self.has_session(view.connection, channel) }
+            _ => false,
         }
     }
 
