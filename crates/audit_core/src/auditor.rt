@@ -1,12 +1,13 @@
 //! The auditor: it takes the records of a capture one after the other, and refuses the first that does not meet the law.
 
-ghost use Rattle.std.specs.Prelude.{◌≡◌, ◌<◌, ◌∷◌, [], ◌++◌, List, None, IfErr, IfSome, OnOk};
+ghost use Rattle.std.specs.Prelude.{◌≡◌, ◌≢◌, ◌<◌, ◌∷◌, [], ◌++◌, List, None, IfErr, IfSome, OnOk};
 ghost use Rattle.capture_form.specs.declared.records.Record.{Record};
 ghost use Rattle.capture_form.specs.Rules.{RuleText, AreRules};
 ghost use Rattle.capture_form.specs.Text.{IsRecord};
 ghost use Rattle.audit_ledger.specs.Ledger.{broken_behind};
 ghost use Rattle.audit_core.specs.declared.auditor.TheConstants.{MOST_RECORDS};
-ghost use Rattle.audit_core.specs.Auditor.{Agrees, IsRefusalBehind, Stopped, entries_by, refusal_at, refusal_of, tally_by};
+ghost use Rattle.audit_core.specs.declared.verdict.Refusal.TheVariants.{Memory};
+ghost use Rattle.audit_core.specs.Auditor.{Agrees, IsRefusalBehind, StandsFor, Stopped, entries_by, refusal_at, refusal_of, rules_of, tally_by};
 
 use crate::verdict::Refusal;
 use audit_ledger::{Ledger, NotEntered};
@@ -78,7 +79,21 @@ impl Auditor {
         self.ledger.entries()
     }
 
-    /// Takes a record that is lent.
+    /// What the records that it took have come to.
+    pub(crate) fn ledger(&self) -> &Ledger
+        ensures { result.now ≡ self.now.ledger }
+    {
+        &self.ledger
+    }
+
+    /// The rules by which it judges.
+    pub(crate) fn rules(&self) -> &[Rule]
+        ensures { result.now ≡ rules_of self.now }
+    {
+        &self.rules
+    }
+
+    /// Takes a record that is lent. What it keeps of those before stands as it stood where a clause refuses this one.
     pub(crate) fn follow(&mut self, entry: &Record) -> Result<(), Refusal>
         requires { (tally_by self.old).records < MOST_RECORDS }
         ensures met { OnOk result ((rules : List RuleText) (records : List Record) → Agrees self.old rules records → broken_behind rules records entry.now ≡ None) }
@@ -86,6 +101,7 @@ impl Auditor {
         ensures refused { IfErr result (λ refusal. (rules : List RuleText) (records : List Record) → Agrees self.old rules records → IsRefusalBehind rules records entry.now refusal) }
         ensures stopped { IfErr result (Stopped self.new) }
         ensures again { IfSome (refusal_of self.old) (λ refusal. (result ≡ Err refusal) × (self.new ≡ self.old)) }
+        ensures stands { IfErr result (λ refusal. refusal ≢ Memory → (rules : List RuleText) (records : List Record) → StandsFor self.old rules records → StandsFor self.new rules records) }
     {
         if let Some(refusal) = self.refusal {
             return Err(refusal);
@@ -101,6 +117,7 @@ impl Auditor {
         ensures met { OnOk result ((rules : List RuleText) (records : List Record) → Agrees self.old rules records → broken_behind rules records entry.now ≡ None) }
         ensures taken { OnOk result ((rules : List RuleText) (records : List Record) → Agrees self.old rules records → Agrees self.new rules (records ++ entry.now ∷ [])) }
         ensures refused { IfErr result (λ refusal. (rules : List RuleText) (records : List Record) → Agrees self.old rules records → IsRefusalBehind rules records entry.now refusal) }
+        ensures same { IfErr result (λ refusal. refusal ≢ Memory → self.new ≡ self.old) }
     {
         let number = self.tally().records;
         match self.ledger.enter(&self.rules, entry) {

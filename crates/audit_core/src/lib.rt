@@ -9,7 +9,7 @@
 //! - `verdict`: what is answered;
 //! - `auditor`: records, taken one after the other;
 //! - `judging`: a capture, and its text, with `copying` and `lengths`;
-//! - `streaming`: a text that a reader gives;
+//! - `streaming`: a text that a reader gives, with `watching`: those that are told of it on its way;
 //! - `laws`: that of any octets exactly one verdict holds.
 #![tactic(auto)]
 
@@ -20,11 +20,14 @@ mod laws;
 mod lengths;
 mod streaming;
 mod verdict;
+mod watching;
 
+pub use audit_ledger::Ledger;
 pub use auditor::{Auditor, MOST_RECORDS};
 pub use capture_form::FormKind;
 pub use judging::{audit, audit_bytes};
 pub use laws::one_verdict;
-pub use streaming::audit_stream;
+pub use streaming::{audit_stream, audit_watched};
 pub use trace_law::{Clause, Tally};
 pub use verdict::{Refusal, Verdict};
+pub use watching::Watcher;

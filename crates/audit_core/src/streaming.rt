@@ -1,18 +1,22 @@
 //! Judging a text that a reader gives, record by record.
 
-ghost use Rattle.std.specs.Prelude.{◌≡◌, ◌++◌, [], length, IfSome, None};
-ghost use Rattle.capture_form.specs.Rules.{AreRules};
+ghost use Rattle.std.specs.Prelude.{◌≡◌, ◌<◌, ◌++◌, ◌∷◌, List, [], length, IfErr, IfSome, None, OnOk};
+ghost use Rattle.capture_form.specs.declared.records.Record.{Record};
+ghost use Rattle.capture_form.specs.Rules.{AreRules, RuleText};
 ghost use Rattle.capture_form.specs.Reader.{left_of, offset_of, fault_of, text_of_head};
 ghost use Rattle.trace_clauses.specs.declared.tally.Tally.{Tally};
 ghost use Rattle.audit_core.specs.declared.verdict.Verdict.TheVariants.{Accepted};
-ghost use Rattle.audit_core.specs.Auditor.{Agrees, rules_of};
+ghost use Rattle.audit_core.specs.declared.verdict.Refusal.TheVariants.{Memory};
+ghost use Rattle.audit_core.specs.declared.auditor.TheConstants.{MOST_RECORDS};
+ghost use Rattle.audit_core.specs.Auditor.{Agrees, IsRefusalBehind, rules_of, tally_by};
 ghost use Rattle.audit_core.specs.Verdict.{AnswersRead, IsKept, verdict_of_fault, verdict_of_refusal};
 
 use crate::auditor::Auditor;
 use crate::lengths::{len_of_head, len_of_record};
 use crate::verdict::{Refusal, Verdict};
-use capture_form::{FormFault, FormKind, Reader, Rule};
-use std::alloc::Global;
+use crate::watching::{Unwatched, Watcher};
+use capture_form::{FormFault, FormKind, Reader, Record, Rule};
+use std::alloc::{AllocError, Global};
 use std::io::Read;
 
 /// The verdict of the octets that the reader gives, as the text of a capture. It reads them once, record by record, and
@@ -23,14 +27,30 @@ where
     ensures answers { IfSome (R.remaining reader) (λ octets. AnswersRead octets result) }
     ensures kept { IfSome (R.remaining reader) (λ octets. (tally : Tally) → result ≡ Accepted tally → IsKept octets) }
 {
+    audit_watched(alloc, reader, &mut Unwatched)
+}
+
+/// The same verdict. On its way a watcher is told of each record that is taken, and of the one that is refused. Where the
+/// watcher lacks memory for a record, the audit ends there with `NoMemory`.
+pub fn audit_watched<R: Read, W: Watcher>(alloc: Global, reader: R, watcher: &mut W) -> Verdict
+where
+    R: Drop,
+    ensures answers { IfSome (R.remaining reader) (λ octets. AnswersRead octets result) }
+    ensures kept { IfSome (R.remaining reader) (λ octets. (tally : Tally) → result ≡ Accepted tally → IsKept octets) }
+{
     match Reader::start(alloc, reader) {
-        Ok((rules, records)) => audit_read(alloc, rules, records),
+        Ok((rules, records)) => audit_read(alloc, rules, records, watcher),
         Err(fault) => verdict_of_fault(fault),
     }
 }
 
 /// The verdict of a text with these rules, whose records are read.
-fn audit_read<R: Read>(alloc: Global, rules: Vec<Rule>, records: Reader<R>) -> Verdict
+fn audit_read<R: Read, W: Watcher>(
+    alloc: Global,
+    rules: Vec<Rule>,
+    records: Reader<R>,
+    watcher: &mut W,
+) -> Verdict
 where
     R: Drop,
     requires rules { AreRules rules.items }
@@ -40,12 +60,17 @@ where
 {
     let offset = len_of_head(&rules);
     let mut auditor = Auditor::new(alloc, rules);
-    follow_read(&mut auditor, records, offset)
+    follow_read(&mut auditor, records, offset, watcher)
 }
 
 /// The verdict of a text whose head ends at this offset, by an auditor that has its rules and took no record yet. The records
 /// are read, and the auditor takes them.
-fn follow_read<R: Read>(auditor: &mut Auditor, records: Reader<R>, offset: u64) -> Verdict
+fn follow_read<R: Read, W: Watcher>(
+    auditor: &mut Auditor,
+    records: Reader<R>,
+    offset: u64,
+    watcher: &mut W,
+) -> Verdict
 where
     R: Drop,
     requires rules { AreRules (rules_of auditor.old) }
@@ -61,7 +86,7 @@ where
         match records.next_record() {
             Ok(Some(entry)) => {
                 let len = len_of_record(&entry);
-                if let Err(refusal) = auditor.take(entry) {
+                if let Err(refusal) = take_watched(auditor, entry, watcher) {
                     return verdict_of_refusal(refusal, offset);
                 }
                 offset += len;
@@ -70,6 +95,38 @@ where
             Err(fault) => return verdict_of_fault(fault),
         }
     }
+}
+
+/// The auditor takes the record, and the watcher is told.
+///
+/// # Errors
+///
+/// That of the auditor; or `Memory` where the watcher lacks it, and then no clause says what the auditor has come to.
+fn take_watched<W: Watcher>(
+    auditor: &mut Auditor,
+    entry: Record,
+    watcher: &mut W,
+) -> Result<(), Refusal>
+    requires few { (tally_by auditor.old).records < MOST_RECORDS }
+    requires agrees { (records : List Record) × Agrees auditor.old (rules_of auditor.old) records }
+    ensures taken { OnOk result ((rules : List RuleText) (records : List Record) → Agrees auditor.old rules records → Agrees auditor.new rules (records ++ entry ∷ [])) }
+    ensures refused { IfErr result (λ refusal. (rules : List RuleText) (records : List Record) → Agrees auditor.old rules records → IsRefusalBehind rules records entry refusal) }
+{
+    match auditor.follow(&entry) {
+        Ok(()) => as_refusal(watcher.taken(&entry)),
+        Err(Refusal::Memory) => Err(Refusal::Memory),
+        Err(Refusal::Broken(number, clause)) => {
+            as_refusal(watcher.refused(auditor.ledger(), auditor.rules(), &entry))?;
+            Err(Refusal::Broken(number, clause))
+        }
+    }
+}
+
+/// Want of memory, as a refusal.
+fn as_refusal(told: Result<(), AllocError>) -> Result<(), Refusal>
+    ensures { IfErr result (λ refusal. refusal ≡ Memory) }
+{
+    told.map_err(|_| Refusal::Memory)
 }
 
 /// The verdict where a record that stands at this offset is refused.

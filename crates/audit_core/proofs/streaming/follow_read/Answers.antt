@@ -3,7 +3,7 @@ use Rattle.std.specs.Prelude.{IfSome, ◌++◌}
 use Rattle.capture_form.specs.Reader.{left_of, text_of_head}
 use Rattle.capture_form.specs.Text.{record_text}
 use Rattle.capture_form.proofs.TextLemmas.{long_record}
-use Rattle.audit_core.specs.Auditor.{rules_of}
+use Rattle.audit_core.specs.Auditor.{Agrees, rules_of}
 use Rattle.audit_core.specs.Verdict.{AnswersRead}
 use Rattle.audit_core.proofs.ReadSteps.{found_so, fits_so, moved_so, starts, few, goes_on, ends, refuses, stops}
 use Rattle.audit_core.proofs.streaming.follow_read.Goals as goal
@@ -12,23 +12,25 @@ pub records-init : goal.records-init
 records-init g c =
     starts g.R.Read.remaining (rules_of c.args.auditor.now) c.args.records c.args.auditor.now c.args.offset c.requires.rules c.requires.agrees c.requires.head c.requires.place c.requires.runs
 
-pub take-requires-clause-bounds : goal.take-requires-clause-bounds
-take-requires-clause-bounds g c = fits_so c.in-Ok-Some.field-0 c.in-Ok-Some.entry c.in-Ok-Some.field-0-is c.in-Ok-Some.ensures.bounds
-
-pub take-requires-clause-few : goal.take-requires-clause-few
-take-requires-clause-few g c =
+pub take_watched-requires-clause-few : goal.take_watched-requires-clause-few
+take_watched-requires-clause-few g c =
     let some = c.in-Ok-Some in
     let moved = moved_so _ _ some.field-0 some.entry some.field-0-is some.ensures.moved in
     few g.R.Read.remaining (rules_of c.args.auditor.now) _ c.records.records c.records.auditor c.records.offset c.records.invariant _ (length (record_text some.entry)) _ moved some.ensures.within (omega (arith, long_record some.entry))
 
-pub returns-in-Err-take : goal.returns-in-Err-take
-returns-in-Err-take g c =
+pub take_watched-requires-clause-agrees : goal.take_watched-requires-clause-agrees
+take_watched-requires-clause-agrees g c =
+    let so_far = c.records.invariant in
+    (so_far.records, subst (λ rs. Agrees c.records.auditor rs so_far.records) (sym so_far.agrees.stands.0) so_far.agrees)
+
+pub returns-in-Err-take_watched : goal.returns-in-Err-take_watched
+returns-in-Err-take_watched g c =
     let some = c.in-Ok-Some in
     let rules = rules_of c.args.auditor.now in
     let next = found_so _ _ some.field-0 (Some some.entry) some.field-0-is some.ensures.next in
     let fits = fits_so some.field-0 some.entry some.field-0-is some.ensures.bounds in
     subst (λ v. IfSome (left_of g.R.Read.remaining c.args.records) (λ left. AnswersRead (text_of_head rules ++ left) v)) (sym c.verdict_of_refusal.ensures)
-    (refuses g.R.Read.remaining rules _ c.records.records c.records.auditor c.records.offset c.records.invariant some.entry _ c.in-Err-take.refusal fits next c.in-Err-take.ensures.refused)
+    (refuses g.R.Read.remaining rules _ c.records.records c.records.auditor c.records.offset c.records.invariant some.entry _ c.in-Err-take_watched.refusal fits next c.in-Err-take_watched.ensures.refused)
 
 pub records-smaller : goal.records-smaller
 records-smaller g c =
@@ -42,7 +44,7 @@ records-preserved g c =
     let next = found_so _ _ some.field-0 (Some some.entry) some.field-0-is some.ensures.next in
     let moved = moved_so _ _ some.field-0 some.entry some.field-0-is some.ensures.moved in
     let fits = fits_so some.field-0 some.entry some.field-0-is some.ensures.bounds in
-    goes_on g.R.Read.remaining (rules_of c.args.auditor.now) _ c.records.records c.records.auditor c.records.offset c.records.invariant some.entry c.next_record.new.self c.take.new.self c.len_of_record-len.result fits c.len_of_record-len.ensures
+    goes_on g.R.Read.remaining (rules_of c.args.auditor.now) _ c.records.records c.records.auditor c.records.offset c.records.invariant some.entry c.next_record.new.self c.take_watched.new.auditor c.len_of_record-len.result fits c.len_of_record-len.ensures
     next moved (some.ensures.sound refl) c.in_default.ensures.taken
 
 pub returns-in-Ok-None : goal.returns-in-Ok-None

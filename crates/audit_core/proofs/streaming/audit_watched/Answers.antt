@@ -3,7 +3,7 @@ use Rattle.std.specs.Prelude.{IfSome}
 use Rattle.capture_form.specs.Reader.{left_of}
 use Rattle.audit_core.specs.Verdict.{AnswersRead}
 use Rattle.audit_core.proofs.ReadSteps.{head_known, read_known, kept_known}
-use Rattle.audit_core.proofs.streaming.audit_stream.Goals as goal
+use Rattle.audit_core.proofs.streaming.audit_watched.Goals as goal
 
 pub returns-in-Ok-clause-kept : goal.returns-in-Ok-clause-kept
 returns-in-Ok-clause-kept g c =
