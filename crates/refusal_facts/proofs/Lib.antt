@@ -1,0 +1,3 @@
+mod HasFacts
+mod NamedDeliveries
+mod Examples

@@ -1,0 +1,162 @@
+//! What L2 and L3 compare: a begin and an attach with those of the client that they answer.
+
+ghost use Rattle.capture_form.specs.Rules.{RuleText};
+ghost use Rattle.std.specs.Prelude.{List, ◌≡◌, is_some, IfSome, option_and_then, option_map};
+ghost use Rattle.amqp_perf.specs.NestedViews.{address_view, terminus_view, target_view};
+ghost use Rattle.amqp_perf.specs.View.{attach_fields};
+ghost use Rattle.trace_events.specs.Link as links;
+ghost use Rattle.trace_events.specs.Session.{IsLiveOn, StandsLive};
+ghost use Rattle.trace_clauses.specs.LinkClause as attaches;
+ghost use Rattle.trace_law.specs.View.{Events, asking_view, event_view};
+ghost use Rattle.trace_events.specs.Said as said;
+ghost use Rattle.refusal_facts.specs.OpeningFacts.{AreAttach, AreBegin};
+
+use amqp_perf::{Address, Attach, ReceiverSettleMode, Role, SenderSettleMode, Target, Terminus};
+use capture_form::Rule;
+use trace_events::Session;
+use trace_law::{Asking, Event, Openings, has_multicast};
+
+/// A begin of the router's.
+#[derive(Clone, Copy)]
+pub struct BeginFacts {
+    /// The channel on which it stands.
+    pub channel: u16,
+    /// Since the channel's last begin of the router one of the client stands there that was heard and has no fault.
+    pub is_asked_for: bool,
+    pub remote_channel: Option<u16>,
+    pub incoming_window: u32,
+}
+
+/// An attach of the router's, and the client's that it is to answer.
+#[derive(Clone, Copy)]
+pub struct AttachFacts<'a> {
+    /// The live session of its channel.
+    pub session: Option<Session>,
+    pub ours: Attach<'a>,
+    /// The address that ours has, by its role.
+    pub address: &'a [u8],
+    /// What the client's attach of the handle asks for, if one is to be answered.
+    pub asked: Option<Asking<'a>>,
+    /// How the router's sender is to settle, if one is to be answered.
+    pub due_sender_mode: Option<SenderSettleMode>,
+    /// When the router's receiver is to settle.
+    pub due_receiver_mode: Option<ReceiverSettleMode>,
+}
+
+/// L2.
+pub(crate) fn begin_facts<'a, P: Openings<'a>>(past: &P, event: &Event) -> Option<BeginFacts>
+    ensures facts { (rules : List RuleText) (history : Events) → P.stands_for past.now rules history → IfSome result (AreBegin (event_view event.now) history) }
+    ensures there { is_some result ≡ is_some (said.out_begin (event_view event.now)) }
+{
+    let spoken = event.out_spoken()?;
+    let begin = event.out_begin()?;
+    let channel = spoken.channel;
+    Some(BeginFacts {
+        channel,
+        is_asked_for: past.has_unanswered_begin(event.connection, channel),
+        remote_channel: begin.remote_channel,
+        incoming_window: begin.incoming_window,
+    })
+}
+
+/// An address that is a text; any other is empty.
+fn address_text<'a>(address: Option<Address<'a>>) -> &'a [u8]
+    ensures { result.now ≡ links.address_text (option_map address_view address.entry) }
+{
+    match address {
+        Some(Address::Text(text)) => text.as_bytes(),
+        _ => &[],
+    }
+}
+
+fn source_address<'a>(source: Option<Terminus<'a>>) -> &'a [u8]
+    ensures { result.now ≡ links.source_address (option_map terminus_view source.entry) }
+{
+    match source {
+        Some(terminus) => address_text(terminus.address),
+        None => &[],
+    }
+}
+
+fn target_address<'a>(target: Option<Target<'a>>) -> &'a [u8]
+    ensures { result.now ≡ links.target_address (option_map target_view target.entry) }
+{
+    match target {
+        Some(Target::Terminus(terminus)) => address_text(terminus.address),
+        _ => &[],
+    }
+}
+
+/// The address of a link, by the role that the router has on it.
+fn address_at<'a>(role: Role, attach: &Attach<'a>) -> &'a [u8]
+    ensures { result.now ≡ links.address_at role (attach_fields attach.now) }
+{
+    match role {
+        Role::Receiver => target_address(attach.target),
+        Role::Sender => source_address(attach.source),
+    }
+}
+
+/// How the router's sender is to settle on a link of this address, if one is asked for.
+fn due_sender_mode(
+    rules: &[Rule],
+    address: &[u8],
+    asked: &Option<Asking>,
+) -> Option<SenderSettleMode>
+    ensures { result ≡ option_map (λ a. attaches.answering_sender_mode rules.now address.now a.sender_mode a.role) (option_map asking_view asked.now) }
+{
+    match asked {
+        Some(asked) => match asked.role {
+            Role::Receiver if has_multicast(rules, address) => Some(SenderSettleMode::Settled),
+            _ => Some(asked.sender_mode),
+        },
+        None => None,
+    }
+}
+
+/// When the router's receiver is to settle, if a link is asked for.
+fn due_receiver_mode(asked: &Option<Asking>) -> Option<ReceiverSettleMode>
+    ensures { result ≡ option_map (λ a. attaches.answering_receiver_mode a.receiver_mode a.role) (option_map asking_view asked.now) }
+{
+    match asked {
+        Some(asked) => match asked.role {
+            Role::Sender => Some(ReceiverSettleMode::First),
+            Role::Receiver => Some(asked.receiver_mode),
+        },
+        None => None,
+    }
+}
+
+/// What is asked for on the session, if there is one.
+fn asked_on<'a, P: Openings<'a>>(
+    past: &P,
+    session: Option<Session>,
+    handle: u32,
+) -> Option<Asking<'a>>
+    ensures { (rules : List RuleText) (history : Events) → P.stands_for past.now rules history → IfSome session (λ s. IsLiveOn s history) →
+        (option_map asking_view result ≡ option_and_then (λ s. attaches.asking s handle history) session) }
+{
+    past.asking(session?, handle)
+}
+
+/// L3.
+pub(crate) fn attach_facts<'a, P: Openings<'a>>(
+    past: &P,
+    rules: &[Rule],
+    event: &Event<'a>,
+) -> Option<AttachFacts<'a>>
+    ensures facts { (history : Events) → P.stands_for past.now rules.now history → StandsLive (event_view event.now) history → IfSome result (AreAttach rules.now (event_view event.now) history) }
+    ensures there { is_some result ≡ is_some (said.out_attach (event_view event.now)) }
+{
+    let ours = event.out_attach()?;
+    let address = address_at(ours.role, &ours);
+    let asked = asked_on(past, event.session, ours.handle);
+    Some(AttachFacts {
+        session: event.session,
+        ours,
+        address,
+        asked,
+        due_sender_mode: due_sender_mode(rules, address, &asked),
+        due_receiver_mode: due_receiver_mode(&asked),
+    })
+}
