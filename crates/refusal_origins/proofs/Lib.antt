@@ -1,0 +1,4 @@
+mod Links
+mod Sessions
+mod Channels
+mod Examples
