@@ -1,0 +1,157 @@
+//! What L11 and L12 compare, in words.
+
+use crate::text::{Hex, Noted, StateToTell, outcome_name};
+use crate::transfer::{write_flag, write_incoming, write_outgoing};
+use amqp_perf::State;
+use pairing_cert::{Note, Why};
+use refusal_facts::{Carrier, Decision, OutcomeFacts, SettlingFacts, ToldDelivery};
+use std::fmt;
+
+/// The ids of a disposition.
+fn write_ids<W: fmt::Write>(f: &mut fmt::Formatter<W>, first: u32, last: u32) -> fmt::Result {
+    if first == last {
+        write!(f, "\nid: {first}, one as is due")
+    } else {
+        write!(f, "\nids: {first} to {last}, due one")
+    }
+}
+
+/// What the consumer has decided.
+fn write_decision<W: fmt::Write>(
+    f: &mut fmt::Formatter<W>,
+    decision: &Option<Decision>,
+) -> fmt::Result {
+    match decision {
+        None => write!(f, "no decision of the consumer"),
+        Some(Decision::Settled) => write!(f, "the consumer settled it without an outcome"),
+        Some(Decision::Terminal(outcome, octets)) => write!(
+            f,
+            "the consumer decided {} ({})",
+            outcome_name(*outcome),
+            Hex(octets)
+        ),
+    }
+}
+
+/// The state that is told.
+fn write_state<W: fmt::Write>(f: &mut fmt::Formatter<W>, state: &Option<State>) -> fmt::Result {
+    match state {
+        None => write!(f, "none"),
+        Some(state) => match state.outcome() {
+            Some(outcome) => write!(f, "{} ({})", outcome_name(outcome), Hex(state.raw())),
+            None => write!(f, "no outcome ({})", Hex(state.raw())),
+        },
+    }
+}
+
+/// Who was sent the delivery, and what is known of that.
+fn write_carrier<W: fmt::Write>(f: &mut fmt::Formatter<W>, carrier: &Carrier) -> fmt::Result {
+    write!(f, "\ncarried: as ")?;
+    write_outgoing(f, &carrier.outgoing)?;
+    write!(
+        f,
+        "; {}, on a link that {} and is {}; ",
+        if carrier.is_sent {
+            "wholly sent"
+        } else {
+            "not wholly sent"
+        },
+        if carrier.is_live { "lives" } else { "is over" },
+        if carrier.outgoing.link.is_pre_settled {
+            "pre-settled"
+        } else {
+            "not pre-settled"
+        }
+    )?;
+    write_decision(f, &carrier.decision)
+}
+
+/// The row that the note names.
+fn write_row<W: fmt::Write>(
+    f: &mut fmt::Formatter<W>,
+    note: Note,
+    told: &ToldDelivery,
+) -> fmt::Result {
+    write!(f, "\nnote: {}", Noted(note))?;
+    match (told.row, note) {
+        (Some(row), _) => write!(f, ", which applies and tells {}", StateToTell(row)),
+        (None, Note::Told(Why::C | Why::Z)) => write!(
+            f,
+            ", which does not apply; the producer takes frames of {} octets",
+            told.frame_limit
+        ),
+        (None, Note::Told(_)) => write!(f, ", which does not apply"),
+        (None, _) => write!(f, ", due a row"),
+    }
+}
+
+/// A delivery whose outcome is told.
+fn write_told<W: fmt::Write>(
+    f: &mut fmt::Formatter<W>,
+    facts: &OutcomeFacts,
+    told: &ToldDelivery,
+) -> fmt::Result {
+    write!(
+        f,
+        "\n{} ",
+        if told.is_multicast {
+            "multicast"
+        } else {
+            "anycast"
+        }
+    )?;
+    write_incoming(f, &told.delivery)?;
+    if !told.is_complete {
+        write!(f, "\ncomplete: no, its last part has not come")?;
+    }
+    if told.is_closed {
+        write!(
+            f,
+            "\nclosed: it is told, settled by its producer, or its link is over"
+        )?;
+    }
+    if told.is_gone {
+        write!(f, "\ngone: it found no consumer or lost the last one")?;
+    }
+    match &told.carrier {
+        None => write!(f, "\ncarried: to no consumer, as far as is kept")?,
+        Some(carrier) => write_carrier(f, carrier)?,
+    }
+    write_row(f, facts.note, told)?;
+    write!(f, "\nstate: ")?;
+    write_state(f, &facts.state)
+}
+
+/// L11.
+pub(crate) fn write_outcome<W: fmt::Write>(
+    f: &mut fmt::Formatter<W>,
+    facts: &OutcomeFacts,
+) -> fmt::Result {
+    write_flag(f, "settled", facts.is_settled, true)?;
+    write_ids(f, facts.first, facts.last)?;
+    match &facts.told {
+        Some(told) => write_told(f, facts, told),
+        None => write!(
+            f,
+            "\ndelivery: no undecided one of id {} on the session may be told",
+            facts.first
+        ),
+    }
+}
+
+/// L12.
+pub(crate) fn write_settling<W: fmt::Write>(
+    f: &mut fmt::Formatter<W>,
+    facts: &SettlingFacts,
+) -> fmt::Result {
+    write_flag(f, "settled", facts.is_settled, true)?;
+    write_ids(f, facts.first, facts.last)?;
+    match facts.to_settle {
+        Some(number) => write!(f, "\ndelivery: that of record {number} is to be settled"),
+        None => write!(
+            f,
+            "\ndelivery: none of id {} on the session is to be settled: its consumer has not decided it, it is settled, or its producer is still to be told",
+            facts.first
+        ),
+    }
+}

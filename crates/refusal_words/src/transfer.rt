@@ -1,0 +1,500 @@
+//! What L4 to L9 compare, in words.
+
+ghost use Rattle.std.specs.Prelude.{◌≡◌, IfSome};
+
+use crate::text::{Noted, OrNone, Quoted, flag_name};
+use refusal_facts::{
+    BeginningFacts, CarryingFacts, Difference, GoingOnFacts, Incoming, Link, Named, OrderFacts,
+    Outgoing, PayloadFacts, SendingFacts,
+};
+use refusal_origins::{LinkOrigin, Origins, SessionOrigin};
+use std::fmt;
+use trace_events::Session;
+
+/// A link, as it is printed at the head of a line.
+#[derive(Clone, Copy)]
+pub(crate) struct Linked<'l, 'a>(pub &'l Link<'a>, pub &'l Origins);
+
+impl fmt::Display for Linked<'_, '_> {
+    fn fmt<W: fmt::Write>(&self, f: &mut fmt::Formatter<W>) -> fmt::Result {
+        let link = self.0;
+        let session = &link.session;
+        write!(f, "link")?;
+        if let Some(origin) = origin_of(self.1, link) {
+            write!(f, " {:?}", origin.name.as_str())?;
+        }
+        write!(
+            f,
+            " (handle {}, session {}/{}, attached in record {}, address {})",
+            link.handle,
+            session.connection,
+            session.channel,
+            link.number,
+            Quoted(link.address)
+        )
+    }
+}
+
+/// Where the credit of the link comes from, which was attached in the same record.
+pub(crate) fn origin_of<'o>(origins: &'o Origins, link: &Link) -> Option<&'o LinkOrigin>
+    ensures { IfSome result (λ origin. origin.now.number ≡ link.now.number) }
+{
+    let origin = origins.link(link.session.connection, link.session.channel, link.handle)?;
+    if origin.number == link.number {
+        Some(origin)
+    } else {
+        None
+    }
+}
+
+/// Where the window of the session comes from, which began in the same record.
+fn window_origin_of<'o>(origins: &'o Origins, session: &Session) -> Option<&'o SessionOrigin>
+    ensures { IfSome result (λ origin. origin.now.number ≡ session.now.number) }
+{
+    let origin = origins.session(session.connection, session.channel)?;
+    if origin.number == session.number {
+        Some(origin)
+    } else {
+        None
+    }
+}
+
+/// Deliveries, transfers, octets: one or more.
+pub(crate) fn plural(count: u64) -> &'static str {
+    if count == 1 { "" } else { "s" }
+}
+
+/// Where the credit comes from.
+pub(crate) fn write_credit_origin<W: fmt::Write>(
+    f: &mut fmt::Formatter<W>,
+    origin: Option<&LinkOrigin>,
+) -> fmt::Result {
+    let Some(origin) = origin else {
+        return Ok(());
+    };
+    match &origin.credit {
+        Some(credit) => {
+            write!(
+                f,
+                ", of the flow in record {} (link-credit {}, delivery-count {}{})",
+                credit.number,
+                credit.link_credit,
+                OrNone(credit.delivery_count),
+                if credit.drain { ", drain" } else { "" }
+            )?;
+            if let Some(number) = origin.drained {
+                write!(f, "; the drain was answered in record {number}")?;
+            }
+        }
+        None => write!(f, "; no flow has granted any since the attach")?,
+    }
+    let begun = origin.begun;
+    match begun {
+        1 => write!(f, "; 1 delivery begun since"),
+        _ => write!(f, "; {begun} deliveries begun since"),
+    }
+}
+
+/// Where the window comes from.
+pub(crate) fn write_window_origin<W: fmt::Write>(
+    f: &mut fmt::Formatter<W>,
+    origin: Option<&SessionOrigin>,
+) -> fmt::Result {
+    let Some(origin) = origin else {
+        return Ok(());
+    };
+    if let Some(window) = &origin.window {
+        write!(
+            f,
+            ", of the flow in record {} (next-incoming-id {}, incoming-window {})",
+            window.number,
+            OrNone(window.next_incoming_id),
+            window.incoming_window
+        )?;
+    } else if let Some(opened) = &origin.opened {
+        write!(
+            f,
+            ", of the client's begin in record {} (incoming-window {})",
+            opened.number, opened.incoming_window
+        )?;
+    }
+    let sent = origin.sent;
+    write!(f, "; {sent} transfer{} sent since", plural(sent))
+}
+
+/// The session on which a frame stands, and its window.
+fn write_window<W: fmt::Write>(
+    f: &mut fmt::Formatter<W>,
+    facts: &SendingFacts,
+    origins: &Origins,
+) -> fmt::Result {
+    let (Some(session), Some(window)) = (&facts.session, facts.window) else {
+        return write!(f, "\nsession: none lives on the channel");
+    };
+    write_session(f, session)?;
+    write!(f, ": window {window}")?;
+    write_window_origin(f, window_origin_of(origins, session))?;
+    match facts.next_outgoing_id {
+        Some(id) => write!(f, "; next-outgoing-id {id}"),
+        None => Ok(()),
+    }
+}
+
+/// A session, at the head of a line.
+pub(crate) fn write_session<W: fmt::Write>(
+    f: &mut fmt::Formatter<W>,
+    session: &Session,
+) -> fmt::Result {
+    write!(
+        f,
+        "\nsession {}/{} (begun in record {})",
+        session.connection, session.channel, session.number
+    )
+}
+
+/// The link that a transfer names.
+fn write_named_link<W: fmt::Write>(
+    f: &mut fmt::Formatter<W>,
+    facts: &SendingFacts,
+    origins: &Origins,
+) -> fmt::Result {
+    match &facts.link {
+        None => write!(f, "\nlink: none lives of handle {}", facts.handle),
+        Some(link) if link.is_consumer() => {
+            write!(f, "\n{}: a consumer's, as is due", Linked(link, origins))
+        }
+        Some(link) => write!(
+            f,
+            "\n{}: a producer's, and not a consumer's",
+            Linked(link, origins)
+        ),
+    }
+}
+
+/// L4.
+pub(crate) fn write_sending<W: fmt::Write>(
+    f: &mut fmt::Formatter<W>,
+    facts: &SendingFacts,
+    origins: &Origins,
+) -> fmt::Result {
+    write_named_link(f, facts, origins)?;
+    write_window(f, facts, origins)?;
+    if facts.is_resumed {
+        write!(f, "\nresume: true, due false")?;
+    }
+    if facts.is_aborted {
+        write!(f, "\naborted: true, due false")?;
+    }
+    Ok(())
+}
+
+/// L5.
+pub(crate) fn write_beginning<W: fmt::Write>(
+    f: &mut fmt::Formatter<W>,
+    facts: &BeginningFacts,
+    origins: &Origins,
+) -> fmt::Result {
+    let link = &facts.link;
+    write!(f, "\n{}: credit {}", Linked(link, origins), facts.credit)?;
+    write_credit_origin(f, origin_of(origins, link))?;
+    write!(f, "; delivery-count {}", facts.delivery_count)?;
+    write_number(f, "delivery-id", facts.said_id, facts.due_id)
+}
+
+/// A number that is said, and the one that is due.
+pub(crate) fn write_number<W: fmt::Write>(
+    f: &mut fmt::Formatter<W>,
+    name: &str,
+    said: Option<u32>,
+    due: u32,
+) -> fmt::Result {
+    if said == Some(due) {
+        write!(f, "\n{name}: {due}, as is due")
+    } else {
+        write!(f, "\n{name}: {}, due {due}", OrNone(said))
+    }
+}
+
+/// A flag that is said, and what is due.
+pub(crate) fn write_flag<W: fmt::Write>(
+    f: &mut fmt::Formatter<W>,
+    name: &str,
+    said: bool,
+    due: bool,
+) -> fmt::Result {
+    if said == due {
+        write!(f, "\n{name}: {}, as is due", flag_name(due))
+    } else {
+        write!(f, "\n{name}: {}, due {}", flag_name(said), flag_name(due))
+    }
+}
+
+/// A delivery to a client, at the head of a line.
+pub(crate) fn write_outgoing<W: fmt::Write>(
+    f: &mut fmt::Formatter<W>,
+    outgoing: &Outgoing,
+) -> fmt::Result {
+    let session = &outgoing.link.session;
+    write!(
+        f,
+        "delivery {} to session {}/{}, handle {}, begun in record {}",
+        OrNone(outgoing.id),
+        session.connection,
+        session.channel,
+        outgoing.link.handle,
+        outgoing.number
+    )
+}
+
+/// A delivery from a client, at the head of a line.
+pub(crate) fn write_incoming<W: fmt::Write>(
+    f: &mut fmt::Formatter<W>,
+    delivery: &Incoming,
+) -> fmt::Result {
+    let session = &delivery.link.session;
+    write!(
+        f,
+        "delivery of record {} (session {}/{}, handle {}, delivery-id {}, address {})",
+        delivery.number,
+        session.connection,
+        session.channel,
+        delivery.link.handle,
+        OrNone(delivery.id),
+        Quoted(delivery.link.address)
+    )
+}
+
+/// L6.
+pub(crate) fn write_going_on<W: fmt::Write>(
+    f: &mut fmt::Formatter<W>,
+    facts: &GoingOnFacts,
+) -> fmt::Result {
+    let Some(first) = &facts.first else {
+        return write!(f, "\nin progress: no delivery");
+    };
+    write!(f, "\nin progress: ")?;
+    write_outgoing(f, first)?;
+    match facts.id {
+        Some(id) if first.id == Some(id) => write!(
+            f,
+            "\ndelivery-id: {id}, as the first transfer has"
+        )?,
+        Some(id) => write!(
+            f,
+            "\ndelivery-id: {id}, the first transfer's {}",
+            OrNone(first.id)
+        )?,
+        None => write!(f, "\ndelivery-id: none, as may be")?,
+    }
+    let due = flag_name(first.is_settled);
+    match facts.settled {
+        Some(settled) if settled == first.is_settled => {
+            write!(f, "\nsettled: {due}, as the first transfer has")?
+        }
+        Some(settled) => write!(
+            f,
+            "\nsettled: {}, the first transfer's {due}",
+            flag_name(settled)
+        )?,
+        None => write!(f, "\nsettled: absent, as may be")?,
+    }
+    if facts.note == first.note {
+        write!(
+            f,
+            "\nnote: {}, as the first transfer has",
+            Noted(facts.note)
+        )
+    } else {
+        write!(
+            f,
+            "\nnote: {}, the first transfer's {}",
+            Noted(facts.note),
+            Noted(first.note)
+        )
+    }
+}
+
+/// The delivery that the note of a transfer names.
+fn write_carried<W: fmt::Write>(
+    f: &mut fmt::Formatter<W>,
+    facts: &CarryingFacts,
+    delivery: &Incoming,
+) -> fmt::Result {
+    write!(f, "\nnote: the ")?;
+    write_incoming(f, delivery)?;
+    write!(f, ", complete and not gone, as is due")?;
+    if delivery.link.address == facts.link.address {
+        write!(f, "\naddress: {}, as is due", Quoted(facts.link.address))?;
+    } else {
+        write!(
+            f,
+            "\naddress: the link's {}, the delivery's {}",
+            Quoted(facts.link.address),
+            Quoted(delivery.link.address)
+        )?;
+    }
+    if facts.begins {
+        write_number(f, "message-format", Some(facts.format), delivery.format)?;
+        write_flag(f, "settled", facts.is_settled, facts.link.is_pre_settled)?;
+    }
+    Ok(())
+}
+
+/// L7.
+pub(crate) fn write_carrying<W: fmt::Write>(
+    f: &mut fmt::Formatter<W>,
+    facts: &CarryingFacts,
+    origins: &Origins,
+) -> fmt::Result {
+    write!(f, "\n{}", Linked(&facts.link, origins))?;
+    match &facts.named {
+        Named::Nothing => write!(
+            f,
+            "\nnote: {}, due one that names a delivery",
+            Noted(facts.note)
+        ),
+        Named::Unknown(number) => write!(
+            f,
+            "\nnote: the delivery of record {number}, and none is known of that number: no delivery begins there, or it was given up, or is gone and closed"
+        ),
+        Named::Carried(delivery) => write_carried(f, facts, delivery),
+        Named::Kept {
+            delivery,
+            is_complete,
+            is_gone,
+        } => {
+            write!(f, "\nnote: the ")?;
+            write_incoming(f, delivery)?;
+            if !*is_complete {
+                write!(f, "\ncomplete: no, its last part has not come")?;
+            }
+            if *is_gone {
+                write!(f, "\ngone: yes, it found no consumer or lost the last one")?;
+            }
+            Ok(())
+        }
+    }
+}
+
+/// L8.
+pub(crate) fn write_payload<W: fmt::Write>(
+    f: &mut fmt::Formatter<W>,
+    facts: &PayloadFacts,
+) -> fmt::Result {
+    write!(f, "\nnote: the ")?;
+    write_incoming(f, &facts.delivery)?;
+    write!(
+        f,
+        ", of {} octet{}",
+        facts.whole,
+        plural(facts.whole as u64)
+    )?;
+    write!(
+        f,
+        "\npayload: {} octet{} sent before, {} in this transfer, more {}",
+        facts.sent,
+        plural(facts.sent),
+        facts.said,
+        flag_name(facts.has_more)
+    )?;
+    match facts.difference {
+        Difference::Octet { offset, due, said } => {
+            write!(
+                f,
+                "\noctet {offset} of the payload: 0x{said:02x}, due 0x{due:02x}"
+            )
+        }
+        Difference::TooMany(more) => write!(f, "\nlength: {more} octet{} too many", plural(more)),
+        Difference::Missing(missing) => {
+            write!(
+                f,
+                "\nlength: {missing} octet{} missing at the end",
+                plural(missing)
+            )
+        }
+        Difference::Nothing => Ok(()),
+    }
+}
+
+/// A record that completed something.
+fn write_completion<W: fmt::Write>(
+    f: &mut fmt::Formatter<W>,
+    completion: Option<u64>,
+) -> fmt::Result {
+    match completion {
+        Some(number) => write!(f, ", complete since record {number}"),
+        None => Ok(()),
+    }
+}
+
+/// Whether a copy of a multicast delivery may go to the link, and why not.
+fn write_copy<W: fmt::Write>(f: &mut fmt::Formatter<W>, facts: &OrderFacts) -> fmt::Result {
+    if facts.is_unsent {
+        return write!(f, "\ncopy: due to the link and not sent, as is due");
+    }
+    if let Some(carrier) = &facts.carrier {
+        if carrier.link.number == facts.link.number {
+            write!(f, "\ncopy: sent to the link before, as ")?;
+            return write_outgoing(f, carrier);
+        }
+    }
+    match facts.completion {
+        Some(number) if number < facts.link.number => write!(
+            f,
+            "\ncopy: none is due, since the link was attached after the delivery was complete"
+        ),
+        _ => write!(
+            f,
+            "\ncopy: none is due, since the link had no credit left for one when the delivery was complete; or it was sent there before"
+        ),
+    }
+}
+
+/// Whether an anycast delivery may go to the link.
+fn write_receiver<W: fmt::Write>(f: &mut fmt::Formatter<W>, facts: &OrderFacts) -> fmt::Result {
+    match &facts.carrier {
+        None => write!(f, "\nsent before: to nobody, as is due"),
+        Some(carrier) => {
+            write!(f, "\nsent before: as ")?;
+            write_outgoing(f, carrier)
+        }
+    }
+}
+
+/// L9.
+pub(crate) fn write_order<W: fmt::Write>(
+    f: &mut fmt::Formatter<W>,
+    facts: &OrderFacts,
+    origins: &Origins,
+) -> fmt::Result {
+    write!(f, "\n{}", Linked(&facts.link, origins))?;
+    write!(
+        f,
+        "\nnote: the {} ",
+        if facts.is_multicast {
+            "multicast"
+        } else {
+            "anycast"
+        }
+    )?;
+    write_incoming(f, &facts.delivery)?;
+    write_completion(f, facts.completion)?;
+    if facts.is_multicast {
+        write_copy(f, facts)?;
+    } else {
+        write_receiver(f, facts)?;
+    }
+    match &facts.before {
+        None => write!(f, "\norder: the link's first delivery, as far as is kept"),
+        Some(before) => {
+            write!(f, "\norder: the link's last delivery carries the ")?;
+            write_incoming(f, before)?;
+            write_completion(f, facts.before_completion)?;
+            if facts.is_in_order {
+                write!(f, ", which is before, as is due")
+            } else {
+                write!(f, ", which is not before")
+            }
+        }
+    }
+}
