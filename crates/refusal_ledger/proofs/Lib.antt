@@ -1,0 +1,3 @@
+mod FactsKnown
+mod Completions
+mod SentCounts

@@ -1,0 +1,33 @@
+//! The reason of a record that a ledger did not take.
+
+ghost use Rattle.capture_form.specs.declared.records.Record.{Record};
+ghost use Rattle.std.specs.Prelude.{List, ◌≡◌, IfSome, option_map};
+ghost use Rattle.audit_ledger.specs.Ledger.{Stands, broken_behind};
+ghost use Rattle.refusal_ledger.specs.Refused.{IsReasonBehind};
+
+use crate::contents::Contents;
+use audit_ledger::Ledger;
+use capture_form::{Record, Rule};
+use refusal_facts::{Reason, explain};
+use trace_law::judge_unopened;
+
+/// The reason why the ledger does not take the record, judged by these rules, if it breaks a clause.
+pub fn explain_refused<'a>(
+    ledger: &'a Ledger,
+    rules: &[Rule],
+    entry: &'a Record,
+) -> Option<Reason<'a>>
+    // There is a reason just where the record breaks a clause behind those of the ledger, and it names the first one.
+    ensures clause { (records : List Record) → Stands rules.now ledger.now records → option_map (λ reason. reason.clause) result ≡ broken_behind rules.now records entry.now }
+    // It has what this clause compares, and each number is the law's at this record.
+    ensures facts { (records : List Record) → Stands rules.now ledger.now records → IfSome result (IsReasonBehind rules.now records entry.now) }
+{
+    let looked = ledger.looked();
+    let number = ledger.tally().records;
+    let event = judge_unopened(&looked, rules, number, entry);
+    let contents = Contents {
+        deliveries: looked.deliveries,
+        sent: looked.sent,
+    };
+    explain(&looked, &contents, rules, &event)
+}
