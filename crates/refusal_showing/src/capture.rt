@@ -1,0 +1,103 @@
+//! A capture, audited and explained.
+
+ghost use Rattle.std.specs.Prelude.{◌≡◌, IfOk, IfSome, OnOk};
+ghost use Rattle.audit_core.specs.Verdict.{AnswersRead};
+ghost use Rattle.refusal_showing.specs.Explained.{Tells};
+
+use crate::explaining::Explaining;
+use crate::recalling::Recalling;
+use audit_core::{Verdict, audit_watched};
+use capture_form::FormKind;
+use refusal_words::{Around, Malformed};
+use std::alloc::{AllocError, Global};
+use std::io;
+use std::io::{Read, Write};
+
+/// The most octets that are shown from a fault on.
+const SHOWN: usize = 32;
+
+/// The writer failed; nothing is said of what stands there.
+#[derive(Clone, Copy, Debug, PartialEq, Eq)]
+pub struct NotWritten;
+
+/// Audits the capture that is read, and writes the line of the verdict; behind it, where a record is refused, the line of the
+/// record and why, and where the octets are malformed, what was expected and what stands there. It gives the verdict.
+///
+/// Where memory is refused for an explanation, the verdict is `NoMemory`.
+///
+/// # Errors
+///
+/// `out` could not be written.
+pub fn explain_capture<R: Read, O: Write>(
+    alloc: Global,
+    input: R,
+    out: &mut O,
+) -> Result<Verdict, NotWritten>
+where
+    R: Drop,
+    // The verdict is that of the auditor, on all octets that the reader is known to give.
+    ensures answers { IfOk result (λ verdict. IfSome (R.remaining input) (λ octets. AnswersRead octets verdict)) }
+    // Its line was written, and something behind it.
+    ensures told { IfOk result (λ verdict. Tells (O.contents out.old) (O.contents out.new) verdict) }
+{
+    let mut recalling = Recalling::new(alloc, input);
+    let mut explaining = Explaining::new(alloc);
+    let verdict = audit_watched(alloc, &mut recalling, &mut explaining);
+    match explanation(alloc, verdict, &explaining, &recalling) {
+        Ok(text) => told(verdict, text.as_str(), out),
+        Err(AllocError) => told(Verdict::NoMemory(0), "", out),
+    }
+}
+
+/// What is said of the capture besides the verdict's line.
+fn explanation<R>(
+    alloc: Global,
+    verdict: Verdict,
+    explaining: &Explaining,
+    recalling: &Recalling<R>,
+) -> Result<String, AllocError> {
+    let mut text = String::new(alloc);
+    match verdict {
+        Verdict::Refused(..) => {
+            text.push_str(explaining.line())?;
+            text.push_str(explaining.reason())?;
+        }
+        Verdict::Malformed(offset, kind) => {
+            let octets = recalling.recalled(offset, SHOWN);
+            writeln!(text, "{}", malformed(offset, kind, octets))?;
+        }
+        Verdict::Accepted(_) | Verdict::NoMemory(_) | Verdict::Unreadable(_) => {}
+    }
+    Ok(text)
+}
+
+/// The fault, with these octets, which stand at it.
+fn malformed(offset: u64, kind: FormKind, octets: &[u8]) -> Malformed<'_> {
+    let around = Around {
+        first: offset,
+        octets,
+    };
+    Malformed {
+        offset,
+        kind,
+        around: (!octets.is_empty()).then_some(around),
+    }
+}
+
+/// Writes the line of the verdict, and the text behind it.
+fn told<O: Write>(verdict: Verdict, text: &str, out: &mut O) -> Result<Verdict, NotWritten>
+    ensures same { IfOk result (λ it. it ≡ verdict) }
+    ensures told { IfOk result (λ it. Tells (O.contents out.old) (O.contents out.new) it) }
+{
+    match write_told(verdict, text, out) {
+        Ok(()) => Ok(verdict),
+        Err(_) => Err(NotWritten),
+    }
+}
+
+fn write_told<O: Write>(verdict: Verdict, text: &str, out: &mut O) -> io::Result<()>
+    ensures { OnOk result (Tells (O.contents out.old) (O.contents out.new) verdict) }
+{
+    writeln!(out, "{verdict}")?;
+    out.write_all(text.as_bytes())
+}

@@ -1,0 +1,81 @@
+//! What is kept of the records that were taken, to explain the one that is refused.
+
+use audit_core::{Ledger, Watcher};
+use capture_form::{Record, Rule};
+use capture_names::Names;
+use capture_view::view_of;
+use capture_words::Page;
+use refusal_ledger::explain_refused;
+use refusal_origins::Origins;
+use refusal_words::Explained;
+use std::alloc::{AllocError, Global};
+
+/// At how many characters the texts and octets of the refused record's line are cut.
+const WIDTH: usize = 32;
+
+/// The links by name, and where windows and credits come from, of the records that were taken; and what is said of the one
+/// that was refused.
+#[derive(Drop)]
+pub(crate) struct Explaining {
+    // How many records were taken.
+    taken: u64,
+    names: Names,
+    origins: Origins,
+    line: Page,
+    reason: String,
+}
+
+impl Explaining {
+    /// Nothing was taken yet. It takes no memory.
+    pub(crate) fn new(alloc: Global) -> Explaining {
+        Explaining {
+            taken: 0,
+            names: Names::new(alloc),
+            origins: Origins::new(alloc),
+            line: Page::new(alloc, Some(WIDTH)),
+            reason: String::new(alloc),
+        }
+    }
+
+    /// The line of the record that was refused; empty where none was.
+    pub(crate) fn line(&self) -> &str {
+        self.line.text()
+    }
+
+    /// Why it was refused, in some lines; empty where none was.
+    pub(crate) fn reason(&self) -> &str {
+        self.reason.as_str()
+    }
+}
+
+impl Watcher for Explaining {
+    fn taken(&mut self, entry: &Record) -> Result<(), AllocError> {
+        let view = view_of(self.taken, entry);
+        self.names.take(&view)?;
+        self.origins.take(&view)?;
+        self.taken = self.taken.saturating_add(1);
+        Ok(())
+    }
+
+    fn refused(
+        &mut self,
+        ledger: &Ledger,
+        rules: &[Rule],
+        entry: &Record,
+    ) -> Result<(), AllocError> {
+        let view = view_of(self.taken, entry);
+        self.names.take(&view)?;
+        let (link, has_session) = (self.names.named_by(&view), self.names.has_session_of(&view));
+        self.line.put_record(&view, link, has_session)?;
+        match explain_refused(ledger, rules, entry) {
+            Some(reason) => {
+                let explained = Explained {
+                    reason: &reason,
+                    origins: &self.origins,
+                };
+                writeln!(self.reason, "{explained}")
+            }
+            None => Ok(()),
+        }
+    }
+}

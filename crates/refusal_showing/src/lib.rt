@@ -1,0 +1,16 @@
+//! Auditing the capture that a reader gives, and saying in words why it is not accepted.
+//!
+//! `explain_capture` writes the line of the auditor's verdict, and behind it, where a record is refused, that record and the
+//! reason; where the octets stop being a capture, what was expected there and the octets that follow.
+//!
+//! - `recalling`: a reader that recalls the last octets that it gave;
+//! - `explaining`: what is kept on the way, to explain a record by;
+//! - `capture`: a capture, audited and explained.
+#![tactic(auto)]
+
+mod capture;
+mod explaining;
+mod recalling;
+
+pub use audit_core::Verdict;
+pub use capture::{NotWritten, explain_capture};
