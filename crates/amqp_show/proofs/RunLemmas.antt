@@ -1,5 +1,5 @@
 -- What a run leaves.
-use Rattle.std.proofs.Common.{◌≡◌, ◌≢◌, ◌⊎◌, ◌++◌, ◌∷◌, ℕ, Bool, true, List, [], Option, None, Some, Ok, Err, ap, cond, inl, inr, refl, subst, sym}
+use Rattle.std.proofs.Common.{◌≡◌, ◌≢◌, ◌⊎◌, ◌++◌, ◌∷◌, ℕ, Bool, true, false, List, [], Option, None, Some, Ok, Err, ap, cond, inl, inr, refl, subst, sym}
 use Rattle.std.specs.Prelude.{IfSome, if◌then◌else◌}
 use Rattle.std.specs.Io.KnownBytes.{Appends}
 use Rattle.clap.specs.Words.{kind_of}
@@ -12,7 +12,7 @@ use Rattle.capture_showing.specs.Shown.{AppendsSome, EndsText}
 use Rattle.capture_showing.proofs.Known.{appends_nothing, appends_then}
 use Rattle.amqp_show.specs.declared.words.Words.{Words}
 use Rattle.amqp_show.specs.Run.{IsRunOn, ShowsInput, Tells, TellsEnd, TellsSome, is_whole, tail_of}
-use Rattle.amqp_show.specs.Words.{AnswersWords, packets_of, path_of}
+use Rattle.amqp_show.specs.Words.{AnswersWords, is_why, packets_of, path_of}
 
 -- of a whole capture no line is told
 pub nothing_told : (known : Option (List ℕ)) (ending : Ending) → is_whole ending ≡ true → TellsEnd known known ending
@@ -67,10 +67,11 @@ refused_run (first ∷ second ∷ more) error held before after status answer to
 -- the parser took the words, and the source that they ask for was shown
 pub shown_run : (words : List (List ℕ)) (asked : Words) (held before after : Option (List ℕ)) (status : ℕ)
     → AnswersWords words (Ok asked)
-    → (path_of asked.source ≡ None → status ≢ 74 → status ≢ 5 → ShowsInput held before after status)
-    → (status ≢ 74 → status ≢ 5 → TellsSome before after status)
+    → (path_of asked.source ≡ None → is_why asked.mode ≡ false → status ≢ 74 → status ≢ 5 → ShowsInput held before after status)
+    → (is_why asked.mode ≡ false → status ≢ 74 → status ≢ 5 → TellsSome before after status)
     → (packets_of asked.mode ≡ None → status ≢ 5)
     → IsRunOn words held before after status
-shown_run [] asked held before after status answer input told unasked = λ written. input answer.0 written (unasked answer.1)
-shown_run (word ∷ []) asked held before after status answer input told unasked = λ plain written. told written (unasked (answer plain).1)
+shown_run [] asked held before after status answer input told unasked = λ written. input answer.0 answer.2 written (unasked answer.1)
+shown_run (word ∷ []) asked held before after status answer input told unasked = λ plain written.
+    told (answer plain).2 written (unasked (answer plain).1)
 shown_run (first ∷ second ∷ more) asked held before after status answer input told unasked = λ plain plain'. absurd (answer plain plain')

@@ -5,6 +5,10 @@ use Rattle.capture_showing.specs.declared.ending.Ending.{Ending}
 use Rattle.capture_showing.specs.declared.ending.Ending.TheVariants.{Whole, Malformed, NoMemory, Unreadable}
 use Rattle.capture_showing.specs.Ending.{line_of, status_of}
 use Rattle.capture_showing.specs.Shown.{EndsText}
+use Rattle.audit_core.specs.declared.verdict.Verdict.{Verdict}
+use Rattle.audit_core.specs.Report.{status_of as status_of_verdict}
+use Rattle.audit_core.specs.Verdict.{AnswersRead}
+use Rattle.refusal_showing.specs.Explained.{Tells as Explains}
 use Rattle.amqp_show.specs.Words.{is_option}
 
 -- whether a capture was whole
@@ -51,6 +55,17 @@ pub record ShowsInput (held before after : Option (List ℕ)) (status : ℕ) : T
   pub ending : Ending
   pub told : Tells before after status ending
   pub ends : IfSome held (λ octets. EndsText octets ending)
+
+-- the line of a verdict is told, and behind it why; the status is that of the verdict (own format)
+abbrev pub ExplainsSome : Option (List ℕ) → Option (List ℕ) → ℕ → Type 0
+ExplainsSome before after status = (verdict : Verdict) × Explains before after verdict × (status ≡ status_of_verdict verdict)
+
+-- the same, and the verdict is that of the auditor on all the octets that the reader is known to give
+pub record ExplainsInput (held before after : Option (List ℕ)) (status : ℕ) : Type 0 where
+  pub verdict : Verdict
+  pub told : Explains before after verdict
+  pub same_status : status ≡ status_of_verdict verdict
+  pub answers : IfSome held (λ octets. AnswersRead octets verdict)
 
 -- without words standard input is shown; with one word that is no option an ending is told; two are a mistake, unless
 -- memory for the parser was refused; all this where standard output could be written (own format)

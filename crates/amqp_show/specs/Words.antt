@@ -10,7 +10,7 @@ use Rattle.clap.specs.declared.error.kind.ErrorKind.TheVariants.{OutOfMemory, Un
 use Rattle.amqp_show.specs.declared.words.Source.{Source}
 use Rattle.amqp_show.specs.declared.words.Source.TheVariants.{StandardInput, File}
 use Rattle.amqp_show.specs.declared.words.Mode.{Mode}
-use Rattle.amqp_show.specs.declared.words.Mode.TheVariants.{Lines, Summary, Packets}
+use Rattle.amqp_show.specs.declared.words.Mode.TheVariants.{Lines, Summary, Why, Packets}
 use Rattle.amqp_show.specs.declared.words.Words.{Words}
 
 -- the file that is asked for; none is standard input (own format)
@@ -22,7 +22,15 @@ path_of (File path) = Some path.now
 abbrev pub packets_of : Mode → Option (List ℕ)
 packets_of Lines = None
 packets_of Summary = None
+packets_of Why = None
 packets_of (Packets path) = Some path.now
+
+-- whether the capture is to be audited (own format)
+abbrev pub is_why : Mode → Bool
+is_why Lines = false
+is_why Summary = false
+is_why Why = true
+is_why (Packets path) = false
 
 -- the file that a word names; a hyphen (45) alone names standard input
 abbrev pub path_asked : Option (List ℕ) → Option (List ℕ)
@@ -34,9 +42,10 @@ abbrev pub is_option : List ℕ → Bool
 is_option [] = false
 is_option (octet ∷ octets) = octet == 45
 
--- the words ask for this source, and for packets in this file or none, want of memory aside (own format)
+-- the words ask for this source, for packets in this file or none, and for no audit, want of memory aside (own format)
 abbrev pub AsksFor : Option (List ℕ) → Option (List ℕ) → Result Words Error → Type 0
-AsksFor path packets result = MatchResult result (λ words. (path_of words.source ≡ path) × (packets_of words.mode ≡ packets))
+AsksFor path packets result = MatchResult result
+    (λ words. (path_of words.source ≡ path) × (packets_of words.mode ≡ packets) × (is_why words.mode ≡ false))
     (λ error. kind_of error ≡ OutOfMemory)
 
 -- the words are a mistake, or memory was refused (own format)
@@ -44,8 +53,8 @@ abbrev pub IsMistake : Result Words Error → Type 0
 IsMistake result = MatchResult result (λ words. ⊥)
     (λ error. (kind_of error ≡ OutOfMemory) ⊎ (kind_of error ≡ UnknownArgument))
 
--- no word asks for standard input and one word that is no option for the file that it names, and neither for packets; two
--- such are a mistake
+-- no word asks for standard input and one word that is no option for the file that it names, and neither for packets or an
+-- audit; two such are a mistake
 abbrev pub AnswersWords : List (List ℕ) → Result Words Error → Type 0
 AnswersWords [] result = AsksFor None None result
 AnswersWords (word ∷ []) result = is_option word ≡ false → AsksFor (Some word) None result
@@ -93,4 +102,4 @@ packets_argument = asking_argument (codes "pcapng") String
 abbrev pub command_line : App
 command_line =
     let shown = with_rule (with_rule choosing_command (flag_argument (codes "wide"))) (flag_argument (codes "summary")) in
-    with_rule shown packets_argument
+    with_rule (with_rule shown (flag_argument (codes "why"))) packets_argument

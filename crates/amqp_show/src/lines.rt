@@ -1,9 +1,9 @@
 //! A line for each record that is asked for.
 
 use capture_choice::{Choice, Trail, Traits};
-use capture_names::{LinkTold, Names, key_of};
+use capture_names::Names;
 use capture_showing::View;
-use capture_view::{Happened, RecordView, Said};
+use capture_view::RecordView;
 use capture_words::Page;
 use std::alloc::{AllocError, Global};
 
@@ -32,7 +32,7 @@ impl<'a> Lines<'a> {
         is_of_delivery: bool,
         page: &mut Page,
     ) -> Result<(), AllocError> {
-        let link = named(&self.names, view);
+        let link = self.names.named_by(view);
         let traits = Traits {
             number: view.number,
             connection: view.connection,
@@ -42,7 +42,7 @@ impl<'a> Lines<'a> {
         if !self.choice.shows(&traits) {
             return Ok(());
         }
-        page.put_record(view, link, is_in_session(&self.names, view))
+        page.put_record(view, link, self.names.has_session_of(view))
     }
 }
 
@@ -67,30 +67,5 @@ fn follow(trail: &mut Option<Trail>, view: &RecordView<'_>) -> Result<bool, Allo
     match trail {
         Some(trail) => trail.take(view),
         None => Ok(false),
-    }
-}
-
-/// The link that a record names.
-fn named<'n>(names: &'n Names, view: &RecordView<'_>) -> Option<LinkTold<'n>> {
-    let key = key_of(view)?;
-    let link = names.link(key)?;
-    Some(link.told())
-}
-
-/// Whether a record stands on a session that has begun.
-fn is_in_session(names: &Names, view: &RecordView<'_>) -> bool {
-    match channel_of(view) {
-        Some(channel) => names.has_session(view.connection, channel),
-        None => false,
-    }
-}
-
-/// The channel of a record's frame.
-fn channel_of(view: &RecordView<'_>) -> Option<u16> {
-    match view.happened {
-        Happened::In(Said::Says { channel, .. }) | Happened::Out(Said::Says { channel, .. }) => {
-            Some(channel)
-        }
-        _ => None,
     }
 }

@@ -1,15 +1,17 @@
 //! A capture in words: `amqp_show [FILE]` reads a capture from the file, or from standard input where no word is given
 //! or the word is `-`, and prints a line for each record; with `--summary` one table. With `--pcapng OUT` it prints no record,
-//! and writes the packets of all to a new file, in the format pcapng.
+//! and writes the packets of all to a new file, in the format pcapng. With `--why` it audits the capture, and prints the
+//! verdict and why it is not accepted.
 //!
-//! The exit status tells whether the capture is whole (`Ending::status`). What was read in front of a fault is printed, and
-//! then the line of the fault. A mistake in the words gives the parser's text on standard error alone, and status 64. The
+//! The exit status tells whether the capture is whole (`Ending::status`), or the verdict. What was read in front of a fault is
+//! printed, and then the line of the fault. A mistake in the words gives the parser's text on standard error alone, and status 64. The
 //! modules, in reading order:
 //!
 //! - `words`: what the words of the command line ask for
 //! - `lines`, `table`: the two ways in which records are shown
 //! - `telling`: what is told behind what was shown
 //! - `packets`: a capture as packets in a file
+//! - `why`: a capture, audited
 //! - `run`: a run over any words, reader and writers
 //!
 //! Another way to show a capture is a variant of `Mode`, its word in `words`, and its arm in `run::show_input`.
@@ -22,6 +24,7 @@ mod table;
 mod telling;
 #[cfg(test)]
 mod tests;
+mod why;
 mod words;
 
 use run::{run_words, tell_unread_words};

@@ -1,17 +1,18 @@
 //! A run over any words, reader and writers.
 
-ghost use Rattle.std.specs.Prelude.{◌≡◌, ◌≢◌, ◌<◌, ◌≤◌, ◌⊎◌, false, map, None};
+ghost use Rattle.std.specs.Prelude.{◌≡◌, ◌≢◌, ◌<◌, ◌≤◌, ◌⊎◌, false, true, map, None};
 ghost use Rattle.clap.specs.Words.{kind_of};
 ghost use Rattle.capture_showing.specs.declared.ending.Ending.TheVariants.{NoMemory};
 ghost use Rattle.std.specs.Io.KnownBytes.{Appends};
 ghost use Rattle.capture_showing.specs.Ending.{IsRefusedGrowth};
-ghost use Rattle.amqp_show.specs.Run.{IsRunOn, IsStatus, ShowsInput, Tells, TellsSome, no_packets};
-ghost use Rattle.amqp_show.specs.Words.{packets_of, path_of};
+ghost use Rattle.amqp_show.specs.Run.{ExplainsInput, ExplainsSome, IsRunOn, IsStatus, ShowsInput, Tells, TellsSome, no_packets};
+ghost use Rattle.amqp_show.specs.Words.{is_why, packets_of, path_of};
 
 use crate::lines::Lines;
 use crate::packets::write_packets;
 use crate::table::Table;
 use crate::telling::{NO_PACKETS, NOT_WRITTEN, tell};
+use crate::why::show_why;
 use crate::words::{Mode, Source, Words};
 use capture_showing::{Ending, NotWritten, View, show_capture};
 use capture_words::Page;
@@ -27,7 +28,8 @@ pub const WORDS_FAULT: u8 = 64;
 
 /// Shows the capture that `words`, those behind the program's name, ask for: the file that they name, or `input`. Writes
 /// it to `out`, behind it the line of a fault, and answers the exit status. Where packets are asked for they go to the file
-/// that is named, and the line of a fault alone to `out`; `NO_PACKETS` tells that they could not be written.
+/// that is named, and the line of a fault alone to `out`; `NO_PACKETS` tells that they could not be written. Where it is asked
+/// why the capture is not accepted, the line of the auditor's verdict goes to `out`, and behind it the explanation.
 ///
 /// A fault of the words is told on `err` alone, with `WORDS_FAULT`; the help goes to `out`, with status 0. Where `out`
 /// fails the status is `NOT_WRITTEN`, and nothing is said of what stands there. Where it is watched, `err` has a line of
@@ -43,8 +45,9 @@ pub fn run_words<F: Files, S: AsStr, R: Read, O: Write, E: Write>(
 ) -> u8
     ensures run { IsRunOn (map S.text words.now) (R.remaining input.old) (O.contents out.old) (O.contents out.new) result }
 
-    // Statuses 2 to 4 come only behind what was shown, with the line of a fault, which has that status.
-    ensures told { 0 < result → result ≤ 4 → TellsSome (O.contents out.old) (O.contents out.new) result }
+    // Statuses 1 to 4 come only with a line that has that status: of a fault, behind what was shown, or of a verdict, and then
+    // the explanation stands behind it.
+    ensures told { 0 < result → result ≤ 4 → TellsSome (O.contents out.old) (O.contents out.new) result ⊎ ExplainsSome (O.contents out.old) (O.contents out.new) result }
     ensures packets { result ≡ NO_PACKETS → Appends (O.contents out.old) (O.contents out.new) no_packets }
     ensures mistake { result ≡ WORDS_FAULT → out.new ≡ out.old }
     ensures quiet { is_watched ≡ false → result ≢ WORDS_FAULT → err.new ≡ err.old }
@@ -66,9 +69,13 @@ fn show_source<F: Files, R: Read, O: Write, E: Write>(
     out: &mut O,
     err: &mut E,
 ) -> u8
-    ensures input { path_of words.entry.source ≡ None → result ≢ NOT_WRITTEN → result ≢ NO_PACKETS
+    ensures input { path_of words.entry.source ≡ None → is_why words.entry.mode ≡ false → result ≢ NOT_WRITTEN → result ≢ NO_PACKETS
         → ShowsInput (R.remaining input.old) (O.contents out.old) (O.contents out.new) result }
-    ensures told { result ≢ NOT_WRITTEN → result ≢ NO_PACKETS → TellsSome (O.contents out.old) (O.contents out.new) result }
+    ensures explained { path_of words.entry.source ≡ None → is_why words.entry.mode ≡ true → result ≢ NOT_WRITTEN
+        → ExplainsInput (R.remaining input.old) (O.contents out.old) (O.contents out.new) result }
+    ensures told { is_why words.entry.mode ≡ false → result ≢ NOT_WRITTEN → result ≢ NO_PACKETS → TellsSome (O.contents out.old) (O.contents out.new) result }
+    ensures either { result ≢ NOT_WRITTEN → result ≢ NO_PACKETS
+        → TellsSome (O.contents out.old) (O.contents out.new) result ⊎ ExplainsSome (O.contents out.old) (O.contents out.new) result }
     ensures unasked { packets_of words.entry.mode ≡ None → result ≢ NO_PACKETS }
     ensures packets { result ≡ NO_PACKETS → Appends (O.contents out.old) (O.contents out.new) no_packets }
     ensures quiet { is_watched ≡ false → err.new ≡ err.old }
@@ -95,7 +102,9 @@ fn show_input<F: Files, R: Read, O: Write, E: Write>(
 ) -> u8
 where
     R: Drop,
-    ensures shown { result ≢ NOT_WRITTEN → result ≢ NO_PACKETS → ShowsInput (R.remaining input) (O.contents out.old) (O.contents out.new) result }
+    ensures shown { is_why words.entry.mode ≡ false → result ≢ NOT_WRITTEN → result ≢ NO_PACKETS
+        → ShowsInput (R.remaining input) (O.contents out.old) (O.contents out.new) result }
+    ensures explained { is_why words.entry.mode ≡ true → result ≢ NOT_WRITTEN → ExplainsInput (R.remaining input) (O.contents out.old) (O.contents out.new) result }
     ensures unasked { packets_of words.entry.mode ≡ None → result ≢ NO_PACKETS }
     ensures packets { result ≡ NO_PACKETS → Appends (O.contents out.old) (O.contents out.new) no_packets }
     ensures quiet { is_watched ≡ false → err.new ≡ err.old }
@@ -111,6 +120,7 @@ where
             let mut table = Table::new(alloc);
             show_by(alloc, &mut table, &mut page, is_watched, input, out, err)
         }
+        Mode::Why => show_why(alloc, input, out),
         Mode::Packets(path) => write_packets(files, alloc, path, input, out),
     }
 }

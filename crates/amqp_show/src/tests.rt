@@ -134,6 +134,35 @@ out: transfers 1, octets of payload 9
 }
 
 #[test]
+fn a_refused_record_is_explained(rt: HostRuntime) -> Result<(), Fail> {
+    let text = "refused record=1 clause=L1
+     1   0 out 0 attach name=out handle=0 role=receiver source=() target=(address=q); out producer → q
+record 1 breaks L1: a frame is a performative within the frame limit, on a connection that is open, in the order of opens and closes
+order: the first frame on the connection, and it is no open
+";
+    let (status, out, _) = run(&rt, &["--why"], &mut &*REJECTED)?;
+    assert_eq!(rt; (status, out.as_str()), (1, text));
+    let text = "malformed offset=28
+no capture from offset 28 on: the capture ends too early
+expected: more octets: the capture ends within the number of rules, a rule or a record
+octets from 28: 02 00 00 00 00 00 00 00 00 00 00 00 00 00 00 00
+octets from 44: 00 24 00 00 00 24 02 00 00 00 00 53 12 c0 17 07
+";
+    let (status, out, _) = run(&rt, &["--why", "-"], &mut &REJECTED[..81])?;
+    assert_eq!(rt; (status, out.as_str()), (2, text));
+    let (status, out, _) = run(&rt, &["--why"], &mut &REJECTED[..28])?;
+    assert_eq!(rt;
+        (status, out.as_str()),
+        (0, "accepted records=1 deliveries=0 outcomes=0\n")
+    );
+    let (status, out, _) = run(&rt, &["--why"], &mut Failing(&REJECTED[..81]))?;
+    assert_eq!(rt; (status, out.as_str()), (4, "unreadable offset=28\n"));
+    let (status, out, _) = run(&rt, &["--why", "missing.cap"], &mut io::empty())?;
+    assert_eq!(rt; (status, out.as_str()), (4, "unreadable offset=0\n"));
+    Ok(())
+}
+
+#[test]
 fn faults_are_told_behind_what_was_read(rt: HostRuntime) -> Result<(), Fail> {
     let cut = REJECTED.get(..81).unwrap_or(&[]);
     let opened = "     0   0 opened\nmalformed offset=28\n";

@@ -24,6 +24,8 @@ pub enum Mode<'a> {
     Lines,
     /// One table.
     Summary,
+    /// Audited: why the capture is not accepted.
+    Why,
     /// As packets, in a new file of this path.
     Packets(&'a str),
 }
@@ -57,15 +59,17 @@ impl<'a> Source<'a> {
 }
 
 impl<'a> Mode<'a> {
-    ghost use Rattle.std.specs.Prelude.{◌≡◌, option_map};
-    ghost use Rattle.amqp_show.specs.Words.{packets_of};
+    ghost use Rattle.std.specs.Prelude.{◌≡◌, false, option_map};
+    ghost use Rattle.amqp_show.specs.Words.{is_why, packets_of};
 
-    /// The mode that the path of packets and the flag of a summary ask for.
-    fn of_words(packets: Option<&'a str>, is_summary: bool) -> Mode<'a>
-        ensures { packets_of result ≡ option_map (λ path. path.now) packets.entry }
+    /// The mode that the path of packets, and the flags of an audit and of a summary ask for.
+    fn of_words(packets: Option<&'a str>, is_audited: bool, is_summary: bool) -> Mode<'a>
+        ensures packets { packets_of result ≡ option_map (λ path. path.now) packets.entry }
+        ensures unaudited { is_audited ≡ false → is_why result ≡ false }
     {
         match packets {
             Some(path) => Mode::Packets(path),
+            None if is_audited => Mode::Why,
             None if is_summary => Mode::Summary,
             None => Mode::Lines,
         }
@@ -83,7 +87,9 @@ impl<'a> Words<'a> {
     {
         let matches = command_line(alloc)?.try_get_matches_from(words)?;
         let source = Source::of_word(matches.get_str("FILE"));
-        let mode = Mode::of_words(matches.get_str("pcapng"), matches.get_flag("summary"));
+        let is_audited = matches.get_flag("why");
+        let is_summary = matches.get_flag("summary");
+        let mode = Mode::of_words(matches.get_str("pcapng"), is_audited, is_summary);
         let choice = Choice {
             from: matches.get_one("from"),
             to: matches.get_one("to"),
@@ -108,6 +114,10 @@ the link or the session that it names, and what the record notes: which delivery
 
 The whole capture is read, whatever is asked for. Status 0: it is whole. 2: malformed. 3: no memory. 4: unreadable. \
 5: the packets could not be written. 64: a mistake in the words. 74: standard output could not be written.
+
+With --why the first line is the verdict of amqp_audit, and the status is its: 0 accepted, 1 refused, and those above. Behind \
+it stand the record that is refused, what the clause asks, and each thing that it compares, with the record it comes from; or \
+what was expected where the capture is malformed. It is read up to there.
 
 Packets are those of all records, whatever else is asked for. Where the capture has a fault they are those of the whole \
 records in front of it.";
@@ -136,6 +146,9 @@ fn command_line<'a>(alloc: Global) -> Result<Command<'a>, AllocError>
     let summary = flag(alloc, "summary").help(
         "Shows one table of the whole capture instead of its records",
     );
+    let why = flag(alloc, "why").help(
+        "Audits the capture, and says why it is not accepted instead of its records",
+    );
     let pcapng = asking(alloc, "pcapng", ValueParser::string(), "OUT").help(
         "Writes the whole capture as packets to OUT, which must not exist, and shows nothing",
     );
@@ -148,6 +161,7 @@ fn command_line<'a>(alloc: Global) -> Result<Command<'a>, AllocError>
         .arg(delivery)?
         .arg(wide)?
         .arg(summary)?
+        .arg(why)?
         .arg(pcapng)
 }
 

@@ -34,6 +34,8 @@ returns c =
     let with_delivery = c.in_ok-arg-6.ensures.shape (ap is_global c.help-delivery.ensures ∙ c.asking-5.ensures.local) ∙ ap₂ with_rule with_link delivery_is in
     let with_wide = c.in_ok-arg-7.ensures.shape (ap is_global c.help-wide.ensures ∙ c.flag.ensures.local) ∙ ap₂ with_rule with_delivery wide_is in
     let with_summary = c.in_ok-arg-8.ensures.shape (ap is_global c.help-summary.ensures ∙ c.flag-2.ensures.local) ∙ ap₂ with_rule with_wide summary_is in
+    let why_is : rule_of c.help-why.result ≡ flag_argument (codes "why") = ap rule_of c.help-why.ensures ∙ c.flag-3.ensures.rule in
+    let with_why = c.in_ok-arg-9.ensures.shape (ap is_global c.help-why.ensures ∙ c.flag-3.ensures.local) ∙ ap₂ with_rule with_summary why_is in
     let packets_is : rule_of c.help-pcapng.result ≡ packets_argument =
     ap rule_of c.help-pcapng.ensures ∙ (c.asking-6.ensures.rule ∙ ap (asking_argument (codes "pcapng")) c.string-2.ensures) in
-    IfOk-weaker c.arg-9.result _ _ (λ command adds. adds.shape (ap is_global c.help-pcapng.ensures ∙ c.asking-6.ensures.local) ∙ ap₂ with_rule with_summary packets_is) c.arg-9.ensures
+    IfOk-weaker c.arg-10.result _ _ (λ command adds. adds.shape (ap is_global c.help-pcapng.ensures ∙ c.asking-6.ensures.local) ∙ ap₂ with_rule with_why packets_is) c.arg-10.ensures

@@ -2,7 +2,7 @@ use Rattle.std.proofs.Common.{rules, map, subst, sym, [], ap, codes, ◌≡◌, 
 use Rattle.std.proofs.lemmas.Result.{err_from_is_err_and}
 use Rattle.clap.specs.Words.{HasKind, app_of, fault_of}
 use Rattle.amqp_show.specs.Words.{AnswersWords, command_line, path_asked}
-use Rattle.amqp_show.proofs.WordLemmas.{answers_refused, answers_taken, faults_of, word_of}
+use Rattle.amqp_show.proofs.WordLemmas.{answers_refused, answers_taken, faults_of, flag_of, word_of}
 use Rattle.amqp_show.proofs.words.Words.read.Goals as goal
 
 pub returns-in_err-matches : goal.returns-in_err-matches
@@ -20,4 +20,5 @@ returns g c =
     let line_is : app_of c.in_ok-command_line.field-0 ≡ command_line = search rules in
     answers_taken words _ (faults_of _ words (λ kinds. kinds ≡ []) line_is c.in_ok-matches.ensures.kinds)
     (c.of_word-source.ensures ∙ ap path_asked (c.get_str.ensures ∙ word_of (codes "FILE") _ words c.in_ok-matches.matches line_is c.in_ok-matches.ensures.matches))
-    (c.of_words-mode.ensures ∙ (c.get_str-2.ensures ∙ word_of (codes "pcapng") _ words c.in_ok-matches.matches line_is c.in_ok-matches.ensures.matches))
+    (c.of_words-mode.ensures.packets ∙ (c.get_str-2.ensures ∙ word_of (codes "pcapng") _ words c.in_ok-matches.matches line_is c.in_ok-matches.ensures.matches))
+    (λ absent. c.of_words-mode.ensures.unaudited (c.get_flag-is_audited.ensures.other (flag_of (codes "why") _ words c.in_ok-matches.matches line_is c.in_ok-matches.ensures.matches ∙ absent)))
