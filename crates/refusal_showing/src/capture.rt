@@ -8,6 +8,7 @@ use crate::explaining::Explaining;
 use crate::recalling::Recalling;
 use audit_core::{Verdict, audit_watched};
 use capture_form::FormKind;
+use capture_showing::NotWritten;
 use refusal_words::{Around, Malformed};
 use std::alloc::{AllocError, Global};
 use std::io;
@@ -16,10 +17,6 @@ use std::io::{Read, Write};
 /// The most octets that are shown from a fault on.
 const SHOWN: usize = 32;
 
-/// The writer failed; nothing is said of what stands there.
-#[derive(Clone, Copy, Debug, PartialEq, Eq)]
-pub struct NotWritten;
-
 /// Audits the capture that is read, and writes the line of the verdict; behind it, where a record is refused, the line of the
 /// record and why, and where the octets are malformed, what was expected and what stands there. It gives the verdict.
 ///
@@ -27,7 +24,7 @@ pub struct NotWritten;
 ///
 /// # Errors
 ///
-/// `out` could not be written.
+/// `out` could not be written; nothing is said of what stands there.
 pub fn explain_capture<R: Read, O: Write>(
     alloc: Global,
     input: R,

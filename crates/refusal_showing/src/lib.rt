@@ -13,4 +13,5 @@ mod explaining;
 mod recalling;
 
 pub use audit_core::Verdict;
-pub use capture::{NotWritten, explain_capture};
+pub use capture::explain_capture;
+pub use capture_showing::NotWritten;

@@ -43,11 +43,12 @@ impl<R> Recalling<R> {
     fn keep(&mut self, given: &[u8])
         ensures { self.new.reader ≡ self.old.reader }
     {
-        if self.recent.len() >= 2 * RECALLED {
-            self.forget(self.recent.len() - RECALLED);
+        let count = self.recent.len();
+        if count >= 2 * RECALLED {
+            self.forget(count - RECALLED);
         }
         if self.recent.extend_from_slice(given).is_err() {
-            self.forget(self.recent.len());
+            self.forget(count);
             self.forgotten = self.forgotten.saturating_add(given.len() as u64);
         }
     }
