@@ -123,10 +123,11 @@ sessions 0
 links 2
 in: transfers 2, octets of payload 9
 out: transfers 1, octets of payload 9
+told: C 1, Z 0, S 0, L 0, N 0, M 0
 
- deliveries     octets   accepted   rejected   released   modified    settled    aborted  undecided  link
-          1          9          0          1          0          0          0          0          0  0/0/0 out producer → q
-          1          9          0          1          0          0          0          0          0  1/0/0 in consumer ← q
+ deliveries     octets   accepted   rejected   released   modified    settled    aborted    waiting  undecided  link
+          1          9          0          1          0          0          0          0          0          0  0/0/0 out producer → q
+          1          9          0          1          0          0          0          0          0          0  1/0/0 in consumer ← q
 ";
     let (status, out, _) = run(&rt, &["--summary"], &mut &*REJECTED)?;
     assert_eq!(rt; (status, out.as_str()), (0, table));

@@ -25,7 +25,7 @@ pub struct Trail {
     delivery: u64,
     source: Option<Source>,
     /// The ids of the deliveries that carry it.
-    copies: Ids,
+    copies: Ids<u64>,
 }
 
 impl Trail {

@@ -21,30 +21,30 @@ pub struct Scope {
     pub sender: Sender,
 }
 
-/// Ids in use, each with a number.
+/// Ids in use, each with a value.
 #[derive(Debug, Drop)]
-pub struct Ids {
+pub struct Ids<V> {
     alloc: Global,
-    scopes: HashMap<Scope, BTreeMap<u32, u64>>,
+    scopes: HashMap<Scope, BTreeMap<u32, V>>,
 }
 
-impl Ids {
+impl<V: Drop> Ids<V> {
     /// No ids.
-    pub fn new(alloc: Global) -> Ids {
+    pub fn new(alloc: Global) -> Ids<V> {
         Ids {
             alloc,
             scopes: HashMap::new(alloc),
         }
     }
 
-    /// Adds an id with a number. One that is there already gets this number.
-    pub fn insert(&mut self, scope: Scope, id: u32, number: u64) -> Result<(), AllocError> {
+    /// Adds an id with a value. One that is there already gets this value.
+    pub fn insert(&mut self, scope: Scope, id: u32, value: V) -> Result<(), AllocError> {
         if let Some(ids) = self.scopes.get_mut(&scope) {
-            ids.insert(id, number)?;
+            ids.insert(id, value)?;
             return Ok(());
         }
         let mut ids = BTreeMap::new(self.alloc);
-        ids.insert(id, number)?;
+        ids.insert(id, value)?;
         self.scopes.insert(scope, ids)?;
         Ok(())
     }
@@ -57,8 +57,8 @@ impl Ids {
         }
     }
 
-    /// Takes out an id of the scope that the range from `first` to `last` covers, and gives its number.
-    pub fn take_covered(&mut self, scope: Scope, first: u32, last: u32) -> Option<u64> {
+    /// Takes out an id of the scope that the range from `first` to `last` covers, and gives its value.
+    pub fn take_covered(&mut self, scope: Scope, first: u32, last: u32) -> Option<V> {
         let ids = self.scopes.get_mut(&scope)?;
         let id = covered(ids, first, last)?;
         ids.remove(&id)
@@ -73,7 +73,7 @@ impl Ids {
 }
 
 /// An id that the range from `first` to `last` covers.
-fn covered(ids: &BTreeMap<u32, u64>, first: u32, last: u32) -> Option<u32> {
+fn covered<V>(ids: &BTreeMap<u32, V>, first: u32, last: u32) -> Option<u32> {
     if last.wrapping_sub(first) >= 0x8000_0000 {
         None
     } else if first <= last {
@@ -87,7 +87,7 @@ fn covered(ids: &BTreeMap<u32, u64>, first: u32, last: u32) -> Option<u32> {
 }
 
 /// The lowest id from `first` to `last`.
-fn lowest(ids: &BTreeMap<u32, u64>, first: u32, last: u32) -> Option<u32>
+fn lowest<V>(ids: &BTreeMap<u32, V>, first: u32, last: u32) -> Option<u32>
     requires { first ≤ last }
 {
     let (id, _) = ids.range(first..=last).next()?;

@@ -1,37 +1,50 @@
 //! What transfers and dispositions do to links.
 
 use crate::links::Links;
-use crate::row::Progress;
-use amqp_perf::{Disposition, Role, Transfer};
+use crate::row::{Delivery, Progress};
+use amqp_perf::{Disposition, Outcome, Role, Transfer};
 use capture_ids::{Scope, Sender};
 use capture_names::{LinkKey, LinkRole, Writer};
+use pairing_cert::Note;
 use std::alloc::AllocError;
 
+/// A transfer where it stands.
+#[derive(Clone, Copy, Debug)]
+pub(crate) struct Part<'a> {
+    /// The number of its record.
+    pub record: u64,
+    pub writer: Writer,
+    pub key: LinkKey,
+    pub transfer: Transfer<'a>,
+    /// The octets of its payload.
+    pub octets: usize,
+}
+
 impl Links {
-    /// Takes a transfer on the live link of its handle, with so many octets of payload.
-    pub(crate) fn take_transfer(
-        &mut self,
-        writer: Writer,
-        key: LinkKey,
-        transfer: &Transfer<'_>,
-        octets: usize,
-    ) -> Result<(), AllocError> {
-        let Some(number) = self.link_of(writer, key) else {
+    /// Takes a transfer with its note: what it carries waits no more, and a delivery begins or goes on on the live link of
+    /// its handle.
+    pub(crate) fn take_transfer(&mut self, part: &Part<'_>, note: Note) -> Result<(), AllocError> {
+        if let (Writer::Router, Note::Pair(carried)) = (part.writer, note) {
+            self.stop_waiting(carried);
+        }
+        let Some(step) = self.go_on(part) else {
             return Ok(());
         };
-        let progress = self.go_on(number, transfer, octets);
-        let Some(id) = progress.id else {
+        if part.writer == Writer::Client {
+            self.arrive(&step, &part.transfer)?;
+        }
+        let Some(id) = step.id else {
             return Ok(());
         };
         let scope = Scope {
-            connection: key.connection,
-            channel: key.channel,
-            sender: sender_of(writer),
+            connection: part.key.connection,
+            channel: part.key.channel,
+            sender: sender_of(part.writer),
         };
-        if transfer.is_aborted() || progress.is_settled {
+        if part.transfer.is_aborted() || step.is_settled {
             self.ids.take_covered(scope, id, id);
-        } else if progress.is_new {
-            self.ids.insert(scope, id, number as u64)?;
+        } else if step.is_new {
+            self.ids.insert(scope, id, step.delivery)?;
         }
         Ok(())
     }
@@ -48,20 +61,24 @@ impl Links {
         }
     }
 
-    /// Begins a delivery on the link of this number, or goes on with the one in progress.
-    fn go_on(&mut self, number: usize, transfer: &Transfer<'_>, octets: usize) -> Step {
-        let Some(row) = self.rows.get_mut(number) else {
-            return Step::NONE;
-        };
+    /// Begins a delivery on the live link of a transfer's handle, or goes on with the one in progress there.
+    fn go_on(&mut self, part: &Part<'_>) -> Option<Step> {
+        let transfer = &part.transfer;
+        let link = self.link_of(part.writer, part.key)?;
+        let row = self.rows.get_mut(link)?;
         let begun = row.progress;
         let before = begun.unwrap_or(Progress {
+            delivery: Delivery {
+                record: part.record,
+                link,
+            },
             id: transfer.delivery_id,
             is_settled: false,
         });
         if begun.is_none() {
             row.deliveries = row.deliveries.saturating_add(1);
         }
-        row.octets = row.octets.saturating_add(octets as u64);
+        row.octets = row.octets.saturating_add(part.octets as u64);
         let is_settled = before.is_settled || transfer.settled == Some(true);
         if transfer.is_aborted() {
             row.aborted = row.aborted.saturating_add(1);
@@ -69,15 +86,29 @@ impl Links {
             row.settled = row.settled.saturating_add(1);
         }
         let after = Progress {
-            id: before.id,
             is_settled,
+            ..before
         };
         row.progress = (transfer.has_more() && !transfer.is_aborted()).then_some(after);
-        Step {
+        Some(Step {
+            delivery: before.delivery,
             id: before.id,
             is_settled,
             is_new: begun.is_none(),
+        })
+    }
+
+    /// A part of a client's delivery has come: behind its last one it waits, unless it is given up.
+    fn arrive(&mut self, step: &Step, transfer: &Transfer<'_>) -> Result<(), AllocError> {
+        if step.is_new {
+            self.begin_to_send(step.delivery)?;
         }
+        if transfer.is_aborted() {
+            self.stop_waiting(step.delivery.record);
+        } else if !transfer.has_more() {
+            self.wait(step.delivery.record);
+        }
+        Ok(())
     }
 
     /// Takes a disposition. One of a receiver decides what the other side sent, if it has an outcome or settles; one of a
@@ -105,14 +136,22 @@ impl Links {
             channel,
             sender,
         };
+        self.decide(scope, disposition, outcome);
+    }
+
+    /// Decides the deliveries of the scope that a disposition covers. What a receiver decides waits no more.
+    fn decide(&mut self, scope: Scope, disposition: &Disposition<'_>, outcome: Option<Outcome>) {
         let (first, last) = (disposition.first, disposition.last_id());
         // Each turn takes an id out.
         for _ in 0..u32::MAX {
-            let Some(number) = self.ids.take_covered(scope, first, last) else {
+            let Some(delivery) = self.ids.take_covered(scope, first, last) else {
                 return;
             };
-            if let Some(row) = self.rows.get_mut(number as usize) {
+            if let Some(row) = self.rows.get_mut(delivery.link) {
                 row.decide(outcome);
+            }
+            if disposition.role == Role::Receiver {
+                self.stop_waiting(delivery.record);
             }
         }
     }
@@ -121,17 +160,10 @@ impl Links {
 /// What a transfer did to its link.
 #[derive(Clone, Copy, Debug)]
 struct Step {
+    delivery: Delivery,
     id: Option<u32>,
     is_settled: bool,
     is_new: bool,
-}
-
-impl Step {
-    const NONE: Step = Step {
-        id: None,
-        is_settled: false,
-        is_new: false,
-    };
 }
 
 fn sender_of(writer: Writer) -> Sender {

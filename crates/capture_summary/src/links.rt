@@ -1,6 +1,8 @@
 //! The links of a capture, with what came of their deliveries.
 
-use crate::row::Row;
+use crate::deliveries::Part;
+use crate::row::{Delivery, Row};
+use crate::waiting::ToSend;
 use amqp_perf::{Attach, Performative};
 use capture_ids::{Ids, Scope, Sender};
 use capture_names::{Link, LinkKey, Writer, link_told};
@@ -17,8 +19,10 @@ pub(crate) struct Links {
     pub(crate) rows: Vec<Row>,
     /// The number of the link that each handle has, in the order in which the router attached them.
     pub(crate) live: HashMap<LinkKey, usize>,
-    /// The undecided deliveries, each with the number of its link.
-    pub(crate) ids: Ids,
+    /// The undecided deliveries.
+    pub(crate) ids: Ids<Delivery>,
+    /// The deliveries of clients that are to be sent on, each by the record of its first transfer.
+    pub(crate) to_send: HashMap<u64, ToSend>,
 }
 
 impl Links {
@@ -31,6 +35,7 @@ impl Links {
             rows: Vec::new(alloc),
             live: HashMap::new(alloc),
             ids: Ids::new(alloc),
+            to_send: HashMap::new(alloc),
         }
     }
 
@@ -38,15 +43,15 @@ impl Links {
     pub(crate) fn take(&mut self, view: &RecordView<'_>) -> Result<(), AllocError> {
         self.connections.insert(view.connection)?;
         match view.happened {
-            Happened::In(said) => self.take_said(view.connection, Writer::Client, said),
-            Happened::Out(said) => self.take_said(view.connection, Writer::Router, said),
+            Happened::In(said) => self.take_said(view, Writer::Client, said),
+            Happened::Out(said) => self.take_said(view, Writer::Router, said),
             Happened::Opened | Happened::Lost | Happened::Broken => Ok(()),
         }
     }
 
     fn take_said(
         &mut self,
-        connection: u32,
+        view: &RecordView<'_>,
         writer: Writer,
         said: Said<'_>,
     ) -> Result<(), AllocError> {
@@ -58,18 +63,25 @@ impl Links {
         else {
             return Ok(());
         };
+        let connection = view.connection;
         match performative {
             Performative::Begin(_) => self.begin(connection, channel, writer),
             Performative::Attach(attach) => {
                 return self.attach(connection, channel, writer, &attach);
             }
             Performative::Transfer(transfer) => {
-                let key = LinkKey {
-                    connection,
-                    channel,
-                    handle: transfer.handle,
+                let part = Part {
+                    record: view.number,
+                    writer,
+                    key: LinkKey {
+                        connection,
+                        channel,
+                        handle: transfer.handle,
+                    },
+                    transfer,
+                    octets: rest.len(),
                 };
-                return self.take_transfer(writer, key, &transfer, rest.len());
+                return self.take_transfer(&part, view.note);
             }
             Performative::Disposition(disposition) => {
                 self.take_disposition(connection, channel, writer, &disposition);

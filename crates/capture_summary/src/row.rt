@@ -21,13 +21,25 @@ pub struct Row {
     pub settled: u64,
     /// Those that were given up by their sender.
     pub aborted: u64,
+    /// Those of a producer that are complete, that no transfer carries, and of which no outcome was told.
+    pub waiting: u64,
     /// A delivery has begun, and its last part has not come.
     pub(crate) progress: Option<Progress>,
+}
+
+/// A delivery.
+#[derive(Clone, Copy, Debug)]
+pub(crate) struct Delivery {
+    /// The number of the record of its first transfer.
+    pub record: u64,
+    /// The number of its link.
+    pub link: usize,
 }
 
 /// The delivery in progress on a link.
 #[derive(Clone, Copy, Debug)]
 pub(crate) struct Progress {
+    pub delivery: Delivery,
     pub id: Option<u32>,
     /// It is settled already.
     pub is_settled: bool,
@@ -49,6 +61,7 @@ impl Row {
             modified: 0,
             settled: 0,
             aborted: 0,
+            waiting: 0,
             progress: None,
         }
     }

@@ -3,6 +3,7 @@
 use crate::row::Row;
 use crate::summary::Summary;
 use capture_names::LinkRole;
+use capture_totals::TotalsByRow;
 use capture_words::Page;
 use std::alloc::AllocError;
 
@@ -23,7 +24,7 @@ impl Summary {
         put_total(page, ", octets of payload ", totals.octets_in)?;
         put_total(page, "\nout: transfers ", totals.transfers_out)?;
         put_total(page, ", octets of payload ", totals.octets_out)?;
-        page.put("\n")?;
+        put_told(page, totals.told)?;
         if self.rows().is_empty() {
             return Ok(());
         }
@@ -35,9 +36,20 @@ impl Summary {
     }
 }
 
+/// Appends how many outcomes were told by each row, by its letter.
+fn put_told(page: &mut Page, told: TotalsByRow) -> Result<(), AllocError> {
+    put_total(page, "\ntold: C ", told.consumer)?;
+    put_total(page, ", Z ", told.shortened)?;
+    put_total(page, ", S ", told.sent)?;
+    put_total(page, ", L ", told.link_over)?;
+    put_total(page, ", N ", told.no_consumer)?;
+    put_total(page, ", M ", told.multicast)?;
+    page.put("\n")
+}
+
 /// What stands over the rows of links: a link has its connection, channel and handle.
 const HEAD: &str = "\
-\n deliveries     octets   accepted   rejected   released   modified    settled    aborted  undecided  link\n";
+\n deliveries     octets   accepted   rejected   released   modified    settled    aborted    waiting  undecided  link\n";
 
 fn put_total(page: &mut Page, name: &str, number: u64) -> Result<(), AllocError> {
     page.put(name)?;
@@ -54,6 +66,7 @@ fn put_row(page: &mut Page, row: &Row) -> Result<(), AllocError> {
     page.put_column(row.modified)?;
     page.put_column(row.settled)?;
     page.put_column(row.aborted)?;
+    page.put_column(row.waiting)?;
     page.put_column(row.undecided())?;
     page.put("  ")?;
     put_total(page, "", u64::from(row.connection))?;

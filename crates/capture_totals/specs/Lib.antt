@@ -1,2 +1,4 @@
+pub mod Numbers
+pub mod Rows
 pub mod Shares
 pub mod Totals

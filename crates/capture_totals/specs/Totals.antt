@@ -1,12 +1,10 @@
 -- The numbers of a capture's records.
-use Rattle.std.specs.Prelude.{◌≡◌, ℕ, ◌+◌, ◌-◌, ◌^◌, List, [], ◌∷◌, length, min}
+use Rattle.std.specs.Prelude.{◌≡◌, ℕ, ◌+◌, List, [], ◌∷◌, length}
 use Rattle.capture_view.specs.Viewed.{Happening, Viewed}
 use Rattle.capture_totals.specs.declared.totals.Totals.{Totals}
+use Rattle.capture_totals.specs.Numbers.{most}
+use Rattle.capture_totals.specs.Rows.{counted_by_row, plus_by_row, share_by_row}
 use Rattle.capture_totals.specs.Shares.{broken, inputs, lost, octets, of_input, of_output, opened, outputs, transfers}
-
--- a number of 64 bits, which stops at the largest
-abbrev pub most : ℕ → ℕ
-most n = min n (2 ^ 64 - 1)
 
 -- the sum of what each record adds by what happened in it
 abbrev pub total : (Happening → ℕ) → List Viewed → ℕ
@@ -26,6 +24,7 @@ counted past = record {
   transfers_out = most (total (of_output transfers) past);
   octets_in = most (total (of_input octets) past);
   octets_out = most (total (of_output octets) past);
+  told = counted_by_row past;
 }
 
 -- Whichever records came before: where the earlier numbers are theirs, the later ones are those with this record in front.
@@ -45,6 +44,7 @@ share view = record {
   transfers_out = of_output transfers view.happened;
   octets_in = of_input octets view.happened;
   octets_out = of_output octets view.happened;
+  told = share_by_row view;
 }
 
 -- sums that stop at the largest number
@@ -60,4 +60,5 @@ plus a b = record {
   transfers_out = most (a.transfers_out + b.transfers_out);
   octets_in = most (a.octets_in + b.octets_in);
   octets_out = most (a.octets_out + b.octets_out);
+  told = plus_by_row a.told b.told;
 }

@@ -1,10 +1,11 @@
 //! Counters over records.
 
+use crate::rows::TotalsByRow;
 use amqp_perf::Performative;
 use capture_view::{Happened, RecordView, Said};
 
-/// How many records, by what happened, how many of them are transfers, and how many octets their payloads have. Each
-/// number stops at 18446744073709551615.
+/// How many records, by what happened, how many of them are transfers, how many octets their payloads have, and how many
+/// tell an outcome, by its row. Each number stops at 18446744073709551615.
 #[derive(Clone, Copy, Debug, PartialEq, Eq)]
 pub struct Totals {
     pub records: u64,
@@ -19,6 +20,8 @@ pub struct Totals {
     pub octets_in: u64,
     /// The octets of the payloads that were written.
     pub octets_out: u64,
+    /// The frames that were written with a note that tells a row.
+    pub told: TotalsByRow,
 }
 
 impl Totals {
@@ -41,6 +44,7 @@ impl Totals {
             transfers_out: 0,
             octets_in: 0,
             octets_out: 0,
+            told: TotalsByRow::new(),
         }
     }
 
@@ -68,6 +72,7 @@ impl Totals {
                 totals.outputs = 1;
                 totals.transfers_out = transfers(said);
                 totals.octets_out = octets(said);
+                totals.told = TotalsByRow::of(view.note);
             }
             Happened::Lost => totals.lost = 1,
             Happened::Broken => totals.broken = 1,
@@ -90,6 +95,7 @@ impl Totals {
             transfers_out: self.transfers_out.saturating_add(other.transfers_out),
             octets_in: self.octets_in.saturating_add(other.octets_in),
             octets_out: self.octets_out.saturating_add(other.octets_out),
+            told: self.told.plus(other.told),
         }
     }
 }
