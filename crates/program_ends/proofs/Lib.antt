@@ -1,0 +1,4 @@
+mod Examples
+pub mod Parsing
+pub mod PlainWords
+pub mod Statuses

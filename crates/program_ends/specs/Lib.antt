@@ -1,0 +1,4 @@
+pub mod Growth
+pub mod Telling
+pub mod Unread
+pub mod Words
