@@ -1,37 +1,27 @@
 -- What the words ask for, by what the parser makes of them.
-use Rattle.std.proofs.Common.{◌≡◌, ◌∙◌, ◌⊎◌, inl, inr, ap, sym, subst, ℕ, ◌<◌, ◌≤◌, ◌^◌, Bool, true, false, refl, arith, codes, map, List, [], ◌∷◌, Option, Some, None, Result}
+use Rattle.std.proofs.Common.{◌≡◌, ◌∙◌, ◌⊎◌, inl, inr, ap, sym, subst, ℕ, ◌<◌, ◌≤◌, ◌^◌, false, refl, arith, codes, map, List, [], ◌∷◌, Option, Some, None, Result}
 use Rattle.std.proofs.lemmas.Bool.{or_parts}
 use Rattle.std.specs.Prelude.{option_map, unwrap_or}
 use Rattle.std.specs.List.{list_any}
 use Rattle.std.specs.Borrow.{Bor}
 use Rattle.std.specs.Str.Parse.{ParsesUnsigned}
-use Rattle.clap.specs.Faults.{fault_of, is_simple_and_free}
+use Rattle.clap.specs.Faults.{fault_of}
 use Rattle.clap.specs.Kinds.{HasKind, Kinds, or_else}
-use Rattle.clap.specs.Matches.{ReadsOne, found_of}
-use Rattle.clap.specs.Simple.{App, HasMatchesOf, is_simple, matches_of}
+use Rattle.clap.specs.Matches.{ReadsOne}
+use Rattle.clap.specs.Simple.{matches_of}
 use Rattle.clap.specs.Values.{kind_of}
-use Rattle.clap.specs.Walk.{Row, all_of, first_of, one_of, rows_of}
+use Rattle.clap.specs.Walk.{Row, all_of, first_of, one_of}
 use Rattle.clap.specs.declared.error.Error.{Error}
 use Rattle.clap.specs.declared.error.kind.ErrorKind.{ErrorKind}
 use Rattle.clap.specs.declared.error.kind.ErrorKind.TheVariants.{MissingRequiredArgument, OutOfMemory, ValueValidation}
-use Rattle.clap.specs.declared.parser.matches.ArgMatches.{ArgMatches}
+use Rattle.program_ends.specs.Words.{is_option}
+use Rattle.program_ends.proofs.Parsing.{no_kind, only_kind}
+use Rattle.program_ends.proofs.PlainWords.{without_minus-plain}
 use Rattle.router_words.specs.declared.words.Words.{Words}
-use Rattle.router_words.specs.Asking.{AsksFor, IsMistake, Spells, SpellsWithin, is_option}
+use Rattle.router_words.specs.Asking.{AsksFor, IsMistake, Spells, SpellsWithin}
 use Rattle.router_words.specs.Words.{command_line}
-use Rattle.router_words.proofs.Numbers.{number_cases, read_number, without_minus-plain}
-use Rattle.router_words.proofs.WordLemmas.{command_line-is_free, command_line-is_simple, connections_kinds, fault_of-four, fault_of-none, fault_of-one, fault_of-three, fault_of-two, matches_of-four, rows_of_words, workers_kinds}
-
--- what is known of the faults of the command, with the command written out
-pub faults_of : (app : App) (words : List (List ℕ)) (P : Kinds → Type 0) → app ≡ command_line
-    → (is_simple_and_free app ≡ true → P (fault_of app words)) → P (fault_of command_line words)
-faults_of app words P same known =
-    subst (λ a. P (fault_of a words)) same (known (ap is_simple_and_free same ∙ command_line-is_free))
-
--- the rows that the matches of the command have
-pub rows_are : (app : App) (words : List (List ℕ)) (matches : ArgMatches) → app ≡ command_line → HasMatchesOf app words matches
-    → rows_of (found_of matches) ≡ matches_of command_line words
-rows_are app words matches same known =
-    (known (ap is_simple same ∙ command_line-is_simple)).0 ∙ ap (λ a. matches_of a words) same
+use Rattle.router_words.proofs.Numbers.{number_cases, read_number}
+use Rattle.router_words.proofs.WordLemmas.{connections_kinds, fault_of-four, fault_of-none, fault_of-one, fault_of-three, fault_of-two, matches_of-four, rows_of_words, workers_kinds}
 
 -- a number that is read of a row
 pub record ReadsNumber (least most : ℕ) (row : Option (List ℕ)) (number : ℕ) : Type 0 where
@@ -127,16 +117,6 @@ answers_taken (a ∷ b ∷ w ∷ n ∷ rules) rows asked are got none plain =
       connections = connections.0;
       rules = got.rules ∙ ap (λ rs. unwrap_or (all_of (codes "RULE") rs) []) is ∙ rules-row a b w n rules;
     }
-
--- an error of the only kind
-only_kind : (kind : ErrorKind) (error : Error) → HasKind (kind ∷ []) error → (kind_of error ≡ OutOfMemory) ⊎ (kind_of error ≡ kind)
-only_kind kind error (inl memory) = inl memory
-only_kind kind error (inr (inl is)) = inr is
-only_kind kind error (inr (inr none)) = absurd none
-
-no_kind : (error : Error) → HasKind [] error → kind_of error ≡ OutOfMemory
-no_kind error (inl memory) = memory
-no_kind error (inr none) = absurd none
 
 -- the parser refused three words
 refused_three : (w : List ℕ) (error : Error)

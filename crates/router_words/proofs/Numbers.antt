@@ -1,11 +1,10 @@
 -- Words that are to be numbers.
 use Rattle.std.proofs.Common.{◌≡◌, ◌∙◌, ◌⊎◌, inl, inr, ap, sym, subst, ℕ, ◌<◌, ◌≤◌, ◌^◌, Bool, true, false, refl, arith, List, [], ◌∷◌, Option, Some, None, Result, Ok, Err}
 use Rattle.std.proofs.lemmas.Int.{ints}
-use Rattle.std.specs.Prelude.{pos, ℤ, ◌≤ℤ◌, FitsSigned}
+use Rattle.std.specs.Prelude.{pos, ◌≤ℤ◌, FitsSigned}
 use Rattle.std.specs.Int.{w64}
 use Rattle.std.specs.Str.Parse.{IsNumeral, ParsesUnsigned, digits_value, signed_digits_value, starts_with_minus, without_leading_plus, without_leading_sign}
 use Rattle.clap.specs.Kinds.{or_else, values_kinds}
-use Rattle.clap.specs.Lexer.{without_minus}
 use Rattle.clap.specs.Matches.{ReadsOne}
 use Rattle.clap.specs.Values.{IsSignedIn}
 use Rattle.clap.specs.ValueTests.{accepts}
@@ -13,16 +12,13 @@ use Rattle.clap.specs.declared.builder.value_parser.ValueParser.TheVariants.{Sig
 use Rattle.clap.specs.declared.error.kind.ErrorKind.TheVariants.{ValueValidation}
 use Rattle.clap.proofs.KindLemmas.{value_kinds-ok, value_kinds-refused}
 use Rattle.clap.proofs.ValueTestLemmas.{Accepts-accepts, accepts-Accepts}
-use Rattle.router_words.specs.Asking.{Spells, SpellsWithin, is_option}
+use Rattle.program_ends.specs.Words.{is_option}
+use Rattle.router_words.specs.Asking.{Spells, SpellsWithin}
 
 -- a word that is no option has no minus
 minus-plain : (word : List ℕ) → is_option word ≡ false → starts_with_minus word ≡ false
 minus-plain [] plain = refl
 minus-plain (octet ∷ octets) plain = plain
-
-pub without_minus-plain : (word : List ℕ) → is_option word ≡ false → without_minus word ≡ word
-without_minus-plain [] plain = refl
-without_minus-plain (octet ∷ octets) plain = rw plain refl
 
 unsigned : (word : List ℕ) → is_option word ≡ false → without_leading_sign word ≡ without_leading_plus word
 unsigned word plain = rw (minus-plain word plain) refl

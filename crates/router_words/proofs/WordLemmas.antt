@@ -1,12 +1,11 @@
 -- What the parser makes of words that are no options: which rows it keeps of them, and which kind of mistake it finds.
-use Rattle.std.proofs.Common.{◌≡◌, ◌∙◌, ap, ap₂, sym, subst, ℕ, ◌==◌, ◌||◌, ◌++◌, append_assoc, Bool, true, false, refl, codes, bytes_eq, List, [], ◌∷◌, Option, Some, None}
+use Rattle.std.proofs.Common.{◌≡◌, ◌∙◌, ap, ap₂, sym, subst, ℕ, ◌++◌, append_assoc, true, false, refl, codes, List, [], ◌∷◌, Some, None}
 use Rattle.std.proofs.lemmas.Bool.{or_parts}
 use Rattle.std.specs.Prelude.{pos, fold}
 use Rattle.std.specs.List.{list_any}
-use Rattle.clap.specs.Lexer.{strip_byte}
 use Rattle.clap.specs.Faults.{built_fault, check_fault, defaults_fault, fault_of, is_simple_and_free, settle_fault, turn_fault, walk_fault}
 use Rattle.clap.specs.Kinds.{Kinds, or_else, values_kinds}
-use Rattle.clap.specs.Simple.{Shape, built, is_simple, matches_of}
+use Rattle.clap.specs.Simple.{Shape, built, matches_of}
 use Rattle.clap.specs.Walk.{Row, Text, Waiting, Walk, idle, nothing_held, positional, settled, walk, walk_from, walked, with_default}
 use Rattle.clap.specs.declared.builder.value_parser.Reading.{Reading}
 use Rattle.clap.specs.declared.builder.value_parser.Reading.TheVariants.{AsWritten, WithoutMinus}
@@ -14,26 +13,13 @@ use Rattle.clap.specs.declared.builder.value_parser.ValueParser.TheVariants.{Sig
 use Rattle.clap.specs.declared.error.kind.ErrorKind.TheVariants.{MissingRequiredArgument}
 use Rattle.clap.specs.declared.parser.matches.ValueSource.TheVariants.{CommandLine}
 use Rattle.clap.proofs.OnLiterals.{clap_on_literals}
-use Rattle.router_words.specs.Asking.{is_option}
+use Rattle.program_ends.specs.Words.{is_option}
+use Rattle.program_ends.proofs.PlainWords.{dashes-plain, strip_byte-plain}
 use Rattle.router_words.specs.Words.{command_line}
-
-pub command_line-is_simple : is_simple command_line ≡ true
-unfolding clap_on_literals
-command_line-is_simple = refl
 
 pub command_line-is_free : is_simple_and_free command_line ≡ true
 unfolding clap_on_literals
 command_line-is_free = refl
-
--- a word that is no option has no hyphen to strip
-strip_byte-plain : (word : List ℕ) → is_option word ≡ false → strip_byte 45 word ≡ None
-strip_byte-plain [] plain = refl
-strip_byte-plain (octet ∷ octets) plain = rw plain refl
-
--- nor is it `--`
-dashes-plain : (word : List ℕ) → is_option word ≡ false → bytes_eq word (45 ∷ 45 ∷ []) ≡ false
-dashes-plain [] plain = refl
-dashes-plain (octet ∷ octets) plain = rw plain refl
 
 -- ---- the walk
 

@@ -1,17 +1,13 @@
 -- What the words of the command line ask for.
-use Rattle.std.specs.Prelude.{◌≡◌, ◌==◌, ◌⊎◌, ◌<◌, ◌≤◌, ℕ, Bool, false, List, [], ◌∷◌, length, map, Result, MatchResult}
+use Rattle.std.specs.Prelude.{◌≡◌, ◌⊎◌, ◌≤◌, ℕ, false, List, [], ◌∷◌, map, Result, MatchResult}
 use Rattle.std.specs.List.{list_any}
 use Rattle.std.specs.Str.Parse.{IsNumeral, digits_value, without_leading_plus}
 use Rattle.clap.specs.Words.{kind_of}
 use Rattle.clap.specs.declared.error.Error.{Error}
 use Rattle.clap.specs.declared.error.kind.ErrorKind.{ErrorKind}
 use Rattle.clap.specs.declared.error.kind.ErrorKind.TheVariants.{OutOfMemory, MissingRequiredArgument, ValueValidation}
+use Rattle.program_ends.specs.Words.{is_option}
 use Rattle.router_words.specs.declared.words.Words.{Words}
-
--- the word begins with a hyphen (45), as an option does
-abbrev pub is_option : List ℕ → Bool
-is_option [] = false
-is_option (octet ∷ octets) = octet == 45
 
 -- the word is the number in decimal digits, behind a plus or none
 abbrev pub Spells : List ℕ → ℕ → Type 0

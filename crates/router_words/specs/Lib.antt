@@ -3,4 +3,3 @@ pub mod Asking
 pub mod RuleWords
 pub mod Service
 pub mod Outcome
-pub mod Unread

@@ -7,8 +7,7 @@
 //! - `service`: what the router is to serve, after all words were looked into
 //! - `fault`: what is wrong with words that the parser took
 //! - `outcome`: how a run ended, with its line and its exit status
-//! - `unread`: why the system did not give the words
-//! - `telling`: writing each of these where it belongs
+//! - `telling`: writing an outcome where it belongs
 #![tactic(auto)]
 
 mod fault;
@@ -16,14 +15,12 @@ mod outcome;
 mod rule_words;
 mod service;
 mod telling;
-mod unread;
 mod words;
 
 pub use fault::WordsFault;
 pub use outcome::Outcome;
 pub use service::Service;
-pub use telling::{NOT_WRITTEN, WORDS_FAULT, tell, tell_refused_words, tell_unread_words};
-pub use unread::UnreadWords;
+pub use telling::tell;
 pub use words::Words;
 
 #[cfg(test)]

@@ -4,8 +4,8 @@ use super::*;
 use address_table::RulesFault;
 use capture_form::Distribution;
 use clap::error::ErrorKind;
+use program_ends::tell_refused_words;
 use std::alloc::Global;
-use std::io;
 use std::net::{Ipv4Addr, SocketAddrV4};
 use std::process::Abort;
 use std::test::Fail;
@@ -170,18 +170,6 @@ fn tells_each_outcome(rt: HostRuntime) -> Result<(), Fail> {
         assert_eq!(rt; out.as_slice(), line.as_bytes());
     }
     Ok(())
-}
-
-#[test]
-fn tells_words_that_are_no_text(rt: HostRuntime) {
-    let (mut out, mut err) = (Vec::new(rt.alloc()), Vec::new(rt.alloc()));
-    let no_text = io::Error::from(io::ErrorKind::InvalidData);
-    assert_eq!(rt; tell_unread_words(no_text, &mut out, &mut err), 64);
-    assert!(rt; out.is_empty());
-    assert_eq!(rt;
-        err.as_slice(),
-        b"error: a word is not valid UTF-8\n".as_slice()
-    );
 }
 
 #[test]

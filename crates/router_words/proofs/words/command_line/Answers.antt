@@ -4,7 +4,7 @@ use Rattle.std.specs.Prelude.{Some, pos}
 use Rattle.clap.specs.Words.{Rule, rule_of, with_rule}
 use Rattle.clap.specs.declared.builder.arg.Arg.{Arg}
 use Rattle.clap.specs.declared.builder.ArgAction.TheVariants.{Append}
-use Rattle.clap.specs.declared.builder.value_parser.ValueParser.TheVariants.{Signed, String}
+use Rattle.clap.specs.declared.builder.value_parser.ValueParser.TheVariants.{Signed}
 use Rattle.router_words.specs.Words.{capture_argument, connections_argument, listen_argument, rule_argument, word_argument, workers_argument}
 use Rattle.router_words.proofs.words.command_line.Goals as goal
 
