@@ -1,14 +1,13 @@
-use Rattle.std.specs.Prelude.{◌≡◌, ◌≢◌, ◌⊎◌, ◌≤◌, ℕ, false, List, [], ◌∷◌, ◌++◌, Option, IfSome}
-use Rattle.std.specs.Io.KnownBytes.{Appends}
+use Rattle.std.specs.Prelude.{◌≡◌, ◌≢◌, ◌⊎◌, ◌≤◌, ℕ, false, List, [], ◌∷◌, Option, IfSome}
+use Rattle.program_ends.specs.Telling.{TellsLine}
+use Rattle.program_ends.specs.Words.{is_option}
 use Rattle.audit_core.specs.Verdict.{AnswersRead}
 use Rattle.audit_core.specs.declared.verdict.Verdict.{Verdict}
 use Rattle.audit_core.specs.Report.{line_of, status_of}
-use Rattle.amqp_audit.specs.Words.{is_option}
 
--- what standard output is known to hold gained the verdict's line, and the status is the verdict's (own format)
-pub record Tells (before after : Option (List ℕ)) (status : ℕ) (verdict : Verdict) : Type 0 where
-  pub line : Appends before after (line_of verdict ++ 10 ∷ [])
-  pub same_status : status ≡ status_of verdict
+-- the verdict's line is told, with its status (own format)
+abbrev pub Tells : Option (List ℕ) → Option (List ℕ) → ℕ → Verdict → Type 0
+Tells before after status verdict = TellsLine (line_of verdict) (status_of verdict) before after status
 
 -- the same of some verdict
 abbrev pub TellsSome : Option (List ℕ) → Option (List ℕ) → ℕ → Type 0

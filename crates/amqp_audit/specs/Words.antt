@@ -1,8 +1,9 @@
-use Rattle.std.specs.Prelude.{◌≡◌, ◌==◌, ◌⊎◌, ℕ, Bool, false, List, [], ◌∷◌, Option, Some, None, Result, MatchResult, codes, true}
+use Rattle.std.specs.Prelude.{◌≡◌, ◌⊎◌, ℕ, false, List, [], ◌∷◌, Option, Some, None, Result, MatchResult, codes, true}
 use Rattle.clap.specs.Words.{App, Rule, kind_of, new_app, new_rule, with_rule}
 use Rattle.clap.specs.declared.builder.ArgAction.TheVariants.{Set}
 use Rattle.clap.specs.declared.error.Error.{Error}
 use Rattle.clap.specs.declared.error.kind.ErrorKind.TheVariants.{OutOfMemory, UnknownArgument}
+use Rattle.program_ends.specs.Words.{is_option}
 use Rattle.amqp_audit.specs.declared.words.Source.{Source}
 use Rattle.amqp_audit.specs.declared.words.Source.TheVariants.{StandardInput, File}
 
@@ -10,11 +11,6 @@ use Rattle.amqp_audit.specs.declared.words.Source.TheVariants.{StandardInput, Fi
 abbrev pub path_of : Source → Option (List ℕ)
 path_of StandardInput = None
 path_of (File path) = Some path.now
-
--- the word begins with a hyphen (45), as an option does
-abbrev pub is_option : List ℕ → Bool
-is_option [] = false
-is_option (octet ∷ octets) = octet == 45
 
 -- the words ask for this source, want of memory aside (own format)
 abbrev pub AsksFor : Option (List ℕ) → Result Source Error → Type 0

@@ -5,19 +5,17 @@
 //! standard error, nothing on standard output, and status 64. The modules, in reading order:
 //!
 //! - `words`: what the words of the command line ask for
-//! - `input`: why there is no input to read
 //! - `run`: a run over any words, reader and writers
 #![tactic(auto)]
 
-mod input;
 mod run;
 #[cfg(test)]
 mod tests;
 mod words;
 
-use run::{run_words, tell_unread_words};
+use program_ends::{tell_unread_words, words_of};
+use run::run_words;
 use std::process::ExitCode;
-use std::{env, io};
 
 fn main(rt: HostRuntime) -> ExitCode {
     let (mut out, mut err) = (rt.stdout(), rt.stderr());
@@ -33,10 +31,4 @@ fn main(rt: HostRuntime) -> ExitCode {
         Err(error) => tell_unread_words(error, &mut out, &mut err),
     };
     ExitCode::from(status)
-}
-
-/// The words behind the program's name.
-fn words_of(rt: &HostRuntime) -> io::Result<Vec<String>> {
-    let words = env::args(rt)?.skip(1).collect(rt.alloc())?;
-    Ok(words)
 }

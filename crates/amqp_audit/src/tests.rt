@@ -1,8 +1,7 @@
 //! Runs over fake readers and writers, and the words and files that the system gives.
 
-use crate::run::{run_words, tell, tell_unread_words};
+use crate::run::{run_words, tell};
 use audit_core::{Clause, FormKind, Tally, Verdict};
-use std::alloc::AllocError;
 use std::io::{ErrorKind, Read, Write};
 use std::test::Fail;
 use std::{fs, io};
@@ -219,23 +218,6 @@ fn tells_the_same_of_octets_that_drip(rt: HostRuntime) -> Result<(), Fail> {
         let (status, out, _) = run(&rt, &[], &mut input)?;
         assert_eq!(rt; (status, out.as_str()), (wanted, line));
     }
-    Ok(())
-}
-
-#[test]
-fn tells_refused_memory(rt: HostRuntime) -> Result<(), Fail> {
-    let (mut out, mut err) = (Vec::new(rt.alloc()), Vec::new(rt.alloc()));
-    let status = tell_unread_words(io::Error::from(AllocError), &mut out, &mut err);
-    assert_eq!(rt; (status, out.as_slice()), (3, b"no memory\n".as_slice()));
-    Ok(())
-}
-
-#[test]
-fn tells_words_that_are_no_text(rt: HostRuntime) -> Result<(), Fail> {
-    let (mut out, mut err) = (Vec::new(rt.alloc()), Vec::new(rt.alloc()));
-    let no_text = io::Error::from(ErrorKind::InvalidData);
-    assert_eq!(rt; tell_unread_words(no_text, &mut out, &mut err), 64);
-    assert!(rt; out.is_empty() && err.starts_with(b"error: "));
     Ok(())
 }
 
