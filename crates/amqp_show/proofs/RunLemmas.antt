@@ -1,10 +1,12 @@
 -- What a run leaves.
-use Rattle.std.proofs.Common.{◌≡◌, ◌≢◌, ◌⊎◌, ◌++◌, ◌∷◌, ℕ, Bool, true, false, List, [], Option, None, Some, Ok, Err, ap, cond, inl, inr, refl, subst, sym}
+use Rattle.std.proofs.Common.{◌≡◌, ◌≢◌, ◌<◌, ◌≤◌, ◌⊎◌, ◌++◌, ◌∷◌, ℕ, true, false, List, [], Option, None, Some, Ok, Err, ap, arith, inl, inr, subst, sym}
 use Rattle.std.specs.Prelude.{IfSome, if◌then◌else◌}
 use Rattle.std.specs.Io.KnownBytes.{Appends}
 use Rattle.clap.specs.Words.{kind_of}
 use Rattle.clap.specs.declared.error.Error.{Error}
-use Rattle.clap.specs.declared.error.kind.ErrorKind.TheVariants.{OutOfMemory, UnknownArgument}
+use Rattle.clap.specs.declared.error.kind.ErrorKind.TheVariants.{OutOfMemory}
+use Rattle.program_ends.specs.Telling.{TellsNoMemory, is_mistake}
+use Rattle.program_ends.proofs.Statuses.{low_is_memory, or_not_written, status_so}
 use Rattle.capture_showing.specs.declared.ending.Ending.{Ending}
 use Rattle.capture_showing.specs.declared.ending.Ending.TheVariants.{NoMemory}
 use Rattle.capture_showing.specs.Ending.{line_of, status_of}
@@ -20,17 +22,13 @@ nothing_told known ending whole =
     let none : tail_of ending ≡ [] = ap (λ b. if b then [] else line_of ending ++ 10 ∷ []) whole in
     subst (Appends known known) (sym none) (appends_nothing known)
 
-status_so : (status : ℕ) (ending : Ending) → (status ≡ status_of ending) ⊎ (status ≡ 74) → status ≢ 74 → status ≡ status_of ending
-status_so status ending (inl is) written = is
-status_so status ending (inr not) written = absurd (written not)
-
 -- the line of a fault alone
 pub tells_alone : (before after : Option (List ℕ)) (status : ℕ) (ending : Ending) → (status ≢ 74 → TellsEnd before after ending)
     → (status ≡ status_of ending) ⊎ (status ≡ 74) → status ≢ 74 → Tells before after status ending
 tells_alone before after status ending told is written = record {
   shown = [];
   text = told written;
-  same_status = status_so status ending is written;
+  same_status = status_so status (status_of ending) is written;
 }
 
 -- the line of a fault behind what was shown
@@ -39,7 +37,7 @@ pub tells_behind : (before between after : Option (List ℕ)) (status : ℕ) (en
 tells_behind before between after status ending shown told is written = record {
   shown = shown.0;
   text = appends_then before between after shown.0 (tail_of ending) shown.1 (told written);
-  same_status = status_so status ending is written;
+  same_status = status_so status (status_of ending) is written;
 }
 
 -- want of memory says nothing of the input
@@ -47,22 +45,31 @@ on_nothing : (held : Option (List ℕ)) → IfSome held (λ octets. EndsText oct
 on_nothing None = tt
 on_nothing (Some octets) = tt
 
+-- the line of refused memory is that of its ending, behind nothing
+memory_told : (before after : Option (List ℕ)) (status : ℕ) → TellsNoMemory before after status → Tells before after status NoMemory
+memory_told before after status told = record { shown = []; text = told.text; same_status = told.same_status }
+
 -- refused memory is told as its ending, and an unknown argument by its status
 pub refused_run : (words : List (List ℕ)) (error : Error) (held before after : Option (List ℕ)) (status : ℕ)
     → AnswersWords words (Err error)
-    → (kind_of error ≡ OutOfMemory → status ≢ 74 → Tells before after status NoMemory)
-    → (kind_of error ≡ UnknownArgument → status ≡ 64)
-    → (kind_of error ≡ OutOfMemory → (status ≡ 3) ⊎ (status ≡ 74))
+    → (kind_of error ≡ OutOfMemory → status ≢ 74 → TellsNoMemory before after status)
+    → (is_mistake (kind_of error) ≡ true → status ≡ 64)
     → IsRunOn words held before after status
-refused_run [] error held before after status answer told unknown memory =
-    λ written. record { ending = NoMemory; told = told answer written; ends = on_nothing held }
-refused_run (word ∷ []) error held before after status answer told unknown memory =
-    λ plain written. (NoMemory, told (answer plain) written)
-refused_run (first ∷ second ∷ more) error held before after status answer told unknown memory =
+refused_run [] error held before after status answer told wrong =
+    λ written. record { ending = NoMemory; told = memory_told before after status (told answer written); ends = on_nothing held }
+refused_run (word ∷ []) error held before after status answer told wrong =
+    λ plain written. (NoMemory, memory_told before after status (told (answer plain) written))
+refused_run (first ∷ second ∷ more) error held before after status answer told wrong =
     λ plain plain'. elim (answer plain plain') [
-      | inl refused ↦ inr (memory refused)
-      | inr mistaken ↦ inl (unknown mistaken)
+      | inl refused ↦ inr (or_not_written status 3 (λ written. (told refused written).same_status))
+      | inr mistaken ↦ inl (wrong (ap is_mistake mistaken))
     ]
+
+-- statuses 1 to 4 come only with the line of refused memory
+pub refused_told : (before after : Option (List ℕ)) (status : ℕ) → (status ≡ 0) ⊎ ((status ≡ 3) ⊎ ((status ≡ 64) ⊎ (status ≡ 74)))
+    → (status ≡ 3 → TellsNoMemory before after status) → 0 < status → status ≤ 4 → TellsSome before after status
+refused_told before after status is told some low =
+    (NoMemory, memory_told before after status (told (low_is_memory status is some (omega arith))))
 
 -- the parser took the words, and the source that they ask for was shown
 pub shown_run : (words : List (List ℕ)) (asked : Words) (held before after : Option (List ℕ)) (status : ℕ)

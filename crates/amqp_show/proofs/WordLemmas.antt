@@ -1,20 +1,16 @@
 -- What the parser makes of words that are no options.
-use Rattle.std.proofs.Common.{◌≡◌, ◌∙◌, ◌⊎◌, inl, inr, ap, sym, subst, Ok, Err, ℕ, List, [], ◌∷◌, Some, None, false, true, refl, codes, bytes_eq}
-use Rattle.clap.specs.Words.{App, HasKind, HasMatchesOf, Kinds, fault_of, first_of, first_value, found_of, is_simple, is_simple_and_free, kind_of, matches_of, one_of, one_text}
-use Rattle.clap.specs.declared.parser.matches.ArgMatches.{ArgMatches}
-use Rattle.clap.proofs.WalkLemmas.{first_value-rows, one_text-rows}
-use Rattle.clap.specs.declared.error.kind.ErrorKind.TheVariants.{OutOfMemory, UnknownArgument}
+use Rattle.std.proofs.Common.{◌≡◌, ◌∙◌, ap, sym, subst, Ok, Err, ℕ, List, [], ◌∷◌, Some, None, false, true, refl, codes}
+use Rattle.clap.specs.Words.{HasKind, fault_of, first_of, is_simple_and_free, matches_of, one_of}
+use Rattle.clap.specs.declared.error.kind.ErrorKind.TheVariants.{UnknownArgument}
 use Rattle.clap.specs.declared.error.Error.{Error}
-use Rattle.clap.specs.Lexer.{strip_byte}
 use Rattle.clap.proofs.OnLiterals.{clap_on_literals}
-use Rattle.amqp_show.specs.Words.{AnswersWords, command_line, is_option, is_why, packets_of, path_asked, path_of}
+use Rattle.program_ends.specs.Words.{is_option}
+use Rattle.program_ends.proofs.Parsing.{no_kind, only_kind}
+use Rattle.program_ends.proofs.PlainWords.{dashes-plain, strip_byte-plain}
+use Rattle.amqp_show.specs.Words.{AnswersWords, command_line, is_why, packets_of, path_asked, path_of}
 use Rattle.amqp_show.specs.declared.words.Words.{Words}
 
-command_line-is_simple : is_simple command_line ≡ true
-unfolding clap_on_literals
-command_line-is_simple = refl
-
-command_line-is_free : is_simple_and_free command_line ≡ true
+pub command_line-is_free : is_simple_and_free command_line ≡ true
 unfolding clap_on_literals
 command_line-is_free = refl
 
@@ -34,16 +30,6 @@ packets-none = refl
 audit-none : one_of (codes "why") (matches_of command_line []) ≡ Some (codes "false")
 unfolding clap_on_literals
 audit-none = refl
-
--- a word that is no option has no hyphen to strip
-strip_byte-plain : (word : List ℕ) → is_option word ≡ false → strip_byte 45 word ≡ None
-strip_byte-plain [] plain = refl
-strip_byte-plain (octet ∷ octets) plain = rw plain refl
-
--- nor is it `--`
-dashes-plain : (word : List ℕ) → is_option word ≡ false → bytes_eq word (45 ∷ 45 ∷ []) ≡ false
-dashes-plain [] plain = refl
-dashes-plain (octet ∷ octets) plain = rw plain refl
 
 -- one word: no fault, and the file that it names
 fault_of-one : (word : List ℕ) → is_option word ≡ false → fault_of command_line (word ∷ []) ≡ []
@@ -92,41 +78,11 @@ answers_taken (word ∷ []) asked taken met packets unaudited = λ plain.
 answers_taken (first ∷ second ∷ more) asked taken met packets unaudited = λ plain plain'.
     let clash : [] ≡ UnknownArgument ∷ [] = sym taken ∙ fault_of-more first second more plain plain' in cc
 
--- where the words have no fault, only memory fails
-out_of_memory : (error : Error) → HasKind [] error → kind_of error ≡ OutOfMemory
-out_of_memory error (inl memory) = memory
-out_of_memory error (inr none) = absurd none
-
-mistaken : (error : Error) → HasKind (UnknownArgument ∷ []) error → (kind_of error ≡ OutOfMemory) ⊎ (kind_of error ≡ UnknownArgument)
-mistaken error (inl memory) = inl memory
-mistaken error (inr (inl unknown)) = inr unknown
-mistaken error (inr (inr none)) = absurd none
-
 -- the parser refused the words with this error
 pub answers_refused : (words : List (List ℕ)) (error : Error) → HasKind (fault_of command_line words) error
     → AnswersWords words (Err error)
-answers_refused [] error kind = out_of_memory error (subst (λ kinds. HasKind kinds error) fault_of-none kind)
+answers_refused [] error kind = no_kind error (subst (λ kinds. HasKind kinds error) fault_of-none kind)
 answers_refused (word ∷ []) error kind = λ plain.
-    out_of_memory error (subst (λ kinds. HasKind kinds error) (fault_of-one word plain) kind)
+    no_kind error (subst (λ kinds. HasKind kinds error) (fault_of-one word plain) kind)
 answers_refused (first ∷ second ∷ more) error kind = λ plain plain'.
-    mistaken error (subst (λ kinds. HasKind kinds error) (fault_of-more first second more plain plain') kind)
-
--- what is known of the faults of the command, with the command written out
-pub faults_of : (app : App) (words : List (List ℕ)) (P : Kinds → Type 0) → app ≡ command_line
-    → (is_simple_and_free app ≡ true → P (fault_of app words)) → P (fault_of command_line words)
-faults_of app words P same known =
-    subst (λ a. P (fault_of a words)) same (known (ap is_simple_and_free same ∙ command_line-is_free))
-
--- the word that the matches of the command have under a name
-pub word_of : (name : List ℕ) (app : App) (words : List (List ℕ)) (matches : ArgMatches) → app ≡ command_line → HasMatchesOf app words matches
-    → first_value (found_of matches) name ≡ first_of name (matches_of command_line words)
-word_of name app words matches same known =
-    first_value-rows (found_of matches) name ∙ ap (first_of name) (
-    (known (ap is_simple same ∙ command_line-is_simple)).0 ∙ ap (λ a. matches_of a words) same)
-
--- the text by which the matches of the command tell a flag
-pub flag_of : (name : List ℕ) (app : App) (words : List (List ℕ)) (matches : ArgMatches) → app ≡ command_line → HasMatchesOf app words matches
-    → one_text (found_of matches) name ≡ one_of name (matches_of command_line words)
-flag_of name app words matches same known =
-    one_text-rows (found_of matches) name ∙ ap (one_of name) (
-    (known (ap is_simple same ∙ command_line-is_simple)).0 ∙ ap (λ a. matches_of a words) same)
+    only_kind UnknownArgument error (subst (λ kinds. HasKind kinds error) (fault_of-more first second more plain plain') kind)

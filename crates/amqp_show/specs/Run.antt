@@ -9,7 +9,7 @@ use Rattle.audit_core.specs.declared.verdict.Verdict.{Verdict}
 use Rattle.audit_core.specs.Report.{status_of as status_of_verdict}
 use Rattle.audit_core.specs.Verdict.{AnswersRead}
 use Rattle.refusal_showing.specs.Explained.{Tells as Explains}
-use Rattle.amqp_show.specs.Words.{is_option}
+use Rattle.program_ends.specs.Words.{is_option}
 
 -- whether a capture was whole
 abbrev pub is_whole : Ending → Bool

@@ -1,5 +1,5 @@
 -- What the words of the command line ask for.
-use Rattle.std.specs.Prelude.{◌≡◌, ◌==◌, ◌⊎◌, ℕ, Bool, false, true, List, [], ◌∷◌, Option, Some, None, Result, MatchResult, codes, pos, if◌then◌else◌}
+use Rattle.std.specs.Prelude.{◌≡◌, ◌⊎◌, ℕ, Bool, false, true, List, [], ◌∷◌, Option, Some, None, Result, MatchResult, codes, pos, if◌then◌else◌}
 use Rattle.std.specs.Str.{bytes_eq}
 use Rattle.clap.specs.Words.{App, Rule, kind_of, new_app, new_rule, with_rule}
 use Rattle.clap.specs.declared.builder.ArgAction.TheVariants.{Set, SetTrue}
@@ -7,6 +7,7 @@ use Rattle.clap.specs.declared.builder.value_parser.ValueParser.{ValueParser}
 use Rattle.clap.specs.declared.builder.value_parser.ValueParser.TheVariants.{Signed, String, Unsigned}
 use Rattle.clap.specs.declared.error.Error.{Error}
 use Rattle.clap.specs.declared.error.kind.ErrorKind.TheVariants.{OutOfMemory, UnknownArgument}
+use Rattle.program_ends.specs.Words.{is_option}
 use Rattle.amqp_show.specs.declared.words.Source.{Source}
 use Rattle.amqp_show.specs.declared.words.Source.TheVariants.{StandardInput, File}
 use Rattle.amqp_show.specs.declared.words.Mode.{Mode}
@@ -36,11 +37,6 @@ is_why (Packets path) = false
 abbrev pub path_asked : Option (List ℕ) → Option (List ℕ)
 path_asked None = None
 path_asked (Some word) = if bytes_eq word (45 ∷ []) then None else Some word
-
--- the word begins with a hyphen, as an option does, and the word for standard input
-abbrev pub is_option : List ℕ → Bool
-is_option [] = false
-is_option (octet ∷ octets) = octet == 45
 
 -- the words ask for this source, for packets in this file or none, and for no audit, want of memory aside (own format)
 abbrev pub AsksFor : Option (List ℕ) → Option (List ℕ) → Result Words Error → Type 0

@@ -27,10 +27,10 @@ mod tests;
 mod why;
 mod words;
 
-use run::{run_words, tell_unread_words};
+use program_ends::{tell_unread_words, words_of};
+use run::run_words;
 use std::io::IsTerminal;
 use std::process::ExitCode;
-use std::{env, io};
 
 fn main(rt: HostRuntime) -> ExitCode {
     let (mut out, mut err) = (rt.stdout(), rt.stderr());
@@ -48,10 +48,4 @@ fn main(rt: HostRuntime) -> ExitCode {
         Err(error) => tell_unread_words(error, &mut out, &mut err),
     };
     ExitCode::from(status)
-}
-
-/// The words behind the program's name.
-fn words_of(rt: &HostRuntime) -> io::Result<Vec<String>> {
-    let words = env::args(rt)?.skip(1).collect(rt.alloc())?;
-    Ok(words)
 }

@@ -5,9 +5,10 @@ ghost use Rattle.std.specs.Io.KnownBytes.{Appends};
 ghost use Rattle.capture_showing.specs.Shown.{EndsText};
 ghost use Rattle.amqp_show.specs.Run.{ShowsInput, TellsAlone, no_packets};
 
-use crate::telling::{NO_PACKETS, NOT_WRITTEN, tell, tell_no_packets};
+use crate::telling::{NO_PACKETS, tell, tell_no_packets};
 use capture_packing::{NotPacked, pack_capture};
 use capture_showing::Ending;
+use program_ends::NOT_WRITTEN;
 use std::alloc::Global;
 use std::fs::File;
 use std::io::{BufWriter, Read, Write};

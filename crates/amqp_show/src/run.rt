@@ -1,30 +1,26 @@
 //! A run over any words, reader and writers.
 
-ghost use Rattle.std.specs.Prelude.{◌≡◌, ◌≢◌, ◌<◌, ◌≤◌, ◌⊎◌, false, true, map, None};
-ghost use Rattle.clap.specs.Words.{kind_of};
-ghost use Rattle.capture_showing.specs.declared.ending.Ending.TheVariants.{NoMemory};
+ghost use Rattle.std.specs.Prelude.{◌≡◌, ◌≢◌, ◌<◌, ◌≤◌, ◌⊎◌, ◌↔◌, false, true, map, None};
+ghost use Rattle.capture_showing.specs.declared.ending.Ending.TheVariants.{NoMemory, Unreadable};
 ghost use Rattle.std.specs.Io.KnownBytes.{Appends};
-ghost use Rattle.capture_showing.specs.Ending.{IsRefusedGrowth};
-ghost use Rattle.amqp_show.specs.Run.{ExplainsInput, ExplainsSome, IsRunOn, IsStatus, ShowsInput, Tells, TellsSome, no_packets};
+ghost use Rattle.program_ends.specs.Growth.{IsRefusedGrowth};
+ghost use Rattle.amqp_show.specs.Run.{ExplainsInput, ExplainsSome, IsRunOn, IsStatus, ShowsInput, TellsSome, no_packets};
 ghost use Rattle.amqp_show.specs.Words.{is_why, packets_of, path_of};
 
 use crate::lines::Lines;
 use crate::packets::write_packets;
 use crate::table::Table;
-use crate::telling::{NO_PACKETS, NOT_WRITTEN, tell};
+use crate::telling::{NO_PACKETS, tell};
 use crate::why::show_why;
 use crate::words::{Mode, Source, Words};
 use capture_showing::{Ending, NotWritten, View, show_capture};
 use capture_words::Page;
-use clap::error::ErrorKind;
+use program_ends::{NOT_WRITTEN, WORDS_FAULT, is_refused_growth, tell_refused_words};
 use std::alloc::Global;
 use std::convert::AsStr;
 use std::io::{Read, Write};
 use std::rt::Files;
 use std::{fs, io};
-
-/// The exit status after a fault of the words.
-pub const WORDS_FAULT: u8 = 64;
 
 /// Shows the capture that `words`, those behind the program's name, ask for: the file that they name, or `input`. Writes
 /// it to `out`, behind it the line of a fault, and answers the exit status. Where packets are asked for they go to the file
@@ -85,8 +81,20 @@ fn show_source<F: Files, R: Read, O: Write, E: Write>(
         Source::StandardInput => show_input(files, alloc, words, is_watched, input, out, err),
         Source::File(path) => match fs::open(files, path) {
             Ok(file) => show_input(files, alloc, words, is_watched, file, out, err),
-            Err(error) => tell(&Ending::from(error), out),
+            Err(error) => tell(&ending_unopened(&error), out),
         },
+    }
+}
+
+/// How it ended where the file could not be opened.
+fn ending_unopened(error: &io::Error) -> Ending
+    ensures memory { (result ≡ NoMemory) ↔ IsRefusedGrowth error.now }
+    ensures either { (result ≡ NoMemory) ⊎ (result ≡ Unreadable 0) }
+{
+    if is_refused_growth(error) {
+        Ending::NoMemory
+    } else {
+        Ending::Unreadable(0)
     }
 }
 
@@ -144,48 +152,5 @@ where
     match show_capture(alloc, input, view, page, out, is_watched, err) {
         Ok(ending) => tell(&ending, out),
         Err(NotWritten) => NOT_WRITTEN,
-    }
-}
-
-/// Tells why the system did not give the words: one is no text, on `err` with `WORDS_FAULT`; or memory was refused, by the
-/// line of `NoMemory` on `out` with its status, or with `NOT_WRITTEN` where `out` fails.
-pub fn tell_unread_words<O: Write, E: Write>(error: io::Error, out: &mut O, err: &mut E) -> u8
-    ensures memory { IsRefusedGrowth error → result ≢ NOT_WRITTEN
-        → Tells (O.contents out.old) (O.contents out.new) result NoMemory }
-    ensures mistake { result ≡ WORDS_FAULT → out.new ≡ out.old }
-    ensures quiet { result ≢ WORDS_FAULT → err.new ≡ err.old }
-    ensures status { (result ≡ 3) ⊎ (result ≡ WORDS_FAULT) ⊎ (result ≡ NOT_WRITTEN) }
-{
-    match Ending::from(error) {
-        Ending::NoMemory => tell(&Ending::NoMemory, out),
-        _ => {
-            // The status tells the fault, whether or not its text could be written.
-            let _ = writeln!(err, "error: a word is not valid UTF-8");
-            WORDS_FAULT
-        }
-    }
-}
-
-/// Tells a mistake in the words on `err`, and on `out` the help that they ask for or that memory was refused.
-fn tell_refused_words<O: Write, E: Write>(error: &clap::Error, out: &mut O, err: &mut E) -> u8
-    ensures memory { kind_of error.now ≡ ErrorKind.OutOfMemory → (result ≡ 3) ⊎ (result ≡ NOT_WRITTEN) }
-    ensures no_memory { kind_of error.now ≡ ErrorKind.OutOfMemory → result ≢ NOT_WRITTEN
-        → Tells (O.contents out.old) (O.contents out.new) result NoMemory }
-    ensures unknown { kind_of error.now ≡ ErrorKind.UnknownArgument → result ≡ WORDS_FAULT }
-    ensures told { 0 < result → result ≤ 4 → TellsSome (O.contents out.old) (O.contents out.new) result }
-    ensures mistake { result ≡ WORDS_FAULT → out.new ≡ out.old }
-    ensures quiet { result ≢ WORDS_FAULT → err.new ≡ err.old }
-    ensures status { (result ≡ 0) ⊎ (result ≡ 3) ⊎ (result ≡ WORDS_FAULT) ⊎ (result ≡ NOT_WRITTEN) }
-{
-    if error.kind() == ErrorKind::OutOfMemory {
-        return tell(&Ending::NoMemory, out);
-    }
-    if error.use_stderr() {
-        let _ = write!(err, "{error}");
-        return WORDS_FAULT;
-    }
-    match write!(out, "{error}") {
-        Ok(()) => 0,
-        Err(_) => NOT_WRITTEN,
     }
 }

@@ -6,13 +6,11 @@ ghost use Rattle.std.specs.Io.KnownBytes.{Appends};
 ghost use Rattle.amqp_show.specs.Run.{Tells, TellsEnd, is_whole, no_packets};
 
 use capture_showing::Ending;
+use program_ends::{NOT_WRITTEN, tell_line};
 use std::io::Write;
 
 /// The exit status where packets could not be written.
 pub const NO_PACKETS: u8 = 5;
-
-/// The exit status where standard output could not be written.
-pub const NOT_WRITTEN: u8 = 74;
 
 /// Writes the line of a fault to `out`, and answers the status; or `NOT_WRITTEN` where `out` fails, and then nothing is said
 /// of what stands there. A whole capture has no line.
@@ -32,10 +30,7 @@ fn tell_end<O: Write>(ending: &Ending, out: &mut O) -> u8
     if is_whole(ending) {
         return ending.status();
     }
-    match writeln!(out, "{ending}") {
-        Ok(()) => ending.status(),
-        Err(_) => NOT_WRITTEN,
-    }
+    tell_line(ending, ending.status(), out)
 }
 
 fn is_whole(ending: &Ending) -> bool
@@ -49,8 +44,5 @@ pub fn tell_no_packets<O: Write>(out: &mut O) -> u8
     ensures told { result ≢ NOT_WRITTEN → Appends (O.contents out.old) (O.contents out.new) no_packets }
     ensures status { (result ≡ NO_PACKETS) ⊎ (result ≡ NOT_WRITTEN) }
 {
-    match writeln!(out, "packets not written") {
-        Ok(()) => NO_PACKETS,
-        Err(_) => NOT_WRITTEN,
-    }
+    tell_line(&"packets not written", NO_PACKETS, out)
 }

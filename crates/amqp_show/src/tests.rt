@@ -1,9 +1,8 @@
 //! Runs over fake readers and writers; the texts were worked out by hand from the octets.
 
-use crate::run::{run_words, tell_unread_words};
+use crate::run::run_words;
 use crate::telling::{tell, tell_no_packets};
 use capture_showing::Ending;
-use std::alloc::AllocError;
 use std::io::{ErrorKind, Read, Write};
 use std::test::Fail;
 use std::{fs, io};
@@ -203,9 +202,6 @@ fn words_and_outputs_that_fail(rt: HostRuntime) -> Result<(), Fail> {
     );
     assert_eq!(rt; status, 74);
     assert_eq!(rt; tell(&Ending::NoMemory, &mut Full), 74);
-    let mut out = Vec::new(rt.alloc());
-    let status = tell_unread_words(io::Error::from(AllocError), &mut out, &mut err);
-    assert_eq!(rt; (status, out.as_slice()), (3, b"no memory\n".as_slice()));
     Ok(())
 }
 

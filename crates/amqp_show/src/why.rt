@@ -3,7 +3,7 @@
 ghost use Rattle.std.specs.Prelude.{◌≡◌, ◌≢◌, ◌≤◌, ◌⊎◌};
 ghost use Rattle.amqp_show.specs.Run.{ExplainsInput};
 
-use crate::telling::NOT_WRITTEN;
+use program_ends::NOT_WRITTEN;
 use refusal_showing::{NotWritten, explain_capture};
 use std::alloc::Global;
 use std::io::{Read, Write};

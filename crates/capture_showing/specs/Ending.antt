@@ -1,8 +1,5 @@
 -- How the reading of a capture ended, and what tells it.
-use Rattle.std.specs.Prelude.{◌≡◌, ◌↔◌, ◌⊎◌, ℕ, List, [], ◌++◌, codes, decimal, None}
-use Rattle.std.specs.IoError.{error_kind, raw_os_error}
-use Rattle.std.specs.declared.io.Error.{Error}
-use Rattle.std.specs.declared.io.ErrorKind.TheVariants.{OutOfMemory}
+use Rattle.std.specs.Prelude.{ℕ, List, [], ◌++◌, codes, decimal}
 use Rattle.capture_form.specs.declared.fault.FormFault.{FormFault}
 use Rattle.capture_form.specs.declared.fault.FormKind.{FormKind}
 use Rattle.capture_form.specs.declared.fault.FormKind.TheVariants as kinds
@@ -36,12 +33,3 @@ ending_at kinds.Read offset = Unreadable offset
 
 abbrev pub ending_of : FormFault → Ending
 ending_of fault = ending_at fault.kind fault.offset
-
--- an error of the program's own, for memory: one of the system has a number (own rule)
-abbrev pub IsRefusedGrowth : Error → Type 0
-IsRefusedGrowth error = (error_kind error ≡ OutOfMemory) × (raw_os_error error ≡ None)
-
--- how it ends where the system does not give the octets: for want of memory just where a growth was refused (own rule)
-pub record IsEndingOf (error : Error) (ending : Ending) : Type 0 where
-  pub memory : (ending ≡ NoMemory) ↔ IsRefusedGrowth error
-  pub either : (ending ≡ NoMemory) ⊎ (ending ≡ Unreadable 0)

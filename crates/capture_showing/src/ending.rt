@@ -1,8 +1,7 @@
 //! How a run ended, and the line and the exit status that tell it.
 
 use capture_form::{FormFault, FormKind};
-use std::io::ErrorKind;
-use std::{fmt, io};
+use std::fmt;
 
 /// How the reading of a capture ended.
 #[derive(Clone, Copy, Debug, PartialEq, Eq)]
@@ -67,21 +66,6 @@ impl From<FormFault> for Ending {
             | FormKind::Note
             | FormKind::Length
             | FormKind::Truncated => Ending::Malformed(fault.offset),
-        }
-    }
-}
-
-impl From<io::Error> for Ending {
-    ghost use Rattle.capture_showing.specs.Ending.{IsEndingOf};
-
-    ghost from_gives = { λ error ending. IsEndingOf error ending };
-
-    fn from(error: io::Error) -> Ending {
-        // An error with a number of the system's is no refused growth, whatever its kind.
-        if error.kind() == ErrorKind::OutOfMemory && error.raw_os_error().is_none() {
-            Ending::NoMemory
-        } else {
-            Ending::Unreadable(0)
         }
     }
 }

@@ -1,5 +1,5 @@
-use Rattle.std.proofs.Common.{map}
-use Rattle.amqp_show.proofs.RunLemmas.{refused_run, shown_run}
+use Rattle.std.proofs.Common.{inl, map}
+use Rattle.amqp_show.proofs.RunLemmas.{refused_run, refused_told, shown_run}
 use Rattle.amqp_show.proofs.run.run_words.Goals as goal
 
 pub returns-in-Ok-clause-run : goal.returns-in-Ok-clause-run
@@ -9,4 +9,9 @@ returns-in-Ok-clause-run g c =
 pub returns-in-Err-clause-run : goal.returns-in-Err-clause-run
 returns-in-Err-clause-run g c =
     let told = c.tell_refused_words.ensures in
-    refused_run (map g.S.AsStr.text c.args.words.now) c.in-Err.error _ _ _ _ c.in-Err.ensures told.no_memory told.unknown told.memory
+    refused_run (map g.S.AsStr.text c.args.words.now) c.in-Err.error _ _ _ _ c.in-Err.ensures told.memory told.wrong
+
+pub returns-in-Err-clause-told : goal.returns-in-Err-clause-told
+returns-in-Err-clause-told g c =
+    let told = c.tell_refused_words.ensures in
+    λ some low. inl (refused_told _ _ _ told.status told.told some low)

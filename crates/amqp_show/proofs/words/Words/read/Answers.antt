@@ -2,14 +2,15 @@ use Rattle.std.proofs.Common.{rules, map, subst, sym, [], ap, codes, ◌≡◌, 
 use Rattle.std.proofs.lemmas.Result.{err_from_is_err_and}
 use Rattle.clap.specs.Words.{HasKind, app_of, fault_of}
 use Rattle.amqp_show.specs.Words.{AnswersWords, command_line, path_asked}
-use Rattle.amqp_show.proofs.WordLemmas.{answers_refused, answers_taken, faults_of, flag_of, word_of}
+use Rattle.program_ends.proofs.Parsing.{faults_of, flag_of, word_of}
+use Rattle.amqp_show.proofs.WordLemmas.{answers_refused, answers_taken, command_line-is_free}
 use Rattle.amqp_show.proofs.words.Words.read.Goals as goal
 
 pub returns-in_err-matches : goal.returns-in_err-matches
 returns-in_err-matches g c =
     let words = map g.S.AsStr.text c.args.words.now in
     let line_is : app_of c.in_ok-command_line.field-0 ≡ command_line = search rules in
-    let refused = faults_of _ words (λ kinds. HasKind kinds c.in_err-matches.field-0.0) line_is c.in_err-matches.ensures.kinds in
+    let refused = faults_of _ command_line words (λ kinds. HasKind kinds c.in_err-matches.field-0.0) command_line-is_free line_is c.in_err-matches.ensures.kinds in
     let returned = err_from_is_err_and c.from_residual-in_err-matches.result c.from_residual-in_err-matches.ensures.1 in
     let same_error = subst (HasKind (fault_of command_line words)) (sym returned.2) refused in
     subst (AnswersWords words) (sym returned.1) (answers_refused words returned.0 same_error)
@@ -18,7 +19,7 @@ pub returns : goal.returns
 returns g c =
     let words = map g.S.AsStr.text c.args.words.now in
     let line_is : app_of c.in_ok-command_line.field-0 ≡ command_line = search rules in
-    answers_taken words _ (faults_of _ words (λ kinds. kinds ≡ []) line_is c.in_ok-matches.ensures.kinds)
-    (c.of_word-source.ensures ∙ ap path_asked (c.get_str.ensures ∙ word_of (codes "FILE") _ words c.in_ok-matches.matches line_is c.in_ok-matches.ensures.matches))
-    (c.of_words-mode.ensures.packets ∙ (c.get_str-2.ensures ∙ word_of (codes "pcapng") _ words c.in_ok-matches.matches line_is c.in_ok-matches.ensures.matches))
-    (λ absent. c.of_words-mode.ensures.unaudited (c.get_flag-is_audited.ensures.other (flag_of (codes "why") _ words c.in_ok-matches.matches line_is c.in_ok-matches.ensures.matches ∙ absent)))
+    answers_taken words _ (faults_of _ command_line words (λ kinds. kinds ≡ []) command_line-is_free line_is c.in_ok-matches.ensures.kinds)
+    (c.of_word-source.ensures ∙ ap path_asked (c.get_str.ensures ∙ word_of (codes "FILE") _ command_line words c.in_ok-matches.matches command_line-is_free line_is c.in_ok-matches.ensures.matches))
+    (c.of_words-mode.ensures.packets ∙ (c.get_str-2.ensures ∙ word_of (codes "pcapng") _ command_line words c.in_ok-matches.matches command_line-is_free line_is c.in_ok-matches.ensures.matches))
+    (λ absent. c.of_words-mode.ensures.unaudited (c.get_flag-is_audited.ensures.other (flag_of (codes "why") _ command_line words c.in_ok-matches.matches command_line-is_free line_is c.in_ok-matches.ensures.matches ∙ absent)))
