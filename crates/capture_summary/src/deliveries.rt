@@ -13,11 +13,23 @@ use std::alloc::AllocError;
 pub(crate) struct Part<'a> {
     /// The number of its record.
     pub record: u64,
+    pub connection: u32,
+    pub channel: u16,
     pub writer: Writer,
-    pub key: LinkKey,
     pub transfer: Transfer<'a>,
     /// The octets of its payload.
     pub octets: usize,
+}
+
+impl Part<'_> {
+    /// The handle that it names.
+    fn key(&self) -> LinkKey {
+        LinkKey {
+            connection: self.connection,
+            channel: self.channel,
+            handle: self.transfer.handle,
+        }
+    }
 }
 
 impl Links {
@@ -37,8 +49,8 @@ impl Links {
             return Ok(());
         };
         let scope = Scope {
-            connection: part.key.connection,
-            channel: part.key.channel,
+            connection: part.connection,
+            channel: part.channel,
             sender: sender_of(part.writer),
         };
         if part.transfer.is_aborted() || step.is_settled {
@@ -64,7 +76,7 @@ impl Links {
     /// Begins a delivery on the live link of a transfer's handle, or goes on with the one in progress there.
     fn go_on(&mut self, part: &Part<'_>) -> Option<Step> {
         let transfer = &part.transfer;
-        let link = self.link_of(part.writer, part.key)?;
+        let link = self.link_of(part.writer, part.key())?;
         let row = self.rows.get_mut(link)?;
         let begun = row.progress;
         let before = begun.unwrap_or(Progress {

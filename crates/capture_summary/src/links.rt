@@ -72,12 +72,9 @@ impl Links {
             Performative::Transfer(transfer) => {
                 let part = Part {
                     record: view.number,
+                    connection,
+                    channel,
                     writer,
-                    key: LinkKey {
-                        connection,
-                        channel,
-                        handle: transfer.handle,
-                    },
                     transfer,
                     octets: rest.len(),
                 };

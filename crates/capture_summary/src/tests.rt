@@ -158,12 +158,13 @@ fn a_delivery_waits_until_it_is_sent_or_told(rt: HostRuntime) -> Result<(), Fail
         (client(0, whole(4)), 1),
     ];
     let mut summary = Summary::new(rt.alloc());
-    let mut number = 0;
-    for (made, waiting) in steps {
-        summary.take(&RecordView { number, ..made })?;
-        number += 1;
+    for (number, (made, waiting)) in steps.iter().enumerate() {
+        summary.take(&RecordView {
+            number: number as u64,
+            ..*made
+        })?;
         let counted = summary.rows().iter().map(|row| row.waiting).next();
-        assert_eq!(rt; counted, Some(waiting), "behind record {}", number);
+        assert_eq!(rt; counted, Some(*waiting), "behind record {}", number);
     }
     let mut page = Page::new(rt.alloc(), None);
     summary.put(&mut page)?;
