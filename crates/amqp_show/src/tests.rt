@@ -138,7 +138,7 @@ fn a_refused_record_is_explained(rt: HostRuntime) -> Result<(), Fail> {
     let text = "refused record=1 clause=L1
      1   0 out 0 attach name=out handle=0 role=receiver source=() target=(address=q); out producer → q
 record 1 breaks L1: a frame is a performative within the frame limit, on a connection that is open, in the order of opens and closes
-order: the first frame on the connection, and it is no open
+order: the router's first frame on the connection, and it is no open
 ";
     let (status, out, _) = run(&rt, &["--why"], &mut &*REJECTED)?;
     assert_eq!(rt; (status, out.as_str()), (1, text));

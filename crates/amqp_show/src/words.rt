@@ -112,12 +112,14 @@ A line has the number of the record, its connection, and what happened: opened, 
 follow the channel, the performative with those of its fields that are read and there, the octets of a transfer's payload, \
 the link or the session that it names, and what the record notes: which delivery a transfer carries, or why an outcome is told.
 
-The whole capture is read, whatever is asked for. Status 0: it is whole. 2: malformed. 3: no memory. 4: unreadable. \
-5: the packets could not be written. 64: a mistake in the words. 74: standard output could not be written.
+Without --why the whole capture is read, whatever is asked for. Status 0: it is whole. 2: malformed. 3: no memory. \
+4: unreadable. 5: the packets could not be written. 64: a mistake in the words. 74: standard output could not be written.
 
-With --why the first line is the verdict of amqp_audit, and the status is its: 0 accepted, 1 refused, and those above. Behind \
-it stand the record that is refused, what the clause asks, and each thing that it compares, with the record it comes from; or \
-what was expected where the capture is malformed. It is read up to there.
+With --why the first line and the status are those of amqp_audit: 0 accepted, 1 refused, or 2, 3 or 4 as above. Behind the \
+line stand the record that is refused, what the clause asks, and each thing that it compares, with the records of the links, \
+deliveries, windows and credits; or what was expected where the capture is malformed. Nothing behind that is read.
+
+Of --pcapng, --why and --summary the first that is given, in this order, counts.
 
 Packets are those of all records, whatever else is asked for. Where the capture has a fault they are those of the whole \
 records in front of it.";
@@ -141,7 +143,7 @@ fn command_line<'a>(alloc: Global) -> Result<Command<'a>, AllocError>
         "Records about the delivery from a client whose first transfer is record N",
     );
     let wide = flag(alloc, "wide").help(
-        "Shows texts and octets whole; else they are cut at 32 characters",
+        "Shows texts and octets whole; else, and with --why, they are cut at 32 characters",
     );
     let summary = flag(alloc, "summary").help(
         "Shows one table of the whole capture instead of its records",

@@ -1,8 +1,9 @@
 //! What L10 compares, in words.
 
-use crate::text::{OrNone, flag_name};
+use crate::text::OrNone;
 use crate::transfer::{
-    Linked, origin_of, plural, write_credit_origin, write_flag, write_number, write_session,
+    Linked, NO_SESSION, origin_of, write_credit_origin, write_flag, write_no_link, write_number,
+    write_session,
 };
 use flow_counts::{INCOMING_WINDOW, LOW_MARK, OUTGOING_WINDOW};
 use refusal_facts::{ConsumerNumbers, FlowFacts, FlowLink, ProducerNumbers};
@@ -15,7 +16,7 @@ fn write_session_numbers<W: fmt::Write>(
     facts: &FlowFacts,
 ) -> fmt::Result {
     let Some(numbers) = &facts.session else {
-        return write!(f, "\nsession: none lives on the channel");
+        return write!(f, "\nsession: {NO_SESSION}");
     };
     let flow = &facts.flow;
     write_session(f, &numbers.session)?;
@@ -80,32 +81,52 @@ fn write_producer<W: fmt::Write>(
     if numbers.may_be_topped_up {
         write!(f, ", or {full} to top it up")
     } else {
+        write_no_top_up(f, numbers)
+    }
+}
+
+/// Why a producer's credit may not be topped up.
+fn write_no_top_up<W: fmt::Write>(
+    f: &mut fmt::Formatter<W>,
+    numbers: &ProducerNumbers,
+) -> fmt::Result {
+    let both = u64::from(numbers.given_credit).saturating_add(numbers.undecided);
+    if both > u64::from(LOW_MARK) {
         write!(
             f,
-            "; it may not be topped up: given credit and undecided deliveries come to more than {LOW_MARK}, or its address has no consumer"
+            "; it may not be topped up: given credit and undecided deliveries come to {both}, more than {LOW_MARK}"
+        )
+    } else {
+        write!(
+            f,
+            "; it may not be topped up: its address is anycast and has no consumer"
         )
     }
 }
 
 /// Whether a drain may be answered.
 fn write_drain<W: fmt::Write>(f: &mut fmt::Formatter<W>, numbers: &ConsumerNumbers) -> fmt::Result {
-    write!(
-        f,
-        "\ndrain answer: draining {}, credit {}, a delivery waits at the address {}, a copy is due {}",
-        flag_name(numbers.is_draining),
-        numbers.credit,
-        flag_name(numbers.has_waiting),
-        flag_name(numbers.has_unsent)
-    )?;
     if numbers.may_be_drained() {
         write!(
             f,
-            "; it may stand, with delivery-count {} and link-credit 0",
+            "\ndrain answer: it may stand, with delivery-count {} and link-credit 0",
             numbers.drained_count()
-        )
+        )?;
     } else {
-        write!(f, "; it may not stand")
+        write!(f, "\ndrain answer: it may not stand")?;
     }
+    write!(
+        f,
+        " (asked for: {}; credit: {}; a delivery waits at the address: {}; a copy for the link is unsent: {})",
+        yes_or_no(numbers.is_draining),
+        numbers.credit,
+        yes_or_no(numbers.has_waiting),
+        yes_or_no(numbers.has_unsent)
+    )
+}
+
+fn yes_or_no(is_so: bool) -> &'static str {
+    if is_so { "yes" } else { "no" }
 }
 
 /// A consumer's link.
@@ -122,7 +143,7 @@ fn write_consumer<W: fmt::Write>(
         Linked(&numbers.link, origins),
         numbers.credit
     )?;
-    write_credit_origin(f, origin_of(origins, &numbers.link))?;
+    write_credit_origin(f, origin_of(origins, &numbers.link), numbers.delivery_count)?;
     write_number(
         f,
         "delivery-count",
@@ -147,7 +168,7 @@ pub(crate) fn write_flow<W: fmt::Write>(
     write_session_numbers(f, facts)?;
     match &facts.link {
         FlowLink::Nothing => write_flag(f, "drain", facts.flow.drains(), false),
-        FlowLink::NotLive(handle) => write!(f, "\nlink: none lives of handle {handle}"),
+        FlowLink::NotLive(handle) => write_no_link(f, *handle),
         FlowLink::Producer(numbers) => write_producer(f, facts, numbers, origins),
         FlowLink::Consumer(numbers) => write_consumer(f, facts, numbers, origins),
     }

@@ -1,7 +1,7 @@
 //! What L1 to L3 and L13 compare, in words.
 
 use crate::text::{Asked, Quoted, receiver_mode_name, role_name, sender_mode_name};
-use crate::transfer::{Linked, write_session};
+use crate::transfer::{Linked, NO_SESSION, write_no_link, write_session};
 use amqp_perf::{Performative, Role};
 use flow_counts::INCOMING_WINDOW;
 use refusal_facts::{
@@ -34,8 +34,11 @@ pub(crate) fn write_frame<W: fmt::Write>(
         ),
         Body::Empty(_) => write!(f, "\nframe: an empty body, due a performative"),
         Body::NoPerformative(_) => match Performative::read(body_octets(octets)) {
-            Ok(_) => write!(f, "\nframe: its body begins with no performative"),
-            Err(fault) => write!(f, "\nframe: its body begins with no performative: {fault}"),
+            Ok(_) => write!(f, "\nframe: no whole performative stands in its body"),
+            Err(fault) => write!(
+                f,
+                "\nframe: no whole performative stands in its body: {fault}, counted from the body on"
+            ),
         },
         Body::Says(_) => Ok(()),
     }
@@ -61,13 +64,13 @@ pub(crate) fn write_writing<W: fmt::Write>(
     if !facts.is_open && !facts.has_out_frame {
         write!(
             f,
-            "\norder: the first frame on the connection, and it is no open"
+            "\norder: the router's first frame on the connection, and it is no open"
         )?;
     }
     if facts.was_stopped && !facts.is_of_connection {
         write!(
             f,
-            "\norder: neither an open nor a close, behind the client's close or a broken"
+            "\norder: neither an open nor a close, and the client has closed, or its octets stopped being frames (broken)"
         )?;
     }
     let (len, limit) = (facts.len, facts.limit);
@@ -192,21 +195,21 @@ fn write_asked<W: fmt::Write>(
         Some(Fault::Close(condition)) => {
             write!(
                 f,
-                "\nthe client's attach closes the connection: {}; it has no answer",
+                "\nthe client's attach has a fault for which the router has to close the connection ({}); no attach may answer it",
                 condition.name()
             )
         }
         Some(Fault::End(condition)) => {
             write!(
                 f,
-                "\nthe client's attach ends the session: {}; it has no answer",
+                "\nthe client's attach has a fault for which the router has to end the session ({}); no attach may answer it",
                 condition.name()
             )
         }
         Some(Fault::Detach(condition)) => {
             write!(
                 f,
-                "\nthe client's attach detaches the link: {}; it has no answer",
+                "\nthe client's attach has a fault for which the router has to detach the link ({}); no attach may answer it",
                 condition.name()
             )
         }
@@ -220,7 +223,7 @@ pub(crate) fn write_attach<W: fmt::Write>(
 ) -> fmt::Result {
     match &facts.session {
         Some(session) => write_session(f, session)?,
-        None => return write!(f, "\nsession: none lives on the channel"),
+        None => return write!(f, "\nsession: {NO_SESSION}"),
     }
     match &facts.asked {
         Some(asked) => write_asked(f, facts, asked),
@@ -240,11 +243,11 @@ pub(crate) fn write_detach<W: fmt::Write>(
 ) -> fmt::Result {
     match &facts.session {
         Some(session) => write_session(f, session)?,
-        None => write!(f, "\nsession: none lives on the channel")?,
+        None => write!(f, "\nsession: {NO_SESSION}")?,
     }
     match &facts.link {
-        Some(link) => write!(f, "\n{} lives", Linked(link, origins))?,
-        None => write!(f, "\nlink: none lives of handle {}", facts.handle)?,
+        Some(link) => write!(f, "\n{} is live", Linked(link, origins))?,
+        None => write_no_link(f, facts.handle)?,
     }
     if facts.is_owed {
         write!(
@@ -263,7 +266,7 @@ pub(crate) fn write_detach<W: fmt::Write>(
 pub(crate) fn write_end<W: fmt::Write>(f: &mut fmt::Formatter<W>, facts: &EndFacts) -> fmt::Result {
     match &facts.session {
         Some(session) => write_session(f, session)?,
-        None => write!(f, "\nsession: none lives on channel {}", facts.channel)?,
+        None => write!(f, "\nsession: {NO_SESSION}")?,
     }
     if facts.is_owed {
         write!(f, "\nowed: an end of the client's is to be answered")

@@ -114,7 +114,7 @@ fn write_told<W: fmt::Write>(
         write!(f, "\ngone: it found no consumer or lost the last one")?;
     }
     match &told.carrier {
-        None => write!(f, "\ncarried: to no consumer, as far as is kept")?,
+        None => write!(f, "\ncarried: to no consumer")?,
         Some(carrier) => write_carrier(f, carrier)?,
     }
     write_row(f, facts.note, told)?;
@@ -133,7 +133,7 @@ pub(crate) fn write_outcome<W: fmt::Write>(
         Some(told) => write_told(f, facts, told),
         None => write!(
             f,
-            "\ndelivery: no undecided one of id {} on the session may be told",
+            "\ndelivery: none of id {} on the session is undecided: none began, or it was told, settled by its producer or given up, or its link is over",
             facts.first
         ),
     }
@@ -150,7 +150,7 @@ pub(crate) fn write_settling<W: fmt::Write>(
         Some(number) => write!(f, "\ndelivery: that of record {number} is to be settled"),
         None => write!(
             f,
-            "\ndelivery: none of id {} on the session is to be settled: its consumer has not decided it, it is settled, or its producer is still to be told",
+            "\ndelivery: none of id {} on the session is to be settled: none began, its link is over or pre-settled, its consumer has not decided it, it is settled, or its producer is still to be told",
             facts.first
         ),
     }

@@ -64,10 +64,25 @@ pub(crate) fn plural(count: u64) -> &'static str {
     if count == 1 { "" } else { "s" }
 }
 
-/// Where the credit comes from.
+/// What a number was so many steps ago, which now is this.
+fn write_when<W: fmt::Write>(
+    f: &mut fmt::Formatter<W>,
+    name: &str,
+    number: u32,
+    steps: u64,
+) -> fmt::Result {
+    match u32::try_from(steps) {
+        Ok(steps) => write!(f, " when {name} was {}", number.wrapping_sub(steps)),
+        // It has gone round since.
+        Err(_) => Ok(()),
+    }
+}
+
+/// Where the credit comes from of a link whose delivery-count is this.
 pub(crate) fn write_credit_origin<W: fmt::Write>(
     f: &mut fmt::Formatter<W>,
     origin: Option<&LinkOrigin>,
+    delivery_count: u32,
 ) -> fmt::Result {
     let Some(origin) = origin else {
         return Ok(());
@@ -76,14 +91,17 @@ pub(crate) fn write_credit_origin<W: fmt::Write>(
         Some(credit) => {
             write!(
                 f,
-                ", of the flow in record {} (link-credit {}, delivery-count {}{})",
+                ", of the flow in record {} (link-credit {}, delivery-count {}",
                 credit.number,
                 credit.link_credit,
-                OrNone(credit.delivery_count),
-                if credit.drain { ", drain" } else { "" }
+                OrNone(credit.delivery_count)
             )?;
-            if let Some(number) = origin.drained {
-                write!(f, "; the drain was answered in record {number}")?;
+            match origin.drained {
+                Some(number) => write!(f, ", drain); the drain was answered in record {number}")?,
+                None => {
+                    write_when(f, "it", delivery_count, origin.begun)?;
+                    write!(f, "{})", if credit.drain { ", drain" } else { "" })?;
+                }
             }
         }
         None => write!(f, "; no flow has granted any since the attach")?,
@@ -95,10 +113,11 @@ pub(crate) fn write_credit_origin<W: fmt::Write>(
     }
 }
 
-/// Where the window comes from.
+/// Where the window comes from of a session whose next transfer-id is this.
 pub(crate) fn write_window_origin<W: fmt::Write>(
     f: &mut fmt::Formatter<W>,
     origin: Option<&SessionOrigin>,
+    next_outgoing_id: u32,
 ) -> fmt::Result {
     let Some(origin) = origin else {
         return Ok(());
@@ -106,11 +125,13 @@ pub(crate) fn write_window_origin<W: fmt::Write>(
     if let Some(window) = &origin.window {
         write!(
             f,
-            ", of the flow in record {} (next-incoming-id {}, incoming-window {})",
+            ", of the flow in record {} (incoming-window {}, next-incoming-id {}",
             window.number,
-            OrNone(window.next_incoming_id),
-            window.incoming_window
+            window.incoming_window,
+            OrNone(window.next_incoming_id)
         )?;
+        write_when(f, "next-outgoing-id", next_outgoing_id, origin.sent)?;
+        write!(f, ")")?;
     } else if let Some(opened) = &origin.opened {
         write!(
             f,
@@ -128,16 +149,17 @@ fn write_window<W: fmt::Write>(
     facts: &SendingFacts,
     origins: &Origins,
 ) -> fmt::Result {
-    let (Some(session), Some(window)) = (&facts.session, facts.window) else {
-        return write!(f, "\nsession: none lives on the channel");
+    let (Some(session), Some(window), Some(id)) = (
+        &facts.session,
+        facts.window,
+        facts.next_outgoing_id,
+    ) else {
+        return write!(f, "\nsession: {NO_SESSION}");
     };
     write_session(f, session)?;
     write!(f, ": window {window}")?;
-    write_window_origin(f, window_origin_of(origins, session))?;
-    match facts.next_outgoing_id {
-        Some(id) => write!(f, "; next-outgoing-id {id}"),
-        None => Ok(()),
-    }
+    write_window_origin(f, window_origin_of(origins, session), id)?;
+    write!(f, "; next-outgoing-id {id}")
 }
 
 /// A session, at the head of a line.
@@ -152,6 +174,17 @@ pub(crate) fn write_session<W: fmt::Write>(
     )
 }
 
+/// What is said of a channel without a session.
+pub(crate) const NO_SESSION: &str = "none is live on the channel; one named above was there before";
+
+/// A handle without a link.
+pub(crate) fn write_no_link<W: fmt::Write>(f: &mut fmt::Formatter<W>, handle: u32) -> fmt::Result {
+    write!(
+        f,
+        "\nlink: none is live of handle {handle}; one named above was attached there before"
+    )
+}
+
 /// The link that a transfer names.
 fn write_named_link<W: fmt::Write>(
     f: &mut fmt::Formatter<W>,
@@ -159,7 +192,7 @@ fn write_named_link<W: fmt::Write>(
     origins: &Origins,
 ) -> fmt::Result {
     match &facts.link {
-        None => write!(f, "\nlink: none lives of handle {}", facts.handle),
+        None => write_no_link(f, facts.handle),
         Some(link) if link.is_consumer() => {
             write!(f, "\n{}: a consumer's, as is due", Linked(link, origins))
         }
@@ -196,7 +229,7 @@ pub(crate) fn write_beginning<W: fmt::Write>(
 ) -> fmt::Result {
     let link = &facts.link;
     write!(f, "\n{}: credit {}", Linked(link, origins), facts.credit)?;
-    write_credit_origin(f, origin_of(origins, link))?;
+    write_credit_origin(f, origin_of(origins, link), facts.delivery_count)?;
     write!(f, "; delivery-count {}", facts.delivery_count)?;
     write_number(f, "delivery-id", facts.said_id, facts.due_id)
 }
@@ -485,7 +518,7 @@ pub(crate) fn write_order<W: fmt::Write>(
         write_receiver(f, facts)?;
     }
     match &facts.before {
-        None => write!(f, "\norder: the link's first delivery, as far as is kept"),
+        None => write!(f, "\norder: the link's first delivery"),
         Some(before) => {
             write!(f, "\norder: the link's last delivery carries the ")?;
             write_incoming(f, before)?;
@@ -493,7 +526,10 @@ pub(crate) fn write_order<W: fmt::Write>(
             if facts.is_in_order {
                 write!(f, ", which is before, as is due")
             } else {
-                write!(f, ", which is not before")
+                write!(
+                    f,
+                    ", which is not before the one that this transfer carries"
+                )
             }
         }
     }
