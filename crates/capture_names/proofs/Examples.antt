@@ -9,7 +9,7 @@ use Rattle.capture_names.specs.declared.told.Writer.TheVariants.{Client, Router}
 use Rattle.capture_names.specs.declared.told.LinkRole.TheVariants.{Producer, Consumer}
 use Rattle.capture_names.specs.declared.names.LinkKey.{LinkKey}
 use Rattle.capture_names.specs.declared.names.ChannelKey.{ChannelKey}
-use Rattle.capture_names.specs.Named.{Attachment, attach_by, attached_or, begin_by, begun_or, is_channel, is_link, key_by, last_attach, last_begin, unless_begun}
+use Rattle.capture_names.specs.Named.{Attachment, attach_by, attached_or, begin_by, begun_or, channel_by, is_channel, is_link, key_by, last_attach, last_begin, unless_begun}
 use Rattle.capture_names.specs.Told.{LinkText, NoAddress, TextAddress, OtherAddress, DynamicAddress, CoordinatorAddress, address_or_dynamic, link_told, role_told, source_address, target_address}
 
 -- ---- keys
@@ -44,6 +44,14 @@ of_empty = refl
 
 of_opened : key_by 1 Opened ≡ None
 of_opened = refl
+
+-- a frame stands on its channel, whoever wrote it; one that says nothing, and what is no frame, on none
+on_either : (fields : TransferFields) → channel_by 1 (In (Says 2 (ATransfer fields) [])) ∷ channel_by 1 (Out (Says 2 (ATransfer fields) [])) ∷ []
+    ≡ Some (channel 1 2) ∷ Some (channel 1 2) ∷ []
+on_either fields = refl
+
+on_none : channel_by 1 (In (NoBody 2)) ∷ channel_by 1 (Out (NoBody 2)) ∷ channel_by 1 Opened ∷ [] ≡ None ∷ None ∷ None ∷ []
+on_none = refl
 
 -- ---- what an attach tells
 

@@ -38,6 +38,19 @@ key_by connection _ = None
 abbrev pub key_of : Viewed → Option LinkKey
 key_of view = key_by view.connection view.happened
 
+-- the channel on which a record's frame stands
+abbrev pub channel_on : ℕ → Saying → Option ChannelKey
+channel_on connection (Says channel meaning rest) = Some (record { connection = connection; channel = channel })
+channel_on connection _ = None
+
+abbrev pub channel_by : ℕ → Happening → Option ChannelKey
+channel_by connection (In said) = channel_on connection said
+channel_by connection (Out said) = channel_on connection said
+channel_by connection _ = None
+
+abbrev pub channel_of : Viewed → Option ChannelKey
+channel_of view = channel_by view.connection view.happened
+
 -- whether keys are one
 abbrev pub is_link : LinkKey → LinkKey → Bool
 is_link a b = nat_eq a.connection b.connection && (nat_eq a.channel b.channel && nat_eq a.handle b.handle)

@@ -47,7 +47,7 @@ impl Names {
     ghost use Rattle.capture_names.specs.declared.names.ChannelKey.{ChannelKey};
     ghost use Rattle.capture_names.specs.declared.names.LinkKey.{LinkKey};
     ghost use Rattle.capture_names.specs.Told.{told_text};
-    ghost use Rattle.capture_names.specs.Named.{attached_or, begun_or, is_channel, is_link, last_begin, key_of, link_named, link_text};
+    ghost use Rattle.capture_names.specs.Named.{attached_or, begun_or, channel_of, is_channel, is_link, last_begin, key_of, link_named, link_text};
     ghost use Rattle.capture_names.specs.Tables.{StandsFor, TakesOneMore, TakesSaid, attachment};
 
     /// Knows no link.
@@ -166,7 +166,10 @@ impl Names {
     }
 
     /// Whether a record's frame stands on a session that has begun.
-    pub fn has_session_of(&self, view: &RecordView<'_>) -> bool {
+    pub fn has_session_of(&self, view: &RecordView<'_>) -> bool
+        ensures { (past : List Viewed) → StandsFor self.now past
+            → IsTrue result ↔ IsSome (option_and_then (last_begin past) (channel_of (viewed view.now))) }
+    {
         match view.happened {
             Happened::In(Said::Says { channel, .. }) | Happened::Out(Said::Says { channel, .. }) =>
                 { self.has_session(view.connection, channel) }
