@@ -2,11 +2,11 @@
 
 ghost use Rattle.std.specs.Prelude.{◌<◌};
 
-use crate::dice::Dice;
-use crate::plain::Reading;
 use crate::router::{EMPTY_FRAME, Router};
 use capture_form::What;
 use conn_engine::{Engine, EngineFault};
+use plain_streams::Reading;
+use seeded_chance::Chance;
 use std::alloc::{AllocError, Global};
 
 /// The number of the connection.
@@ -16,7 +16,7 @@ const CONNECTION: u32 = 3;
 /// After each piece the device takes some of the octets that wait.
 pub fn agrees(
     alloc: Global,
-    dice: &mut Dice,
+    chance: &mut Chance,
     stream: &[u8],
     most: usize,
     reading: &Reading<'_>,
@@ -33,7 +33,7 @@ pub fn agrees(
         }
         first_fault = first_fault.or(fed.err());
         engine.refill()?;
-        let len = dice.below(engine.give().len() + 1);
+        let len = chance.below(engine.give().len() + 1);
         given.extend_from_slice(&engine.give()[..len])?;
         engine.gave(len);
     }

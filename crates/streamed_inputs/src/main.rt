@@ -5,23 +5,19 @@
 //! that are taken or not, a SASL exchange or none, frames of any length and octets that were changed, and they end
 //! anywhere. The modules, in reading order:
 //!
-//! - `dice`: numbers that look random and are the same in each run
 //! - `streams`: streams
-//! - `plain`: what a stream is, read at once
 //! - `router`: a router that takes all items, and gives a frame for each
 //! - `compared`: an engine that is fed a stream, and whether it did what the plain reading says
 #![tactic(auto)]
 
 mod compared;
-mod dice;
-mod plain;
 mod router;
 mod streams;
 
 ghost use Rattle.std.specs.Prelude.{◌<◌};
 
 use compared::agrees;
-use dice::Dice;
+use seeded_chance::Chance;
 use std::alloc::{AllocError, Global};
 use std::io;
 
@@ -45,10 +41,10 @@ fn first_other(alloc: Global, most: usize) -> Result<Option<u64>, AllocError>
     requires { 0 < most }
 {
     for seed in 0..STREAMS {
-        let mut dice = Dice::new(seed);
-        let stream = streams::stream(alloc, &mut dice)?;
-        let reading = plain::read(alloc, &stream)?;
-        if !agrees(alloc, &mut dice, &stream, most, &reading)? {
+        let mut chance = Chance::new(seed);
+        let stream = streams::stream(alloc, &mut chance)?;
+        let reading = plain_streams::read(alloc, &stream)?;
+        if !agrees(alloc, &mut chance, &stream, most, &reading)? {
             return Ok(Some(seed));
         }
     }

@@ -1,7 +1,7 @@
 //! Streams of a client, as it should send them and otherwise.
 
-use crate::dice::Dice;
-use crate::plain::{AMQP_HEADER, SASL_HEADER};
+use plain_streams::{AMQP_HEADER, SASL_HEADER};
+use seeded_chance::Chance;
 use std::alloc::{AllocError, Global};
 
 /// A header of another protocol, and one of another version.
@@ -10,21 +10,21 @@ const HTTP: &[u8] = b"HTTP/1.1";
 const OTHER_VERSION: &[u8] = b"AMQP\x00\x00\x09\x01";
 
 /// Inits that choose ANONYMOUS: in short, in long, and with all their fields.
-pub const ANONYMOUS_INITS: &[&[u8]] = &[
+const ANONYMOUS_INITS: &[&[u8]] = &[
     b"\x00\x00\x00\x19\x02\x01\x00\x00\x00\x53\x41\xc0\x0c\x01\xa3\x09ANONYMOUS",
     b"\x00\x00\x00\x29\x02\x01\x00\x07\x00\x80\x00\x00\x00\x00\x00\x00\x00\x41\xd0\x00\x00\x00\x12\x00\x00\x00\x01\xb3\x00\x00\x00\x09ANONYMOUS",
     b"\x00\x00\x00\x22\x03\x01\x00\x00\xff\xff\xff\xff\x00\x53\x41\xc0\x11\x03\xa3\x09ANONYMOUS\xa0\x00\xa1\x01h",
 ];
 
 /// Inits that choose another mechanism.
-pub const OTHER_INITS: &[&[u8]] = &[
+const OTHER_INITS: &[&[u8]] = &[
     b"\x00\x00\x00\x15\x02\x01\x00\x00\x00\x53\x41\xc0\x08\x01\xa3\x05PLAIN",
     b"\x00\x00\x00\x19\x02\x01\x00\x00\x00\x53\x41\xc0\x0c\x01\xa3\x09anonymous",
     b"\x00\x00\x00\x10\x02\x01\x00\x00\x00\x53\x41\xc0\x03\x01\xa3\x00",
 ];
 
 /// Frames that are no init, and octets that are no frame.
-pub const NO_INITS: &[&[u8]] = &[
+const NO_INITS: &[&[u8]] = &[
     b"\x00\x00\x00\x08\x02\x01\x00\x00",
     b"\x00\x00\x00\x10\x02\x01\x00\x00\x00\x53\x44\xc0\x03\x01\x50\x00",
     b"\x00\x00\x00\x0c\x02\x01\x00\x00\x00\x53\x41\x45",
@@ -36,33 +36,33 @@ pub const NO_INITS: &[&[u8]] = &[
 ];
 
 /// A stream: what stands before the frames, frames, perhaps an octet changed, perhaps the end cut off.
-pub fn stream(alloc: Global, dice: &mut Dice) -> Result<Vec<u8>, AllocError> {
+pub fn stream(alloc: Global, chance: &mut Chance) -> Result<Vec<u8>, AllocError> {
     let mut octets = Vec::new(alloc);
-    put_start(dice, &mut octets)?;
+    put_start(chance, &mut octets)?;
     let start = octets.len();
-    for _ in 0..dice.below(12) {
-        put_frame(dice, &mut octets)?;
+    for _ in 0..chance.below(12) {
+        put_frame(chance, &mut octets)?;
     }
-    if dice.below(3) == 0 {
-        change(dice, &mut octets, start);
+    if chance.below(3) == 0 {
+        change(chance, &mut octets, start);
     }
-    if dice.below(2) == 0 {
-        let len = dice.below(octets.len() + 1);
+    if chance.below(2) == 0 {
+        let len = chance.below(octets.len() + 1);
         octets.truncate(len);
     }
     Ok(octets)
 }
 
 /// Puts a header, perhaps an exchange, and a header again.
-fn put_start(dice: &mut Dice, octets: &mut Vec<u8>) -> Result<(), AllocError> {
-    match dice.below(10) {
+fn put_start(chance: &mut Chance, octets: &mut Vec<u8>) -> Result<(), AllocError> {
+    match chance.below(10) {
         0 => octets.extend_from_slice(HTTP),
         1 => octets.extend_from_slice(OTHER_VERSION),
         2..=4 => octets.extend_from_slice(AMQP_HEADER),
         _ => {
             octets.extend_from_slice(SASL_HEADER)?;
-            put_init(dice, octets)?;
-            match dice.below(6) {
+            put_init(chance, octets)?;
+            match chance.below(6) {
                 0 => octets.extend_from_slice(SASL_HEADER),
                 1 => octets.extend_from_slice(HTTP),
                 _ => octets.extend_from_slice(AMQP_HEADER),
@@ -72,41 +72,41 @@ fn put_start(dice: &mut Dice, octets: &mut Vec<u8>) -> Result<(), AllocError> {
 }
 
 /// Puts an init, of which most choose ANONYMOUS, or no init.
-fn put_init(dice: &mut Dice, octets: &mut Vec<u8>) -> Result<(), AllocError> {
-    match dice.below(8) {
-        0 => octets.extend_from_slice(OTHER_INITS[dice.below(OTHER_INITS.len())]),
-        1 => octets.extend_from_slice(NO_INITS[dice.below(NO_INITS.len())]),
-        _ => octets.extend_from_slice(ANONYMOUS_INITS[dice.below(ANONYMOUS_INITS.len())]),
+fn put_init(chance: &mut Chance, octets: &mut Vec<u8>) -> Result<(), AllocError> {
+    match chance.below(8) {
+        0 => octets.extend_from_slice(chance.one_of(OTHER_INITS, &[])),
+        1 => octets.extend_from_slice(chance.one_of(NO_INITS, &[])),
+        _ => octets.extend_from_slice(chance.one_of(ANONYMOUS_INITS, &[])),
     }
 }
 
 /// Puts a frame with any octets as its body: an AMQP frame, but for a few of SASL, and no longer than 16384 octets, but
 /// for a few of one more.
-fn put_frame(dice: &mut Dice, octets: &mut Vec<u8>) -> Result<(), AllocError> {
-    let words = 2 + dice.below(3);
-    let body = match dice.below(16) {
-        0 => 16384 - 4 * words + dice.below(12) / 11,
-        1 => dice.below(4096),
-        _ => dice.below(40),
+fn put_frame(chance: &mut Chance, octets: &mut Vec<u8>) -> Result<(), AllocError> {
+    let words = 2 + chance.below(3);
+    let body = match chance.below(16) {
+        0 => 16384 - 4 * words + chance.below(12) / 11,
+        1 => chance.below(4096),
+        _ => chance.below(40),
     };
     let size = (4 * words + body) as u32;
     octets.extend_from_slice(&size.to_be_bytes())?;
     octets.push(words as u8)?;
-    octets.push((dice.below(40) / 39) as u8)?;
+    octets.push((chance.below(40) / 39) as u8)?;
     for _ in 6..4 * words + body {
-        octets.push(dice.octet())?;
+        octets.push(chance.octet())?;
     }
     Ok(())
 }
 
 /// Changes an octet of the first header, or one of the frames.
-fn change(dice: &mut Dice, octets: &mut [u8], start: usize) {
-    let place = if dice.below(4) == 0 {
-        dice.below(8)
+fn change(chance: &mut Chance, octets: &mut [u8], start: usize) {
+    let place = if chance.below(4) == 0 {
+        chance.below(8)
     } else {
-        start.saturating_add(dice.below(64))
+        start.saturating_add(chance.below(64))
     };
     if let Some(octet) = octets.get_mut(place) {
-        *octet = dice.octet();
+        *octet = chance.octet();
     }
 }
