@@ -28,8 +28,8 @@ use Rattle.audit_answers.proofs.OutgoingKnown.{BeginsOrGoesOn}
 abbrev unopened : List RuleText → List Event → Record → Event
 unopened rules past r = judge_unopened rules past r.connection (moment_of r.what) r.note
 
-module _ (rules : List RuleText) (past : List Event) (connections : Connections) (links : Links) (consumers : Consumers) (deliveries : Deliveries) (receivers : ConsumerLinks) (copies : Copies)
-    (sent : SentDeliveries) (are : StandFor rules connections links consumers deliveries receivers copies sent past) (r : Record) where
+module _ (rules : List RuleText) (past : List Event) (connections : Connections) (links : Links) (consumers : Consumers) (deliveries : Deliveries) (consumer_links : ConsumerLinks) (copies : Copies)
+    (sent : SentDeliveries) (are : StandFor rules connections links consumers deliveries consumer_links copies sent past) (r : Record) where
   begun-or-going : (j : Outgoing) → BeginsOrGoesOn past j → KnowsOrBegins sent past j
   begun-or-going j (inl begins) = inr begins
   begun-or-going j (inr (l, live, going)) = inl (progress-knows rules past (judged-of rules past are.0) sent are.1.1.1.1.1.1.1.1.entries l j going)

@@ -23,13 +23,13 @@ use Rattle.audit_answers.specs.declared.tables.Tables.{Tables}
 -- each has what the law says of these events, which are those of some records judged by these rules, each of which meets the
 -- clauses
 abbrev pub StandFor : List RuleText → Connections → Links → Consumers → Deliveries → ConsumerLinks → Copies → SentDeliveries → List Event → Type 0
-StandFor rules connections links consumers deliveries receivers copies sent past =
+StandFor rules connections links consumers deliveries consumer_links copies sent past =
     IsHistory rules past × (AreKept connections past × (AreLinked links past × (AreConsumers consumers past × (IsTable rules deliveries past
-    × (AreConsumerLinks receivers past × (AreCopies rules copies past × ((first_broken rules past ≡ None) × sent_tables.IsTable sent past)))))))
+    × (AreConsumerLinks consumer_links past × (AreCopies rules copies past × ((first_broken rules past ≡ None) × sent_tables.IsTable sent past)))))))
 
 abbrev pub AreTables : List RuleText → Tables → List Event → Type 0
 AreTables rules tables past =
-    StandFor rules tables.connections tables.links tables.consumers tables.deliveries tables.receivers tables.copies tables.sent past
+    StandFor rules tables.connections tables.links tables.consumers tables.deliveries tables.consumer_links tables.copies tables.sent past
 
 -- how many entries they have; a delivery to a client, and what is known of an address, is no entry of its own
 abbrev pub entries_of : Tables → ℕ

@@ -13,7 +13,7 @@ use capture_form::Rule;
 use trace_events::Session;
 use trace_law::{Asking, Counts, History, Incoming, Inputs, Link, Openings, Questions};
 
-/// The tables, lent. `consumers` has the live links of consumers by address, and `receivers` the same links by number;
+/// The tables, lent. `consumers` has the live links of consumers by address, and `consumer_links` the same links by number;
 /// `deliveries` are those from clients, `sent` those to clients.
 #[derive(Clone, Copy)]
 pub struct Looked<'t> {
@@ -21,7 +21,7 @@ pub struct Looked<'t> {
     pub links: &'t Links,
     pub consumers: &'t Consumers,
     pub deliveries: &'t Deliveries,
-    pub receivers: &'t ConsumerLinks,
+    pub consumer_links: &'t ConsumerLinks,
     pub copies: &'t Copies,
     pub sent: &'t SentDeliveries,
 }
@@ -36,7 +36,7 @@ impl<'t> History for Looked<'t> {
 
     ghost stands_for = { λ looked rules history.
         StandFor rules looked.connections.now looked.links.now looked.consumers.now looked.deliveries.now
-        looked.receivers.now looked.copies.now looked.sent.now history };
+        looked.consumer_links.now looked.copies.now looked.sent.now history };
 
     ghost knows_number = { λ looked number history. has_number looked.deliveries.now number ≡ true };
 

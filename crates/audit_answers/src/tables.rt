@@ -26,7 +26,7 @@ pub struct Tables {
     links: Links,
     consumers: Consumers,
     deliveries: Deliveries,
-    receivers: ConsumerLinks,
+    consumer_links: ConsumerLinks,
     copies: Copies,
     sent: SentDeliveries,
 }
@@ -42,7 +42,7 @@ impl Tables {
             links: Links::new(alloc),
             consumers: Consumers::new(alloc),
             deliveries: Deliveries::new(alloc),
-            receivers: ConsumerLinks::new(alloc),
+            consumer_links: ConsumerLinks::new(alloc),
             copies: Copies::new(alloc),
             sent: SentDeliveries::new(alloc),
         }
@@ -52,14 +52,14 @@ impl Tables {
     pub fn looked(&self) -> Looked<'_>
         ensures { (rules : List RuleText) (history : Events) → AreTables rules self.now history →
             StandFor rules result.connections.now result.links.now result.consumers.now result.deliveries.now
-            result.receivers.now result.copies.now result.sent.now history }
+            result.consumer_links.now result.copies.now result.sent.now history }
     {
         Looked {
             connections: &self.connections,
             links: &self.links,
             consumers: &self.consumers,
             deliveries: &self.deliveries,
-            receivers: &self.receivers,
+            consumer_links: &self.consumer_links,
             copies: &self.copies,
             sent: &self.sent,
         }
@@ -92,12 +92,12 @@ impl Tables {
             rules,
             event,
             &self.consumers,
-            &self.receivers,
+            &self.consumer_links,
             &self.links,
         )?;
         self.consumers.take(event, &ended)?;
         self.deliveries.take(rules, event, &ended, &self.consumers)?;
-        self.receivers.take(event, &ended)?;
+        self.consumer_links.take(event, &ended)?;
         self.copies.take(rules, event, &ended, &receivers)?;
         self.sent.take(event, &ended)?;
         drop(ended);

@@ -75,14 +75,14 @@ impl UnsentCopies {
             rules,
             event,
             before.consumers,
-            before.receivers,
+            before.consumer_links,
             before.links,
         )?;
         self.copies.take(rules, event, &ended, &receivers)?;
         self.lists.end(&ended);
         self.lists.send(event);
         self.lists
-            .come(event, &receivers, before.receivers, &self.copies)?;
+            .come(event, &receivers, before.consumer_links, &self.copies)?;
         self.lists.touch(event)?;
         self.lists.wake(event)?;
         Ok(())
@@ -120,7 +120,7 @@ impl UnsentCopies {
         ensures kept { (past : Events) → AreOf rules.now looked.now past → HasUnsent rules.now self.old past → HasUnsent rules.now self.new past }
         ensures links { self.new.lists.links ≡ self.old.lists.links }
     {
-        let link = looked.receivers.get(number)?;
+        let link = looked.consumer_links.get(number)?;
         if !may_take(&link, looked) {
             return None;
         }

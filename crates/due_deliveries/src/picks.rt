@@ -96,7 +96,7 @@ fn may_take(looked: &Looked<'_>, number: u64) -> bool
     ensures { (rules : List RuleText) (records : List Record) → StandsFor rules looked.now (history rules records) →
         result ≡ is_some_and (consumer_at number (history rules records)) (may_take (history rules records)) }
 {
-    match looked.receivers.get(number) {
+    match looked.consumer_links.get(number) {
         Some(link) => takes(looked, &link),
         None => false,
     }
@@ -168,7 +168,7 @@ impl Picks {
                     result ≡ is_some_and (consumer_at number (history rules records)) (may_take (history rules records)) }
             { may_take(looked, number) },
         )?;
-        looked.receivers.get(number)
+        looked.consumer_links.get(number)
     }
 
     /// The link of a consumer that the event opens is attached to its address.

@@ -141,7 +141,7 @@ fn drain_due<'t>(number: u64, rules: &[Rule], looked: &Looked<'t>) -> Option<Lin
     ensures found { (past : Events) → AreOf rules.now looked.now past → (l : law.Link) → l.number ≡ number → IsDrainable rules.now l past →
         is_some result ≡ true }
 {
-    let link = looked.receivers.get(number)?;
+    let link = looked.consumer_links.get(number)?;
     if may_be_drained(rules, &link, looked) {
         Some(link)
     } else {

@@ -160,7 +160,7 @@ fn part_due<'t>(number: u64, looked: &Looked<'t>) -> Option<DuePart<'t>>
     ensures found { (rules : List RuleText) (past : Events) → AreOf rules looked.now past → (l : law.Link) → l.number ≡ number → IsStill l past →
         is_some result ≡ true }
 {
-    let link = looked.receivers.get(number)?;
+    let link = looked.consumer_links.get(number)?;
     let delivery = looked.outgoing_in_progress(&link)?;
     if looked.session_window(link.session) == 0 {
         return None;

@@ -90,7 +90,7 @@ impl Awake {
         self.add(completed(event))?;
         self.add(credited(event))?;
         self.add(freed(event))?;
-        self.wake_session(granted(event, before), links, before.receivers)?;
+        self.wake_session(granted(event, before), links, before.consumer_links)?;
         Ok(())
     }
 
@@ -99,17 +99,17 @@ impl Awake {
         &mut self,
         session: Option<u64>,
         links: &BySession,
-        receivers: &ConsumerLinks,
+        consumer_links: &ConsumerLinks,
     ) -> Result<(), AllocError>
         ensures woken { OnOk result ((l : law.Link) → session ≡ Some l.session.number → stands links.now l.session.number l.number ≡ true →
-            link_in receivers.now l.number ≡ Some l → is_awake self.new l.address ≡ true) }
+            link_in consumer_links.now l.number ≡ Some l → is_awake self.new l.address ≡ true) }
         ensures kept { OnOk result (IsKept self.old self.new) }
     {
         let Some(session) = session else {
             return Ok(());
         };
         for index in 0..links.count(session) {
-            self.add(address_at(links.get(session, index), receivers))?;
+            self.add(address_at(links.get(session, index), consumer_links))?;
         }
         Ok(())
     }
@@ -211,9 +211,9 @@ fn granted(event: &Event, before: &Looked<'_>) -> Option<u64>
 }
 
 /// The address of the link of this number, where the table has it.
-fn address_at(number: Option<u64>, receivers: &ConsumerLinks) -> Option<&[u8]>
-    ensures { option_map (λ octets. octets.now) result ≡ option_map (λ (l : law.Link). l.address) (option_and_then (link_in receivers.now) number) }
+fn address_at(number: Option<u64>, consumer_links: &ConsumerLinks) -> Option<&[u8]>
+    ensures { option_map (λ octets. octets.now) result ≡ option_map (λ (l : law.Link). l.address) (option_and_then (link_in consumer_links.now) number) }
 {
-    let link = receivers.get(number?)?;
+    let link = consumer_links.get(number?)?;
     Some(link.address)
 }

@@ -18,8 +18,8 @@ returns-in_ok-new-in-Ok-clause-lawful c = λ records stands.
     let t = c.looked-looked.result in
     let lent = c.looked-looked.ensures rules past stands.0 in
     let answer = c.next_event.ensures past r lent (ap (λ (x : Tally). x.records) stands.1) (refl, c.of-moment.ensures, refl)
-    (next-carries rules past t.connections.now t.links.now t.consumers.now t.deliveries.now t.receivers.now t.copies.now t.sent.now lent r)
-    (next-opens rules past t.connections.now t.links.now t.consumers.now t.deliveries.now t.receivers.now t.copies.now t.sent.now lent r) in
+    (next-carries rules past t.connections.now t.links.now t.consumers.now t.deliveries.now t.consumer_links.now t.copies.now t.sent.now lent r)
+    (next-opens rules past t.connections.now t.links.now t.consumers.now t.deliveries.now t.consumer_links.now t.copies.now t.sent.now lent r) in
     let ok = subst (λ (x : Result Event Clause). IsAnswer rules past r (viewed x)) c.in-Ok.is answer in
     let same = c.in_ok-new-in-Ok.ensures.copied (moment_of r.what) ∙ same-event rules records r (event_view c.in-Ok.event) (moment_of r.what) refl ok.0 in
     lawful-next rules records r (held_event_view c.in_ok-new-in-Ok.field-0 (moment_of r.what)) same stands.0.1.1.1.1.1.1.1.0 ok.1
@@ -32,8 +32,8 @@ returns-in_ok-new-in-Ok-clause-met c = λ records stands.
     let t = c.looked-looked.result in
     let lent = c.looked-looked.ensures rules past stands.0 in
     let answer = c.next_event.ensures past r lent (ap (λ (x : Tally). x.records) stands.1) (refl, c.of-moment.ensures, refl)
-    (next-carries rules past t.connections.now t.links.now t.consumers.now t.deliveries.now t.receivers.now t.copies.now t.sent.now lent r)
-    (next-opens rules past t.connections.now t.links.now t.consumers.now t.deliveries.now t.receivers.now t.copies.now t.sent.now lent r) in
+    (next-carries rules past t.connections.now t.links.now t.consumers.now t.deliveries.now t.consumer_links.now t.copies.now t.sent.now lent r)
+    (next-opens rules past t.connections.now t.links.now t.consumers.now t.deliveries.now t.consumer_links.now t.copies.now t.sent.now lent r) in
     let ok = subst (λ (x : Result Event Clause). IsAnswer rules past r (viewed x)) c.in-Ok.is answer in
     ok.1
 
@@ -45,6 +45,6 @@ returns-in-Err-clause-reason c = λ records stands.
     let t = c.looked-looked.result in
     let lent = c.looked-looked.ensures rules past stands.0 in
     let answer = c.next_event.ensures past r lent (ap (λ (x : Tally). x.records) stands.1) (refl, c.of-moment.ensures, refl)
-    (next-carries rules past t.connections.now t.links.now t.consumers.now t.deliveries.now t.receivers.now t.copies.now t.sent.now lent r)
-    (next-opens rules past t.connections.now t.links.now t.consumers.now t.deliveries.now t.receivers.now t.copies.now t.sent.now lent r) in
+    (next-carries rules past t.connections.now t.links.now t.consumers.now t.deliveries.now t.consumer_links.now t.copies.now t.sent.now lent r)
+    (next-opens rules past t.connections.now t.links.now t.consumers.now t.deliveries.now t.consumer_links.now t.copies.now t.sent.now lent r) in
     subst (λ (x : Result Event Clause). IsAnswer rules past r (viewed x)) c.in-Err.is answer

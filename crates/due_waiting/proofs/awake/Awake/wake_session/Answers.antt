@@ -17,6 +17,6 @@ loop-index-preserved c =
           (λ was. before (own (λ octets. bytes_eq octets.now m.address)) (is_awake c.loop-index.self m.address) (is_awake c.add.new.self m.address) (c.in_ok-add.ensures m.address) (c.loop-index.invariant.0 m was at))
           (λ here. at-once (own (λ octets. bytes_eq octets.now m.address)) (is_awake c.loop-index.self m.address) (is_awake c.add.new.self m.address) (c.in_ok-add.ensures m.address)
           (named (λ octets. octets.now) c.address_at.result m.address
-          (c.address_at.ensures ∙ (ap (λ o. option_map (λ (l : law.Link). l.address) (option_and_then (link_in c.args.receivers.now) o)) (c.get.ensures ∙ here) ∙ ap (option_map (λ (l : law.Link). l.address)) at)))) among,
+          (c.address_at.ensures ∙ (ap (λ o. option_map (λ (l : law.Link). l.address) (option_and_then (link_in c.args.consumer_links.now) o)) (c.get.ensures ∙ here) ∙ ap (option_map (λ (l : law.Link). l.address)) at)))) among,
       λ address was. before (own (λ octets. bytes_eq octets.now address)) (is_awake c.loop-index.self address) (is_awake c.add.new.self address) (c.in_ok-add.ensures address) (c.loop-index.invariant.1 address was),
     )

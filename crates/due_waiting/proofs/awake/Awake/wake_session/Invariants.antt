@@ -8,5 +8,5 @@ use Rattle.due_waiting.proofs.awake.Awake.wake_session.Given as goal
 
 abbrev pub invariant-loop-index : goal.invariant-loop-index
 invariant-loop-index l =
-    ((m : law.Link) → list_any (nat_eq m.number) (take l.index (numbers nat_eq l.links.numbers l.session)) ≡ true → link_in l.receivers m.number ≡ Some m → is_awake l.self m.address ≡ true)
+    ((m : law.Link) → list_any (nat_eq m.number) (take l.index (numbers nat_eq l.links.numbers l.session)) ≡ true → link_in l.consumer_links m.number ≡ Some m → is_awake l.self m.address ≡ true)
     × IsKept l.fn.self l.self

@@ -18,7 +18,7 @@ returns g c =
     let r = c.args.entry.now in
     let t = c.looked-looked.result in
     let lent = c.looked-looked.ensures rules past stand.tables in
-    let known = next-opens rules past t.connections.now t.links.now t.consumers.now t.deliveries.now t.receivers.now t.copies.now t.sent.now lent r (sym (broken-unopened rules past r) ∙ unbroken) in
+    let known = next-opens rules past t.connections.now t.links.now t.consumers.now t.deliveries.now t.consumer_links.now t.copies.now t.sent.now lent r (sym (broken-unopened rules past r) ∙ unbroken) in
     let event = c.judge-event.ensures past lent (numbered rules records r c.args.number numbers) known in
     let same = copied (moment_of r.what) ∙ same-event rules records r (event_view c.judge-event.result) event in
     lawful-next rules records r (held_event_view held (moment_of r.what)) same lent.1.1.1.1.1.1.1.0 unbroken)
