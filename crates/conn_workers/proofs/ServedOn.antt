@@ -16,7 +16,8 @@ use Rattle.conn_engine.specs.Taking.{AfterLoss, Refilled, is_loss_due}
 use Rattle.conn_workers.specs.declared.line.Status.{Status}
 use Rattle.conn_workers.specs.declared.line.Status.TheVariants.{Open}
 use Rattle.conn_workers.specs.declared.serving.Turn.{Turn}
-use Rattle.conn_workers.specs.declared.serving.Turn.TheVariants as turns
+use Rattle.conn_workers.specs.declared.serving.Motion.{Motion}
+use Rattle.conn_workers.specs.declared.serving.Motion.TheVariants as motions
 use Rattle.conn_workers.specs.Lines.{HasCause, IsOpen, IsOverFor, IsServed, LineHolds, status_after, stop_of}
 use Rattle.conn_workers.proofs.Serves.{serving_fed, serving_given, serving_gone, serving_new, serving_refilled}
 
@@ -107,9 +108,9 @@ pub line_open : {G : Type 0} (Delivered Took : G → List ℕ → Type 0) (ended
 line_open Delivered Took ended turn gate e taken is h = subst (λ (s : Status). LineHolds Delivered Took ended s gate e taken) (sym is) h
 
 -- why one does not
-pub why_ended : {B : Type 0} (turn : Turn) (has_ended : Bool) → (turn ≡ turns.Over → has_ended ≡ true) → (turn ≡ turns.Over) ⊎ B → (has_ended ≡ true) ⊎ B
-why_ended turn has_ended then (inl is) = inl (then is)
-why_ended turn has_ended then (inr is) = inr is
+pub why_ended : {B : Type 0} (motion : Motion) (has_ended : Bool) → (motion ≡ motions.Gone → has_ended ≡ true) → (motion ≡ motions.Gone) ⊎ B → (has_ended ≡ true) ⊎ B
+why_ended motion has_ended then (inl is) = inl (then is)
+why_ended motion has_ended then (inr is) = inr is
 
 -- what a call does where it succeeds, behind another
 pub on_ok_behind : {T E P Q : Type 0} (R : Type 0) (result : Result T E) → (P → Q) → OnOk result (Q → R) → OnOk result (P → R)

@@ -18,7 +18,9 @@ use Rattle.conn_workers.specs.declared.line.Status.TheVariants.{Open, Ended, Fai
 use Rattle.conn_workers.specs.declared.serving.Stop.{Stop}
 use Rattle.conn_workers.specs.declared.serving.Stop.TheVariants as stops
 use Rattle.conn_workers.specs.declared.serving.Turn.{Turn}
-use Rattle.conn_workers.specs.declared.serving.Turn.TheVariants.{Moved, Still, Over as Past}
+use Rattle.conn_workers.specs.declared.serving.Turn.TheVariants as turns
+use Rattle.conn_workers.specs.declared.serving.Motion.{Motion}
+use Rattle.conn_workers.specs.declared.serving.Motion.TheVariants.{Moved, Still, Gone}
 use Rattle.conn_workers.specs.Streams.{IsStopped, IsStream, IsTurnedAway, IsUnfinished, loss_at}
 
 -- ---- an engine that serves
@@ -95,9 +97,9 @@ LineHolds Delivered Took ended Failed gate e taken = Unit {0}
 
 -- how far it is behind a turn
 abbrev pub status_after : Turn → Status
-status_after Moved = Open
-status_after Still = Open
-status_after Past = Ended
+status_after turns.Moved = Open
+status_after turns.Still = Open
+status_after turns.Ended = Ended
 
 -- a gate that was shut, what it took, and the seat of its connection
 pub record IsDone {G : Type 0} (gates : List G) (Follows : G → G → Type 0) (Delivered Took : G → List ℕ → Type 0) (ended : G → Bool) (gate : G) (taken : List ℕ) (seat : Seat) : Type 0 where
@@ -107,10 +109,10 @@ pub record IsDone {G : Type 0} (gates : List G) (Follows : G → G → Type 0) (
 -- ---- turns
 
 -- what two parts of a turn did
-abbrev pub either_turn : Turn → Turn → Turn
-either_turn wrote Moved = Moved
-either_turn wrote Still = wrote
-either_turn wrote Past = Past
+abbrev pub either_motion : Motion → Motion → Motion
+either_motion wrote Moved = Moved
+either_motion wrote Still = wrote
+either_motion wrote Gone = Gone
 
 -- why a worker does not go on behind an engine's answer
 abbrev pub stop_of : Result Unit EngineFault → Option Stop

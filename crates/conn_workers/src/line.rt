@@ -122,9 +122,9 @@ impl<G: Gate, P: Port, J: Origin<G>> Line<G, P, J> {
         ensures { IfOk result (λ turn. self.new ≡ status_after turn) }
     {
         match serve(&mut self.gate, &mut self.engine, &mut self.taken, buffer) {
-            Ok(Turn::Over) => {
+            Ok(Turn::Ended) => {
                 self.status = Status::Ended;
-                Ok(Turn::Over)
+                Ok(Turn::Ended)
             }
             Ok(Turn::Moved) => Ok(Turn::Moved),
             Ok(Turn::Still) => Ok(Turn::Still),

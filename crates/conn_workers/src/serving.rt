@@ -1,10 +1,10 @@
 //! The octets of one connection, moved between its gate and its engine.
 
-ghost use Rattle.std.specs.Prelude.{◌≡◌, ◌≤◌, ◌<◌, ◌++◌, ◌⊎◌, ◌↔◌, IsTrue, [], List, ℕ, length, take, true, false, IfOk, OnOk, Ok, MatchBool};
+ghost use Rattle.std.specs.Prelude.{◌≡◌, ◌≤◌, ◌<◌, ◌++◌, ◌⊎◌, ◌↔◌, IsTrue, [], List, ℕ, length, take, true, false, IfOk, OnOk, Ok, MatchOption};
 ghost use Rattle.conn_engine.specs.Closing.{is_over};
 ghost use Rattle.conn_workers.specs.declared.line.Status.TheVariants.{Open};
-ghost use Rattle.conn_workers.specs.declared.serving.Turn.TheVariants as turns;
-ghost use Rattle.conn_workers.specs.Lines.{IsOpen, IsServed, LineHolds, either_turn, status_after, stop_of};
+ghost use Rattle.conn_workers.specs.declared.serving.Motion.TheVariants as motions;
+ghost use Rattle.conn_workers.specs.Lines.{IsOpen, IsServed, LineHolds, either_motion, status_after, stop_of};
 
 use conn_engine::{Delivered, Engine, EngineFault, Gate, Port, Taken};
 
@@ -26,8 +26,19 @@ pub(crate) enum Turn {
     Moved,
     /// None.
     Still,
-    /// The gate ended or failed; or the line has ended.
-    Over,
+    /// The connection was ended.
+    Ended,
+}
+
+/// What was done with a gate.
+#[derive(Clone, Copy, Debug, PartialEq, Eq)]
+pub(crate) enum Motion {
+    /// Octets were moved.
+    Moved,
+    /// None.
+    Still,
+    /// The gate ended or failed.
+    Gone,
 }
 
 /// Moves what octets can be moved now, and ends the connection where its gate has ended or failed, or its engine is over and
@@ -48,15 +59,15 @@ pub(crate) fn serve<G: Gate, P: Port>(
     ensures follows { G.follows gate.old gate.new }
     ensures number { engine.new.number ≡ engine.old.number }
 {
-    let turn = match advance(gate, engine, taken, buffer) {
-        Ok(turn) => turn,
+    let motion = match advance(gate, engine, taken, buffer) {
+        Ok(motion) => motion,
         Err(stop) => return Err(stop),
     };
-    if goes_on(turn, engine) {
+    if let Some(turn) = going_on(motion, engine) {
         return Ok(turn);
     }
     match end(gate, engine, taken) {
-        Ok(()) => Ok(Turn::Over),
+        Ok(()) => Ok(Turn::Ended),
         Err(stop) => Err(stop),
     }
 }
@@ -68,10 +79,10 @@ fn advance<G: Gate, P: Port>(
     engine: &mut Engine<P>,
     taken: &mut Vec<u8>,
     buffer: &mut [u8],
-) -> Result<Turn, Stop>
+) -> Result<Motion, Stop>
     requires { 0 < length buffer.old }
     ensures holds { OnOk result (IsOpen G.delivered G.took gate.old engine.old taken.old.items → IsOpen G.delivered G.took gate.new engine.new taken.new.items) }
-    ensures ended { result ≡ Ok turns.Over → G.has_ended gate.new ≡ true }
+    ensures ended { result ≡ Ok motions.Gone → G.has_ended gate.new ≡ true }
     ensures follows { G.follows gate.old gate.new }
     ensures number { engine.new.number ≡ engine.old.number }
 {
@@ -87,21 +98,21 @@ fn move_octets<G: Gate, P: Port>(
     engine: &mut Engine<P>,
     taken: &mut Vec<u8>,
     buffer: &mut [u8],
-) -> Result<Turn, Stop>
+) -> Result<Motion, Stop>
     requires { 0 < length buffer.old }
     ensures holds { OnOk result (IsOpen G.delivered G.took gate.old engine.old taken.old.items → IsOpen G.delivered G.took gate.new engine.new taken.new.items) }
-    ensures ended { result ≡ Ok turns.Over → G.has_ended gate.new ≡ true }
+    ensures ended { result ≡ Ok motions.Gone → G.has_ended gate.new ≡ true }
     ensures follows { G.follows gate.old gate.new }
     ensures number { engine.new.number ≡ engine.old.number }
 {
     match write_out(gate, engine, taken) {
-        Ok(Turn::Over) => Ok(Turn::Over),
+        Ok(Motion::Gone) => Ok(Motion::Gone),
         Ok(wrote) => {
             if engine.is_over() {
                 return Ok(wrote);
             }
             match read_in(gate, engine, taken, buffer) {
-                Ok(read) => Ok(either_turn(wrote, read)),
+                Ok(read) => Ok(either_motion(wrote, read)),
                 Err(stop) => Err(stop),
             }
         }
@@ -109,15 +120,15 @@ fn move_octets<G: Gate, P: Port>(
     }
 }
 
-/// Shows the gate what waits. It is over where the gate failed.
+/// Shows the gate what waits. It is gone where the gate failed.
 #[tactic(auto, using(crate::proofs::ServedOn::open_written, crate::proofs::ServedOn::open_kept))]
 fn write_out<G: Gate, P: Port>(
     gate: &mut G,
     engine: &mut Engine<P>,
     taken: &mut Vec<u8>,
-) -> Result<Turn, Stop>
+) -> Result<Motion, Stop>
     ensures holds { OnOk result (IsOpen G.delivered G.took gate.old engine.old taken.old.items → IsOpen G.delivered G.took gate.new engine.new taken.new.items) }
-    ensures ended { result ≡ Ok turns.Over → G.has_ended gate.new ≡ true }
+    ensures ended { result ≡ Ok motions.Gone → G.has_ended gate.new ≡ true }
     ensures follows { G.follows gate.old gate.new }
     ensures number { engine.new.number ≡ engine.old.number }
 {
@@ -130,35 +141,35 @@ fn write_out<G: Gate, P: Port>(
                 unreachable!()
             };
             engine.gave(n);
-            Ok(turn_of(n))
+            Ok(motion_of(n))
         }
-        Taken::Nothing => Ok(Turn::Still),
-        Taken::Fault => Ok(Turn::Over),
+        Taken::Nothing => Ok(Motion::Still),
+        Taken::Fault => Ok(Motion::Gone),
     }
 }
 
-/// Feeds the engine what the gate delivers. It is over where the gate ended or failed.
+/// Feeds the engine what the gate delivers. It is gone where the gate ended or failed.
 #[tactic(auto, using(crate::proofs::ServedOn::open_fed, crate::proofs::ServedOn::open_kept))]
 fn read_in<G: Gate, P: Port>(
     gate: &mut G,
     engine: &mut Engine<P>,
     taken: &Vec<u8>,
     buffer: &mut [u8],
-) -> Result<Turn, Stop>
+) -> Result<Motion, Stop>
     requires going { is_over engine.old.place ≡ false }
     requires room { 0 < length buffer.old }
     ensures holds { OnOk result (IsOpen G.delivered G.took gate.old engine.old taken.now.items → IsOpen G.delivered G.took gate.new engine.new taken.now.items) }
-    ensures ended { result ≡ Ok turns.Over → G.has_ended gate.new ≡ true }
+    ensures ended { result ≡ Ok motions.Gone → G.has_ended gate.new ≡ true }
     ensures follows { G.follows gate.old gate.new }
     ensures number { engine.new.number ≡ engine.old.number }
 {
     match gate.read(buffer) {
         Delivered::Octets(n) => match stop_of(engine.feed(&buffer[..n])) {
-            None => Ok(turn_of(n)),
+            None => Ok(motion_of(n)),
             Some(stop) => Err(stop),
         },
-        Delivered::Nothing => Ok(Turn::Still),
-        Delivered::End | Delivered::Fault => Ok(Turn::Over),
+        Delivered::Nothing => Ok(Motion::Still),
+        Delivered::End | Delivered::Fault => Ok(Motion::Gone),
     }
 }
 
@@ -182,15 +193,17 @@ fn end<G: Gate, P: Port>(gate: &mut G, engine: &mut Engine<P>, taken: &Vec<u8>) 
     }
 }
 
-/// Whether a line goes on behind a turn: its gate has neither ended nor failed, and its engine is not over or has something
-/// to give.
-fn goes_on<P: Port>(turn: Turn, engine: &Engine<P>) -> bool
-    ensures { MatchBool result (status_after turn ≡ Open) ((turn ≡ turns.Over) ⊎ ((is_over engine.now.place ≡ true) × (engine.now.waiting ≡ []))) }
+/// The turn of a line that goes on behind this: its gate has neither ended nor failed, and its engine is not over or has
+/// something to give.
+fn going_on<P: Port>(motion: Motion, engine: &Engine<P>) -> Option<Turn>
+    ensures { MatchOption result ((motion ≡ motions.Gone) ⊎ ((is_over engine.now.place ≡ true) × (engine.now.waiting ≡ []))) (λ turn. status_after turn ≡ Open) }
 {
-    match turn {
-        Turn::Over => false,
-        Turn::Moved | Turn::Still => !is_done(engine),
-    }
+    let turn = match motion {
+        Motion::Moved => Turn::Moved,
+        Motion::Still => Turn::Still,
+        Motion::Gone => return None,
+    };
+    if is_done(engine) { None } else { Some(turn) }
 }
 
 /// Whether the engine is over and all is given.
@@ -201,19 +214,19 @@ fn is_done<P: Port>(engine: &Engine<P>) -> bool
 }
 
 /// Whether octets were moved.
-fn turn_of(n: usize) -> Turn
-    ensures { (result ≡ turns.Moved) ⊎ (result ≡ turns.Still) }
+fn motion_of(n: usize) -> Motion
+    ensures { (result ≡ motions.Moved) ⊎ (result ≡ motions.Still) }
 {
-    if n == 0 { Turn::Still } else { Turn::Moved }
+    if n == 0 { Motion::Still } else { Motion::Moved }
 }
 
 /// What two parts of a turn did.
-fn either_turn(wrote: Turn, read: Turn) -> Turn
-    ensures { result ≡ either_turn wrote read }
+fn either_motion(wrote: Motion, read: Motion) -> Motion
+    ensures { result ≡ either_motion wrote read }
 {
     match read {
-        Turn::Still => wrote,
-        Turn::Moved | Turn::Over => read,
+        Motion::Still => wrote,
+        Motion::Moved | Motion::Gone => read,
     }
 }
 

@@ -125,7 +125,7 @@ fn serve_next<'a, G: Gate + Drop, R: Wait, J: Origin<G>>(
         return Ok(false);
     };
     let turn = line.turn(buffer)?;
-    if turn == Turn::Over {
+    if turn == Turn::Ended {
         return match done.push(Done::new(line)) {
             Ok(()) => Ok(true),
             Err(_) => Err(Stop::Memory),
