@@ -1,5 +1,6 @@
 mod AuditorExamples
 mod ReadSteps
+mod Watches
 mod FrontText
 mod Streams
 mod ReadSoFar

@@ -9,8 +9,8 @@ use Rattle.capture_form.specs.Reader.{left_of, offset_of, fault_of}
 use Rattle.audit_core.specs.declared.auditor.Auditor.{Auditor}
 use Rattle.audit_core.specs.Auditor.{Agrees}
 
--- records of these rules were read from what was left, and taken by the auditor
-pub record ReadSoFar {R : Type 0} (remaining : R → Option (List ℕ)) (rules : List RuleText) (left : Option (List ℕ)) (reader : Reader R) (auditor : Auditor) (offset : ℕ) : Type 0 where
+-- records of these rules were read from what was left, taken by the auditor, and seen
+pub record ReadSoFar {R : Type 0} (remaining : R → Option (List ℕ)) (rules : List RuleText) (left : Option (List ℕ)) (reader : Reader R) (auditor : Auditor) (offset : ℕ) (saw : List Record → Type 0) : Type 0 where
   pub records : List Record
   pub bounds : IsCapture (record { rules = rules; records = records })
   pub agrees : Agrees auditor rules records
@@ -18,3 +18,4 @@ pub record ReadSoFar {R : Type 0} (remaining : R → Option (List ℕ)) (rules :
   pub place : offset ≡ length (text (record { rules = rules; records = records }))
   pub at : offset_of reader ≡ offset
   pub runs : fault_of reader ≡ None
+  pub seen : saw records

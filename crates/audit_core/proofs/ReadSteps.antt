@@ -40,7 +40,7 @@ many_records (entry ∷ records) =
 
 module _ (rules : List RuleText) (records : List Record) (offset : ℕ) (bounds : IsCapture (record { rules = rules; records = records })) (lawful : broken_in (record { rules = rules; records = records }) ≡ None)
     (place : offset ≡ length (text (record { rules = rules; records = records }))) where
-  begins : (all rest : List ℕ) → all ≡ records_text records ++ rest → text_of_head rules ++ all ≡ text (record { rules = rules; records = records }) ++ rest
+  pub begins : (all rest : List ℕ) → all ≡ records_text records ++ rest → text_of_head rules ++ all ≡ text (record { rules = rules; records = records }) ++ rest
   begins all rest taken = ap (λ (t : List ℕ). text_of_head rules ++ t) taken ∙ text_parts rules records rest
 
   ends_by : (tally : Tally) → tally ≡ tally_of (history rules records) → (first left later : Option (List ℕ)) → Consumes first left (records_text records) → IfSome left (λ octets. IsNext octets later None)
@@ -90,9 +90,9 @@ moved_so before after found entry is moved = moved ∙ ap (λ f. before + length
 -- ---- steps
 
 module _ {R : Type 0} (remaining : R → Option (List ℕ)) (rules : List RuleText) where
-  pub starts : (reader : Reader R) (auditor : Auditor) (offset : ℕ) → AreRules rules → Agrees auditor rules [] → offset ≡ length (text_of_head rules) → offset_of reader ≡ length (text_of_head rules) → fault_of reader ≡ None
-      → ReadSoFar remaining rules (left_of remaining reader) reader auditor offset
-  starts reader auditor offset bounds agrees place at runs = record {
+  pub starts : (reader : Reader R) (auditor : Auditor) (offset : ℕ) (saw : List Record → Type 0) → AreRules rules → Agrees auditor rules [] → offset ≡ length (text_of_head rules) → offset_of reader ≡ length (text_of_head rules) → fault_of reader ≡ None
+      → saw [] → ReadSoFar remaining rules (left_of remaining reader) reader auditor offset saw
+  starts reader auditor offset saw bounds agrees place at runs unseen = record {
     records = [];
     bounds = record { rules = bounds; records = tt };
     agrees = agrees;
@@ -100,19 +100,21 @@ module _ {R : Type 0} (remaining : R → Option (List ℕ)) (rules : List RuleTe
     place = omega (arith, place, long_parts (record { rules = rules; records = [] }));
     at = at ∙ sym place;
     runs = runs;
+    seen = unseen;
   }
 
-  module _ (first : Option (List ℕ)) (reader : Reader R) (auditor : Auditor) (offset : ℕ) (so_far : ReadSoFar remaining rules first reader auditor offset) where
+  module _ (first : Option (List ℕ)) (reader : Reader R) (auditor : Auditor) (offset : ℕ) (saw : List Record → Type 0) (so_far : ReadSoFar remaining rules first reader auditor offset saw) where
     -- there is room for one more in the auditor where one was read
     pub few : (most length_next further : ℕ) → further ≡ offset_of reader + length_next → further ≤ most → 0 < length_next → (tally_by auditor).records < most
     few most length_next further moved within some =
         let counted : (tally_by auditor).records ≡ length so_far.records = ap (λ (t : Tally). t.records) so_far.agrees.counted ∙ length-history rules so_far.records in
         omega (arith, counted, many_records so_far.records, so_far.place, so_far.at, long_parts (record { rules = rules; records = so_far.records }), moved, within, some)
 
-    pub goes_on : (entry : Record) (next : Reader R) (taker : Auditor) (len : ℕ) → IsRecord entry → len ≡ length (record_text entry) → IfSome (left_of remaining reader) (λ octets. IsNext octets (left_of remaining next) (Some entry))
+    pub goes_on : (entry : Record) (next : Reader R) (taker : Auditor) (len : ℕ) (then_saw : List Record → Type 0) → IsRecord entry → len ≡ length (record_text entry) → IfSome (left_of remaining reader) (λ octets. IsNext octets (left_of remaining next) (Some entry))
         → offset_of next ≡ offset_of reader + length (record_text entry) → fault_of next ≡ None
-        → ((rs : List RuleText) (es : List Record) → Agrees auditor rs es → Agrees taker rs (es ++ entry ∷ [])) → ReadSoFar remaining rules first next taker (offset + len)
-    goes_on entry next taker len fits counted read moved runs takes = record {
+        → ((rs : List RuleText) (es : List Record) → Agrees auditor rs es → Agrees taker rs (es ++ entry ∷ [])) → ((es : List Record) → saw es → then_saw (es ++ entry ∷ []))
+        → ReadSoFar remaining rules first next taker (offset + len) then_saw
+    goes_on entry next taker len then_saw fits counted read moved runs takes sees = record {
       records = so_far.records ++ entry ∷ [];
       bounds = record { rules = so_far.bounds.rules; records = all_push so_far.records entry so_far.bounds.records fits };
       agrees = takes rules so_far.records so_far.agrees;
@@ -120,6 +122,7 @@ module _ {R : Type 0} (remaining : R → Option (List ℕ)) (rules : List RuleTe
       place = omega (arith, so_far.place, counted, ap length (text_push rules so_far.records entry), length-append (text (record { rules = rules; records = so_far.records })) (record_text entry));
       at = omega (arith, moved, so_far.at, counted);
       runs = runs;
+      seen = sees so_far.records so_far.seen;
     }
 
     pub ends : (tally : Tally) (next : Option (List ℕ)) → tally ≡ tally_by auditor → IfSome (left_of remaining reader) (λ octets. IsNext octets next None) → IfSome first (λ all. AnswersRead (text_of_head rules ++ all) (Accepted tally))

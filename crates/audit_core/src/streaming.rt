@@ -1,6 +1,6 @@
 //! Judging a text that a reader gives, record by record.
 
-ghost use Rattle.std.specs.Prelude.{◌≡◌, ◌<◌, ◌++◌, ◌∷◌, List, [], length, IfErr, IfSome, None, OnOk};
+ghost use Rattle.std.specs.Prelude.{◌≡◌, ◌≢◌, ◌<◌, ◌++◌, ◌∷◌, List, [], length, IfErr, IfSome, None, OnOk};
 ghost use Rattle.capture_form.specs.declared.records.Record.{Record};
 ghost use Rattle.capture_form.specs.Rules.{AreRules, RuleText};
 ghost use Rattle.capture_form.specs.Reader.{left_of, offset_of, fault_of, text_of_head};
@@ -10,6 +10,7 @@ ghost use Rattle.audit_core.specs.declared.verdict.Refusal.TheVariants.{Memory};
 ghost use Rattle.audit_core.specs.declared.auditor.TheConstants.{MOST_RECORDS};
 ghost use Rattle.audit_core.specs.Auditor.{Agrees, IsRefusalBehind, rules_of, tally_by};
 ghost use Rattle.audit_core.specs.Verdict.{AnswersRead, IsKept, verdict_of_fault, verdict_of_refusal};
+ghost use Rattle.audit_core.specs.Watching.{TakesOneMore, Watched};
 
 use crate::auditor::Auditor;
 use crate::lengths::{len_of_head, len_of_record};
@@ -35,8 +36,11 @@ where
 pub fn audit_watched<R: Read, W: Watcher>(alloc: Global, reader: R, watcher: &mut W) -> Verdict
 where
     R: Drop,
+    requires { W.saw watcher.old [] }
     ensures answers { IfSome (R.remaining reader) (λ octets. AnswersRead octets result) }
     ensures kept { IfSome (R.remaining reader) (λ octets. (tally : Tally) → result ≡ Accepted tally → IsKept octets) }
+    // The watcher was told of each record that was taken, and of the one that was refused.
+    ensures watched { IfSome (R.remaining reader) (λ octets. Watched W.saw W.saw_refused watcher.new octets result) }
 {
     match Reader::start(alloc, reader) {
         Ok((rules, records)) => audit_read(alloc, rules, records, watcher),
@@ -56,7 +60,9 @@ where
     requires rules { AreRules rules.items }
     requires place { offset_of records ≡ length (text_of_head rules.items) }
     requires runs { fault_of records ≡ None }
-    ensures { IfSome (left_of R.remaining records) (λ left. AnswersRead (text_of_head rules.items ++ left) result) }
+    requires unseen { W.saw watcher.old [] }
+    ensures answers { IfSome (left_of R.remaining records) (λ left. AnswersRead (text_of_head rules.items ++ left) result) }
+    ensures watched { IfSome (left_of R.remaining records) (λ left. Watched W.saw W.saw_refused watcher.new (text_of_head rules.items ++ left) result) }
 {
     let offset = len_of_head(&rules);
     let mut auditor = Auditor::new(alloc, rules);
@@ -78,7 +84,9 @@ where
     requires head { offset ≡ length (text_of_head (rules_of auditor.old)) }
     requires place { offset_of records ≡ length (text_of_head (rules_of auditor.old)) }
     requires runs { fault_of records ≡ None }
-    ensures { IfSome (left_of R.remaining records) (λ left. AnswersRead (text_of_head (rules_of auditor.old) ++ left) result) }
+    requires unseen { W.saw watcher.old [] }
+    ensures answers { IfSome (left_of R.remaining records) (λ left. AnswersRead (text_of_head (rules_of auditor.old) ++ left) result) }
+    ensures watched { IfSome (left_of R.remaining records) (λ left. Watched W.saw W.saw_refused watcher.new (text_of_head (rules_of auditor.old) ++ left) result) }
 {
     let mut records = records;
     let mut offset = offset;
@@ -111,22 +119,22 @@ fn take_watched<W: Watcher>(
     requires agrees { (records : List Record) × Agrees auditor.old (rules_of auditor.old) records }
     ensures taken { OnOk result ((rules : List RuleText) (records : List Record) → Agrees auditor.old rules records → Agrees auditor.new rules (records ++ entry ∷ [])) }
     ensures refused { IfErr result (λ refusal. (rules : List RuleText) (records : List Record) → Agrees auditor.old rules records → IsRefusalBehind rules records entry refusal) }
+    ensures seen { OnOk result (TakesOneMore W.saw watcher.old watcher.new entry) }
+    ensures explained { IfErr result (λ refusal. refusal ≢ Memory → (rules : List RuleText) (records : List Record) → Agrees auditor.old rules records → W.saw watcher.old records → W.saw_refused watcher.new rules records entry) }
 {
     match auditor.follow(&entry) {
-        Ok(()) => as_refusal(watcher.taken(&entry)),
+        Ok(()) => match watcher.taken(&entry) {
+            Ok(()) => Ok(()),
+            Err(AllocError) => Err(Refusal::Memory),
+        },
         Err(Refusal::Memory) => Err(Refusal::Memory),
         Err(Refusal::Broken(number, clause)) => {
-            as_refusal(watcher.refused(auditor.ledger(), auditor.rules(), &entry))?;
-            Err(Refusal::Broken(number, clause))
+            match watcher.refused(auditor.ledger(), auditor.rules(), &entry) {
+                Ok(()) => Err(Refusal::Broken(number, clause)),
+                Err(AllocError) => Err(Refusal::Memory),
+            }
         }
     }
-}
-
-/// Want of memory, as a refusal.
-fn as_refusal(told: Result<(), AllocError>) -> Result<(), Refusal>
-    ensures { IfErr result (λ refusal. refusal ≡ Memory) }
-{
-    told.map_err(|_| Refusal::Memory)
 }
 
 /// The verdict where a record that stands at this offset is refused.

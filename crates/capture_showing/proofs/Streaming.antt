@@ -157,7 +157,7 @@ pub ends_of : (offset : ℕ) (first : Option (List ℕ)) (read : List Record) (e
 ends_of offset None read ending ends = tt
 ends_of offset (Some all) read ending ends = ends.0
 
-views_push : (past : List Viewed) (number : ℕ) (read : List Record) (entry : Record) (place : ℕ) → place ≡ number + length read
+pub views_push : (past : List Viewed) (number : ℕ) (read : List Record) (entry : Record) (place : ℕ) → place ≡ number + length read
     → views_on past number (read ++ entry ∷ []) ≡ view_of place entry ∷ views_on past number read
 views_push past number [] entry place is = ap (λ n. view_of n entry ∷ past) (let e : number ≡ place = omega arith in e)
 views_push past number (first ∷ read) entry place is =

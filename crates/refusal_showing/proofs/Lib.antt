@@ -1,1 +1,3 @@
 mod Telling
+mod Seeing
+mod Examples

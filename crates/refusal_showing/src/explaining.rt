@@ -26,8 +26,13 @@ pub(crate) struct Explaining {
 }
 
 impl Explaining {
+    ghost use Rattle.std.specs.Prelude.{[]};
+    ghost use Rattle.refusal_showing.specs.Seen.{HasSeen};
+
     /// Nothing was taken yet. It takes no memory.
-    pub(crate) fn new(alloc: Global) -> Explaining {
+    pub(crate) fn new(alloc: Global) -> Explaining
+        ensures { HasSeen result [] }
+    {
         Explaining {
             taken: 0,
             names: Names::new(alloc),
@@ -49,6 +54,12 @@ impl Explaining {
 }
 
 impl Watcher for Explaining {
+    ghost use Rattle.refusal_showing.specs.Seen.{HasExplained, HasSeen};
+
+    ghost saw = { HasSeen };
+
+    ghost saw_refused = { HasExplained };
+
     fn taken(&mut self, entry: &Record) -> Result<(), AllocError> {
         let view = view_of(self.taken, entry);
         self.names.take(&view)?;

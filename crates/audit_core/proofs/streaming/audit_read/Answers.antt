@@ -4,6 +4,7 @@ use Rattle.capture_form.specs.Rules.{RuleText, AreRules}
 use Rattle.capture_form.specs.Reader.{left_of, text_of_head}
 use Rattle.audit_core.specs.Auditor.{Agrees}
 use Rattle.audit_core.specs.Verdict.{AnswersRead}
+use Rattle.audit_core.specs.Watching.{Watched}
 use Rattle.audit_core.proofs.streaming.audit_read.Goals as goal
 
 pub follow_read-requires-clause-rules : goal.follow_read-requires-clause-rules
@@ -19,6 +20,10 @@ follow_read-requires-clause-head g c =
 pub follow_read-requires-clause-place : goal.follow_read-requires-clause-place
 follow_read-requires-clause-place g c = c.requires.place ∙ ap (λ rs. length (text_of_head rs)) (sym c.new-auditor.ensures.stands.0)
 
-pub returns : goal.returns
-returns g c =
-    subst (λ (rs : List RuleText). IfSome (left_of g.R.Read.remaining c.args.records) (λ left. AnswersRead (text_of_head rs ++ left) c.follow_read.result)) c.new-auditor.ensures.stands.0 c.follow_read.ensures
+pub returns-clause-answers : goal.returns-clause-answers
+returns-clause-answers g c =
+    subst (λ (rs : List RuleText). IfSome (left_of g.R.Read.remaining c.args.records) (λ left. AnswersRead (text_of_head rs ++ left) c.follow_read.result)) c.new-auditor.ensures.stands.0 c.follow_read.ensures.answers
+
+pub returns-clause-watched : goal.returns-clause-watched
+returns-clause-watched g c =
+    subst (λ (rs : List RuleText). IfSome (left_of g.R.Read.remaining c.args.records) (λ left. Watched g.W.Watcher.saw g.W.Watcher.saw_refused c.follow_read.new.watcher (text_of_head rs ++ left) c.follow_read.result)) c.new-auditor.ensures.stands.0 c.follow_read.ensures.watched

@@ -5,32 +5,34 @@ use Rattle.capture_form.specs.Text.{record_text}
 use Rattle.capture_form.proofs.TextLemmas.{long_record}
 use Rattle.audit_core.specs.Auditor.{Agrees, rules_of}
 use Rattle.audit_core.specs.Verdict.{AnswersRead}
+use Rattle.audit_core.specs.Watching.{Watched}
 use Rattle.audit_core.proofs.ReadSteps.{found_so, fits_so, moved_so, starts, few, goes_on, ends, refuses, stops}
+use Rattle.audit_core.proofs.Watches.{unseen_known, ends_seen, refuses_seen}
 use Rattle.audit_core.proofs.streaming.follow_read.Goals as goal
 
 pub records-init : goal.records-init
 records-init g c =
-    starts g.R.Read.remaining (rules_of c.args.auditor.now) c.args.records c.args.auditor.now c.args.offset c.requires.rules c.requires.agrees c.requires.head c.requires.place c.requires.runs
+    starts g.R.Read.remaining (rules_of c.args.auditor.now) c.args.records c.args.auditor.now c.args.offset (g.W.Watcher.saw c.args.watcher.now) c.requires.rules c.requires.agrees c.requires.head c.requires.place c.requires.runs c.requires.unseen
 
 pub take_watched-requires-clause-few : goal.take_watched-requires-clause-few
 take_watched-requires-clause-few g c =
     let some = c.in-Ok-Some in
     let moved = moved_so _ _ some.field-0 some.entry some.field-0-is some.ensures.moved in
-    few g.R.Read.remaining (rules_of c.args.auditor.now) _ c.records.records c.records.auditor c.records.offset c.records.invariant _ (length (record_text some.entry)) _ moved some.ensures.within (omega (arith, long_record some.entry))
+    few g.R.Read.remaining (rules_of c.args.auditor.now) _ c.records.records c.records.auditor c.records.offset _ c.records.invariant _ (length (record_text some.entry)) _ moved some.ensures.within (omega (arith, long_record some.entry))
 
 pub take_watched-requires-clause-agrees : goal.take_watched-requires-clause-agrees
 take_watched-requires-clause-agrees g c =
     let so_far = c.records.invariant in
     (so_far.records, subst (λ rs. Agrees c.records.auditor rs so_far.records) (sym so_far.agrees.stands.0) so_far.agrees)
 
-pub returns-in-Err-take_watched : goal.returns-in-Err-take_watched
-returns-in-Err-take_watched g c =
+pub returns-in-Err-take_watched-clause-answers : goal.returns-in-Err-take_watched-clause-answers
+returns-in-Err-take_watched-clause-answers g c =
     let some = c.in-Ok-Some in
     let rules = rules_of c.args.auditor.now in
     let next = found_so _ _ some.field-0 (Some some.entry) some.field-0-is some.ensures.next in
     let fits = fits_so some.field-0 some.entry some.field-0-is some.ensures.bounds in
     subst (λ v. IfSome (left_of g.R.Read.remaining c.args.records) (λ left. AnswersRead (text_of_head rules ++ left) v)) (sym c.verdict_of_refusal.ensures)
-    (refuses g.R.Read.remaining rules _ c.records.records c.records.auditor c.records.offset c.records.invariant some.entry _ c.in-Err-take_watched.refusal fits next c.in-Err-take_watched.ensures.refused)
+    (refuses g.R.Read.remaining rules _ c.records.records c.records.auditor c.records.offset _ c.records.invariant some.entry _ c.in-Err-take_watched.refusal fits next c.in-Err-take_watched.ensures.refused)
 
 pub records-smaller : goal.records-smaller
 records-smaller g c =
@@ -44,16 +46,39 @@ records-preserved g c =
     let next = found_so _ _ some.field-0 (Some some.entry) some.field-0-is some.ensures.next in
     let moved = moved_so _ _ some.field-0 some.entry some.field-0-is some.ensures.moved in
     let fits = fits_so some.field-0 some.entry some.field-0-is some.ensures.bounds in
-    goes_on g.R.Read.remaining (rules_of c.args.auditor.now) _ c.records.records c.records.auditor c.records.offset c.records.invariant some.entry c.next_record.new.self c.take_watched.new.auditor c.len_of_record-len.result fits c.len_of_record-len.ensures
-    next moved (some.ensures.sound refl) c.in_default.ensures.taken
+    goes_on g.R.Read.remaining (rules_of c.args.auditor.now) _ c.records.records c.records.auditor c.records.offset _ c.records.invariant some.entry c.next_record.new.self c.take_watched.new.auditor c.len_of_record-len.result (g.W.Watcher.saw c.take_watched.new.watcher) fits c.len_of_record-len.ensures
+    next moved (some.ensures.sound refl) c.in_default.ensures.taken c.in_default.ensures.seen
 
-pub returns-in-Ok-None : goal.returns-in-Ok-None
-returns-in-Ok-None g c =
+pub returns-in-Ok-None-clause-answers : goal.returns-in-Ok-None-clause-answers
+returns-in-Ok-None-clause-answers g c =
     let next = found_so _ _ c.in-Ok-None.field-0 None c.in-Ok-None.field-0-is c.in-Ok-None.ensures.next in
-    ends g.R.Read.remaining (rules_of c.args.auditor.now) _ c.records.records c.records.auditor c.records.offset c.records.invariant c.tally.result _ c.tally.ensures next
+    ends g.R.Read.remaining (rules_of c.args.auditor.now) _ c.records.records c.records.auditor c.records.offset _ c.records.invariant c.tally.result _ c.tally.ensures next
 
-pub returns-in-Err : goal.returns-in-Err
-returns-in-Err g c =
+pub returns-in-Err-clause-answers : goal.returns-in-Err-clause-answers
+returns-in-Err-clause-answers g c =
     let rules = rules_of c.args.auditor.now in
     subst (λ v. IfSome (left_of g.R.Read.remaining c.args.records) (λ left. AnswersRead (text_of_head rules ++ left) v)) (sym c.verdict_of_fault.ensures)
-    (stops g.R.Read.remaining rules _ c.records.records c.records.auditor c.records.offset c.records.invariant c.in-Err.fault c.in-Err.ensures.place c.in-Err.ensures.exact)
+    (stops g.R.Read.remaining rules _ c.records.records c.records.auditor c.records.offset _ c.records.invariant c.in-Err.fault c.in-Err.ensures.place c.in-Err.ensures.exact)
+
+pub returns-in-Ok-None-clause-watched : goal.returns-in-Ok-None-clause-watched
+returns-in-Ok-None-clause-watched g c =
+    let next = found_so _ _ c.in-Ok-None.field-0 None c.in-Ok-None.field-0-is c.in-Ok-None.ensures.next in
+    ends_seen g.W.Watcher.saw g.W.Watcher.saw_refused g.R.Read.remaining (rules_of c.args.auditor.now) _ c.records.records c.records.auditor c.records.offset c.records.watcher c.records.invariant c.tally.result _ next
+
+pub returns-in-Err-clause-watched : goal.returns-in-Err-clause-watched
+returns-in-Err-clause-watched g c =
+    let front = text_of_head (rules_of c.args.auditor.now) in
+    subst (λ v. IfSome (left_of g.R.Read.remaining c.args.records) (λ left. Watched g.W.Watcher.saw g.W.Watcher.saw_refused c.records.watcher (front ++ left) v)) (sym c.verdict_of_fault.ensures)
+    (unseen_known g.W.Watcher.saw g.W.Watcher.saw_refused (left_of g.R.Read.remaining c.args.records) front c.records.watcher c.in-Err.fault.kind c.in-Err.fault.offset)
+
+pub returns-in-Err-take_watched-clause-watched : goal.returns-in-Err-take_watched-clause-watched
+returns-in-Err-take_watched-clause-watched g c =
+    let some = c.in-Ok-Some in
+    let rules = rules_of c.args.auditor.now in
+    let so_far = c.records.invariant in
+    let refusal = c.in-Err-take_watched.refusal in
+    let next = found_so _ _ some.field-0 (Some some.entry) some.field-0-is some.ensures.next in
+    let fits = fits_so some.field-0 some.entry some.field-0-is some.ensures.bounds in
+    subst (λ v. IfSome (left_of g.R.Read.remaining c.args.records) (λ left. Watched g.W.Watcher.saw g.W.Watcher.saw_refused c.take_watched.new.watcher (text_of_head rules ++ left) v)) (sym c.verdict_of_refusal.ensures)
+    (refuses_seen g.W.Watcher.saw g.W.Watcher.saw_refused g.R.Read.remaining rules _ c.records.records c.records.auditor c.records.offset c.records.watcher so_far c.take_watched.new.watcher some.entry fits refusal _ next
+    (c.in-Err-take_watched.ensures.refused rules so_far.records so_far.agrees) (λ no. c.in-Err-take_watched.ensures.explained no rules so_far.records so_far.agrees so_far.seen))
