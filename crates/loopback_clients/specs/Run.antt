@@ -1,6 +1,7 @@
 -- How a run ends.
 use Rattle.std.specs.Prelude.{◌≡◌, ℕ, ◌⊎◌}
-use Rattle.loopback_clients.specs.declared.run.TheConstants.{UNFINISHED, WORDS_FAULT, NOT_WRITTEN}
+use Rattle.loopback_clients.specs.declared.run.TheConstants.{UNFINISHED}
+use Rattle.program_ends.specs.declared.telling.TheConstants.{WORDS_FAULT, NOT_WRITTEN}
 
 -- the exit status of a run (own format)
 abbrev pub IsStatus : ℕ → Type 0

@@ -34,18 +34,12 @@ mod tally;
 mod tests;
 mod words;
 
+use program_ends::words_of;
 use run::run_words;
 use std::process::ExitCode;
-use std::{env, io};
 
 fn main(rt: HostRuntime) -> ExitCode {
     // Words that are no texts ask for nothing, as no words do.
     let words = words_of(&rt).unwrap_or(Vec::new(rt.alloc()));
     ExitCode::from(run_words(&rt, rt.alloc(), &words, &mut rt.stdout()))
-}
-
-/// The words behind the program's name.
-fn words_of(rt: &HostRuntime) -> io::Result<Vec<String>> {
-    let words = env::args(rt)?.skip(1).collect(rt.alloc())?;
-    Ok(words)
 }

@@ -1,6 +1,5 @@
 //! A run over any words, network and writer.
 
-ghost use Rattle.std.specs.Prelude.{◌≡◌, ◌⊎◌};
 ghost use Rattle.loopback_clients.specs.Run.{IsStatus};
 
 use crate::client::Client;
@@ -8,8 +7,8 @@ use crate::exchange::exchange;
 use crate::fault::Fault;
 use crate::tally::Tally;
 use crate::words::{Task, USAGE};
+use program_ends::{WORDS_FAULT, tell_line};
 use std::alloc::Global;
-use std::fmt::Display;
 use std::io::Write;
 use std::net::{Net, OpenStream, SocketAddr, SocketAddrV4, TcpStream};
 use std::rt::Clock;
@@ -18,12 +17,6 @@ use std::time::Duration;
 
 /// The exit status where the exchange was not finished.
 pub const UNFINISHED: u8 = 1;
-
-/// The exit status after words that ask for nothing.
-pub const WORDS_FAULT: u8 = 64;
-
-/// The exit status where standard output could not be written.
-pub const NOT_WRITTEN: u8 = 74;
 
 /// How often a connection is tried.
 const TRIES: u32 = 25;
@@ -45,21 +38,11 @@ pub fn run_words<R: Net + Clock, O: Write>(
     ensures { IsStatus result }
 {
     let Some(task) = Task::from_words(words) else {
-        return tell(out, &USAGE, WORDS_FAULT);
+        return tell_line(&USAGE, WORDS_FAULT, out);
     };
     match made(rt, alloc, &task, out) {
-        Ok(tally) => tell(out, &tally, 0),
-        Err(fault) => tell(out, &fault, UNFINISHED),
-    }
-}
-
-/// Writes a line, and answers the status if it could.
-fn tell<D: Display, O: Write>(out: &mut O, line: &D, status: u8) -> u8
-    ensures { (result ≡ status) ⊎ (result ≡ NOT_WRITTEN) }
-{
-    match writeln!(out, "{line}") {
-        Ok(()) => status,
-        Err(_) => NOT_WRITTEN,
+        Ok(tally) => tell_line(&tally, 0, out),
+        Err(fault) => tell_line(&fault, UNFINISHED, out),
     }
 }
 

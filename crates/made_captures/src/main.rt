@@ -12,13 +12,10 @@ mod peers;
 mod records;
 mod shape;
 
+use program_ends::{WORDS_FAULT, words_of};
 use records::Fault;
 use shape::Shape;
-use std::env;
 use std::process::ExitCode;
-
-/// The status after a word that names no shape or no number.
-const WORDS_FAULT: u8 = 64;
 
 /// The status where memory was refused, or the capture not written.
 const SYSTEM_FAULT: u8 = 74;
@@ -33,7 +30,7 @@ fn main(rt: HostRuntime) -> ExitCode {
 
 /// Writes what the words ask for. It answers whether they ask for something.
 fn run(rt: &HostRuntime) -> Result<bool, Fault> {
-    let words: Vec<String> = env::args(rt)?.skip(1).collect(rt.alloc())?;
+    let words = words_of(rt)?;
     let [shape, count] = words.as_slice() else {
         return Ok(false);
     };
