@@ -1,7 +1,7 @@
 //! The frames of clients, made of the words that tell them.
 
-use crate::fields::{Fields, framed};
 use crate::words::Words;
+use client_frames::{Fields, framed};
 use std::alloc::{AllocError, Global};
 
 /// The words without a value that a client's line may have.
@@ -53,7 +53,7 @@ pub(crate) fn octets_of(
         "torn" => return Ok(Some(repeated(alloc, 0, 7)?)),
         _ => return Ok(None),
     };
-    let channel = words.number("channel").unwrap_or(0);
+    let channel = (words.number("channel").unwrap_or(0) & 0xFFFF) as u16;
     Ok(Some(framed(alloc, channel, body.as_slice())?))
 }
 
@@ -80,7 +80,7 @@ fn open(alloc: Global, words: &Words<'_>) -> Result<Vec<u8>, AllocError> {
     let mut fields = Fields::new(alloc);
     fields.sized(0xB1, b"client")?;
     fields.skip(1)?;
-    fields.number(words.number("frame"))?;
+    fields.maybe(words.number("frame"))?;
     fields.described(0x10)
 }
 
@@ -90,9 +90,9 @@ fn begin(alloc: Global, words: &Words<'_>) -> Result<Vec<u8>, AllocError> {
         Some(_) => &[0x60, 0, 0],
         None => &[0x40],
     })?;
-    fields.number(words.number_or("first-out", 0))?;
-    fields.number(words.number_or("window", 100))?;
-    fields.number(Some(100))?;
+    fields.maybe(words.number_or("first-out", 0))?;
+    fields.maybe(words.number_or("window", 100))?;
+    fields.number(100)?;
     fields.described(0x11)
 }
 
@@ -101,14 +101,14 @@ fn attach(alloc: Global, words: &Words<'_>) -> Result<Vec<u8>, AllocError> {
     let mut fields = Fields::new(alloc);
     let name = spelled(alloc, words.value("name").unwrap_or("link"))?;
     fields.sized(0xB1, name.as_slice())?;
-    fields.number(words.number_or("handle", 0))?;
-    fields.put(&[0x56, u8::from(words.has("receiver"))])?;
-    fields.octet(words.number("snd"))?;
-    fields.octet(words.number("rcv"))?;
+    fields.maybe(words.number_or("handle", 0))?;
+    fields.flag(words.has("receiver"))?;
+    fields.octet(words.octet("snd"))?;
+    fields.octet(words.octet("rcv"))?;
     fields.put(terminus(alloc, 0x28, words.value("source"))?.as_slice())?;
     fields.put(terminus(alloc, 0x29, words.value("target"))?.as_slice())?;
     fields.skip(2)?;
-    fields.number(if words.has("receiver") {
+    fields.maybe(if words.has("receiver") {
         words.number("count")
     } else {
         words.number_or("count", 0)
@@ -138,7 +138,7 @@ fn put_address(alloc: Global, fields: &mut Fields, word: &str) -> Result<(), All
             fields.mark(true)
         }
         "nameless" => fields.skip(1),
-        "numbered" => fields.number(Some(1)),
+        "numbered" => fields.number(1),
         "unnamed" => fields.sized(0xB1, b""),
         _ => {
             let address = spelled(alloc, word)?;
@@ -149,13 +149,13 @@ fn put_address(alloc: Global, fields: &mut Fields, word: &str) -> Result<(), All
 
 fn flow(alloc: Global, words: &Words<'_>) -> Result<Vec<u8>, AllocError> {
     let mut fields = Fields::new(alloc);
-    fields.number(words.number("awaited"))?;
-    fields.number(words.number_or("window", 100))?;
-    fields.number(words.number_or("first-out", 0))?;
-    fields.number(Some(100))?;
-    fields.number(words.number("handle"))?;
-    fields.number(words.number("count"))?;
-    fields.number(words.number("credit"))?;
+    fields.maybe(words.number("awaited"))?;
+    fields.maybe(words.number_or("window", 100))?;
+    fields.maybe(words.number_or("first-out", 0))?;
+    fields.number(100)?;
+    fields.maybe(words.number("handle"))?;
+    fields.maybe(words.number("count"))?;
+    fields.maybe(words.number("credit"))?;
     fields.skip(1)?;
     fields.mark(words.has("drain"))?;
     fields.mark(words.has("echo"))?;
@@ -165,13 +165,13 @@ fn flow(alloc: Global, words: &Words<'_>) -> Result<Vec<u8>, AllocError> {
 /// A transfer has a tag of one octet, the message-format 0 and three octets of payload, where the line doesn't say.
 fn transfer(alloc: Global, words: &Words<'_>, turn: u32) -> Result<Vec<u8>, AllocError> {
     let mut fields = Fields::new(alloc);
-    fields.number(words.number_or("handle", 0))?;
-    fields.number(words.number("id").map(|id| id.wrapping_add(turn)))?;
+    fields.maybe(words.number_or("handle", 0))?;
+    fields.maybe(words.number("id").map(|id| id.wrapping_add(turn)))?;
     match words.number_or("tag", 1) {
         Some(length) => fields.sized(0xB0, repeated(alloc, b't', length)?.as_slice())?,
         None => fields.skip(1)?,
     }
-    fields.number(words.number_or("format", 0))?;
+    fields.maybe(words.number_or("format", 0))?;
     fields.mark(words.has("settled"))?;
     fields.mark(words.has("more"))?;
     fields.skip(2)?;
@@ -188,9 +188,9 @@ fn transfer(alloc: Global, words: &Words<'_>, turn: u32) -> Result<Vec<u8>, Allo
 
 fn disposition(alloc: Global, words: &Words<'_>) -> Result<Vec<u8>, AllocError> {
     let mut fields = Fields::new(alloc);
-    fields.put(&[0x56, u8::from(words.has("receiver"))])?;
-    fields.number(words.number_or("first", 0))?;
-    fields.number(words.number("last"))?;
+    fields.flag(words.has("receiver"))?;
+    fields.maybe(words.number_or("first", 0))?;
+    fields.maybe(words.number("last"))?;
     fields.mark(words.has("settled"))?;
     fields.put(state(alloc, words.value("state"))?.as_slice())?;
     fields.described(0x15)
@@ -223,7 +223,7 @@ fn rejection(alloc: Global, count: &str) -> Result<Vec<u8>, AllocError> {
 
 fn detach(alloc: Global, words: &Words<'_>) -> Result<Vec<u8>, AllocError> {
     let mut fields = Fields::new(alloc);
-    fields.number(words.number_or("handle", 0))?;
+    fields.maybe(words.number_or("handle", 0))?;
     fields.mark(words.has("closed"))?;
     fields.described(0x16)
 }

@@ -7,13 +7,12 @@
 //! reading order:
 //!
 //! - `words`: a line
-//! - `fields`, `client`: the frames of clients
+//! - `client`: the frames of clients
 //! - `router`: what the router wrote, in words
 //! - `talk`: a scenario, line by line
 #![tactic(auto)]
 
 mod client;
-mod fields;
 mod router;
 mod talk;
 mod words;

@@ -48,6 +48,11 @@ impl<'a> Words<'a> {
         self.value(name).and_then(|value| value.parse::<u32>().ok())
     }
 
+    /// The number that stands behind the name; none where something else stands there, or more than 255.
+    pub(crate) fn octet(&self, name: &str) -> Option<u8> {
+        self.value(name).and_then(|value| value.parse::<u8>().ok())
+    }
+
     /// The number that stands behind the name, or this one where no word has the name.
     pub(crate) fn number_or(&self, name: &str, usual: u32) -> Option<u32> {
         match self.value(name) {

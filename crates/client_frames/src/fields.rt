@@ -1,70 +1,79 @@
-//! The octets of frames as clients write them: numbers and lists in their longest form, which the router never writes.
+//! Fields of lists, and frames.
 
 use std::alloc::{AllocError, Global};
 
 /// The fields of a list, one behind the other.
 #[derive(Drop)]
-pub(crate) struct Fields {
+pub struct Fields {
     octets: Vec<u8>,
     count: u32,
 }
 
 impl Fields {
     /// No fields.
-    pub(crate) fn new(alloc: Global) -> Fields {
+    pub fn new(alloc: Global) -> Fields {
         Fields {
             octets: Vec::new(alloc),
             count: 0,
         }
     }
 
-    /// A field of these octets.
-    pub(crate) fn put(&mut self, octets: &[u8]) -> Result<(), AllocError> {
+    /// A field of these octets, well-formed or not.
+    pub fn put(&mut self, octets: &[u8]) -> Result<(), AllocError> {
         self.octets.extend_from_slice(octets)?;
         self.count = self.count.wrapping_add(1);
         Ok(())
     }
 
     /// Fields that are absent.
-    pub(crate) fn skip(&mut self, count: u32) -> Result<(), AllocError> {
+    pub fn skip(&mut self, count: u32) -> Result<(), AllocError> {
         for _ in 0..count {
             self.put(&[0x40])?;
         }
         Ok(())
     }
 
-    /// A uint, or nothing.
-    pub(crate) fn number(&mut self, number: Option<u32>) -> Result<(), AllocError> {
-        let Some(number) = number else {
-            return self.skip(1);
-        };
+    /// A uint.
+    pub fn number(&mut self, number: u32) -> Result<(), AllocError> {
         let [a, b, c, d] = number.to_be_bytes();
         self.put(&[0x70, a, b, c, d])
     }
 
-    /// A ubyte, or nothing.
-    pub(crate) fn octet(&mut self, number: Option<u32>) -> Result<(), AllocError> {
-        let Some(number) = number else {
-            return self.skip(1);
-        };
-        let [_, _, _, octet] = number.to_be_bytes();
-        self.put(&[0x50, octet])
+    /// A uint, or nothing.
+    pub fn maybe(&mut self, number: Option<u32>) -> Result<(), AllocError> {
+        match number {
+            Some(number) => self.number(number),
+            None => self.skip(1),
+        }
     }
 
-    /// A boolean that holds, or nothing.
-    pub(crate) fn mark(&mut self, holds: bool) -> Result<(), AllocError> {
-        self.put(if holds { &[0x41] } else { &[0x40] })
+    /// A boolean.
+    pub fn flag(&mut self, holds: bool) -> Result<(), AllocError> {
+        self.put(&[0x56, u8::from(holds)])
+    }
+
+    /// A boolean, where it holds.
+    pub fn mark(&mut self, holds: bool) -> Result<(), AllocError> {
+        if holds { self.flag(true) } else { self.skip(1) }
+    }
+
+    /// A ubyte, or nothing.
+    pub fn octet(&mut self, octet: Option<u8>) -> Result<(), AllocError> {
+        match octet {
+            Some(octet) => self.put(&[0x50, octet]),
+            None => self.skip(1),
+        }
     }
 
     /// Octets behind a code and their number: a string (0xB1), a binary (0xB0) or a symbol (0xB3).
-    pub(crate) fn sized(&mut self, code: u8, octets: &[u8]) -> Result<(), AllocError> {
+    pub fn sized(&mut self, code: u8, octets: &[u8]) -> Result<(), AllocError> {
         self.octets.extend_from_slice(&[code])?;
         self.octets.extend_from_slice(&counted(octets.len()))?;
         self.put(octets)
     }
 
     /// These fields as a list that a code describes.
-    pub(crate) fn described(&self, code: u8) -> Result<Vec<u8>, AllocError> {
+    pub fn described(&self, code: u8) -> Result<Vec<u8>, AllocError> {
         let mut octets = Vec::new(*self.octets.allocator());
         octets.extend_from_slice(&[0x00, 0x53, code, 0xD0])?;
         octets.extend_from_slice(&counted(self.octets.len().saturating_add(4)))?;
@@ -80,11 +89,11 @@ fn counted(count: usize) -> [u8; 4] {
 }
 
 /// A frame on a channel.
-pub(crate) fn framed(alloc: Global, channel: u32, body: &[u8]) -> Result<Vec<u8>, AllocError> {
+pub fn framed(alloc: Global, channel: u16, body: &[u8]) -> Result<Vec<u8>, AllocError> {
     let mut octets = Vec::new(alloc);
-    let [_, _, high, low] = channel.to_be_bytes();
     octets.extend_from_slice(&counted(body.len().saturating_add(8)))?;
-    octets.extend_from_slice(&[2, 0, high, low])?;
+    octets.extend_from_slice(&[2, 0])?;
+    octets.extend_from_slice(&channel.to_be_bytes())?;
     octets.extend_from_slice(body)?;
     Ok(octets)
 }
