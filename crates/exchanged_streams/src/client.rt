@@ -1,11 +1,11 @@
 //! A client whose stream is fed to an engine, and what came of it.
 
-use crate::chance::Chance;
 use crate::device::Device;
 use capture_form::What;
 use conn_engine::EngineFault;
 use route_core::Core;
 use route_items::StepFault;
+use seeded_chance::Chance;
 use std::alloc::{AllocError, Global};
 use std::cell::RefCell;
 

@@ -3,10 +3,10 @@
 ghost use Rattle.std.specs.Prelude.{◌<◌};
 
 use crate::device::Device;
-use crate::plain::AMQP_HEADER;
 use address_table::Rules;
 use capture_form::Capture;
 use conn_engine::EngineFault;
+use plain_streams::AMQP_HEADER;
 use route_core::Core;
 use std::alloc::{AllocError, Global};
 use std::cell::RefCell;

@@ -10,18 +10,15 @@
 //! - `port`: a connection's way to the core
 //! - `device`: an engine, and the octets that it gave
 //! - `exchange`, `talks`: the exchange, and the talks
-//! - `chance`, `streams`: choices, and streams by chance
-//! - `plain`: what a stream is, read at once
+//! - `streams`: streams by chance
 //! - `client`, `running`: a client with a stream, and a run of several
 //! - `judging`, `summary`: whether it is right, and the numbers
 #![tactic(auto)]
 
-mod chance;
 mod client;
 mod device;
 mod exchange;
 mod judging;
-mod plain;
 mod port;
 mod running;
 mod streams;

@@ -2,12 +2,12 @@
 
 ghost use Rattle.std.specs.Prelude.{◌<◌};
 
-use crate::chance::Chance;
 use crate::client::{Client, Served};
 use crate::streams::stream;
 use address_table::Rules;
 use capture_form::{Capture, Distribution, Rule};
 use route_core::Core;
+use seeded_chance::Chance;
 use std::alloc::{AllocError, Global};
 use std::cell::RefCell;
 

@@ -1,7 +1,7 @@
 //! Streams of a client, as it should send them and otherwise.
 
-use crate::chance::Chance;
-use crate::plain::{AMQP_HEADER, SASL_HEADER};
+use plain_streams::{AMQP_HEADER, SASL_HEADER};
+use seeded_chance::Chance;
 use std::alloc::{AllocError, Global};
 
 /// A header of another protocol, and one of another version.
@@ -68,7 +68,7 @@ pub fn stream(alloc: Global, chance: &mut Chance) -> Result<Vec<u8>, AllocError>
 /// Puts a header, perhaps an exchange, and a header again.
 fn put_start(chance: &mut Chance, octets: &mut Vec<u8>) -> Result<(), AllocError> {
     match chance.below(16) {
-        0 => return octets.extend_from_slice(chance.one_of(OTHER_HEADERS)),
+        0 => return octets.extend_from_slice(chance.one_of(OTHER_HEADERS, &[])),
         1..=8 => return octets.extend_from_slice(AMQP_HEADER),
         _ => octets.extend_from_slice(SASL_HEADER)?,
     }
@@ -77,10 +77,10 @@ fn put_start(chance: &mut Chance, octets: &mut Vec<u8>) -> Result<(), AllocError
     } else {
         ANONYMOUS_INITS
     };
-    octets.extend_from_slice(chance.one_of(inits))?;
+    octets.extend_from_slice(chance.one_of(inits, &[]))?;
     match chance.below(12) {
         0 => octets.extend_from_slice(SASL_HEADER),
-        1 => octets.extend_from_slice(chance.one_of(OTHER_HEADERS)),
+        1 => octets.extend_from_slice(chance.one_of(OTHER_HEADERS, &[])),
         _ => octets.extend_from_slice(AMQP_HEADER),
     }
 }
@@ -92,7 +92,7 @@ fn put_talk(chance: &mut Chance, octets: &mut Vec<u8>) -> Result<(), AllocError>
     let links = if is_producer { PRODUCERS } else { CONSUMERS };
     for choices in [OPENS, &[BEGIN], links] {
         if !is_noisy || !chance.once_in(12) {
-            put_frame(octets, &[chance.one_of(choices)])?;
+            put_frame(octets, &[chance.one_of(choices, &[])])?;
         }
     }
     if !is_producer {
@@ -110,9 +110,9 @@ fn put_talk(chance: &mut Chance, octets: &mut Vec<u8>) -> Result<(), AllocError>
 /// Puts a frame that should not stand there, or that ends something.
 fn put_other(chance: &mut Chance, octets: &mut Vec<u8>) -> Result<(), AllocError> {
     match chance.below(8) {
-        0..=2 => put_frame(octets, &[chance.one_of(ENDS)]),
-        3 => put_frame(octets, &[chance.one_of(PRODUCERS)]),
-        4 => put_frame(octets, &[chance.one_of(CONSUMERS)]),
+        0..=2 => put_frame(octets, &[chance.one_of(ENDS, &[])]),
+        3 => put_frame(octets, &[chance.one_of(PRODUCERS, &[])]),
+        4 => put_frame(octets, &[chance.one_of(CONSUMERS, &[])]),
         5 => put_frame(octets, &[SMALL_OPEN]),
         _ => put_any(chance, octets),
     }

@@ -4,10 +4,10 @@ ghost use Rattle.std.specs.Prelude.{◌<◌};
 
 use crate::device::Device;
 use crate::exchange::ROUTER_OPEN;
-use crate::plain::{AMQP_HEADER, MECHANISMS, REFUSAL, SASL_HEADER, WELCOME};
 use address_table::Rules;
 use capture_form::Capture;
 use conn_engine::EngineFault;
+use plain_streams::{AMQP_HEADER, MECHANISMS, REFUSAL, SASL_HEADER, WELCOME};
 use route_core::Core;
 use std::alloc::{AllocError, Global};
 use std::cell::RefCell;
