@@ -1,5 +1,5 @@
 -- What a run leaves.
-use Rattle.std.proofs.Common.{◌≡◌, ◌≢◌, ◌<◌, ◌≤◌, ◌⊎◌, ◌++◌, ◌∷◌, ℕ, true, false, List, [], Option, None, Some, Ok, Err, ap, arith, inl, inr, subst, sym}
+use Rattle.std.proofs.Common.{◌≡◌, ◌≢◌, ◌<◌, ◌≤◌, ◌⊎◌, ◌++◌, ◌∷◌, ℕ, refl, true, false, List, [], Option, None, Some, Ok, Err, ap, arith, inl, inr, subst, sym}
 use Rattle.std.specs.Prelude.{IfSome, if◌then◌else◌}
 use Rattle.std.specs.Io.KnownBytes.{Appends}
 use Rattle.clap.specs.Words.{kind_of}
@@ -13,8 +13,10 @@ use Rattle.capture_showing.specs.Ending.{line_of, status_of}
 use Rattle.capture_showing.specs.Shown.{AppendsSome, EndsText}
 use Rattle.capture_showing.proofs.Known.{appends_nothing, appends_then}
 use Rattle.amqp_show.specs.declared.words.Words.{Words}
-use Rattle.amqp_show.specs.Run.{IsRunOn, ShowsInput, Tells, TellsEnd, TellsSome, is_whole, tail_of}
-use Rattle.amqp_show.specs.Words.{AnswersWords, is_why, packets_of, path_of}
+use Rattle.amqp_show.specs.Run.{ExplainsInput, IsRunOn, ShowsInput, Tells, TellsEnd, TellsSome, is_whole, tail_of}
+use Rattle.amqp_show.specs.Words.{AnswersWords, AsksWhy, is_why, packets_of, path_of}
+use Rattle.audit_core.specs.declared.verdict.Verdict.TheVariants as verdicts
+use Rattle.audit_core.specs.Verdict.{AnswersRead}
 
 -- of a whole capture no line is told
 pub nothing_told : (known : Option (List ℕ)) (ending : Ending) → is_whole ending ≡ true → TellsEnd known known ending
@@ -82,3 +84,22 @@ shown_run [] asked held before after status answer input told unasked = λ writt
 shown_run (word ∷ []) asked held before after status answer input told unasked = λ plain written.
     told (answer plain).2 written (unasked (answer plain).1)
 shown_run (first ∷ second ∷ more) asked held before after status answer input told unasked = λ plain plain'. absurd (answer plain plain')
+
+-- ---- an audit that is asked for
+
+-- of any octets memory may be refused from the start on
+unaudited : (held : Option (List ℕ)) → IfSome held (λ octets. AnswersRead octets (verdicts.NoMemory 0))
+unaudited None = tt
+unaudited (Some octets) = inl refl
+
+-- refused memory is told as the verdict's line is
+pub refused_why : (error : Error) (held before after : Option (List ℕ)) (status : ℕ) → AsksWhy (Err error)
+    → (kind_of error ≡ OutOfMemory → status ≢ 74 → TellsNoMemory before after status) → status ≢ 74 → ExplainsInput held before after status
+refused_why error held before after status answer told written =
+    let line = told answer written in
+    record { verdict = verdicts.NoMemory 0; told = ([], line.text); same_status = line.same_status; answers = unaudited held }
+
+-- the source that is asked for was audited
+pub shown_why : (asked : Words) (held before after : Option (List ℕ)) (status : ℕ) → AsksWhy (Ok asked)
+    → (path_of asked.source ≡ None → is_why asked.mode ≡ true → status ≢ 74 → ExplainsInput held before after status) → status ≢ 74 → ExplainsInput held before after status
+shown_why asked held before after status answer explained = explained answer.0 answer.1

@@ -7,7 +7,9 @@ use Rattle.clap.proofs.OnLiterals.{clap_on_literals}
 use Rattle.program_ends.specs.Words.{is_option}
 use Rattle.program_ends.proofs.Parsing.{no_kind, only_kind}
 use Rattle.program_ends.proofs.PlainWords.{dashes-plain, strip_byte-plain}
-use Rattle.amqp_show.specs.Words.{AnswersWords, command_line, is_why, packets_of, path_asked, path_of}
+use Rattle.amqp_show.specs.Words.{AnswersWords, AsksWhy, command_line, is_why, packets_of, path_asked, path_of}
+use Rattle.amqp_show.specs.declared.words.Mode.{Mode}
+use Rattle.amqp_show.specs.declared.words.Source.{Source}
 use Rattle.amqp_show.specs.declared.words.Words.{Words}
 
 pub command_line-is_free : is_simple_and_free command_line ≡ true
@@ -30,6 +32,23 @@ packets-none = refl
 audit-none : one_of (codes "why") (matches_of command_line []) ≡ Some (codes "false")
 unfolding clap_on_literals
 audit-none = refl
+
+-- the word that asks for an audit: no fault, no file, and no packets
+fault_of-why : fault_of command_line (codes "--why" ∷ []) ≡ []
+unfolding clap_on_literals
+fault_of-why = refl
+
+file-why : first_of (codes "FILE") (matches_of command_line (codes "--why" ∷ [])) ≡ None
+unfolding clap_on_literals
+file-why = refl
+
+packets-why : first_of (codes "pcapng") (matches_of command_line (codes "--why" ∷ [])) ≡ None
+unfolding clap_on_literals
+packets-why = refl
+
+audit-why : one_of (codes "why") (matches_of command_line (codes "--why" ∷ [])) ≡ Some (codes "true")
+unfolding clap_on_literals
+audit-why = refl
 
 -- one word: no fault, and the file that it names
 fault_of-one : (word : List ℕ) → is_option word ≡ false → fault_of command_line (word ∷ []) ≡ []
@@ -86,3 +105,20 @@ answers_refused (word ∷ []) error kind = λ plain.
     no_kind error (subst (λ kinds. HasKind kinds error) (fault_of-one word plain) kind)
 answers_refused (first ∷ second ∷ more) error kind = λ plain plain'.
     only_kind UnknownArgument error (subst (λ kinds. HasKind kinds error) (fault_of-more first second more plain plain') kind)
+
+-- the parser took the word that asks for an audit, and this was read
+pub why_taken : (words : List (List ℕ)) (source : Source) (mode : Mode) → words ≡ codes "--why" ∷ []
+    → path_of source ≡ path_asked (first_of (codes "FILE") (matches_of command_line words))
+    → packets_of mode ≡ first_of (codes "pcapng") (matches_of command_line words)
+    → (packets_of mode ≡ None → one_of (codes "why") (matches_of command_line words) ≡ Some (codes "true") → is_why mode ≡ true)
+    → (path_of source ≡ None) × (is_why mode ≡ true)
+why_taken words source mode are met packets audited =
+    let no_packets : packets_of mode ≡ None = packets ∙ ap (λ ws. first_of (codes "pcapng") (matches_of command_line ws)) are ∙ packets-why in (
+      met ∙ ap (λ ws. path_asked (first_of (codes "FILE") (matches_of command_line ws))) are ∙ ap path_asked file-why,
+      audited no_packets (ap (λ ws. one_of (codes "why") (matches_of command_line ws)) are ∙ audit-why),
+    )
+
+-- the parser refused it with this error
+pub why_refused : (words : List (List ℕ)) (error : Error) → words ≡ codes "--why" ∷ [] → HasKind (fault_of command_line words) error → AsksWhy (Err error)
+why_refused words error are kind =
+    no_kind error (subst (λ kinds. HasKind kinds error) (ap (fault_of command_line) are ∙ fault_of-why) kind)

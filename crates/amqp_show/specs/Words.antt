@@ -44,6 +44,12 @@ AsksFor path packets result = MatchResult result
     (λ words. (path_of words.source ≡ path) × (packets_of words.mode ≡ packets) × (is_why words.mode ≡ false))
     (λ error. kind_of error ≡ OutOfMemory)
 
+-- the words ask for an audit of standard input, want of memory aside (own format)
+abbrev pub AsksWhy : Result Words Error → Type 0
+AsksWhy result = MatchResult result
+    (λ words. (path_of words.source ≡ None) × (is_why words.mode ≡ true))
+    (λ error. kind_of error ≡ OutOfMemory)
+
 -- the words are a mistake, or memory was refused (own format)
 abbrev pub IsMistake : Result Words Error → Type 0
 IsMistake result = MatchResult result (λ words. ⊥)

@@ -1,6 +1,6 @@
 //! A run over any words, reader and writers.
 
-ghost use Rattle.std.specs.Prelude.{◌≡◌, ◌≢◌, ◌<◌, ◌≤◌, ◌⊎◌, ◌↔◌, false, true, map, None};
+ghost use Rattle.std.specs.Prelude.{◌≡◌, ◌≢◌, ◌<◌, ◌≤◌, ◌⊎◌, ◌↔◌, ◌∷◌, [], codes, false, true, map, None};
 ghost use Rattle.capture_showing.specs.declared.ending.Ending.TheVariants.{NoMemory, Unreadable};
 ghost use Rattle.std.specs.Io.KnownBytes.{Appends};
 ghost use Rattle.program_ends.specs.Growth.{IsRefusedGrowth};
@@ -40,6 +40,10 @@ pub fn run_words<F: Files, S: AsStr, R: Read, O: Write, E: Write>(
     err: &mut E,
 ) -> u8
     ensures run { IsRunOn (map S.text words.now) (R.remaining input.old) (O.contents out.old) (O.contents out.new) result }
+
+    // The word --why alone has standard input audited.
+    ensures explained { map S.text words.now ≡ codes "--why" ∷ [] → result ≢ NOT_WRITTEN
+        → ExplainsInput (R.remaining input.old) (O.contents out.old) (O.contents out.new) result }
 
     // Statuses 1 to 4 come only with a line that has that status: of a fault, behind what was shown, or of a verdict, and then
     // the explanation stands behind it.

@@ -59,13 +59,14 @@ impl<'a> Source<'a> {
 }
 
 impl<'a> Mode<'a> {
-    ghost use Rattle.std.specs.Prelude.{◌≡◌, false, option_map};
+    ghost use Rattle.std.specs.Prelude.{◌≡◌, false, true, None, option_map};
     ghost use Rattle.amqp_show.specs.Words.{is_why, packets_of};
 
     /// The mode that the path of packets, and the flags of an audit and of a summary ask for.
     fn of_words(packets: Option<&'a str>, is_audited: bool, is_summary: bool) -> Mode<'a>
         ensures packets { packets_of result ≡ option_map (λ path. path.now) packets.entry }
         ensures unaudited { is_audited ≡ false → is_why result ≡ false }
+        ensures audited { option_map (λ path. path.now) packets.entry ≡ None → is_audited ≡ true → is_why result ≡ true }
     {
         match packets {
             Some(path) => Mode::Packets(path),
@@ -77,13 +78,14 @@ impl<'a> Mode<'a> {
 }
 
 impl<'a> Words<'a> {
-    ghost use Rattle.std.specs.Prelude.{map};
-    ghost use Rattle.amqp_show.specs.Words.{AnswersWords};
+    ghost use Rattle.std.specs.Prelude.{◌≡◌, ◌∷◌, [], codes, map};
+    ghost use Rattle.amqp_show.specs.Words.{AnswersWords, AsksWhy};
 
     /// Reads the words behind the program's name. An error is a mistake in the words, a request for help or, as
     /// `OutOfMemory`, refused memory.
     pub fn read<S: AsStr>(alloc: Global, words: &'a [S]) -> Result<Words<'a>, Error>
-        ensures { AnswersWords (map S.text words.entry.now) result }
+        ensures plain { AnswersWords (map S.text words.entry.now) result }
+        ensures why { map S.text words.entry.now ≡ codes "--why" ∷ [] → AsksWhy result }
     {
         let matches = command_line(alloc)?.try_get_matches_from(words)?;
         let source = Source::of_word(matches.get_str("FILE"));
