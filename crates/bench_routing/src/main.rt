@@ -18,18 +18,15 @@ mod shape;
 use address_table::Rules;
 use capture_form::{Capture, Distribution, Rule};
 use clients::Fault;
+use program_ends::{WORDS_FAULT, words_of};
 use route_core::Core;
 use shape::Shape;
 use std::alloc::{AllocError, Global};
-use std::env;
 use std::process::ExitCode;
 use std::time::{Duration, Instant};
 
 /// As many records as a core may have here.
 const LIMIT: u64 = 1_000_000_000;
-
-/// The status after words that ask for nothing.
-const WORDS_FAULT: u8 = 64;
 
 /// The status where memory was refused, or the line not written.
 const SYSTEM_FAULT: u8 = 74;
@@ -44,7 +41,7 @@ fn main(rt: HostRuntime) -> ExitCode {
 
 /// Does what the words ask for. It answers whether they ask for something.
 fn done(rt: &HostRuntime) -> Result<bool, Fault> {
-    let words: Vec<String> = env::args(rt)?.skip(1).collect(rt.alloc())?;
+    let words = words_of(rt)?;
     let (rows, is_timed) = match words.as_slice() {
         [first, rows @ ..] if first.as_str() == "time" => (rows, true),
         rows => (rows, false),
