@@ -184,36 +184,34 @@ fn write_asked<W: fmt::Write>(
     )?;
     match asked.fault {
         None => write_accepted(f, facts, asked),
-        Some(Fault::Refuse(condition)) => {
+        Some(fault) => write_fault(f, facts, fault),
+    }
+}
+
+/// The fault of the client's attach, and what is due for it.
+fn write_fault<W: fmt::Write>(
+    f: &mut fmt::Formatter<W>,
+    facts: &AttachFacts,
+    fault: Fault,
+) -> fmt::Result {
+    let (due, condition) = match fault {
+        Fault::Refuse(condition) => {
             write!(
                 f,
                 "\nthe client's attach is to be refused: {}",
                 condition.name()
             )?;
-            write_word(f, "source and target", ends_name(facts), "neither")
+            return write_word(f, "source and target", ends_name(facts), "neither");
         }
-        Some(Fault::Close(condition)) => {
-            write!(
-                f,
-                "\nthe client's attach has a fault for which the router has to close the connection ({}); no attach may answer it",
-                condition.name()
-            )
-        }
-        Some(Fault::End(condition)) => {
-            write!(
-                f,
-                "\nthe client's attach has a fault for which the router has to end the session ({}); no attach may answer it",
-                condition.name()
-            )
-        }
-        Some(Fault::Detach(condition)) => {
-            write!(
-                f,
-                "\nthe client's attach has a fault for which the router has to detach the link ({}); no attach may answer it",
-                condition.name()
-            )
-        }
-    }
+        Fault::Close(condition) => ("close the connection", condition),
+        Fault::End(condition) => ("end the session", condition),
+        Fault::Detach(condition) => ("detach the link", condition),
+    };
+    write!(
+        f,
+        "\nthe client's attach has a fault for which the router has to {due} ({}); no attach may answer it",
+        condition.name()
+    )
 }
 
 /// L3.

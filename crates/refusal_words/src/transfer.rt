@@ -307,30 +307,8 @@ pub(crate) fn write_going_on<W: fmt::Write>(
     };
     write!(f, "\nin progress: ")?;
     write_outgoing(f, first)?;
-    match facts.id {
-        Some(id) if first.id == Some(id) => write!(
-            f,
-            "\ndelivery-id: {id}, as the first transfer has"
-        )?,
-        Some(id) => write!(
-            f,
-            "\ndelivery-id: {id}, the first transfer's {}",
-            OrNone(first.id)
-        )?,
-        None => write!(f, "\ndelivery-id: none, as may be")?,
-    }
-    let due = flag_name(first.is_settled);
-    match facts.settled {
-        Some(settled) if settled == first.is_settled => {
-            write!(f, "\nsettled: {due}, as the first transfer has")?
-        }
-        Some(settled) => write!(
-            f,
-            "\nsettled: {}, the first transfer's {due}",
-            flag_name(settled)
-        )?,
-        None => write!(f, "\nsettled: absent, as may be")?,
-    }
+    write_same_id(f, facts.id, first.id)?;
+    write_same_settled(f, facts.settled, first.is_settled)?;
     if facts.note == first.note {
         write!(
             f,
@@ -344,6 +322,43 @@ pub(crate) fn write_going_on<W: fmt::Write>(
             Noted(facts.note),
             Noted(first.note)
         )
+    }
+}
+
+/// The delivery-id of a later transfer, against that of the first.
+fn write_same_id<W: fmt::Write>(
+    f: &mut fmt::Formatter<W>,
+    id: Option<u32>,
+    due: Option<u32>,
+) -> fmt::Result {
+    match id {
+        Some(id) if due == Some(id) => write!(f, "\ndelivery-id: {id}, as the first transfer has"),
+        Some(id) => write!(
+            f,
+            "\ndelivery-id: {id}, the first transfer's {}",
+            OrNone(due)
+        ),
+        None => write!(f, "\ndelivery-id: none, as may be"),
+    }
+}
+
+/// Whether a later transfer is settled, against the first.
+fn write_same_settled<W: fmt::Write>(
+    f: &mut fmt::Formatter<W>,
+    settled: Option<bool>,
+    due: bool,
+) -> fmt::Result {
+    let due_name = flag_name(due);
+    match settled {
+        Some(settled) if settled == due => {
+            write!(f, "\nsettled: {due_name}, as the first transfer has")
+        }
+        Some(settled) => write!(
+            f,
+            "\nsettled: {}, the first transfer's {due_name}",
+            flag_name(settled)
+        ),
+        None => write!(f, "\nsettled: absent, as may be"),
     }
 }
 
