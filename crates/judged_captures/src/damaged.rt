@@ -5,8 +5,7 @@ ghost use Rattle.std.specs.Prelude.{◌<◌, ◌≤◌, length, IfSome};
 
 use audit_core::{Refusal, Tally, audit};
 use capture_form::{Capture, Reader, Reading, Rule, read_whole_records};
-use rand_core::utils::NextWord;
-use rand_pcg::Pcg32;
+use seeded_chance::Chance;
 use std::alloc::{AllocError, Global};
 use trace_law::{slow_check, tally_capture};
 
@@ -21,23 +20,15 @@ const LENGTH_AT: usize = 14;
 /// Damage that is made anew and anew, the same in each run.
 #[derive(Drop)]
 pub struct Damage {
-    random: Pcg32,
+    chance: Chance,
 }
 
 impl Damage {
     /// The first damage of this number.
     pub fn new(seed: u64) -> Damage {
         Damage {
-            random: Pcg32::new(seed, 54),
+            chance: Chance::new(seed),
         }
-    }
-
-    /// Some number below this one.
-    fn below(&mut self, count: usize) -> usize
-        requires { 0 < count }
-        ensures { result < count }
-    {
-        self.random.next_word() as usize % count
     }
 
     /// Damages the text of a capture so many times, and answers how many of the captures that come of it are not judged alike.
@@ -66,7 +57,7 @@ impl Damage {
     fn damaged(&mut self, alloc: Global, text: &[u8], head: usize) -> Result<Vec<u8>, AllocError> {
         let (front, records) = text.split_at(head.min(text.len()));
         let mut pieces = pieces_of(alloc, records)?;
-        for _ in 0..=self.below(3) {
+        for _ in 0..=self.chance.below(3) {
             self.exchange(&mut pieces)?;
         }
         let mut damaged = Vec::new(alloc);
@@ -74,7 +65,7 @@ impl Damage {
         for piece in pieces.iter() {
             damaged.extend_from_slice(piece)?;
         }
-        if self.below(2) == 0 {
+        if self.chance.below(2) == 0 {
             self.change_octet(&mut damaged, head);
         }
         Ok(damaged)
@@ -86,8 +77,8 @@ impl Damage {
         if count == 0 {
             return Ok(());
         }
-        let (one, other) = (self.below(count), self.below(count));
-        match self.below(4) {
+        let (one, other) = (self.chance.below(count), self.chance.below(count));
+        match self.chance.below(4) {
             0 => {
                 pieces.remove(one);
             }
@@ -104,8 +95,8 @@ impl Damage {
             return;
         };
         if count > 0 {
-            let place = head + self.below(count);
-            text[place] = self.below(256) as u8;
+            let place = head + self.chance.below(count);
+            text[place] = self.chance.below(256) as u8;
         }
     }
 }
