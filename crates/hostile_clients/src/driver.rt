@@ -1,8 +1,8 @@
 //! The driver: what happens next, lawful or hostile.
 
-use crate::chance::Chance;
 use crate::deed::Deed;
 use crate::known::{ADDRESSES, Client, Known};
+use seeded_chance::Chance;
 use std::alloc::{AllocError, Global};
 
 /// Makes items by chance.
@@ -22,10 +22,10 @@ impl Driver {
     /// A driver of two to five clients, whose manners are a matter of chance.
     pub(crate) fn new(alloc: Global, chance: Chance) -> Result<Driver, AllocError> {
         let mut chance = chance;
-        let count = chance.below(4).wrapping_add(2);
-        let hostility = chance.one_of(&[1_000_000, 200, 60, 30, 12, 4]);
+        let count = chance.number(4).wrapping_add(2);
+        let hostility = chance.one_of(&[1_000_000, 200, 60, 30, 12, 4], 0);
         let first_address = chance.place(ADDRESSES.len());
-        let addresses = chance.one_of(&[1, 1, 2, 3]) as usize;
+        let addresses = chance.one_of(&[1, 1, 2, 3], 0);
         Ok(Driver {
             alloc,
             chance,
@@ -56,8 +56,8 @@ impl Driver {
 
     /// How many octets a message has in a part.
     pub(crate) fn length(&mut self) -> usize {
-        let most = self.chance.one_of(&[1, 20, 100, 100, 700, 3000]);
-        self.chance.below(most) as usize
+        let most = self.chance.one_of(&[1, 20, 100, 100, 700, 3000], 0);
+        self.chance.number(most) as usize
     }
 
     /// A frame that a client sends.

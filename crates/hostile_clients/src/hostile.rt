@@ -2,10 +2,10 @@
 
 use crate::deed::Deed;
 use crate::driver::Driver;
-use crate::fields::framed;
 use crate::known::{Client, Life, Place};
 use crate::said;
 use crate::said::{Attaching, Crediting, Sending};
+use client_frames::framed;
 use std::alloc::AllocError;
 
 /// Numbers that are likely to be no right ones.
@@ -34,7 +34,7 @@ const DYNAMIC_TARGET: &[u8] = &[
 impl Driver {
     /// What a client does next that it may not do, or need not.
     pub(crate) fn hostile(&mut self, client: Client) -> Result<Deed, AllocError> {
-        let frame = match self.chance.below(24) {
+        let frame = match self.chance.number(24) {
             0 => self.no_frame()?,
             1 => self.no_performative()?,
             2..=6 => self.damaged_frame(client)?,
@@ -54,19 +54,19 @@ impl Driver {
 
     /// An item that is no frame, where it is not awaited.
     fn odd_item(&mut self, client: Client) -> Deed {
-        match self.chance.below(6) {
+        match self.chance.number(6) {
             0 => Deed::Lost(client.connection),
             1 => Deed::Broken(client.connection),
             2 | 3 => Deed::Opened(client.connection),
-            4 => Deed::Lost(self.chance.one_of(&NUMBERS)),
-            _ => Deed::Broken(self.chance.one_of(&NUMBERS)),
+            4 => Deed::Lost(self.chance.one_of(&NUMBERS, 0)),
+            _ => Deed::Broken(self.chance.one_of(&NUMBERS, 0)),
         }
     }
 
     /// Octets that are no frame.
     fn no_frame(&mut self) -> Result<Vec<u8>, AllocError> {
         let mut octets = Vec::new(self.alloc);
-        for _ in 0..self.chance.below(40) {
+        for _ in 0..self.chance.number(40) {
             octets.push(self.chance.octet())?;
         }
         Ok(octets)
@@ -76,7 +76,7 @@ impl Driver {
     fn no_performative(&mut self) -> Result<Vec<u8>, AllocError> {
         let mut body = Vec::new(self.alloc);
         body.extend_from_slice(&[0x00, 0x53, self.chance.octet(), 0xC0])?;
-        for _ in 0..self.chance.below(30) {
+        for _ in 0..self.chance.number(30) {
             body.push(self.chance.octet())?;
         }
         framed(self.alloc, 0, body.as_slice())
@@ -96,7 +96,7 @@ impl Driver {
     /// A lawful frame with an octet changed, or cut short, or with one octet too many.
     fn damaged_frame(&mut self, client: Client) -> Result<Vec<u8>, AllocError> {
         let mut frame = self.some_lawful(client)?;
-        match self.chance.below(8) {
+        match self.chance.number(8) {
             0 => frame.truncate(self.chance.place(frame.len())),
             1 => frame.push(self.chance.octet())?,
             2 => {
@@ -116,7 +116,7 @@ impl Driver {
         let fresh = if self.chance.once_in(2) {
             self.chance.octet()
         } else {
-            (self.chance.below(4) & 3) as u8
+            (self.chance.number(4) & 3) as u8
         };
         if let Some(octet) = frame.get_mut(place) {
             *octet = fresh;
@@ -126,7 +126,7 @@ impl Driver {
     /// A lawful frame on another channel.
     fn elsewhere(&mut self, client: Client) -> Result<Vec<u8>, AllocError> {
         let mut frame = self.some_lawful(client)?;
-        let channel = (self.chance.one_of(&CHANNELS) & 0xFFFF) as u16;
+        let channel = (self.chance.one_of(&CHANNELS, 0) & 0xFFFF) as u16;
         let [high, low] = channel.to_be_bytes();
         if let Some(octet) = frame.get_mut(6) {
             *octet = high;
@@ -155,9 +155,9 @@ impl Driver {
     /// Some handle, of a link or not.
     fn some_handle(&mut self) -> u32 {
         if self.chance.once_in(3) {
-            self.chance.one_of(&NUMBERS)
+            self.chance.one_of(&NUMBERS, 0)
         } else {
-            self.chance.below(4)
+            self.chance.number(4)
         }
     }
 
@@ -165,17 +165,17 @@ impl Driver {
     fn odd_attach(&mut self, client: Client) -> Result<Vec<u8>, AllocError> {
         let place = self.some_place(client);
         let mut text = Vec::new(self.alloc);
-        for _ in 0..self.chance.one_of(&[1, 1, 1, 160, 161, 255, 256]) {
+        for _ in 0..self.chance.one_of(&[1, 1, 1, 160, 161, 255, 256], 0) {
             text.push(b'n')?;
         }
-        let source = match self.chance.below(6) {
+        let source = match self.chance.number(6) {
             0 => EMPTY_SOURCE,
             1 => SYMBOL_SOURCE,
             2 => NO_SOURCE,
             3 => NO_TARGET,
             _ => NULL,
         };
-        let target = match self.chance.below(6) {
+        let target = match self.chance.number(6) {
             0 => COORDINATOR,
             1 => DYNAMIC_TARGET,
             2 => NO_TARGET,
@@ -188,7 +188,7 @@ impl Driver {
             handle: self.some_handle(),
             is_receiver: self.chance.once_in(2),
             sender_mode: None,
-            receiver_mode: Some((self.chance.below(3) & 3) as u8),
+            receiver_mode: Some((self.chance.number(3) & 3) as u8),
             source: if self.chance.once_in(2) {
                 long.as_slice()
             } else {
@@ -209,17 +209,17 @@ impl Driver {
     fn odd_transfer(&mut self, client: Client) -> Result<Vec<u8>, AllocError> {
         let place = self.some_place(client);
         let tag = [b't'; 33];
-        let length = self.chance.one_of(&[0, 4, 32, 33]) as usize;
+        let length = self.chance.one_of(&[0, 4, 32, 33], 0);
         let next_id = match self.known.session_at(place) {
             Some(session) => session.next_id,
             None => 0,
         };
         let sending = Sending {
             handle: self.some_handle(),
-            id: match self.chance.below(6) {
+            id: match self.chance.number(6) {
                 0 => None,
-                1 => Some(self.chance.one_of(&NUMBERS)),
-                2 | 3 => Some(next_id.wrapping_sub(self.chance.below(4))),
+                1 => Some(self.chance.one_of(&NUMBERS, 0)),
+                2 | 3 => Some(next_id.wrapping_sub(self.chance.number(4))),
                 _ => Some(next_id),
             },
             tag: tag.get(..length).unwrap_or(&[]),
@@ -254,7 +254,9 @@ impl Driver {
             is_resumed: false,
             is_aborted: false,
         };
-        let payload = self.chance.one_of(&[8000, 16_200, 16_320, 16_330, 17_000]) as usize;
+        let payload = self
+            .chance
+            .one_of(&[8000, 16_200, 16_320, 16_330, 17_000], 0);
         let body = said::transfer(self.alloc, sending, payload)?;
         framed(self.alloc, link.place.channel, body.as_slice())
     }
@@ -267,17 +269,17 @@ impl Driver {
             count: if self.chance.once_in(3) {
                 None
             } else {
-                Some(self.chance.one_of(&NUMBERS))
+                Some(self.chance.one_of(&NUMBERS, 0))
             },
-            credit: Some(self.chance.one_of(&NUMBERS)),
+            credit: Some(self.chance.one_of(&NUMBERS, 0)),
             drains: self.chance.once_in(2),
         };
         let awaited = if self.chance.once_in(4) {
             None
         } else {
-            Some(self.chance.one_of(&NUMBERS))
+            Some(self.chance.one_of(&NUMBERS, 0))
         };
-        let window = self.chance.one_of(&NUMBERS);
+        let window = self.chance.one_of(&NUMBERS, 0);
         let has_link = !self.chance.once_in(4);
         let link = if has_link { Some(crediting) } else { None };
         let body = said::flow(self.alloc, awaited, window, 0, link, self.chance.once_in(2))?;
@@ -289,12 +291,12 @@ impl Driver {
         let place = self.some_place(client);
         let is_receiver = !self.chance.once_in(4);
         let first = if self.chance.once_in(2) {
-            self.chance.below(8)
+            self.chance.number(8)
         } else {
-            self.chance.one_of(&NUMBERS)
+            self.chance.one_of(&NUMBERS, 0)
         };
         let last = if self.chance.once_in(2) {
-            Some(self.chance.one_of(&NUMBERS))
+            Some(self.chance.one_of(&NUMBERS, 0))
         } else {
             None
         };
@@ -318,7 +320,7 @@ impl Driver {
     /// The octets of a state that is none: described by something else, or not described.
     fn odd_state(&mut self) -> Result<Vec<u8>, AllocError> {
         let mut state = Vec::new(self.alloc);
-        match self.chance.below(3) {
+        match self.chance.number(3) {
             0 => state.extend_from_slice(&[0x00, 0x53, 0x28, 0x45])?,
             1 => state.extend_from_slice(&[0x00, 0x53, 0x24, 0x43])?,
             _ => state.extend_from_slice(&[0x45])?,
@@ -328,20 +330,23 @@ impl Driver {
 
     /// An open with some limit.
     fn odd_opening(&mut self) -> Result<Vec<u8>, AllocError> {
-        let limit = self.chance.one_of(&[0, 511, 512, 16384]);
+        let limit = self.chance.one_of(&[0, 511, 512, 16384], 0);
         let body = said::open(self.alloc, Some(limit))?;
         framed(self.alloc, 0, body.as_slice())
     }
 
     /// A begin on some channel, maybe with a remote one.
     fn odd_begin(&mut self) -> Result<Vec<u8>, AllocError> {
-        let channel = (self.chance.one_of(&CHANNELS) & 0xFFFF) as u16;
+        let channel = (self.chance.one_of(&CHANNELS, 0) & 0xFFFF) as u16;
         let remote = if self.chance.once_in(4) {
             Some(0)
         } else {
             None
         };
-        let (first, window) = (self.chance.one_of(&NUMBERS), self.chance.one_of(&NUMBERS));
+        let (first, window) = (
+            self.chance.one_of(&NUMBERS, 0),
+            self.chance.one_of(&NUMBERS, 0),
+        );
         let body = said::begin(self.alloc, first, window, remote)?;
         framed(self.alloc, channel, body.as_slice())
     }
@@ -349,7 +354,7 @@ impl Driver {
     /// A detach, an end or a close that nobody asked for.
     fn odd_ending(&mut self, client: Client) -> Result<Vec<u8>, AllocError> {
         let place = self.some_place(client);
-        let body = match self.chance.below(8) {
+        let body = match self.chance.number(8) {
             0 => said::ending(self.alloc, 0x18)?,
             1 => said::ending(self.alloc, 0x17)?,
             _ => said::detach(self.alloc, self.some_handle(), self.chance.once_in(2))?,

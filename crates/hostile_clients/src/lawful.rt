@@ -2,10 +2,10 @@
 
 use crate::deed::Deed;
 use crate::driver::Driver;
-use crate::fields::framed;
 use crate::known::{Client, Life, Link, Place, Session, Stage};
 use crate::said;
 use crate::said::{Attaching, Crediting, Sending};
+use client_frames::framed;
 use std::alloc::AllocError;
 
 /// Windows and credits.
@@ -24,7 +24,7 @@ impl Driver {
             Stage::Headed => {
                 let limit = self
                     .chance
-                    .one_of(&[0, 512, 512, 600, 1000, 16384, 100_000]);
+                    .one_of(&[0, 512, 512, 600, 1000, 16384, 100_000], 0);
                 let limit = if limit == 0 { None } else { Some(limit) };
                 let body = said::open(self.alloc, limit)?;
                 Ok(Driver::sent(client, framed(self.alloc, 0, body.as_slice())?))
@@ -49,7 +49,7 @@ impl Driver {
 
     /// A frame of some kind, where the client can send one.
     pub(crate) fn some_frame(&mut self, client: Client) -> Result<Option<Vec<u8>>, AllocError> {
-        match self.chance.below(34) {
+        match self.chance.number(34) {
             0 => self.begin(client),
             1..=4 => self.attach(client),
             5..=14 => self.transfer(client),
@@ -64,7 +64,7 @@ impl Driver {
 
     /// Another frame, where the client could not send one of the kind that was chosen.
     fn fall_back(&mut self, client: Client) -> Result<Deed, AllocError> {
-        let frame = match self.chance.below(5) {
+        let frame = match self.chance.number(5) {
             0 => None,
             1 => self.flow(client)?,
             2 => self.disposition(client)?,
@@ -121,7 +121,7 @@ impl Driver {
 
     /// A begin, on a channel that is free.
     fn begin(&mut self, client: Client) -> Result<Option<Vec<u8>>, AllocError> {
-        let channel = (self.chance.below(3) & 3) as u16;
+        let channel = (self.chance.number(3) & 3) as u16;
         let place = Place {
             connection: client.connection,
             channel,
@@ -129,8 +129,8 @@ impl Driver {
         if self.known.life_at(place).is_some() {
             return Ok(None);
         }
-        let first = self.chance.one_of(&FIRST_NUMBERS);
-        let window = self.chance.one_of(&WINDOWS);
+        let first = self.chance.one_of(&FIRST_NUMBERS, 0);
+        let window = self.chance.one_of(&WINDOWS, 0);
         let body = said::begin(self.alloc, first, window, None)?;
         self.on(place, body.as_slice())
     }
@@ -144,7 +144,7 @@ impl Driver {
         let Some(session) = found else {
             return Ok(None);
         };
-        let handle = self.chance.below(4);
+        let handle = self.chance.number(4);
         if self.known.has_link(session.place, handle) {
             return Ok(None);
         }
@@ -159,7 +159,7 @@ impl Driver {
     fn produce(&mut self, session: Session, handle: u32) -> Result<Option<Vec<u8>>, AllocError> {
         let address = self.address();
         let target = said::terminus(self.alloc, 0x29, address.as_bytes(), false)?;
-        let mode = self.chance.one_of(&[0, 1, 2, 3]);
+        let mode = self.chance.one_of(&[0, 1, 2, 3], 0);
         let attaching = Attaching {
             name: b"producer",
             handle,
@@ -172,7 +172,7 @@ impl Driver {
             receiver_mode: None,
             source: &[0x40],
             target: target.as_slice(),
-            initial_count: Some(self.chance.one_of(&FIRST_NUMBERS)),
+            initial_count: Some(self.chance.one_of(&FIRST_NUMBERS, 0)),
         };
         let body = said::attach(self.alloc, attaching)?;
         self.on(session.place, body.as_slice())
@@ -183,8 +183,8 @@ impl Driver {
         let address = self.address();
         let is_dynamic = self.chance.once_in(12);
         let source = said::terminus(self.alloc, 0x28, address.as_bytes(), is_dynamic)?;
-        let mode = self.chance.one_of(&[0, 0, 1, 2, 3]);
-        let second = self.chance.below(2);
+        let mode = self.chance.one_of(&[0, 0, 1, 2, 3], 0);
+        let second = self.chance.number(2);
         let attaching = Attaching {
             name: b"consumer",
             handle,
@@ -282,7 +282,7 @@ impl Driver {
 
     /// A flow that gives credit on a link, and may drain it.
     fn link_flow(&mut self, link: Link, session: Session) -> Result<Option<Vec<u8>>, AllocError> {
-        let lag = self.chance.one_of(&[0, 0, 0, 0, 1, 2]);
+        let lag = self.chance.one_of(&[0, 0, 0, 0, 1, 2], 0);
         let count = link.count.wrapping_sub(lag.min(link.count));
         let crediting = Crediting {
             handle: link.handle,
@@ -294,7 +294,7 @@ impl Driver {
             credit: if self.chance.once_in(8) {
                 None
             } else {
-                Some(self.chance.one_of(&CREDITS))
+                Some(self.chance.one_of(&CREDITS, 0))
             },
             drains: self.chance.once_in(4),
         };
@@ -307,9 +307,9 @@ impl Driver {
         session: Session,
         crediting: Option<Crediting>,
     ) -> Result<Option<Vec<u8>>, AllocError> {
-        let lag = self.chance.one_of(&[0, 0, 0, 0, 1, 2]);
+        let lag = self.chance.one_of(&[0, 0, 0, 0, 1, 2], 0);
         let awaited = session.seen.wrapping_sub(lag.min(session.seen));
-        let window = self.chance.one_of(&WINDOWS);
+        let window = self.chance.one_of(&WINDOWS, 0);
         let wants_echo = self.chance.once_in(8);
         let body = said::flow(
             self.alloc,
@@ -330,7 +330,7 @@ impl Driver {
         };
         let state = self.state()?;
         let last = if self.chance.once_in(3) {
-            Some(held.id.wrapping_add(self.chance.below(4)))
+            Some(held.id.wrapping_add(self.chance.number(4)))
         } else {
             None
         };
@@ -349,7 +349,7 @@ impl Driver {
     /// The octets of a state, or none.
     pub(crate) fn state(&mut self) -> Result<Vec<u8>, AllocError> {
         let mut state = Vec::new(self.alloc);
-        match self.chance.below(12) {
+        match self.chance.number(12) {
             0..=2 => state.extend_from_slice(&[0x00, 0x53, 0x24, 0x45])?,
             3 => state.extend_from_slice(&[0x00, 0x53, 0x25, 0x45])?,
             4 => state.extend_from_slice(&[0x00, 0x53, 0x26, 0x45])?,
@@ -357,7 +357,7 @@ impl Driver {
             6 => state.extend_from_slice(b"\x00\xA3\x12amqp:released:list\x45")?,
             7 => state.extend_from_slice(&[0x00, 0x53, 0x23, 0xC0, 0x03, 0x02, 0x43, 0x44])?,
             8..=10 => {
-                let length = self.chance.one_of(&[10, 440, 560, 1000, 1000]) as usize;
+                let length = self.chance.one_of(&[10, 440, 560, 1000, 1000], 0);
                 return said::rejection(self.alloc, length);
             }
             _ => {}

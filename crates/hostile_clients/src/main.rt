@@ -5,8 +5,7 @@
 //! first records. In a capture of no more than these nothing may wait that could go. It names the seed of each capture that is wrong, and then prints what was done, in numbers.
 //! `hostile_clients show SEED ITEMS` writes the capture of one run. The modules, in reading order:
 //!
-//! - `chance`: choices
-//! - `fields`, `said`: the octets of frames
+//! - `said`: the octets of frames
 //! - `deed`: what is done to the core
 //! - `known`, `seen`: what the clients know, and how they learn
 //! - `driver`: what is done next, `lawful` or `hostile`
@@ -15,10 +14,8 @@
 //! - `summary`: the numbers
 #![tactic(auto)]
 
-mod chance;
 mod deed;
 mod driver;
-mod fields;
 mod hostile;
 mod judging;
 mod known;

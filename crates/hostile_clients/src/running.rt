@@ -1,6 +1,5 @@
 //! A run: a core takes what the driver makes.
 
-use crate::chance::Chance;
 use crate::deed::done;
 use crate::driver::Driver;
 use crate::judging::gives_its_frames;
@@ -9,6 +8,7 @@ use address_table::Rules;
 use capture_form::{Capture, Distribution, Rule};
 use route_core::Core;
 use route_items::StepFault;
+use seeded_chance::Chance;
 use std::alloc::{AllocError, Global};
 
 /// As many records as a core may have here.
@@ -37,7 +37,7 @@ pub(crate) fn run_of_seed(
     let Ok(rules) = Rules::new(rules) else {
         return Ok(None);
     };
-    let items = chance.below(items).wrapping_add(1);
+    let items = chance.number(items).wrapping_add(1);
     let driver = Driver::new(alloc, chance)?;
     let core = Core::new(alloc, &rules, LIMIT)?;
     let (ran, capture) = run(core, driver, items);
