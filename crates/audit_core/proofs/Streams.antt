@@ -109,6 +109,13 @@ module _ (rules : List RuleText) (records : List Record) (octets rest : List ℕ
 
   -- ---- the next record is not read
 
+  -- the records in front of its fault are all that the octets have
+  pub reads_to : (form_kind : FormKind) → 0 < length rest → record_at rest ≡ Err form_kind → (reading octets).records ≡ records
+  reads_to form_kind some e =
+      let from = reads_from trace octets rest bounds begins in
+      let found = first_fault from.room (length octets) rest form_kind some from.enough e in
+      ap (λ (r : Reads). r.records) from.reads ∙ ap (λ r. records ++ r.records) found ∙ append-nil records
+
   module _ (offset : ℕ) (place : offset ≡ length (text (record { rules = rules; records = records }))) where
     malformed : (form_kind : FormKind) → 0 < length rest → record_at rest ≡ Err form_kind → IsMalformed octets offset form_kind
     malformed form_kind some e =

@@ -1,15 +1,18 @@
 -- What a watcher has seen of octets where their reading ends.
 use Rattle.std.proofs.Common.{◌≡◌, refl, sym, ap, subst, ◌∙◌, ℕ, List, [], ◌∷◌, ◌++◌, length, Option, None, Some}
-use Rattle.std.specs.Prelude.{◌≢◌, IfSome}
+use Rattle.std.specs.Prelude.{◌≢◌, ◌<◌, Err, IfSome, is_ok}
 use Rattle.std.specs.Io.KnownBytes.{Consumes}
 use Rattle.std.proofs.lemmas.List.{append-nil}
 use Rattle.capture_form.specs.declared.records.Record.{Record}
 use Rattle.capture_form.specs.declared.reader.Reader.{Reader}
 use Rattle.capture_form.specs.declared.fault.FormKind.{FormKind}
 use Rattle.capture_form.specs.declared.fault.FormKind.TheVariants as kinds
+use Rattle.capture_form.specs.declared.fault.FormFault.{FormFault}
 use Rattle.capture_form.specs.Rules.{RuleText}
 use Rattle.capture_form.specs.Text.{IsRecord, record_text, records_text, text}
-use Rattle.capture_form.specs.Reader.{left_of, text_of_head, IsHead, IsNext}
+use Rattle.capture_form.specs.Reading.{head_at, reading, record_at}
+use Rattle.capture_form.specs.Reader.{left_of, fault_of, text_of_head, IsHead, IsNext, StopsHead, StopsNext}
+use Rattle.capture_form.proofs.ReadingLaws.{headless}
 use Rattle.trace_clauses.specs.declared.clause.Clause.{Clause}
 use Rattle.trace_clauses.specs.declared.tally.Tally.{Tally}
 use Rattle.audit_ledger.specs.declared.ledger.Ledger.{Ledger}
@@ -24,10 +27,24 @@ use Rattle.audit_core.specs.Verdict.{verdict_of_fault, verdict_of_refusal}
 use Rattle.audit_core.specs.Watching.{SawAll, SawRefused, Watched}
 use Rattle.audit_core.proofs.ReadSoFar.{ReadSoFar}
 use Rattle.audit_core.proofs.ReadSteps.{begins}
-use Rattle.audit_core.proofs.Streams.{longer_bounds, longer_begins}
+use Rattle.audit_core.proofs.Streams.{longer_bounds, longer_begins, reads_to}
 
 pub no_want : (number : ℕ) (clause : Clause) → Broken number clause ≢ Memory
 no_want number clause e = cc
+
+-- what was read so far, where it is known that the watcher had seen none
+pub seen_by : {R : Type 0} (remaining : R → Option (List ℕ)) (rules : List RuleText) (left : Option (List ℕ)) (reader : Reader R) (auditor : Auditor) (offset : ℕ) (P : Type 0) (seen : List Record → Type 0)
+    → ReadSoFar remaining rules left reader auditor offset (λ records. P → seen records) → P → ReadSoFar remaining rules left reader auditor offset seen
+seen_by remaining rules left reader auditor offset P seen s p = record {
+  records = s.records;
+  bounds = s.bounds;
+  agrees = s.agrees;
+  read = s.read;
+  place = s.place;
+  at = s.at;
+  runs = s.runs;
+  seen = s.seen p;
+}
 
 module _ {W : Type 0} (saw : W → List Record → Type 0) (refuses : W → List RuleText → List Record → Record → Type 0) where
   -- what is known behind the ledger's records is known behind those for which the auditor stands
@@ -39,20 +56,23 @@ module _ {W : Type 0} (saw : W → List Record → Type 0) (refuses : W → List
       let under : Stands held ledger records = subst (λ l. Stands held l records) (sym own) (subst (λ rl. Stands rl auditor.ledger records) (sym is) stands.1) in
       subst (λ rl. refuses after rl records entry) is (told records under seen)
 
-  -- a fault of the text says nothing of a watcher
-  pub unseen : (watcher : W) (octets : List ℕ) (form_kind : FormKind) (offset : ℕ) → Watched saw refuses watcher octets (verdict_of_fault form_kind offset)
-  unseen watcher octets kinds.Magic offset = tt
-  unseen watcher octets kinds.Rules offset = tt
-  unseen watcher octets kinds.Kind offset = tt
-  unseen watcher octets kinds.Note offset = tt
-  unseen watcher octets kinds.Length offset = tt
-  unseen watcher octets kinds.Truncated offset = tt
-  unseen watcher octets kinds.Memory offset = tt
-  unseen watcher octets kinds.Read offset = tt
+  -- octets with a fault in their head have no record
+  headless_seen : (watcher : W) (octets : List ℕ) (fault : FormFault) → saw watcher [] → head_at octets ≡ Err fault → saw watcher (reading octets).records
+  headless_seen watcher octets fault unseen e = subst (λ (records : List Record). saw watcher records) (sym (headless octets (ap is_ok e)).1) unseen
 
-  pub unseen_known : (known : Option (List ℕ)) (front : List ℕ) (watcher : W) (form_kind : FormKind) (offset : ℕ) → IfSome known (λ octets. Watched saw refuses watcher (front ++ octets) (verdict_of_fault form_kind offset))
-  unseen_known None front watcher form_kind offset = tt
-  unseen_known (Some octets) front watcher form_kind offset = unseen watcher (front ++ octets) form_kind offset
+  stops_head_seen : (watcher : W) (octets : List ℕ) (form_kind : FormKind) (offset : ℕ) → saw watcher [] → StopsHead form_kind offset octets → Watched saw refuses watcher octets (verdict_of_fault form_kind offset)
+  stops_head_seen watcher octets kinds.Magic offset unseen stops = headless_seen watcher octets (record { offset = offset; kind = kinds.Magic }) unseen stops
+  stops_head_seen watcher octets kinds.Rules offset unseen stops = headless_seen watcher octets (record { offset = offset; kind = kinds.Rules }) unseen stops
+  stops_head_seen watcher octets kinds.Kind offset unseen stops = headless_seen watcher octets (record { offset = offset; kind = kinds.Kind }) unseen stops
+  stops_head_seen watcher octets kinds.Note offset unseen stops = headless_seen watcher octets (record { offset = offset; kind = kinds.Note }) unseen stops
+  stops_head_seen watcher octets kinds.Length offset unseen stops = headless_seen watcher octets (record { offset = offset; kind = kinds.Length }) unseen stops
+  stops_head_seen watcher octets kinds.Truncated offset unseen stops = headless_seen watcher octets (record { offset = offset; kind = kinds.Truncated }) unseen stops
+  stops_head_seen watcher octets kinds.Memory offset unseen stops = tt
+  stops_head_seen watcher octets kinds.Read offset unseen stops = tt
+
+  pub head_seen : (known : Option (List ℕ)) (watcher : W) (fault : FormFault) → saw watcher [] → IfSome known (StopsHead fault.kind fault.offset) → IfSome known (λ octets. Watched saw refuses watcher octets (verdict_of_fault fault.kind fault.offset))
+  head_seen None watcher fault unseen stops = tt
+  head_seen (Some octets) watcher fault unseen stops = stops_head_seen watcher octets fault.kind fault.offset unseen stops
 
   -- what holds behind a head holds of the whole
   pub seen_known : (known left : Option (List ℕ)) (rules : List RuleText) (watcher : W) (verdict : Verdict) → IfSome known (λ octets. IsHead octets left rules)
@@ -80,6 +100,31 @@ module _ {W : Type 0} (saw : W → List Record → Type 0) (refuses : W → List
     pub ends_seen : (tally : Tally) (next : Option (List ℕ)) → IfSome (left_of remaining reader) (λ octets. IsNext octets next None)
         → IfSome first (λ all. Watched saw refuses before (text_of_head rules ++ all) (Accepted tally))
     ends_seen tally next read = ends_by tally first (left_of remaining reader) next so_far.read read
+
+    stopped : (octets rest : List ℕ) (form_kind : FormKind) → octets ≡ text (record { rules = rules; records = so_far.records }) ++ rest → 0 < length rest → record_at rest ≡ Err form_kind → saw before (reading octets).records
+    stopped octets rest form_kind spelled some e =
+        subst (λ (records : List Record). saw before records) (sym (reads_to rules so_far.records octets rest so_far.bounds so_far.agrees.lawful spelled form_kind some e)) so_far.seen
+
+    stops_at : (octets rest : List ℕ) (form_kind : FormKind) (at : ℕ) → octets ≡ text (record { rules = rules; records = so_far.records }) ++ rest → StopsNext form_kind rest → Watched saw refuses before octets (verdict_of_fault form_kind at)
+    stops_at octets rest kinds.Magic at spelled stops = stopped octets rest kinds.Magic spelled stops.0 stops.1
+    stops_at octets rest kinds.Rules at spelled stops = stopped octets rest kinds.Rules spelled stops.0 stops.1
+    stops_at octets rest kinds.Kind at spelled stops = stopped octets rest kinds.Kind spelled stops.0 stops.1
+    stops_at octets rest kinds.Note at spelled stops = stopped octets rest kinds.Note spelled stops.0 stops.1
+    stops_at octets rest kinds.Length at spelled stops = stopped octets rest kinds.Length spelled stops.0 stops.1
+    stops_at octets rest kinds.Truncated at spelled stops = stopped octets rest kinds.Truncated spelled stops.0 stops.1
+    stops_at octets rest kinds.Memory at spelled stops = tt
+    stops_at octets rest kinds.Read at spelled stops = tt
+
+    stops_by : (form_kind : FormKind) (at : ℕ) (from left : Option (List ℕ)) → Consumes from left (records_text so_far.records) → IfSome left (StopsNext form_kind)
+        → IfSome from (λ all. Watched saw refuses before (text_of_head rules ++ all) (verdict_of_fault form_kind at))
+    stops_by form_kind at None left taken stops = tt
+    stops_by form_kind at (Some all) None taken stops = absurd taken
+    stops_by form_kind at (Some all) (Some rest) taken stops =
+        stops_at (text_of_head rules ++ all) rest form_kind at (begins rules so_far.records offset so_far.bounds so_far.agrees.lawful so_far.place all rest taken) stops
+
+    pub stops_seen : (fault : FormFault) → (fault_of reader ≡ None → IfSome (left_of remaining reader) (StopsNext fault.kind))
+        → IfSome first (λ all. Watched saw refuses before (text_of_head rules ++ all) (verdict_of_fault fault.kind fault.offset))
+    stops_seen fault why = stops_by fault.kind fault.offset first (left_of remaining reader) so_far.read (why so_far.runs)
 
     module _ (after : W) (entry : Record) (fits : IsRecord entry) where
       saw_refused : (octets rest behind : List ℕ) (refusal : Refusal) → octets ≡ text (record { rules = rules; records = so_far.records }) ++ rest → rest ≡ record_text entry ++ behind

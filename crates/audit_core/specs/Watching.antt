@@ -3,6 +3,7 @@ use Rattle.std.specs.Prelude.{◌≡◌, ℕ, List, ◌∷◌, [], ◌++◌, len
 use Rattle.capture_form.specs.declared.records.Record.{Record}
 use Rattle.capture_form.specs.Rules.{RuleText}
 use Rattle.capture_form.specs.Text.{Trace, IsCapture, text}
+use Rattle.capture_form.specs.Reading.{reading}
 use Rattle.audit_core.specs.declared.verdict.Verdict.{Verdict}
 use Rattle.audit_core.specs.declared.verdict.Verdict.TheVariants.{Accepted, Refused, Malformed, NoMemory, Unreadable}
 
@@ -29,10 +30,11 @@ pub record SawRefused {W : Type 0} (refuses : W → List RuleText → List Recor
   pub place : number ≡ length before
   pub seen : refuses watcher rules before entry
 
--- what a watcher has seen at a verdict: all records of what is accepted, and the one that is refused
+-- what a watcher has seen at a verdict: all records of what is accepted, the one that is refused, and the records in front of
+-- the first fault of a text
 abbrev pub Watched : {W : Type 0} → (W → List Record → Type 0) → (W → List RuleText → List Record → Record → Type 0) → W → List ℕ → Verdict → Type 0
 Watched saw refuses watcher octets (Accepted tally) = SawAll saw watcher octets
 Watched saw refuses watcher octets (Refused number clause) = SawRefused refuses watcher octets number
-Watched saw refuses watcher octets (Malformed offset form_kind) = ⊤
+Watched saw refuses watcher octets (Malformed offset form_kind) = saw watcher (reading octets).records
 Watched saw refuses watcher octets (NoMemory offset) = ⊤
 Watched saw refuses watcher octets (Unreadable offset) = ⊤

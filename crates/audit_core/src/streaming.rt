@@ -36,11 +36,11 @@ where
 pub fn audit_watched<R: Read, W: Watcher>(alloc: Global, reader: R, watcher: &mut W) -> Verdict
 where
     R: Drop,
-    requires { W.saw watcher.old [] }
     ensures answers { IfSome (R.remaining reader) (λ octets. AnswersRead octets result) }
     ensures kept { IfSome (R.remaining reader) (λ octets. (tally : Tally) → result ≡ Accepted tally → IsKept octets) }
-    // The watcher was told of each record that was taken, and of the one that was refused.
-    ensures watched { IfSome (R.remaining reader) (λ octets. Watched W.saw W.saw_refused watcher.new octets result) }
+    // A watcher that had seen none was told of each record that was taken, and of the one that was refused, unless memory was
+    // refused or a read failed.
+    ensures watched { W.saw watcher.old [] → IfSome (R.remaining reader) (λ octets. Watched W.saw W.saw_refused watcher.new octets result) }
 {
     match Reader::start(alloc, reader) {
         Ok((rules, records)) => audit_read(alloc, rules, records, watcher),
@@ -60,9 +60,8 @@ where
     requires rules { AreRules rules.items }
     requires place { offset_of records ≡ length (text_of_head rules.items) }
     requires runs { fault_of records ≡ None }
-    requires unseen { W.saw watcher.old [] }
     ensures answers { IfSome (left_of R.remaining records) (λ left. AnswersRead (text_of_head rules.items ++ left) result) }
-    ensures watched { IfSome (left_of R.remaining records) (λ left. Watched W.saw W.saw_refused watcher.new (text_of_head rules.items ++ left) result) }
+    ensures watched { W.saw watcher.old [] → IfSome (left_of R.remaining records) (λ left. Watched W.saw W.saw_refused watcher.new (text_of_head rules.items ++ left) result) }
 {
     let offset = len_of_head(&rules);
     let mut auditor = Auditor::new(alloc, rules);
@@ -84,9 +83,8 @@ where
     requires head { offset ≡ length (text_of_head (rules_of auditor.old)) }
     requires place { offset_of records ≡ length (text_of_head (rules_of auditor.old)) }
     requires runs { fault_of records ≡ None }
-    requires unseen { W.saw watcher.old [] }
     ensures answers { IfSome (left_of R.remaining records) (λ left. AnswersRead (text_of_head (rules_of auditor.old) ++ left) result) }
-    ensures watched { IfSome (left_of R.remaining records) (λ left. Watched W.saw W.saw_refused watcher.new (text_of_head (rules_of auditor.old) ++ left) result) }
+    ensures watched { W.saw watcher.old [] → IfSome (left_of R.remaining records) (λ left. Watched W.saw W.saw_refused watcher.new (text_of_head (rules_of auditor.old) ++ left) result) }
 {
     let mut records = records;
     let mut offset = offset;

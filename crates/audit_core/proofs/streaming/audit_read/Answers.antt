@@ -26,4 +26,5 @@ returns-clause-answers g c =
 
 pub returns-clause-watched : goal.returns-clause-watched
 returns-clause-watched g c =
-    subst (λ (rs : List RuleText). IfSome (left_of g.R.Read.remaining c.args.records) (λ left. Watched g.W.Watcher.saw g.W.Watcher.saw_refused c.follow_read.new.watcher (text_of_head rs ++ left) c.follow_read.result)) c.new-auditor.ensures.stands.0 c.follow_read.ensures.watched
+    λ unseen.
+    subst (λ (rs : List RuleText). IfSome (left_of g.R.Read.remaining c.args.records) (λ left. Watched g.W.Watcher.saw g.W.Watcher.saw_refused c.follow_read.new.watcher (text_of_head rs ++ left) c.follow_read.result)) c.new-auditor.ensures.stands.0 (c.follow_read.ensures.watched unseen)

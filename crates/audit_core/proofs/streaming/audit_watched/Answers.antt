@@ -1,10 +1,10 @@
 use Rattle.std.proofs.Common.{sym, subst}
-use Rattle.std.specs.Prelude.{IfSome, []}
+use Rattle.std.specs.Prelude.{IfSome}
 use Rattle.capture_form.specs.Reader.{left_of}
 use Rattle.audit_core.specs.Verdict.{AnswersRead}
 use Rattle.audit_core.specs.Watching.{Watched}
 use Rattle.audit_core.proofs.ReadSteps.{head_known, read_known, kept_known}
-use Rattle.audit_core.proofs.Watches.{seen_known, unseen_known}
+use Rattle.audit_core.proofs.Watches.{seen_known, head_seen}
 use Rattle.audit_core.proofs.streaming.audit_watched.Goals as goal
 
 pub returns-in-Ok-clause-kept : goal.returns-in-Ok-clause-kept
@@ -19,11 +19,13 @@ returns-in-Err-clause-answers g c =
 
 pub returns-in-Ok-clause-watched : goal.returns-in-Ok-clause-watched
 returns-in-Ok-clause-watched g c =
+    λ unseen.
     let known = g.R.Read.remaining c.args.reader in
-    seen_known g.W.Watcher.saw g.W.Watcher.saw_refused known (left_of g.R.Read.remaining c.in-Ok.records) c.in-Ok.rules.items c.audit_read.new.watcher c.audit_read.result c.in-Ok.ensures.head c.audit_read.ensures.watched
+    seen_known g.W.Watcher.saw g.W.Watcher.saw_refused known (left_of g.R.Read.remaining c.in-Ok.records) c.in-Ok.rules.items c.audit_read.new.watcher c.audit_read.result c.in-Ok.ensures.head (c.audit_read.ensures.watched unseen)
 
 pub returns-in-Err-clause-watched : goal.returns-in-Err-clause-watched
 returns-in-Err-clause-watched g c =
+    λ unseen.
     let known = g.R.Read.remaining c.args.reader in
     subst (λ v. IfSome known (λ octets. Watched g.W.Watcher.saw g.W.Watcher.saw_refused c.args.watcher.now octets v)) (sym c.verdict_of_fault.ensures)
-    (unseen_known g.W.Watcher.saw g.W.Watcher.saw_refused known [] c.args.watcher.now c.in-Err.fault.kind c.in-Err.fault.offset)
+    (head_seen g.W.Watcher.saw g.W.Watcher.saw_refused known c.args.watcher.now c.in-Err.fault unseen c.in-Err.ensures.exact)

@@ -1,5 +1,5 @@
 use Rattle.std.proofs.Common.{refl, sym, subst, length, None, Some, arith}
-use Rattle.std.specs.Prelude.{IfSome, ◌++◌}
+use Rattle.std.specs.Prelude.{[], IfSome, ◌++◌}
 use Rattle.capture_form.specs.Reader.{left_of, text_of_head}
 use Rattle.capture_form.specs.Text.{record_text}
 use Rattle.capture_form.proofs.TextLemmas.{long_record}
@@ -7,12 +7,13 @@ use Rattle.audit_core.specs.Auditor.{Agrees, rules_of}
 use Rattle.audit_core.specs.Verdict.{AnswersRead}
 use Rattle.audit_core.specs.Watching.{Watched}
 use Rattle.audit_core.proofs.ReadSteps.{found_so, fits_so, moved_so, starts, few, goes_on, ends, refuses, stops}
-use Rattle.audit_core.proofs.Watches.{unseen_known, ends_seen, refuses_seen}
+use Rattle.audit_core.proofs.Watches.{seen_by, stops_seen, ends_seen, refuses_seen}
 use Rattle.audit_core.proofs.streaming.follow_read.Goals as goal
 
 pub records-init : goal.records-init
 records-init g c =
-    starts g.R.Read.remaining (rules_of c.args.auditor.now) c.args.records c.args.auditor.now c.args.offset (g.W.Watcher.saw c.args.watcher.now) c.requires.rules c.requires.agrees c.requires.head c.requires.place c.requires.runs c.requires.unseen
+    starts g.R.Read.remaining (rules_of c.args.auditor.now) c.args.records c.args.auditor.now c.args.offset (λ records. g.W.Watcher.saw c.args.watcher.now [] → g.W.Watcher.saw c.args.watcher.now records) c.requires.rules c.requires.agrees c.requires.head c.requires.place
+    c.requires.runs (λ unseen. unseen)
 
 pub take_watched-requires-clause-few : goal.take_watched-requires-clause-few
 take_watched-requires-clause-few g c =
@@ -46,8 +47,8 @@ records-preserved g c =
     let next = found_so _ _ some.field-0 (Some some.entry) some.field-0-is some.ensures.next in
     let moved = moved_so _ _ some.field-0 some.entry some.field-0-is some.ensures.moved in
     let fits = fits_so some.field-0 some.entry some.field-0-is some.ensures.bounds in
-    goes_on g.R.Read.remaining (rules_of c.args.auditor.now) _ c.records.records c.records.auditor c.records.offset _ c.records.invariant some.entry c.next_record.new.self c.take_watched.new.auditor c.len_of_record-len.result (g.W.Watcher.saw c.take_watched.new.watcher) fits c.len_of_record-len.ensures
-    next moved (some.ensures.sound refl) c.in_default.ensures.taken c.in_default.ensures.seen
+    goes_on g.R.Read.remaining (rules_of c.args.auditor.now) _ c.records.records c.records.auditor c.records.offset _ c.records.invariant some.entry c.next_record.new.self c.take_watched.new.auditor c.len_of_record-len.result (λ records. g.W.Watcher.saw c.args.watcher.now [] → g.W.Watcher.saw c.take_watched.new.watcher records)
+    fits c.len_of_record-len.ensures next moved (some.ensures.sound refl) c.in_default.ensures.taken (λ records known unseen. c.in_default.ensures.seen records (known unseen))
 
 pub returns-in-Ok-None-clause-answers : goal.returns-in-Ok-None-clause-answers
 returns-in-Ok-None-clause-answers g c =
@@ -62,20 +63,25 @@ returns-in-Err-clause-answers g c =
 
 pub returns-in-Ok-None-clause-watched : goal.returns-in-Ok-None-clause-watched
 returns-in-Ok-None-clause-watched g c =
+    λ unseen.
+    let so_far = seen_by g.R.Read.remaining (rules_of c.args.auditor.now) _ c.records.records c.records.auditor c.records.offset (g.W.Watcher.saw c.args.watcher.now []) (g.W.Watcher.saw c.records.watcher) c.records.invariant unseen in
     let next = found_so _ _ c.in-Ok-None.field-0 None c.in-Ok-None.field-0-is c.in-Ok-None.ensures.next in
-    ends_seen g.W.Watcher.saw g.W.Watcher.saw_refused g.R.Read.remaining (rules_of c.args.auditor.now) _ c.records.records c.records.auditor c.records.offset c.records.watcher c.records.invariant c.tally.result _ next
+    ends_seen g.W.Watcher.saw g.W.Watcher.saw_refused g.R.Read.remaining (rules_of c.args.auditor.now) _ c.records.records c.records.auditor c.records.offset c.records.watcher so_far c.tally.result _ next
 
 pub returns-in-Err-clause-watched : goal.returns-in-Err-clause-watched
 returns-in-Err-clause-watched g c =
-    let front = text_of_head (rules_of c.args.auditor.now) in
-    subst (λ v. IfSome (left_of g.R.Read.remaining c.args.records) (λ left. Watched g.W.Watcher.saw g.W.Watcher.saw_refused c.records.watcher (front ++ left) v)) (sym c.verdict_of_fault.ensures)
-    (unseen_known g.W.Watcher.saw g.W.Watcher.saw_refused (left_of g.R.Read.remaining c.args.records) front c.records.watcher c.in-Err.fault.kind c.in-Err.fault.offset)
+    λ unseen.
+    let rules = rules_of c.args.auditor.now in
+    let so_far = seen_by g.R.Read.remaining rules _ c.records.records c.records.auditor c.records.offset (g.W.Watcher.saw c.args.watcher.now []) (g.W.Watcher.saw c.records.watcher) c.records.invariant unseen in
+    subst (λ v. IfSome (left_of g.R.Read.remaining c.args.records) (λ left. Watched g.W.Watcher.saw g.W.Watcher.saw_refused c.records.watcher (text_of_head rules ++ left) v)) (sym c.verdict_of_fault.ensures)
+    (stops_seen g.W.Watcher.saw g.W.Watcher.saw_refused g.R.Read.remaining rules _ c.records.records c.records.auditor c.records.offset c.records.watcher so_far c.in-Err.fault c.in-Err.ensures.exact)
 
 pub returns-in-Err-take_watched-clause-watched : goal.returns-in-Err-take_watched-clause-watched
 returns-in-Err-take_watched-clause-watched g c =
+    λ unseen.
     let some = c.in-Ok-Some in
     let rules = rules_of c.args.auditor.now in
-    let so_far = c.records.invariant in
+    let so_far = seen_by g.R.Read.remaining rules _ c.records.records c.records.auditor c.records.offset (g.W.Watcher.saw c.args.watcher.now []) (g.W.Watcher.saw c.records.watcher) c.records.invariant unseen in
     let refusal = c.in-Err-take_watched.refusal in
     let next = found_so _ _ some.field-0 (Some some.entry) some.field-0-is some.ensures.next in
     let fits = fits_so some.field-0 some.entry some.field-0-is some.ensures.bounds in
