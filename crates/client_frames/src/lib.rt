@@ -5,3 +5,6 @@
 mod fields;
 
 pub use fields::{Fields, framed};
+
+#[cfg(test)]
+mod tests;

@@ -1,6 +1,6 @@
 //! A source of choices.
 
-ghost use Rattle.std.specs.Prelude.{◌<◌};
+ghost use Rattle.std.specs.Prelude.{◌<◌, Contains, length};
 
 use rand_core::utils::NextWord;
 use rand_pcg::Pcg32;
@@ -31,12 +31,16 @@ impl Chance {
     }
 
     /// Some number below this one; 0 where there is none.
-    pub fn number(&mut self, count: u32) -> u32 {
+    pub fn number(&mut self, count: u32) -> u32
+        ensures { 0 < count → result < count }
+    {
         self.random.next_word().checked_rem(count).unwrap_or(0)
     }
 
     /// Some place among so many; 0 where there is none.
-    pub fn place(&mut self, count: usize) -> usize {
+    pub fn place(&mut self, count: usize) -> usize
+        ensures { 0 < count → result < count }
+    {
         let word = self.random.next_word() as usize;
         word.checked_rem(count).unwrap_or(0)
     }
@@ -47,7 +51,9 @@ impl Chance {
     }
 
     /// One of these, or the other one where there is none.
-    pub fn one_of<T: Copy>(&mut self, choices: &[T], otherwise: T) -> T {
+    pub fn one_of<T: Copy>(&mut self, choices: &[T], otherwise: T) -> T
+        ensures { 0 < length choices.now → Contains choices.now result }
+    {
         let place = self.place(choices.len());
         choices.get(place).copied().unwrap_or(otherwise)
     }
