@@ -7,13 +7,13 @@ ghost use Rattle.trace_events.specs.History.{history, judge};
 ghost use Rattle.audit_tables.specs.EndedLinks.{AreEnded, views};
 ghost use Rattle.audit_addresses.specs.ConsumerLinks.{AreConsumerLinks, AreSameLinks, link_in, with_opened, without};
 ghost use Rattle.audit_addresses.specs.Consumers.{opens_consumer};
-ghost use Rattle.trace_law.specs.View.{event_view, link_view};
+ghost use Rattle.trace_values.specs.View.{event_view, link_view};
 
 use crate::consumers::opened;
 use audit_tables::HeldLink;
 use indexmap::IndexMap;
 use std::alloc::{AllocError, Global};
-use trace_law::{Event, Link};
+use trace_values::{Event, Link};
 
 /// The live links of consumers, by their numbers, each with an address of its own.
 #[derive(Drop)]

@@ -9,13 +9,13 @@ ghost use Rattle.audit_tables.specs.EndedLinks.{AreEnded, views};
 ghost use Rattle.audit_addresses.specs.Consumers.{AreConsumers, AreSame, is_ended, is_served, numbers_at, opens_consumer, opens_for, stands};
 ghost use Rattle.trace_events.specs.Link.{is_consumer, own_link};
 ghost use Rattle.trace_events.specs.Words.{where_passes};
-ghost use Rattle.trace_law.specs.View.{event_view, link_view};
+ghost use Rattle.trace_values.specs.View.{event_view, link_view};
 
 use crate::addresses::Addresses;
 use amqp_perf::Role;
 use number_groups::OctetGroups;
 use std::alloc::{AllocError, Global};
-use trace_law::{Event, Link};
+use trace_values::{Event, Link};
 
 /// By address the numbers of the live links of its consumers.
 #[derive(Drop)]

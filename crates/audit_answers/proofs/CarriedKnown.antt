@@ -5,7 +5,7 @@ use Rattle.pairing_cert.specs.declared.note.Note.{Note}
 use Rattle.capture_form.specs.Rules.{RuleText}
 use Rattle.trace_events.specs.Event.{Event, Outgoing, Moment}
 use Rattle.trace_events.specs.History.{judge_unopened}
-use Rattle.trace_law.specs.Known.{CarriesKnown}
+use Rattle.trace_values.specs.Known.{CarriesKnown}
 use Rattle.audit_held.specs.EntryAnswers.{has_number}
 use Rattle.audit_held.specs.HeldTables.{IsHistory, IsTable}
 use Rattle.audit_held.specs.declared.deliveries.Deliveries.{Deliveries}

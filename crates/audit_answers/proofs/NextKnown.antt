@@ -7,7 +7,7 @@ use Rattle.trace_clauses.specs.LinkClause.{asking}
 use Rattle.trace_events.specs.Event.{Event, Outgoing}
 use Rattle.trace_events.specs.History.{judge_unopened, moment_of}
 use Rattle.trace_events.specs.Session.{has_unanswered_begin}
-use Rattle.trace_law.specs.Known.{CarriesKnown, OpensKnown}
+use Rattle.trace_values.specs.Known.{CarriesKnown, OpensKnown}
 use Rattle.audit_tables.proofs.OpenedKnown.{opens-known}
 use Rattle.audit_held.specs.EntryAnswers.{has_number}
 use Rattle.audit_held.proofs.GroupAnswers.{judged-of}

@@ -1,4 +1,4 @@
-//! The tables, lent to whoever asks them the questions of `trace_law`.
+//! The tables, lent to whoever asks them the questions of `trace_judge`.
 
 mod carriage;
 mod outcomes;
@@ -11,7 +11,8 @@ use audit_sent::SentDeliveries;
 use audit_tables::{Connections, Links};
 use capture_form::Rule;
 use trace_events::Session;
-use trace_law::{Asking, Counts, History, Incoming, Inputs, Link, Openings, Questions};
+use trace_judge::{Counts, History, Inputs, Openings, Questions};
+use trace_values::{Asking, Incoming, Link};
 
 /// The tables, lent. `consumers` has the live links of consumers by address, and `consumer_links` the same links by number;
 /// `deliveries` are those from clients, `sent` those to clients.

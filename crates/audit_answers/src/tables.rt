@@ -6,7 +6,7 @@ ghost use Rattle.capture_form.specs.declared.records.Record.{Record};
 ghost use Rattle.trace_events.specs.History.{history};
 ghost use Rattle.audit_tables.specs.Connections.{IsLawfulNext};
 ghost use Rattle.audit_answers.specs.Tables.{AreTables, StandFor, entries_of};
-ghost use Rattle.trace_law.specs.View.{Events, event_view};
+ghost use Rattle.trace_values.specs.View.{Events, event_view};
 
 use crate::looked::Looked;
 use audit_addresses::{ConsumerLinks, Consumers};
@@ -16,7 +16,7 @@ use audit_sent::SentDeliveries;
 use audit_tables::{Connections, Links};
 use capture_form::Rule;
 use std::alloc::{AllocError, Global};
-use trace_law::Event;
+use trace_values::Event;
 
 /// What the records so far have come to.
 #[derive(Drop)]

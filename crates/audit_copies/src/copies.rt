@@ -12,7 +12,7 @@ ghost use Rattle.trace_events.specs.Incoming as received;
 ghost use Rattle.trace_events.specs.Incoming.{incoming_at};
 ghost use Rattle.trace_events.specs.Link.{IsLiveLink};
 ghost use Rattle.trace_events.specs.Words.{is_some_and};
-ghost use Rattle.trace_law.specs.View.{event_view, incoming_view, link_view};
+ghost use Rattle.trace_values.specs.View.{event_view, incoming_view, link_view};
 ghost use Rattle.audit_tables.specs.Connections.{IsLawfulNext};
 ghost use Rattle.audit_tables.specs.EndedLinks.{AreEnded, views};
 ghost use Rattle.audit_copies.specs.Copies.{AreCopies, AreCounted, AreReceivers, comes_to, copied_by, has_room, is_ended, names_at, stands};
@@ -21,7 +21,7 @@ use capture_form::Rule;
 use number_groups::Groups;
 use pairing_cert::Note;
 use std::alloc::{AllocError, Global};
-use trace_law::{Event, Incoming, Link, has_multicast};
+use trace_values::{Event, Incoming, Link, has_multicast};
 
 /// A live link of a consumer of the address, with its credit.
 #[derive(Clone, Copy)]

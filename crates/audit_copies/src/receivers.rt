@@ -4,7 +4,7 @@ ghost use Rattle.std.specs.Prelude.{◌≡◌, List, [], None, IfOk, OnErr, filt
 ghost use Rattle.capture_form.specs.Rules.{RuleText};
 ghost use Rattle.capture_form.specs.declared.records.Record.{Record};
 ghost use Rattle.trace_events.specs.History.{history};
-ghost use Rattle.trace_law.specs.View.{event_view};
+ghost use Rattle.trace_values.specs.View.{event_view};
 ghost use Rattle.audit_tables.specs.LinkTables.{AreLinked};
 ghost use Rattle.audit_addresses.specs.ConsumerLinks.{AreConsumerLinks};
 ghost use Rattle.audit_addresses.specs.Consumers.{AreConsumers, numbers_at};
@@ -16,7 +16,7 @@ use audit_addresses::{ConsumerLinks, Consumers};
 use audit_tables::Links;
 use capture_form::Rule;
 use std::alloc::{AllocError, Global};
-use trace_law::Event;
+use trace_values::Event;
 
 /// Of the delivery of multicast that the event completes the live links of its address's consumers, with their credit; the
 /// tables have the records before the event. Of any other event none.

@@ -13,7 +13,7 @@ use crate::verdict::Refusal;
 use audit_ledger::{Ledger, NotEntered};
 use capture_form::{Record, Rule};
 use std::alloc::Global;
-use trace_law::Tally;
+use trace_clauses::Tally;
 
 /// The most records that an auditor takes.
 pub const MOST_RECORDS: u64 = 9223372036854775807;

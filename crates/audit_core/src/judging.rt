@@ -16,7 +16,7 @@ use crate::lengths::{HEAD, offset_of_record};
 use crate::verdict::{Refusal, Verdict};
 use capture_form::{Capture, FormFault, FormKind, Reading, read_whole_records};
 use std::alloc::Global;
-use trace_law::{Clause, Tally};
+use trace_clauses::{Clause, Tally};
 
 /// Judges the records of a capture one after the other, and gives what the capture holds.
 ///

@@ -28,6 +28,6 @@ pub use capture_form::FormKind;
 pub use judging::{audit, audit_bytes};
 pub use laws::one_verdict;
 pub use streaming::{audit_stream, audit_watched};
-pub use trace_law::{Clause, Tally};
+pub use trace_clauses::{Clause, Tally};
 pub use verdict::{Refusal, Verdict};
 pub use watching::Watcher;

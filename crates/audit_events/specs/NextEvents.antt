@@ -7,8 +7,8 @@ use Rattle.trace_clauses.specs.declared.clause.Clause.{Clause}
 use Rattle.trace_clauses.specs.Clauses.{broken_clause}
 use Rattle.trace_events.specs.Event.{Event, Moment}
 use Rattle.trace_events.specs.History.{moment_of, judge, judge_unopened}
-use Rattle.trace_law.specs.declared.history.event.Event as code
-use Rattle.trace_law.specs.View.{event_view}
+use Rattle.trace_values.specs.declared.event.Event as code
+use Rattle.trace_values.specs.View.{event_view}
 
 -- the connection, the moment and the note are those of the record
 abbrev pub IsRead : Record → ℕ → Moment → Note → Type 0

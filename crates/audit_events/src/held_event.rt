@@ -3,13 +3,13 @@
 ghost use Rattle.std.specs.Prelude.{◌≡◌, IfOk, OnErr, true};
 ghost use Rattle.audit_events.specs.HeldEvents.{event_of, facts_of, parts_of, no_parts, has_parts, held_event_view};
 ghost use Rattle.trace_events.specs.Event as law;
-ghost use Rattle.trace_law.specs.View.{event_view, moment_view};
+ghost use Rattle.trace_values.specs.View.{event_view, moment_view};
 
 use crate::held_parts::HeldParts;
 use pairing_cert::Note;
 use std::alloc::{AllocError, Global};
 use trace_events::{Fault, Session};
-use trace_law::{Event, Moment};
+use trace_values::{Event, Moment};
 
 /// What of an event borrows nothing.
 #[doc(hidden)]

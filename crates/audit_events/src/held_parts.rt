@@ -3,12 +3,12 @@
 ghost use Rattle.std.specs.Prelude.{◌≡◌, IfOk, OnErr, is_some, true, option_map};
 ghost use Rattle.audit_events.specs.HeldEvents.{parts_of, has_parts, held_incoming_view, held_outgoing_view, held_parts_view};
 ghost use Rattle.audit_tables.specs.HeldViews.{held_link_view};
-ghost use Rattle.trace_law.specs.View.{event_view, incoming_view, link_view, outgoing_view};
+ghost use Rattle.trace_values.specs.View.{event_view, incoming_view, link_view, outgoing_view};
 
 use audit_tables::HeldLink;
 use pairing_cert::Note;
 use std::alloc::{AllocError, Global};
-use trace_law::{Event, Incoming, Link, Outgoing};
+use trace_values::{Event, Incoming, Link, Outgoing};
 
 /// A delivery from a client, with a link of its own.
 #[doc(hidden)]

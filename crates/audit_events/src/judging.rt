@@ -4,12 +4,14 @@ ghost use Rattle.std.specs.Prelude.{◌≡◌, None, length};
 ghost use Rattle.capture_form.specs.declared.records.Record.{Record};
 ghost use Rattle.trace_clauses.specs.Clauses as law;
 ghost use Rattle.audit_events.specs.NextEvents.{IsRead, IsAnswer, unopened, viewed};
-ghost use Rattle.trace_law.specs.Known.{CarriesKnown, OpensKnown};
-ghost use Rattle.trace_law.specs.View.{Events, moment_view};
+ghost use Rattle.trace_values.specs.Known.{CarriesKnown, OpensKnown};
+ghost use Rattle.trace_values.specs.View.{Events, moment_view};
 
 use capture_form::Rule;
 use pairing_cert::Note;
-use trace_law::{Clause, Event, Moment, Questions, broken_clause, judge_moment, opened};
+use trace_clauses::Clause;
+use trace_judge::{Questions, broken_clause, judge_moment, opened};
+use trace_values::{Event, Moment};
 
 /// The event of the next record, of this number, connection, moment and note. The past must be able to tell of what the event
 /// carries and, where it breaks no clause, of what it opens.

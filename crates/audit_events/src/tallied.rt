@@ -2,10 +2,11 @@
 
 ghost use Rattle.std.specs.Prelude.{◌≡◌, ◌∷◌, ◌<◌, ◌^◌, length};
 ghost use Rattle.trace_clauses.specs.Verdict.{tally_of, tells_outcome};
-ghost use Rattle.trace_law.specs.View.{Events, event_view};
+ghost use Rattle.trace_values.specs.View.{Events, event_view};
 
 use amqp_perf::Role;
-use trace_law::{Event, Tally};
+use trace_clauses::Tally;
+use trace_values::Event;
 
 /// The event tells an outcome.
 fn is_outcome(event: &Event) -> bool

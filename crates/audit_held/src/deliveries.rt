@@ -15,7 +15,7 @@ ghost use Rattle.audit_held.specs.Held.{held_begun, held_next};
 ghost use Rattle.audit_held.specs.HeldTables.{AreMovedBy, BeginsOrTouches, IsTable, MovesAt, count_of, held_in};
 ghost use Rattle.audit_held.specs.HeldTouched.{EndWith};
 ghost use Rattle.audit_held.specs.HeldViews.{held_view};
-ghost use Rattle.trace_law.specs.View.{event_view, link_view};
+ghost use Rattle.trace_values.specs.View.{event_view, link_view};
 
 use crate::groups::{HeldGroups, Marks};
 use crate::held::HeldDelivery;
@@ -24,7 +24,7 @@ use capture_form::Rule;
 use indexmap::IndexMap;
 use number_groups::NumberSet;
 use std::alloc::{AllocError, Global};
-use trace_law::{Event, Link};
+use trace_values::{Event, Link};
 
 /// The deliveries from clients that are kept.
 #[derive(Drop)]

@@ -6,14 +6,14 @@ ghost use Rattle.trace_clauses.specs.TransferClause as transfers;
 ghost use Rattle.trace_events.specs.Incoming as received;
 ghost use Rattle.trace_events.specs.Settling as settling;
 ghost use Rattle.trace_events.specs.Waiting as waiting;
-ghost use Rattle.trace_law.specs.View.{Events, incoming_view};
+ghost use Rattle.trace_values.specs.View.{Events, incoming_view};
 ghost use Rattle.audit_held.specs.EntryAnswers as entries;
 ghost use Rattle.audit_held.specs.EntryAnswers.{Knows, delivery_in, has_number};
 ghost use Rattle.audit_held.specs.HeldTables.{AreHeld, held_in};
 
 use crate::deliveries::Deliveries;
 use pairing_cert::Note;
-use trace_law::Incoming;
+use trace_values::Incoming;
 
 impl Deliveries {
     /// The delivery of a client that begins in the record of this number, where the table can tell of it.

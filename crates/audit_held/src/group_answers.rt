@@ -7,14 +7,14 @@ ghost use Rattle.trace_events.specs.Incoming as received;
 ghost use Rattle.trace_events.specs.Link.{IsLiveLink};
 ghost use Rattle.trace_events.specs.Settling as settling;
 ghost use Rattle.trace_events.specs.Waiting as waiting;
-ghost use Rattle.trace_law.specs.View.{Events, incoming_view, link_view};
+ghost use Rattle.trace_values.specs.View.{Events, incoming_view, link_view};
 ghost use Rattle.audit_held.specs.EntryAnswers.{Knows};
 ghost use Rattle.audit_held.specs.HeldTables.{AreHeld, IsHistory, IsTable, held_in};
 
 use crate::deliveries::Deliveries;
 use number_groups::IdOn;
 use trace_events::Session;
-use trace_law::{Incoming, Link};
+use trace_values::{Incoming, Link};
 
 impl Deliveries {
     /// A delivery waits at the address.

@@ -18,12 +18,12 @@ ghost use Rattle.capture_form.specs.declared.records.Record.{Record};
 ghost use Rattle.audit_held.specs.Held as kept;
 ghost use Rattle.audit_held.specs.Held.{IsEntry, Follows, Begins};
 ghost use Rattle.audit_held.specs.HeldViews.{held_view};
-ghost use Rattle.trace_law.specs.View.{Events, incoming_view, event_view};
+ghost use Rattle.trace_values.specs.View.{Events, incoming_view, event_view};
 
 use audit_tables::HeldLink;
 use capture_form::{Distribution, Rule, distribution_of};
 use std::alloc::{AllocError, Global};
-use trace_law::{Event, Incoming};
+use trace_values::{Event, Incoming};
 
 /// What has become of it.
 #[derive(Clone, Copy, Debug, PartialEq, Eq)]

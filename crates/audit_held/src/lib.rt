@@ -5,8 +5,8 @@
 //! - `groups`: which of those that are kept arrive, are undecided, or wait;
 //! - `touched`: which of them an event may touch;
 //! - `deliveries`: all of them, by number;
-//! - `entry_answers`: what their entries answer to the questions of `trace_law`;
-//! - `group_answers`: what their groups answer to the questions of `trace_law`.
+//! - `entry_answers`: what their entries answer to the questions of `trace_judge`;
+//! - `group_answers`: what their groups answer to the questions of `trace_judge`.
 #![tactic(auto)]
 
 mod deliveries;

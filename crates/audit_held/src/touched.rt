@@ -7,7 +7,7 @@ ghost use Rattle.number_groups.specs.Groups.{is_member};
 ghost use Rattle.number_groups.specs.OctetGroups as octets;
 ghost use Rattle.trace_events.specs.Words.{is_number, is_some_and};
 ghost use Rattle.audit_held.specs.Touched as law;
-ghost use Rattle.trace_law.specs.View.{event_view, link_view};
+ghost use Rattle.trace_values.specs.View.{event_view, link_view};
 
 use crate::groups::HeldGroups;
 use amqp_perf::Role;
@@ -15,7 +15,7 @@ use audit_addresses::Addresses;
 use number_groups::{Groups, NumberSet, OctetGroups};
 use pairing_cert::Note;
 use std::alloc::{AllocError, Global};
-use trace_law::{Event, Link};
+use trace_values::{Event, Link};
 
 /// The number comes in, if there is one.
 fn add(touched: &mut NumberSet, number: Option<u64>) -> Result<(), AllocError>

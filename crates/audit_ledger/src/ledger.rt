@@ -9,14 +9,15 @@ ghost use Rattle.audit_answers.specs.Tables.{StandFor, entries_of};
 ghost use Rattle.audit_events.specs.HeldEvents.{held_event_view};
 ghost use Rattle.audit_ledger.specs.declared.not_entered.NotEntered.TheVariants.{Memory};
 ghost use Rattle.audit_ledger.specs.Ledger.{IsReason, Stands, broken_behind};
-ghost use Rattle.trace_law.specs.View.{event_view};
+ghost use Rattle.trace_values.specs.View.{event_view};
 
 use crate::not_entered::NotEntered;
 use audit_answers::{Looked, Tables};
 use audit_events::{HeldEvent, counted, next_event};
 use capture_form::{Record, Rule};
 use std::alloc::{AllocError, Global};
-use trace_law::{Event, Moment, Tally};
+use trace_clauses::Tally;
+use trace_values::{Event, Moment};
 
 /// The tables, with what the records so far hold.
 #[derive(Drop)]

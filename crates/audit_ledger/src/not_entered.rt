@@ -1,7 +1,7 @@
 //! Why a record is not taken.
 
 use std::alloc::AllocError;
-use trace_law::Clause;
+use trace_clauses::Clause;
 
 /// Why a record is not taken.
 #[derive(Clone, Copy, Debug, PartialEq, Eq)]

@@ -31,8 +31,8 @@ use Rattle.trace_clauses.proofs.ClausesMet.{met, lawful-past}
 use Rattle.trace_clauses.proofs.Incomings.{complete-payload, judged-part, judged-sound, at-step}
 use Rattle.trace_clauses.proofs.JudgedHistories.{judged-keeps}
 use Rattle.trace_clauses.proofs.OutgoingProgress.{IsPartOf, judged-outgoing_part, judged-carrying, noted_pair}
-use Rattle.trace_law.specs.Known.{IsCarriedBy}
-use Rattle.trace_law.proofs.Carrying.{by_note}
+use Rattle.trace_values.specs.Known.{IsCarriedBy}
+use Rattle.trace_values.proofs.Carrying.{by_note}
 use Rattle.audit_sent.specs.Sent.{Sent, sent, outgoing_at, sent_at, IsEntry, IsKnownTo}
 use Rattle.audit_sent.specs.Sent as kept
 use Rattle.audit_sent.proofs.SentBegun.{at-number, found-below, payload-none}

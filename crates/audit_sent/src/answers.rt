@@ -12,7 +12,7 @@ ghost use Rattle.trace_events.specs.Settling as settling;
 ghost use Rattle.audit_sent.specs.SentAnswers as entries;
 ghost use Rattle.audit_sent.specs.SentAnswers.{AreClosings, Knows, KnowsOrBegins};
 ghost use Rattle.audit_sent.specs.SentTables.{AreSent, IsTable, sent_in};
-ghost use Rattle.trace_law.specs.View.{decision_view, incoming_view, link_view, outgoing_view};
+ghost use Rattle.trace_values.specs.View.{decision_view, incoming_view, link_view, outgoing_view};
 
 use crate::closings::{Closings, Settleable};
 use crate::deliveries::SentDeliveries;
@@ -20,7 +20,7 @@ use crate::earliest::least;
 use number_groups::IdOn;
 use pairing_cert::Note;
 use trace_events::Session;
-use trace_law::{Decision, Incoming, Link, Outgoing};
+use trace_values::{Decision, Incoming, Link, Outgoing};
 
 impl SentDeliveries {
     /// The delivery of a consumer's link whose last part isn't written yet.

@@ -2,12 +2,12 @@
 
 ghost use Rattle.std.specs.Prelude.{◌≡◌, ◌∷◌, ℕ, [], OnOk};
 ghost use Rattle.audit_sent.specs.SentTables.{AreBegun};
-ghost use Rattle.trace_law.specs.View.{Events, event_view};
+ghost use Rattle.trace_values.specs.View.{Events, event_view};
 
 use indexmap::IndexMap;
 use pairing_cert::Note;
 use std::alloc::{AllocError, Global};
-use trace_law::Event;
+use trace_values::Event;
 
 /// The numbers of the deliveries that began last: by the number of their link, and by that of the delivery from a client that
 /// their note names.

@@ -2,11 +2,11 @@
 
 ghost use Rattle.std.specs.Prelude.{◌≡◌, IfOk, OnErr, is_some, true};
 ghost use Rattle.audit_sent.specs.SentViews.{decided_view};
-ghost use Rattle.trace_law.specs.View.{decision_view};
+ghost use Rattle.trace_values.specs.View.{decision_view};
 
 use amqp_perf::Outcome;
 use std::alloc::{AllocError, Global};
-use trace_law::Decision;
+use trace_values::Decision;
 
 /// What a consumer decided.
 #[doc(hidden)]

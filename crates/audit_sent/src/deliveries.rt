@@ -19,8 +19,8 @@ ghost use Rattle.audit_sent.specs.Sent.{IsKnownTo, sent_begun, sent_next};
 ghost use Rattle.audit_sent.specs.SentGrouped.{AreGrouped};
 ghost use Rattle.audit_sent.specs.SentTables.{AreMovedBy, AreSent, IsTable, MovesAt, sent_in, sent_count_in};
 ghost use Rattle.audit_sent.specs.SentViews.{sent_view};
-ghost use Rattle.trace_law.specs.Known.{IsCarriedBy};
-ghost use Rattle.trace_law.specs.View.{Events, event_view, link_view};
+ghost use Rattle.trace_values.specs.Known.{IsCarriedBy};
+ghost use Rattle.trace_values.specs.View.{Events, event_view, link_view};
 
 use crate::begun::LastNumbers;
 use crate::groups::SentGroups;
@@ -29,7 +29,7 @@ use crate::sent::SentDelivery;
 use indexmap::IndexMap;
 use number_groups::{Groups, IdOn, NumberSet};
 use std::alloc::{AllocError, Global};
-use trace_law::{Event, Link};
+use trace_values::{Event, Link};
 
 /// The deliveries to clients.
 #[derive(Drop)]

@@ -19,14 +19,14 @@ ghost use Rattle.trace_clauses.specs.TransferClause.{is_payload_so_far};
 ghost use Rattle.audit_sent.specs.Sent as kept;
 ghost use Rattle.audit_sent.specs.Sent.{IsEntry, Follows, Begins};
 ghost use Rattle.audit_sent.specs.SentViews.{sent_view, decided_view};
-ghost use Rattle.trace_law.specs.View.{Events, decision_view, event_view, outgoing_view};
+ghost use Rattle.trace_values.specs.View.{Events, decision_view, event_view, outgoing_view};
 
 use crate::decided::Decided;
 use crate::payload::goes_on_with;
 use audit_tables::HeldLink;
 use pairing_cert::Note;
 use std::alloc::{AllocError, Global};
-use trace_law::{Decision, Event, Outgoing, is_decisive};
+use trace_values::{Decision, Event, Outgoing, is_decisive};
 
 /// A delivery to a client.
 #[doc(hidden)]

@@ -8,13 +8,13 @@ ghost use Rattle.number_groups.specs.Groups.{is_member};
 ghost use Rattle.trace_events.specs.Words.{is_number, is_some_and};
 ghost use Rattle.number_groups.specs.Ids.{same_id};
 ghost use Rattle.audit_sent.specs.SentTouched as law;
-ghost use Rattle.trace_law.specs.View.{event_view, link_view};
+ghost use Rattle.trace_values.specs.View.{event_view, link_view};
 
 use crate::groups::SentGroups;
 use amqp_perf::{Disposition, Role};
 use number_groups::{Groups, IdOn, NumberSet};
 use std::alloc::{AllocError, Global};
-use trace_law::{Event, Link};
+use trace_values::{Event, Link};
 
 /// The number comes in, if there is one.
 fn add(touched: &mut NumberSet, number: Option<u64>) -> Result<(), AllocError>

@@ -14,7 +14,7 @@ use Rattle.trace_events.specs.declared.session.Session.{Session}
 use Rattle.trace_events.specs.Said.{as_begin, as_attach}
 use Rattle.trace_events.specs.Session.{has_unanswered_begin}
 use Rattle.trace_events.proofs.Along.{and_first}
-use Rattle.trace_law.specs.Known.{OpensKnown}
+use Rattle.trace_values.specs.Known.{OpensKnown}
 
 some_of : {A : Type 0} (o : Option A) (test : A → Bool) → is_some_and o test ≡ true → is_some o ≡ true
 some_of None test is = absurd cc

@@ -1,4 +1,4 @@
-//! Answers to questions about the past, as far as connections and their sessions go: each as the questions of `trace_law`
+//! Answers to questions about the past, as far as connections and their sessions go: each as the questions of `trace_judge`
 //! ask it.
 
 ghost use Rattle.std.specs.Prelude.{◌≡◌, true};
@@ -8,7 +8,7 @@ ghost use Rattle.trace_events.specs.Session.{IsLiveOn};
 ghost use Rattle.trace_events.specs.Outgoing.{next_delivery_id};
 ghost use Rattle.trace_events.specs.Window as windows;
 ghost use Rattle.audit_tables.specs.Connections.{AreKept};
-ghost use Rattle.trace_law.specs.View.{Events};
+ghost use Rattle.trace_values.specs.View.{Events};
 
 use crate::connections::Connections;
 use amqp_perf::Begin;

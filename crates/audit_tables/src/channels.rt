@@ -6,13 +6,13 @@ ghost use Rattle.indexmap.specs.IndexMap.{get};
 ghost use Rattle.audit_tables.specs.Entries.{capped, entries_of_channels};
 ghost use Rattle.audit_tables.specs.Links.{nothing, says_of_handle, standing_next};
 ghost use Rattle.audit_tables.specs.LinkTables.{AreEmpty, AreMoved, AreMovedOn, AreSame, standing_of};
-ghost use Rattle.trace_law.specs.View.{event_view};
+ghost use Rattle.trace_values.specs.View.{event_view};
 
 use crate::handle::Handle;
 use crate::handles::{Handles, handle_of};
 use indexmap::IndexMap;
 use std::alloc::{AllocError, Global};
-use trace_law::Event;
+use trace_values::Event;
 
 /// The channels of a connection on which something stands of a handle.
 #[doc(hidden)]

@@ -6,14 +6,14 @@ ghost use Rattle.indexmap.specs.IndexMap.{spare};
 ghost use Rattle.audit_tables.specs.Connections.{IsFresh, IsFull, IsSame, Takes, TakesOn, fresh, seen_next, session_on, unanswered_on};
 ghost use Rattle.audit_tables.specs.Entries.{capped, entries_of_connection};
 ghost use Rattle.audit_tables.specs.Sessions.{opens_or_ends};
-ghost use Rattle.trace_law.specs.View.{event_view};
+ghost use Rattle.trace_values.specs.View.{event_view};
 
 use crate::sessions::{Counted, opens_or_ends, session_after};
 use crate::unanswered::Unanswered;
 use flow_counts::{MAX_FRAME_SIZE, MIN_MAX_FRAME_SIZE};
 use indexmap::IndexMap;
 use std::alloc::{AllocError, Global};
-use trace_law::Event;
+use trace_values::Event;
 
 /// What a connection has come to.
 #[derive(Clone, Copy, Debug, PartialEq, Eq)]

@@ -9,14 +9,14 @@ ghost use Rattle.audit_tables.specs.Connections.{AreKept, AreSame, AreSeen, HasN
 ghost use Rattle.audit_tables.specs.Entries.{capped, entries_of_connections};
 ghost use Rattle.audit_tables.specs.Sessions.{session_at};
 ghost use Rattle.audit_tables.specs.Unanswered.{unanswered_at};
-ghost use Rattle.trace_law.specs.View.{Events, event_view};
+ghost use Rattle.trace_values.specs.View.{Events, event_view};
 
 use crate::connection::{Connection, Seen};
 use crate::sessions::Counted;
 use crate::unanswered::Unanswered;
 use indexmap::IndexMap;
 use std::alloc::{AllocError, Global};
-use trace_law::Event;
+use trace_values::Event;
 
 /// The connections of which a record stands.
 #[derive(Drop)]

@@ -2,13 +2,13 @@
 
 ghost use Rattle.std.specs.Prelude.{◌≡◌, IfOk};
 ghost use Rattle.audit_tables.specs.Links.{begun, counted_next};
-ghost use Rattle.trace_law.specs.View.{event_view, link_view};
+ghost use Rattle.trace_values.specs.View.{event_view, link_view};
 
 use crate::held_link::HeldLink;
 use crate::link_counts::LinkCounts;
 use std::alloc::{AllocError, Global};
 use std::marker::Model;
-use trace_law::{Event, Link};
+use trace_values::{Event, Link};
 
 /// A live link with its counts.
 #[doc(hidden)]

@@ -10,13 +10,13 @@ ghost use Rattle.trace_events.specs.History.{history, judge};
 ghost use Rattle.audit_tables.specs.EndedLinks.{AreEnded, IsEndedOf, IsEndedOn, ends_channel, ends_named, link_named, may_end, links_of, links_on, views};
 ghost use Rattle.audit_tables.specs.declared.handles.Handles as declared;
 ghost use Rattle.audit_tables.specs.LinkTables.{AreLinked};
-ghost use Rattle.trace_law.specs.View.{event_view, link_view};
+ghost use Rattle.trace_values.specs.View.{event_view, link_view};
 
 use crate::channels::Channels;
 use crate::handles::{Handles, handle_of};
 use crate::links::Links;
 use std::alloc::{AllocError, Global};
-use trace_law::{Event, Link};
+use trace_values::{Event, Link};
 
 /// A session of the event's channel ends with it, or another begins there.
 fn ends_channel(event: &Event) -> bool

@@ -4,14 +4,14 @@ ghost use Rattle.std.specs.Prelude.{◌≡◌, IfOk, None, OnOk, OnErr, is_some,
 ghost use Rattle.audit_tables.specs.Entries.{entries_of_handle};
 ghost use Rattle.audit_tables.specs.Links as law;
 ghost use Rattle.audit_tables.specs.Links.{asked_in, asked_next, awaits_next, begun, link_next, nothing, owes_next, standing_next, undetached_next};
-ghost use Rattle.trace_law.specs.View.{asking_view, event_view, link_view};
+ghost use Rattle.trace_values.specs.View.{asking_view, event_view, link_view};
 
 use crate::counted_link::CountedLink;
 use crate::held_attach::HeldAttach;
 use crate::link_counts::LinkCounts;
 use std::alloc::{AllocError, Global};
 use std::marker::Model;
-use trace_law::{Asking, Event, Link, handle_in};
+use trace_values::{Asking, Event, Link, handle_in};
 
 /// What stands of a handle.
 #[doc(hidden)]

@@ -2,13 +2,13 @@
 
 ghost use Rattle.std.specs.Prelude.{◌≡◌, IfOk};
 ghost use Rattle.audit_tables.specs.HeldViews.{held_link_view};
-ghost use Rattle.trace_law.specs.View.{link_view};
+ghost use Rattle.trace_values.specs.View.{link_view};
 
 use amqp_perf::Role;
 use smallvec::SmallVec;
 use std::alloc::{AllocError, Global};
 use trace_events::Session;
-use trace_law::Link;
+use trace_values::Link;
 
 /// An address of so many octets stands with its link, and takes no memory of its own.
 const USUAL_OCTETS: usize = 40;

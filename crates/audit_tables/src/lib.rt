@@ -9,7 +9,7 @@
 //! - `handle`: a handle of a live session, with its link (`counted_link`) and the client's attach (`held_attach`); `handles`:
 //!   those of a session; `channels`: those of a connection; `links`: all of them; `ended_links`: those that an event ends;
 //! - `held_link`: the link of a delivery that is kept;
-//! - `answers`, `link_answers`: what they answer to the questions of `trace_law`.
+//! - `answers`, `link_answers`: what they answer to the questions of `trace_judge`.
 #![tactic(auto)]
 
 mod answers;

@@ -1,4 +1,4 @@
-//! Answers to questions about the past, as far as links and handles go: each as the questions of `trace_law` ask it.
+//! Answers to questions about the past, as far as links and handles go: each as the questions of `trace_judge` ask it.
 
 ghost use Rattle.std.specs.Prelude.{◌≡◌, Some, is_some, option_map, true};
 ghost use Rattle.trace_clauses.specs.LinkClause as attaches;
@@ -8,13 +8,13 @@ ghost use Rattle.trace_events.specs.Link.{IsLiveLink};
 ghost use Rattle.trace_events.specs.Session.{IsLiveOn};
 ghost use Rattle.audit_tables.specs.LinkTables.{AreLinked};
 ghost use Rattle.audit_tables.specs.Links.{link_counts};
-ghost use Rattle.trace_law.specs.Known.{their_first_count};
-ghost use Rattle.trace_law.specs.View.{Events, asking_view, link_view};
+ghost use Rattle.trace_values.specs.Known.{their_first_count};
+ghost use Rattle.trace_values.specs.View.{Events, asking_view, link_view};
 
 use crate::link_counts::LinkCounts;
 use crate::links::Links;
 use trace_events::Session;
-use trace_law::{Asking, Link};
+use trace_values::{Asking, Link};
 
 impl Links {
     /// The link that lives on the handle of a live session.

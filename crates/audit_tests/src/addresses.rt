@@ -4,7 +4,7 @@ use crate::fixtures::{self, NARROW, heard};
 use amqp_perf::Role;
 use audit_addresses::{ConsumerLinks, Consumers};
 use std::test::Fail;
-use trace_law::{Event, Link, Moment};
+use trace_values::{Event, Link, Moment};
 
 // Consumers' links of the queue `q`, one of the queue `other`, and a producer's link of `q`.
 const FIRST: Link<'static> = Link {

@@ -5,7 +5,8 @@ use amqp_perf::Role;
 use audit_answers::Tables;
 use capture_form::{Distribution, Rule};
 use std::test::Fail;
-use trace_law::{Counts, Link, Moment};
+use trace_judge::Counts;
+use trace_values::{Link, Moment};
 
 // A consumer's link of the producer's queue.
 const CONSUMER: Link<'static> = Link {

@@ -6,7 +6,7 @@ use audit_answers::Tables;
 use capture_form::Rule;
 use due_deliveries::{Picks, Queues};
 use std::test::Fail;
-use trace_law::{Event, Link, Moment};
+use trace_values::{Event, Link, Moment};
 
 // Two links of consumers of the queue `q`.
 const FIRST: Link<'static> = Link {

@@ -8,7 +8,7 @@ mod tallies;
 use crate::fixtures::{self, PART, frame};
 use amqp_perf::{Performative, Role, Transfer};
 use trace_events::Session;
-use trace_law::{Event, Frame, Link, Moment};
+use trace_values::{Event, Frame, Link, Moment};
 
 const SESSION: Session = Session {
     connection: 2,

@@ -3,7 +3,7 @@
 use amqp_perf::{Address, Attach, Detach, Flow, Performative, Role, Terminus, Transfer};
 use pairing_cert::Note;
 use trace_events::Session;
-use trace_law::{Body, Event, Frame, Incoming, Link, Moment, Outgoing, Spoken};
+use trace_values::{Body, Event, Frame, Incoming, Link, Moment, Outgoing, Spoken};
 
 /// A session of the connection 0.
 pub(crate) const SESSION: Session = Session {

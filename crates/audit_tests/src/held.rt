@@ -6,7 +6,7 @@ use audit_held::HeldDelivery;
 use capture_form::{Distribution, Rule};
 use pairing_cert::Note;
 use std::test::Fail;
-use trace_law::{Event, Frame, Incoming, Link, Moment, Outgoing};
+use trace_values::{Event, Frame, Incoming, Link, Moment, Outgoing};
 
 const DELIVERY: Incoming<'static> = Incoming {
     number: 15,

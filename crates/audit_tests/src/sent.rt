@@ -5,7 +5,7 @@ use amqp_perf::{Disposition, Outcome, Performative, Role, State};
 use audit_sent::{Closings, SentDeliveries};
 use std::test::Fail;
 use trace_events::Session;
-use trace_law::{Event, Link, Moment};
+use trace_values::{Event, Link, Moment};
 
 const CONSUMER: Link<'static> = Link {
     role: Role::Sender,

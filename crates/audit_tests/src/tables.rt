@@ -8,7 +8,7 @@ use amqp_perf::{Begin, Flow, Performative};
 use audit_tables::{Connections, Counted, Seen, Unanswered};
 use std::test::Fail;
 use trace_events::Session;
-use trace_law::{Event, Frame, Moment};
+use trace_values::{Event, Frame, Moment};
 
 // An open of the container `a` with a max-frame-size of 600, and one with 700.
 const OPEN_600: [u8; 23] = [

@@ -9,7 +9,7 @@ ghost use Rattle.trace_events.specs.Due.{has_unsent};
 ghost use Rattle.trace_events.specs.Link.{IsLiveLink};
 ghost use Rattle.trace_duties.specs.Pick.{may_take};
 ghost use Rattle.trace_duties.specs.Quiet.{copies_are_sent, has_earlier_unsent};
-ghost use Rattle.trace_law.specs.View.{Events, event_view, incoming_view, link_view};
+ghost use Rattle.trace_values.specs.View.{Events, event_view, incoming_view, link_view};
 ghost use Rattle.audit_tables.specs.Connections.{IsLawfulNext};
 ghost use Rattle.due_flows.specs.Lent.{AreOf};
 ghost use Rattle.due_copies.specs.Copies.{HasUnsent, IsDueCopy, IsKnownCopy, IsReady, IsUnsentOn};
@@ -20,7 +20,8 @@ use capture_form::Rule;
 use due_flows::Looked;
 use pairing_cert::Note;
 use std::alloc::{AllocError, Global};
-use trace_law::{Carriage, Counts, Event, Incoming, Link};
+use trace_judge::{Carriage, Counts};
+use trace_values::{Event, Incoming, Link};
 
 /// A copy that is due: of this delivery to this link, with the delivery's payload.
 #[derive(Clone, Copy)]

@@ -11,7 +11,7 @@ ghost use Rattle.trace_events.specs.Due as due;
 ghost use Rattle.trace_events.specs.History.{history};
 ghost use Rattle.trace_events.specs.Incoming.{completes, incoming_at};
 ghost use Rattle.trace_events.specs.Link.{IsLiveLink};
-ghost use Rattle.trace_law.specs.View.{event_view, incoming_view};
+ghost use Rattle.trace_values.specs.View.{event_view, incoming_view};
 ghost use Rattle.audit_tables.specs.EndedLinks.{views};
 ghost use Rattle.audit_addresses.specs.ConsumerLinks.{has_number, link_in};
 ghost use Rattle.audit_copies.specs.Copies.{AreCopies, names_at};
@@ -26,7 +26,7 @@ use flow_counts::WindowEvent;
 use number_groups::Groups;
 use pairing_cert::Note;
 use std::alloc::{AllocError, Global};
-use trace_law::{Event, Incoming, Link};
+use trace_values::{Event, Incoming, Link};
 
 /// The numbers of the copies that may be unsent, and of the links on which they are.
 #[derive(Drop)]

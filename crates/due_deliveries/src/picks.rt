@@ -12,7 +12,7 @@ ghost use Rattle.trace_events.specs.Outgoing as outgoing;
 ghost use Rattle.trace_events.specs.History.{history};
 ghost use Rattle.trace_duties.specs.Consumers.{attached_as, begun_by};
 ghost use Rattle.trace_duties.specs.Pick.{may_take, pick};
-ghost use Rattle.trace_law.specs.View.{Events, event_view, link_view};
+ghost use Rattle.trace_values.specs.View.{Events, event_view, link_view};
 ghost use Rattle.audit_tables.specs.Connections.{IsLawfulNext};
 ghost use Rattle.audit_tables.specs.EndedLinks.{views};
 ghost use Rattle.audit_tables.specs.LinkTables.{AreLinked};
@@ -32,7 +32,7 @@ use audit_tables::Links;
 use capture_form::{Rule, distribution_of};
 use std::alloc::{AllocError, Global};
 use std::str::from_utf8;
-use trace_law::{Event, Link, is_decisive};
+use trace_values::{Event, Link, is_decisive};
 
 /// The links of consumers, as picks see them, moved forward by one event after the other.
 #[derive(Drop)]

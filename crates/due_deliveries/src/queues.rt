@@ -11,7 +11,7 @@ ghost use Rattle.trace_events.specs.Queue.{waiting_queue};
 ghost use Rattle.trace_events.specs.Waiting.{is_of_multicast};
 ghost use Rattle.trace_events.specs.History.{history};
 ghost use Rattle.trace_duties.specs.Diligent.{is_next_waiting};
-ghost use Rattle.trace_law.specs.View.{event_view, incoming_view};
+ghost use Rattle.trace_values.specs.View.{event_view, incoming_view};
 ghost use Rattle.audit_tables.specs.Connections.{IsLawfulNext};
 ghost use Rattle.due_deliveries.specs.Picks.{StandsFor};
 ghost use Rattle.due_deliveries.specs.Queues.{HaveQueues, IsPushed, IsShorter, queued, waits_in};
@@ -22,7 +22,7 @@ use capture_form::Rule;
 use indexmap::IndexMap;
 use std::alloc::{AllocError, Global};
 use std::collections::VecDeque;
-use trace_law::{Event, Incoming, has_multicast};
+use trace_values::{Event, Incoming, has_multicast};
 
 /// The numbers of the deliveries that wait at each address, the first completed first. One that waits no more stays until it
 /// comes to the front and is asked for.

@@ -6,13 +6,13 @@ ghost use Rattle.amqp_perf.specs.View.{disposition_fields};
 ghost use Rattle.number_groups.specs.Groups.{numbers};
 ghost use Rattle.due_deliveries.specs.Undecided.{AreNone, IsPut, IsPutOf, Spares, answer_of, is_found};
 ghost use Rattle.trace_events.specs.Outgoing.{outgoing_begun};
-ghost use Rattle.trace_law.specs.View.{event_view, outgoing_view};
+ghost use Rattle.trace_values.specs.View.{event_view, outgoing_view};
 
 use amqp_perf::{Disposition, Role};
 use number_groups::{Groups, IdOn};
 use std::alloc::{AllocError, Global};
 use std::hash::Hash;
-use trace_law::{Event, Outgoing};
+use trace_values::{Event, Outgoing};
 
 /// The numbers of the deliveries to clients that their consumers may still decide. One that is over without a decision stays
 /// among them.

@@ -18,7 +18,7 @@ ghost use Rattle.audit_addresses.specs.ConsumerLinks.{has_number};
 ghost use Rattle.due_flows.specs.Lent.{AreOf};
 ghost use Rattle.due_flows.specs.Topping.{IsToppable, carried_number, consumer_opened, settles};
 ghost use Rattle.due_flows.specs.Credits.{HasCredits, AreEndedIn, AreOpenedIn, AreTouchedIn, AreWokenIn, place_of};
-ghost use Rattle.trace_law.specs.View.{Events, event_view, link_view};
+ghost use Rattle.trace_values.specs.View.{Events, event_view, link_view};
 
 use crate::candidates::Candidates;
 use crate::numbers::Numbers;
@@ -28,7 +28,8 @@ use capture_form::Rule;
 use number_groups::{Groups, OctetGroups};
 use pairing_cert::Note;
 use std::alloc::{AllocError, Global};
-use trace_law::{Counts, Event, Inputs, Link, may_be_topped_up};
+use trace_judge::{Counts, Inputs, may_be_topped_up};
+use trace_values::{Event, Link};
 
 /// Where a link is found.
 #[derive(Clone, Copy, Debug)]

@@ -14,7 +14,7 @@ ghost use Rattle.due_flows.specs.Lent.{AreOf};
 ghost use Rattle.due_flows.specs.Draining.{IsDrainable, asks_drain, writes_part};
 ghost use Rattle.due_flows.specs.Drains.{HasDrains, stands, waits};
 ghost use Rattle.trace_events.specs.Link.{IsLiveLink};
-ghost use Rattle.trace_law.specs.View.{Events, event_view, link_view};
+ghost use Rattle.trace_values.specs.View.{Events, event_view, link_view};
 
 use crate::numbers::Numbers;
 use amqp_perf::Performative;
@@ -22,7 +22,8 @@ use audit_answers::Looked;
 use capture_form::Rule;
 use number_groups::OctetGroups;
 use std::alloc::{AllocError, Global};
-use trace_law::{Counts, Event, Link};
+use trace_judge::Counts;
+use trace_values::{Event, Link};
 
 /// The links of consumers that drain.
 #[derive(Drop)]

@@ -16,7 +16,7 @@ ghost use Rattle.audit_addresses.specs.ConsumerLinks.{has_number};
 ghost use Rattle.due_flows.specs.Lent.{AreOf};
 ghost use Rattle.due_flows.specs.Standing.{IsStill, goes_on, grants_window};
 ghost use Rattle.due_flows.specs.Parts.{HasParts, IsDuePart, stands, waits};
-ghost use Rattle.trace_law.specs.View.{Events, event_view};
+ghost use Rattle.trace_values.specs.View.{Events, event_view};
 
 use crate::numbers::Numbers;
 use audit_answers::Looked;
@@ -24,7 +24,8 @@ use flow_counts::WindowEvent;
 use number_groups::Groups;
 use pairing_cert::Note;
 use std::alloc::{AllocError, Global};
-use trace_law::{Carriage, Counts, Event, Link};
+use trace_judge::{Carriage, Counts};
+use trace_values::{Event, Link};
 
 /// A part that is due: on this link, with the note of the delivery in progress there, of what is left of its payload.
 #[derive(Clone, Copy)]

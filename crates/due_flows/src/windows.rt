@@ -10,14 +10,15 @@ ghost use Rattle.audit_tables.specs.Connections.{IsLawfulNext};
 ghost use Rattle.due_flows.specs.Lent.{AreOf};
 ghost use Rattle.due_flows.specs.Lacking.{HasLowered, IsLacking};
 ghost use Rattle.due_flows.specs.Windows.{HasLacking};
-ghost use Rattle.trace_law.specs.View.{Events, event_view};
+ghost use Rattle.trace_values.specs.View.{Events, event_view};
 
 use crate::candidates::Candidates;
 use audit_answers::Looked;
 use flow_counts::RENEWAL_MARK;
 use std::alloc::{AllocError, Global};
 use trace_events::Session;
-use trace_law::{Event, Inputs};
+use trace_judge::Inputs;
+use trace_values::Event;
 
 /// The sessions that may lack window.
 #[derive(Drop)]

@@ -3,7 +3,7 @@
 use due_copies::{DueCopy, DuePart};
 use due_outcomes::DueOutcome;
 use trace_events::Session;
-use trace_law::{Incoming, Link, Outgoing};
+use trace_values::{Incoming, Link, Outgoing};
 
 /// A delivery that waits and is due to begin on a consumer's link, with its payload.
 #[derive(Clone, Copy)]

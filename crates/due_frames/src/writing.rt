@@ -4,8 +4,8 @@ ghost use Rattle.std.specs.Prelude.{◌≡◌, List, [], IfOk, IfSome, OnOk};
 ghost use Rattle.pairing_cert.specs.declared.note.Note.TheVariants as notes;
 ghost use Rattle.capture_form.specs.Rules.{RuleText};
 ghost use Rattle.capture_form.specs.Text.{IsRecord};
-ghost use Rattle.trace_law.specs.OutcomeSize.{told_view};
-ghost use Rattle.trace_law.specs.View.{Events, incoming_view};
+ghost use Rattle.trace_judge.specs.OutcomeSize.{told_view};
+ghost use Rattle.trace_values.specs.View.{Events, incoming_view};
 ghost use Rattle.route_dues.specs.Outcomes.{HasState};
 ghost use Rattle.route_dues.specs.Writing.{IsInOrder};
 ghost use Rattle.due_outcomes.specs.DueOutcomes.{IsDueOutcome};
@@ -20,7 +20,7 @@ use route_dues::{
     put_credit, put_drain, put_first, put_next, put_outcome, put_settling, put_window,
 };
 use std::alloc::{AllocError, Global};
-use trace_law::{Counts, Outcomes};
+use trace_judge::{Counts, Outcomes};
 
 /// The connection that it is written on.
 fn connection_of(due: &Due<'_>) -> u32

@@ -8,8 +8,8 @@ ghost use Rattle.trace_clauses.specs.Outcome.{is_to_tell, reasons};
 ghost use Rattle.trace_events.specs.Event as events;
 ghost use Rattle.trace_events.specs.History.{history};
 ghost use Rattle.trace_events.specs.Incoming.{incoming_deliveries};
-ghost use Rattle.trace_law.specs.OutcomeSize.{told_view};
-ghost use Rattle.trace_law.specs.View.{Events, incoming_view};
+ghost use Rattle.trace_judge.specs.OutcomeSize.{told_view};
+ghost use Rattle.trace_values.specs.View.{Events, incoming_view};
 ghost use Rattle.audit_held.specs.EntryAnswers.{Knows};
 ghost use Rattle.due_outcomes.specs.DueOutcomes.{IsDueOutcome};
 ghost use Rattle.due_outcomes.specs.LookedTables.{AreLooked};
@@ -17,7 +17,8 @@ ghost use Rattle.due_outcomes.specs.LookedTables.{AreLooked};
 use audit_answers::Looked;
 use capture_form::Rule;
 use pairing_cert::Why;
-use trace_law::{Incoming, Told, may_be_told, row};
+use trace_judge::{Told, may_be_told, row};
+use trace_values::Incoming;
 
 /// The reasons, in the order in which they are tried.
 const REASONS: [Why; 6] = [Why::C, Why::Z, Why::S, Why::L, Why::N, Why::M];

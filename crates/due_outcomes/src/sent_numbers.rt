@@ -8,7 +8,7 @@ ghost use Rattle.number_groups.specs.Groups.{is_member};
 ghost use Rattle.trace_events.specs.Event as events;
 ghost use Rattle.trace_events.specs.Outgoing.{answering};
 ghost use Rattle.trace_events.specs.Words.{is_number, is_some_and};
-ghost use Rattle.trace_law.specs.View.{event_view, link_view, outgoing_view};
+ghost use Rattle.trace_values.specs.View.{event_view, link_view, outgoing_view};
 ghost use Rattle.due_outcomes.specs.Answered as law;
 ghost use Rattle.number_groups.specs.Ascending.{has};
 ghost use Rattle.number_groups.specs.Ids.{same_id};
@@ -18,7 +18,7 @@ use amqp_perf::{Disposition, Role};
 use number_groups::{Ascending, Groups, IdOn};
 use std::alloc::{AllocError, Global};
 use std::hash::Hash;
-use trace_law::{Event, Link, Outgoing};
+use trace_values::{Event, Link, Outgoing};
 
 /// Numbers by the deliveries to clients that they stand for.
 #[doc(hidden)]

@@ -7,13 +7,13 @@ ghost use Rattle.amqp_perf.specs.NestedViews.{state_view};
 ghost use Rattle.amqp_perf.specs.Router.{FitsFrame, outcome_told};
 ghost use Rattle.amqp_perf.specs.View.{view};
 ghost use Rattle.amqp_perf.specs.Writing.{IfThere, IsWritableState, performative_octets};
-ghost use Rattle.trace_law.specs.OutcomeSize.{told_view};
+ghost use Rattle.trace_judge.specs.OutcomeSize.{told_view};
 ghost use Rattle.route_dues.specs.Outcomes.{HasState, octets_in};
 
 use crate::outcome::DueOutcome;
 use amqp_perf::{Performative, Slot, State, put_fields};
 use std::alloc::AllocError;
-use trace_law::Told;
+use trace_judge::Told;
 
 /// The code of a disposition (part 2 of the standard, section 2.7.6).
 const DISPOSITION: u8 = 0x15;

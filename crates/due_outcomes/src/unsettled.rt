@@ -8,7 +8,7 @@ ghost use Rattle.trace_events.specs.History.{history};
 ghost use Rattle.trace_events.specs.Event as events;
 ghost use Rattle.trace_events.specs.Outgoing.{outgoing_begun};
 ghost use Rattle.trace_duties.specs.Quiet.{none_is_unsettled};
-ghost use Rattle.trace_law.specs.View.{event_view, outgoing_view};
+ghost use Rattle.trace_values.specs.View.{event_view, outgoing_view};
 ghost use Rattle.audit_sent.specs.SentAnswers as sent;
 ghost use Rattle.audit_sent.specs.SentTables.{sent_in};
 ghost use Rattle.audit_sent.specs.SentViews.{sent_view};
@@ -27,7 +27,7 @@ use audit_sent::SentDelivery;
 use number_groups::{Ascending, NumberTest};
 use pairing_cert::Note;
 use std::alloc::{AllocError, Global};
-use trace_law::{Event, Outgoing};
+use trace_values::{Event, Outgoing};
 
 /// The deliveries to settle with their consumers, among those that are decided and still unsettled.
 #[derive(Drop)]

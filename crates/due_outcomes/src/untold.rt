@@ -14,8 +14,8 @@ ghost use Rattle.trace_events.specs.Link.{is_consumer};
 ghost use Rattle.trace_events.specs.Outgoing.{names, outgoing_begun};
 ghost use Rattle.trace_events.specs.Waiting as fates;
 ghost use Rattle.trace_events.specs.Words.{is_number, is_some_and};
-ghost use Rattle.trace_law.specs.OutcomeSize.{told_view};
-ghost use Rattle.trace_law.specs.View.{event_view, incoming_view, link_view};
+ghost use Rattle.trace_judge.specs.OutcomeSize.{told_view};
+ghost use Rattle.trace_values.specs.View.{event_view, incoming_view, link_view};
 ghost use Rattle.audit_held.specs.EntryAnswers.{says_closed};
 ghost use Rattle.audit_held.specs.Held.{says_waiting};
 ghost use Rattle.audit_held.specs.HeldTables.{held_in};
@@ -34,7 +34,8 @@ use capture_form::Rule;
 use number_groups::{Ascending, OctetGroups};
 use pairing_cert::Note;
 use std::alloc::{AllocError, Global};
-use trace_law::{Event, Link, Outcomes, has_multicast};
+use trace_judge::Outcomes;
+use trace_values::{Event, Link, has_multicast};
 
 /// The outcomes to tell.
 #[derive(Drop)]

@@ -14,7 +14,7 @@ use Rattle.trace_events.proofs.Judged.{AreJudged}
 use Rattle.trace_clauses.proofs.CompletionOrder.{before-is}
 use Rattle.trace_clauses.proofs.WaitingQueue.{completed_below}
 use Rattle.trace_duties.specs.Diligent.{is_next_waiting}
-use Rattle.trace_law.specs.View.{incoming_view}
+use Rattle.trace_values.specs.View.{incoming_view}
 use Rattle.due_flows.proofs.Members.{none-passes, found-contained}
 use Rattle.due_waiting.specs.Waiting.{IsDueWaiting, earlier_of, is_ahead}
 use Rattle.due_waiting.specs.Waking.{MayBegin}

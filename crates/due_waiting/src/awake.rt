@@ -8,7 +8,7 @@ ghost use Rattle.trace_events.specs.Link.{IsLiveLink, is_consumer};
 ghost use Rattle.trace_events.specs.Session.{IsLiveOn};
 ghost use Rattle.trace_events.specs.declared.session.Session.{Session};
 ghost use Rattle.trace_events.specs.Words.{is_some_and};
-ghost use Rattle.trace_law.specs.View.{Events, event_view};
+ghost use Rattle.trace_values.specs.View.{Events, event_view};
 ghost use Rattle.audit_addresses.specs.ConsumerLinks.{consumer_at, link_in};
 ghost use Rattle.due_flows.specs.Lent.{AreOf};
 ghost use Rattle.due_flows.specs.Standing.{goes_on, grants_window, has_window};
@@ -22,7 +22,8 @@ use due_flows::Looked;
 use flow_counts::WindowEvent;
 use indexmap::IndexSet;
 use std::alloc::{AllocError, Global};
-use trace_law::{Counts, Event};
+use trace_judge::Counts;
+use trace_values::Event;
 
 /// Addresses, each once.
 #[derive(Drop)]

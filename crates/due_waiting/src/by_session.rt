@@ -5,7 +5,7 @@ ghost use Rattle.number_groups.specs.Groups.{numbers};
 ghost use Rattle.trace_events.specs.Event as law;
 ghost use Rattle.trace_events.specs.Link.{is_consumer, own_link};
 ghost use Rattle.trace_events.specs.Words.{where_passes};
-ghost use Rattle.trace_law.specs.View.{event_view, link_view};
+ghost use Rattle.trace_values.specs.View.{event_view, link_view};
 ghost use Rattle.audit_tables.specs.EndedLinks.{views};
 ghost use Rattle.audit_addresses.specs.ConsumerLinks.{has_number};
 ghost use Rattle.due_waiting.specs.BySession.{HasNone, stands};
@@ -13,7 +13,7 @@ ghost use Rattle.due_waiting.specs.BySession.{HasNone, stands};
 use amqp_perf::Role;
 use number_groups::Groups;
 use std::alloc::{AllocError, Global};
-use trace_law::{Event, Link};
+use trace_values::{Event, Link};
 
 /// The numbers of the live links of consumers, by those of their sessions.
 #[derive(Drop)]

@@ -6,7 +6,7 @@ ghost use Rattle.capture_form.specs.declared.records.Record.{Record};
 ghost use Rattle.trace_events.specs.History.{history};
 ghost use Rattle.trace_events.specs.Incoming.{address_of};
 ghost use Rattle.trace_duties.specs.Quiet.{none_waits_in_vain};
-ghost use Rattle.trace_law.specs.View.{Events, event_view, incoming_view};
+ghost use Rattle.trace_values.specs.View.{Events, event_view, incoming_view};
 ghost use Rattle.audit_tables.specs.Connections.{IsLawfulNext};
 ghost use Rattle.audit_held.specs.EntryAnswers.{Knows};
 ghost use Rattle.due_flows.specs.Lent.{AreOf};
@@ -21,7 +21,7 @@ use capture_form::Rule;
 use due_deliveries::{Picks, Queues};
 use due_flows::Looked;
 use std::alloc::{AllocError, Global};
-use trace_law::{Event, Incoming, Link};
+use trace_values::{Event, Incoming, Link};
 
 /// A delivery that waits and may begin: on this link, with the delivery's payload.
 #[derive(Clone, Copy)]

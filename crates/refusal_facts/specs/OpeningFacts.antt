@@ -9,7 +9,7 @@ use Rattle.trace_events.specs.Link.{address_at}
 use Rattle.trace_events.specs.Said.{as_open, out_attach, out_begin, out_meaning, out_spoken}
 use Rattle.trace_events.specs.Session.{has_unanswered_begin}
 use Rattle.trace_clauses.specs.LinkClause.{asking, answering_sender_mode, answering_receiver_mode}
-use Rattle.trace_law.specs.View.{asking_view, frame_view}
+use Rattle.trace_values.specs.View.{asking_view, frame_view}
 use Rattle.refusal_facts.specs.declared.connection.FrameFacts.{FrameFacts}
 use Rattle.refusal_facts.specs.declared.connection.WritingFacts.{WritingFacts}
 use Rattle.refusal_facts.specs.declared.opening.BeginFacts.{BeginFacts}

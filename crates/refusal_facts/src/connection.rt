@@ -6,11 +6,12 @@ ghost use Rattle.amqp_perf.specs.View.{view};
 ghost use Rattle.trace_events.specs.Event as said;
 ghost use Rattle.trace_events.specs.Heard as heard;
 ghost use Rattle.trace_events.specs.Said.{as_open, out_spoken};
-ghost use Rattle.trace_law.specs.View.{Events, event_view, frame_view};
+ghost use Rattle.trace_values.specs.View.{Events, event_view, frame_view};
 ghost use Rattle.refusal_facts.specs.OpeningFacts.{AreWriting, IsFrame};
 
 use amqp_perf::Performative;
-use trace_law::{Event, Frame, Moment, Openings, Outcomes};
+use trace_judge::{Openings, Outcomes};
+use trace_values::{Event, Frame, Moment};
 
 /// Octets that are no performative.
 #[derive(Clone, Copy)]

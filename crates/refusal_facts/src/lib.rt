@@ -1,7 +1,7 @@
 //! Why a record of a capture is refused, as values: what the clause that it breaks compares, and what the numbers were.
 //!
 //! - `reason`: what is answered: the record, the clause, and the facts that the clause compares;
-//! - `payloads`: what facts are asked of, beyond the questions of `trace_law`;
+//! - `payloads`: what facts are asked of, beyond the questions of `trace_judge`;
 //! - `connection` (L1), `opening` (L2, L3), `transfer` (L4 to L7, L9), `payload` (L8), `flow` (L10), `outcome` (L11, L12) and
 //!   `ending` (L13): the facts of each clause;
 //! - `explaining`: the reason of an event, by any past that can be asked.
@@ -27,5 +27,7 @@ pub use outcome::{Carrier, OutcomeFacts, SettlingFacts, ToldDelivery};
 pub use payload::{Difference, PayloadFacts};
 pub use payloads::Payloads;
 pub use reason::{Facts, Reason};
-pub use trace_law::{AskedAddress, Asking, Clause, Decision, Incoming, Link, Outgoing, Told};
+pub use trace_clauses::Clause;
+pub use trace_judge::Told;
+pub use trace_values::{AskedAddress, Asking, Decision, Incoming, Link, Outgoing};
 pub use transfer::{BeginningFacts, CarryingFacts, GoingOnFacts, Named, OrderFacts, SendingFacts};

@@ -7,14 +7,15 @@ ghost use Rattle.amqp_perf.specs.View.{attach_fields};
 ghost use Rattle.trace_events.specs.Link as links;
 ghost use Rattle.trace_events.specs.Session.{IsLiveOn, StandsLive};
 ghost use Rattle.trace_clauses.specs.LinkClause as attaches;
-ghost use Rattle.trace_law.specs.View.{Events, asking_view, event_view};
+ghost use Rattle.trace_values.specs.View.{Events, asking_view, event_view};
 ghost use Rattle.trace_events.specs.Said as said;
 ghost use Rattle.refusal_facts.specs.OpeningFacts.{AreAttach, AreBegin};
 
 use amqp_perf::{Address, Attach, ReceiverSettleMode, Role, SenderSettleMode, Target, Terminus};
 use capture_form::Rule;
 use trace_events::Session;
-use trace_law::{Asking, Event, Openings, has_multicast};
+use trace_judge::Openings;
+use trace_values::{Asking, Event, has_multicast};
 
 /// A begin of the router's.
 #[derive(Clone, Copy)]

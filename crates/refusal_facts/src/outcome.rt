@@ -4,15 +4,16 @@ ghost use Rattle.capture_form.specs.Rules.{RuleText};
 ghost use Rattle.std.specs.Prelude.{List, ◌≡◌, is_some, IfSome, option_and_then, option_map};
 ghost use Rattle.trace_events.specs.Incoming as received;
 ghost use Rattle.trace_events.specs.Outgoing as sent;
-ghost use Rattle.trace_law.specs.OutcomeSize.{told_view};
-ghost use Rattle.trace_law.specs.View.{Events, event_view, incoming_view, outgoing_view};
+ghost use Rattle.trace_judge.specs.OutcomeSize.{told_view};
+ghost use Rattle.trace_values.specs.View.{Events, event_view, incoming_view, outgoing_view};
 ghost use Rattle.trace_events.specs.Said as said;
 ghost use Rattle.refusal_facts.specs.OutcomeFacts.{AreOutcome, AreSettling, AreTold, IsCarrier, row_of};
 
 use amqp_perf::State;
 use capture_form::Rule;
 use pairing_cert::Note;
-use trace_law::{Decision, Event, Incoming, Outcomes, Outgoing, Told, has_multicast, row};
+use trace_judge::{Outcomes, Told, row};
+use trace_values::{Decision, Event, Incoming, Outgoing, has_multicast};
 
 /// The delivery to a client that carries one whose outcome is told.
 #[derive(Clone, Copy)]

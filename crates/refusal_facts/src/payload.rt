@@ -2,7 +2,7 @@
 
 ghost use Rattle.capture_form.specs.Rules.{RuleText};
 ghost use Rattle.std.specs.Prelude.{List, ◌≡◌, ◌&&◌, is_some, ◌≢◌, ◌<◌, ◌+◌, ◌^◌, ℕ, Some, IfSome, IfNone, drop, length, slice_get};
-ghost use Rattle.trace_law.specs.View.{Events, event_view};
+ghost use Rattle.trace_values.specs.View.{Events, event_view};
 ghost use Rattle.trace_events.specs.Event as law_events;
 ghost use Rattle.trace_events.specs.Said as said;
 ghost use Rattle.trace_clauses.specs.TransferClause.{to_carry};
@@ -10,7 +10,8 @@ ghost use Rattle.refusal_facts.specs.PayloadFacts.{AreAlikeBelow, ArePayload, Is
 
 use crate::payloads::Payloads;
 use capture_form::Rule;
-use trace_law::{Event, Incoming, Outgoing, Questions};
+use trace_judge::Questions;
+use trace_values::{Event, Incoming, Outgoing};
 
 /// How octets differ from those that were due.
 #[derive(Clone, Copy, Debug, PartialEq, Eq)]

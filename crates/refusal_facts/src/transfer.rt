@@ -9,7 +9,7 @@ ghost use Rattle.trace_events.specs.Session.{IsLiveOn, StandsLive};
 ghost use Rattle.trace_events.specs.Link.{NamesLive};
 ghost use Rattle.trace_events.specs.Words.{is_none_or};
 ghost use Rattle.trace_clauses.specs.TransferClause as transfers;
-ghost use Rattle.trace_law.specs.View.{Events, event_view, incoming_view};
+ghost use Rattle.trace_values.specs.View.{Events, event_view, incoming_view};
 ghost use Rattle.trace_events.specs.Said as said;
 ghost use Rattle.refusal_facts.specs.TransferFacts.{AreBeginning, AreCarrying, AreGoingOn, AreOrder, AreSending, IsNamed, IsNamedAt, IsNamedBy};
 
@@ -17,9 +17,8 @@ use crate::payloads::Payloads;
 use capture_form::Rule;
 use pairing_cert::Note;
 use trace_events::Session;
-use trace_law::{
-    Carriage, Counts, Event, Incoming, Link, Outcomes, Outgoing, Questions, has_multicast,
-};
+use trace_judge::{Carriage, Counts, Outcomes, Questions};
+use trace_values::{Event, Incoming, Link, Outgoing, has_multicast};
 
 /// L4: the link on which a transfer stands, and its session's window.
 #[derive(Clone, Copy)]

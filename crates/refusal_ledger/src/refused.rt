@@ -9,7 +9,7 @@ use crate::contents::Contents;
 use audit_ledger::Ledger;
 use capture_form::{Record, Rule};
 use refusal_facts::{Reason, explain};
-use trace_law::judge_unopened;
+use trace_judge::judge_unopened;
 
 /// The reason why the ledger does not take the record, judged by these rules, if it breaks a clause.
 pub fn explain_refused<'a>(

@@ -10,7 +10,7 @@ use refusal_facts::{
 use refusal_origins::Origins;
 use std::fmt;
 use trace_events::Fault;
-use trace_law::Body;
+use trace_values::Body;
 
 /// The octets of a frame behind its header and whatever extends that, where it is a whole one.
 fn body_octets(octets: &[u8]) -> &[u8] {

@@ -12,7 +12,7 @@ ghost use Rattle.trace_events.specs.Link.{IsLiveLink};
 ghost use Rattle.trace_events.specs.History.{judge_moment};
 ghost use Rattle.trace_clauses.specs.Clauses.{first_broken};
 ghost use Rattle.trace_clauses.specs.Written.{session_numbers};
-ghost use Rattle.trace_law.specs.View.{Events, event_view, link_view, spoken_view, body_view};
+ghost use Rattle.trace_values.specs.View.{Events, event_view, link_view, spoken_view, body_view};
 ghost use Rattle.trace_duties.specs.Answer as duties;
 ghost use Rattle.route_answers.specs.Answering.{IsReady, may_happen};
 ghost use Rattle.route_answers.specs.Replies.{reply_view, answer_view, IsAnswerable, IsAnswerableBody, EchoesLive, AreShortTexts, IsHeardShort, CanBeSaid, CanBeWritten, said_answer};
@@ -23,7 +23,8 @@ use amqp_perf::{ErrorCondition, Flow, Performative, Role};
 use capture_form::Rule;
 use std::alloc::{AllocError, Global};
 use trace_events::{Fault, Session};
-use trace_law::{Body, Counts, Event, Inputs, Link, Moment, Openings, Spoken, handle_in};
+use trace_judge::{Counts, Inputs, Openings};
+use trace_values::{Body, Event, Link, Moment, Spoken, handle_in};
 
 /// A close of the connection, behind the router's open where none was written yet.
 #[tactic(auto, using(crate::proofs::Connections::framed_opened))]

@@ -11,7 +11,7 @@ ghost use Rattle.route_dues.specs.Writing.{IsInOrder};
 ghost use Rattle.capture_form.specs.Text.{IsRecord};
 ghost use Rattle.route_books.specs.Books.{AreBooks, AreInOrder, IsUnbroken, TellsOf};
 ghost use Rattle.audit_tables.specs.Connections.{IsLawfulNext};
-ghost use Rattle.trace_law.specs.View.{Events, event_view};
+ghost use Rattle.trace_values.specs.View.{Events, event_view};
 
 use crate::dues::Dues;
 use audit_answers::{Looked, Tables};
@@ -19,7 +19,8 @@ use audit_events::HeldEvent;
 use capture_form::{Record, Rule};
 use due_frames::record_of;
 use std::alloc::{AllocError, Global};
-use trace_law::{Event, judge};
+use trace_judge::judge;
+use trace_values::Event;
 
 /// The tables of the records so far, and what is due behind them.
 #[derive(Drop)]

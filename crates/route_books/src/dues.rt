@@ -6,7 +6,7 @@ ghost use Rattle.capture_form.specs.declared.records.Record.{Record};
 ghost use Rattle.trace_events.specs.History.{history};
 ghost use Rattle.audit_tables.specs.Connections.{IsLawfulNext};
 ghost use Rattle.trace_duties.specs.Quiet.{is_quiet};
-ghost use Rattle.trace_law.specs.View.{Events, event_view};
+ghost use Rattle.trace_values.specs.View.{Events, event_view};
 ghost use Rattle.due_frames.specs.Dues.{IsDue};
 ghost use Rattle.route_books.specs.Books.{TellsOf};
 
@@ -14,7 +14,7 @@ use audit_answers::Looked;
 use capture_form::Rule;
 use due_frames::Due;
 use std::alloc::{AllocError, Global};
-use trace_law::Event;
+use trace_values::Event;
 
 /// Lists of what may be due, from which the next that is due is found without a search through all deliveries, links or
 /// sessions. They are moved by one event after the other, and ask the tables of what else they need.

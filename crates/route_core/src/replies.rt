@@ -2,7 +2,7 @@
 
 ghost use Rattle.std.specs.Prelude.{◌≡◌, IfOk};
 ghost use Rattle.trace_events.specs.History.{moment_of};
-ghost use Rattle.trace_law.specs.View.{event_view};
+ghost use Rattle.trace_values.specs.View.{event_view};
 ghost use Rattle.audit_events.specs.HeldEvents.{held_event_view};
 ghost use Rattle.route_answers.specs.Replies.{answer_view, reply_view, CanBeSaid, CanBeWritten};
 ghost use Rattle.route_core.specs.Replies.{IsReply, AreReplies, IsAnswerable, IsAnswerOf, AreAnswers, replies_of};
@@ -13,7 +13,7 @@ use pairing_cert::Note;
 use route_answers::{Answer, Reply, answer_to};
 use route_work::Looked;
 use std::alloc::{AllocError, Global};
-use trace_law::{Event, Moment};
+use trace_values::{Event, Moment};
 
 /// The records of a direct answer, in order.
 #[derive(Drop)]

@@ -19,8 +19,8 @@ use Rattle.trace_events.specs.Disposition.{terminal_state}
 use Rattle.trace_events.specs.Outgoing.{pairing, decision}
 use Rattle.trace_events.specs.Waiting.{is_gone, is_of_multicast}
 use Rattle.trace_clauses.specs.Outcome.{row, anycast_row, paired_row, fits_producer, outcome_octets, bare_outcome, bare_octets, is_sent_settled}
-use Rattle.trace_law.specs.OutcomeSize.{state_size, uint_size}
-use Rattle.trace_law.proofs.OutcomeSizes.{outcome_long}
+use Rattle.trace_judge.specs.OutcomeSize.{state_size, uint_size}
+use Rattle.trace_judge.proofs.OutcomeSizes.{outcome_long}
 use Rattle.route_dues.proofs.Lengths.{limit_least}
 
 -- in the octets of a state nothing is said of its outcome

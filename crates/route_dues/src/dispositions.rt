@@ -7,14 +7,14 @@ ghost use Rattle.amqp_perf.specs.NestedViews.{state_view};
 ghost use Rattle.amqp_perf.specs.Router.{FitsFrame};
 ghost use Rattle.amqp_perf.specs.Writing.{IfThere, IsWritableState};
 ghost use Rattle.trace_clauses.specs.Written.{spoken_octets, written_outcome, written_settling};
-ghost use Rattle.trace_law.specs.View.{incoming_view};
+ghost use Rattle.trace_values.specs.View.{incoming_view};
 ghost use Rattle.route_dues.specs.Outcomes.{octets_in, outcome_frame};
 ghost use Rattle.route_dues.specs.Writing.{IsReadAgain};
 
 use crate::frame::put_spoken;
 use amqp_perf::{Disposition, Performative, State};
 use std::alloc::AllocError;
-use trace_law::{Incoming, Outgoing};
+use trace_values::{Incoming, Outgoing};
 
 /// Appends the outcome of a delivery, with this state; without one no outcome is told.
 ///

@@ -10,7 +10,7 @@ ghost use Rattle.trace_events.specs.Session.{IsLiveOn};
 ghost use Rattle.trace_events.specs.Link.{IsLiveLink};
 ghost use Rattle.trace_clauses.specs.FlowClause as law;
 ghost use Rattle.trace_clauses.specs.Written.{says, spoken_octets, link_numbers, written_session_flow, written_credit, written_count};
-ghost use Rattle.trace_law.specs.View.{link_view, Events};
+ghost use Rattle.trace_values.specs.View.{link_view, Events};
 ghost use Rattle.route_dues.specs.Writing.{IsReadAgain};
 
 use crate::frame::put_spoken;
@@ -19,7 +19,8 @@ use capture_form::Rule;
 use flow_counts::CAPACITY;
 use std::alloc::AllocError;
 use trace_events::Session;
-use trace_law::{Counts, Link};
+use trace_judge::Counts;
+use trace_values::Link;
 
 /// Appends the flow that gives a live session its window anew.
 ///

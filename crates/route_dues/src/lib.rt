@@ -3,7 +3,7 @@
 //!
 //! - `laws`: such a frame breaks no clause and keeps the duties;
 //! - `transfers`: the parts of deliveries; `dispositions`: outcomes and settlings; `flows`: windows, credit and drain
-//!   answers; each over the questions of `trace_law` that it asks;
+//!   answers; each over the questions of `trace_judge` that it asks;
 //! - `frame`: one whole frame.
 //!
 //! In `specs/`, `Writing` is a frame as the next event, and what may follow a history; `Transfers` and `Outcomes` are

@@ -12,14 +12,15 @@ ghost use Rattle.trace_events.specs.Incoming as received;
 ghost use Rattle.trace_events.specs.Outgoing as sent;
 ghost use Rattle.trace_events.specs.Link.{IsLiveLink};
 ghost use Rattle.trace_clauses.specs.Written.{spoken_octets};
-ghost use Rattle.trace_law.specs.View.{incoming_view, link_view, Events};
+ghost use Rattle.trace_values.specs.View.{incoming_view, link_view, Events};
 ghost use Rattle.route_dues.specs.Writing.{spoken_with, IsReadAgain};
 ghost use Rattle.route_dues.specs.Transfers.{first_frame, next_frame};
 
 use crate::frame::put_spoken;
 use amqp_perf::{Performative, Transfer};
 use std::alloc::{AllocError, Global};
-use trace_law::{Counts, Incoming, Link, Outcomes};
+use trace_judge::{Counts, Outcomes};
+use trace_values::{Incoming, Link};
 
 /// How many octets of payload a transfer has room for: what its frame leaves of the limit without any.
 fn room(

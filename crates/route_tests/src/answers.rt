@@ -8,7 +8,7 @@ use crate::fixtures::{self, link_of};
 use amqp_perf::{Address, Attach, Performative, Role, Target, Terminus};
 use pairing_cert::Note;
 use trace_events::{Fault, Session};
-use trace_law::{Body, Event, Frame, Link, Moment, Spoken};
+use trace_values::{Body, Event, Frame, Link, Moment, Spoken};
 
 const SESSION: Session = Session {
     connection: 2,

@@ -11,7 +11,7 @@ use route_dues::{
     put_credit, put_drain, put_first, put_next, put_outcome, put_settling, put_window,
 };
 use std::test::Fail;
-use trace_law::{Incoming, Outgoing};
+use trace_values::{Incoming, Outgoing};
 
 const NUMBERS: Numbers = Numbers {
     next_incoming_id: 0,

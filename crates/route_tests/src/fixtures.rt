@@ -2,7 +2,7 @@
 
 use amqp_perf::Role;
 use trace_events::Session;
-use trace_law::Link;
+use trace_values::Link;
 
 /// A session of the connection 0.
 pub(crate) const SESSION: Session = Session {

@@ -5,7 +5,7 @@ ghost use Rattle.std.specs.Prelude.{◌≡◌, ◌∷◌, List, [], None, IfSome
 ghost use Rattle.capture_form.specs.Rules.{RuleText};
 ghost use Rattle.capture_form.specs.declared.records.Record.{Record};
 ghost use Rattle.trace_events.specs.History.{history};
-ghost use Rattle.trace_law.specs.View.{Events, event_view};
+ghost use Rattle.trace_values.specs.View.{Events, event_view};
 ghost use Rattle.audit_tables.specs.Connections.{IsLawfulNext};
 ghost use Rattle.route_books.specs.Copies.{IsDueCopy};
 ghost use Rattle.due_waiting.specs.Waiting.{IsDueWaiting};
@@ -17,7 +17,7 @@ use capture_form::Rule;
 use due_waiting::{DueWaiting, Waiting};
 use route_books::{Due, DueBegin, DueCopy, Looked, Parts, UnsentCopies};
 use std::alloc::{AllocError, Global};
-use trace_law::Event;
+use trace_values::Event;
 
 /// Deliveries to consumers that may go on or begin.
 #[derive(Drop)]

@@ -5,7 +5,7 @@ ghost use Rattle.std.specs.Prelude.{◌≡◌, ◌∷◌, List, [], None, IfSome
 ghost use Rattle.capture_form.specs.Rules.{RuleText};
 ghost use Rattle.capture_form.specs.declared.records.Record.{Record};
 ghost use Rattle.trace_events.specs.History.{history};
-ghost use Rattle.trace_law.specs.View.{event_view};
+ghost use Rattle.trace_values.specs.View.{event_view};
 ghost use Rattle.audit_tables.specs.Connections.{IsLawfulNext};
 ghost use Rattle.route_books.specs.Dues.{IsDue};
 ghost use Rattle.route_books.specs.Books.{TellsOf};
@@ -14,7 +14,7 @@ ghost use Rattle.route_work.specs.Work.{HasTelling, IsAllTold};
 use capture_form::Rule;
 use route_books::{Due, Looked, Unsettled, Untold};
 use std::alloc::{AllocError, Global};
-use trace_law::Event;
+use trace_values::Event;
 
 /// Outcomes to tell, and deliveries to settle.
 #[derive(Drop)]

@@ -9,7 +9,7 @@ use crate::telling::Telling;
 use capture_form::Rule;
 use route_books::{Due, Dues, Looked};
 use std::alloc::{AllocError, Global};
-use trace_law::Event;
+use trace_values::Event;
 
 /// What may be due of a router's work. First it tells what is to be told, then it sends what may be sent, and what links and
 /// sessions lack it gives last.

@@ -1,6 +1,3 @@
-pub mod Known
-pub mod OutcomeSize
-pub mod Payloads
-pub mod View
 pub mod Check
-pub mod LinkEvents
+pub mod OnStack
+pub mod Payloads

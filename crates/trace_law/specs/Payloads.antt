@@ -7,7 +7,7 @@ use Rattle.trace_events.specs.Words.{is_some_and}
 use Rattle.trace_events.specs.Event.{Event}
 use Rattle.trace_events.specs.Said.{in_spoken, out_spoken}
 use Rattle.trace_events.specs.Incoming.{part_payload}
-use Rattle.trace_law.specs.View.{events}
+use Rattle.trace_law.specs.OnStack.{events}
 
 -- what an event adds to the delivery's payload
 abbrev pub part_of : Delivery → Event → List ℕ

@@ -1,10 +1,8 @@
-//! What the events so far say of deliveries.
+//! Deliveries: scans of the past.
 
-pub(crate) mod disposition;
-pub(crate) mod due;
-pub(crate) mod incoming;
-pub(crate) mod outcome;
-pub(crate) mod outgoing;
-pub(crate) mod payload;
-pub(crate) mod settling;
-pub(crate) mod waiting;
+mod due;
+mod incoming;
+mod outgoing;
+mod payload;
+mod settling;
+mod waiting;

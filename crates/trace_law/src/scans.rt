@@ -1,21 +1,20 @@
 //! The answers of the plain checker: each by a scan of the events on the stack.
 
-use crate::clauses::broken_clause;
-use crate::clauses::link::Asking;
-use crate::delivery::disposition::Decision;
-use crate::history::event::{Event, Incoming, Link, Outgoing, Past};
-use crate::history::{judge, judge_unopened};
-use crate::link::their_first_count;
-use crate::questions::{Carriage, Counts, History, Inputs, Openings, Outcomes, Questions};
+use crate::past::Past;
 use amqp_perf::Begin;
 use capture_form::{Record, Rule};
 use pairing_cert::Note;
 use trace_clauses::Clause;
 use trace_events::Session;
+use trace_judge::{
+    Carriage, Counts, History, Inputs, Openings, Outcomes, Questions, broken_clause, judge,
+    judge_unopened,
+};
+use trace_values::{Asking, Decision, Event, Incoming, Link, Outgoing, their_first_count};
 
 impl<'p, 'a> History for Past<'p, 'a> {
     ghost use Rattle.std.specs.Prelude.{◌≡◌, ◌<◌, ◌^◌, length};
-    ghost use Rattle.trace_law.specs.View.{events};
+    ghost use Rattle.trace_law.specs.OnStack.{events};
 
     ghost stands_for = { λ past rules history. events past ≡ history };
 
@@ -259,7 +258,8 @@ impl<'p, 'a> Past<'p, 'a> {
     ghost use Rattle.std.specs.Prelude.{◌≡◌, length};
     ghost use Rattle.trace_clauses.specs.Clauses.{broken_clause};
     ghost use Rattle.trace_events.specs.History.{judge};
-    ghost use Rattle.trace_law.specs.View.{events, event_view};
+    ghost use Rattle.trace_law.specs.OnStack.{events};
+    ghost use Rattle.trace_values.specs.View.{event_view};
 
     /// The record of this number in its place.
     #[tactic(auto, using(crate::proofs::KnownAll::opens_all))]

@@ -3,56 +3,15 @@
 pub(crate) mod connection;
 pub(crate) mod window;
 
-use crate::history::event::{Event, Past};
+use crate::past::Past;
 use amqp_perf::Begin;
 use trace_events::Session;
-
-impl<'a> Event<'a> {
-    ghost use Rattle.std.specs.Prelude.{◌≡◌};
-    ghost use Rattle.trace_events.specs.Session.{begins_in, begins_out, ends_in, ends_out};
-    ghost use Rattle.trace_events.specs.Ends.{ends_session};
-    ghost use Rattle.trace_law.specs.View.{event_view};
-
-    fn begins_in(&self, connection: u32, channel: u16) -> bool
-        ensures { result ≡ begins_in connection channel (event_view self.now) }
-    {
-        self.in_begin().is_some() && self.is_on_channel(connection, channel)
-    }
-
-    fn begins_out(&self, connection: u32, channel: u16) -> bool
-        ensures { result ≡ begins_out connection channel (event_view self.now) }
-    {
-        self.out_begin().is_some() && self.is_on_channel(connection, channel)
-    }
-
-    fn ends_in(&self, connection: u32, channel: u16) -> bool
-        ensures { result ≡ ends_in connection channel (event_view self.now) }
-    {
-        self.is_in_end() && self.is_on_channel(connection, channel)
-    }
-
-    fn ends_out(&self, connection: u32, channel: u16) -> bool
-        ensures { result ≡ ends_out connection channel (event_view self.now) }
-    {
-        self.is_out_end() && self.is_on_channel(connection, channel)
-    }
-
-    /// The end of the session's connection, an end of its channel, or an Out begin there, which begins another.
-    pub fn ends_session(&self, session: Session) -> bool
-        ensures { result ≡ ends_session session (event_view self.now) }
-    {
-        self.moment.is_final() && self.connection == session.connection
-            || (self.ends_in(session.connection, session.channel)
-                || self.ends_out(session.connection, session.channel))
-            || self.begins_out(session.connection, session.channel)
-    }
-}
 
 impl<'p, 'a> Past<'p, 'a> {
     ghost use Rattle.std.specs.Prelude.{◌≡◌};
     ghost use Rattle.trace_events.specs.Session as law;
     ghost use Rattle.trace_events.specs.Session.{has_unanswered_begin, owes_end};
-    ghost use Rattle.trace_law.specs.View.{events};
+    ghost use Rattle.trace_law.specs.OnStack.{events};
 
     /// The client's last begin on the channel.
     pub(crate) fn last_in_begin(&self, connection: u32, channel: u16) -> Option<Begin>

@@ -3,7 +3,8 @@
 use crate::looked::Looked;
 use capture_form::Rule;
 use pairing_cert::Note;
-use trace_law::{Carriage, Incoming, Link, Outgoing};
+use trace_judge::Carriage;
+use trace_values::{Incoming, Link, Outgoing};
 
 impl<'t> Carriage<'t> for Looked<'t> {
     fn outgoing_in_progress(&self, link: &Link) -> Option<Outgoing<'t>> {

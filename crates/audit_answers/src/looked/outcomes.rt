@@ -4,7 +4,8 @@ use crate::closings::HeldClosings;
 use crate::looked::Looked;
 use capture_form::Rule;
 use trace_events::Session;
-use trace_law::{Decision, Incoming, Link, Outcomes, Outgoing};
+use trace_judge::Outcomes;
+use trace_values::{Decision, Incoming, Link, Outgoing};
 
 impl<'t> Outcomes<'t> for Looked<'t> {
     fn to_tell(&self, _rules: &[Rule], session: Session, id: u32) -> Option<Incoming<'t>> {

@@ -4,10 +4,8 @@ use amqp_perf::Begin;
 use capture_form::Rule;
 use pairing_cert::Note;
 use trace_events::Session;
-use trace_law::{
-    Asking, Carriage, Counts, Decision, History, Incoming, Inputs, Link, Openings, Outcomes,
-    Outgoing, Questions,
-};
+use trace_judge::{Carriage, Counts, History, Inputs, Openings, Outcomes, Questions};
+use trace_values::{Asking, Decision, Incoming, Link, Outgoing};
 
 /// One connection without sessions: whether it was opened, and written on, and the client's begin that is to be answered.
 #[derive(Clone, Copy)]

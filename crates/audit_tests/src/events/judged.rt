@@ -7,7 +7,8 @@ use audit_events::next_event;
 use flow_counts::INCOMING_WINDOW;
 use pairing_cert::Note;
 use std::test::Fail;
-use trace_law::{Clause, Event, Moment};
+use trace_clauses::Clause;
+use trace_values::{Event, Moment};
 
 const OPENED: OneConnection = OneConnection {
     was_opened: true,

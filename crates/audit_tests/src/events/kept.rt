@@ -6,7 +6,7 @@ use audit_events::HeldEvent;
 use pairing_cert::{Note, Why};
 use std::test::Fail;
 use trace_events::Fault;
-use trace_law::{Event, Incoming, Link, Moment, Outgoing};
+use trace_values::{Event, Incoming, Link, Moment, Outgoing};
 
 /// The addresses may go, and the event is made again.
 #[test]

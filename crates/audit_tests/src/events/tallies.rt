@@ -5,7 +5,8 @@ use amqp_perf::{Disposition, Performative, Role};
 use audit_events::counted;
 use pairing_cert::Note;
 use std::test::Fail;
-use trace_law::{Event, Moment, Outgoing, Tally};
+use trace_clauses::Tally;
+use trace_values::{Event, Moment, Outgoing};
 
 const BEFORE: Tally = Tally {
     records: 30,

@@ -3,7 +3,8 @@
 use amqp_perf::Begin;
 use capture_form::Rule;
 use trace_events::Session;
-use trace_law::{Asking, Counts, History, Incoming, Inputs, Link, Openings};
+use trace_judge::{Counts, History, Inputs, Openings};
+use trace_values::{Asking, Incoming, Link};
 
 /// One connection, with a link: whether a frame was written on it, and whether it is finished.
 #[derive(Clone, Copy)]

@@ -10,7 +10,7 @@ use route_answers::{Answer, Reply, Saying, Source, answer_to};
 use std::alloc::AllocError;
 use std::test::Fail;
 use trace_events::Fault;
-use trace_law::{Event, Moment};
+use trace_values::{Event, Moment};
 
 const WRITTEN: OneConnection = OneConnection {
     has_out_frame: true,

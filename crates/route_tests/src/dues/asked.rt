@@ -2,7 +2,8 @@
 
 use capture_form::Rule;
 use trace_events::Session;
-use trace_law::{Counts, Decision, History, Incoming, Link, Outcomes, Outgoing};
+use trace_judge::{Counts, History, Outcomes};
+use trace_values::{Decision, Incoming, Link, Outgoing};
 
 /// The numbers of one session and one link; all others are 0.
 #[derive(Clone, Copy)]

@@ -5,7 +5,7 @@ ghost use Rattle.std.specs.Prelude.{◌≡◌, ◌<◌, length};
 ghost use Rattle.trace_law.specs.Check as checked;
 
 use crate::ask::walk::{Asked, walk};
-use crate::history::event::Past;
+use crate::past::Past;
 use capture_form::{Capture, Record, Rule};
 use trace_clauses::Clause;
 
@@ -102,7 +102,7 @@ struct BrokenByNext;
 
 impl Asked for BrokenByNext {
     ghost use Rattle.std.specs.Prelude.{◌≡◌};
-    ghost use Rattle.trace_law.specs.Check.{broken_by_first};
+    ghost use Rattle.trace_judge.specs.First.{broken_by_first};
 
     type Answer = Option<Clause>;
 

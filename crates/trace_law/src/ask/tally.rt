@@ -1,23 +1,24 @@
 //! What a capture holds, counted.
 
+ghost use Rattle.std.specs.Prelude.{◌≡◌};
+ghost use Rattle.trace_clauses.specs.Verdict.{tally_of, tells_outcome};
+ghost use Rattle.trace_events.specs.History.{history};
+ghost use Rattle.trace_values.specs.View.{event_view};
+
 use crate::ask::walk::{Asked, walk};
-use crate::history::event::{Event, Past};
+use crate::past::Past;
 use amqp_perf::Role;
 use capture_form::{Capture, Record, Rule};
 use trace_clauses::Tally;
+use trace_values::Event;
 
-impl<'a> Event<'a> {
-    ghost use Rattle.std.specs.Prelude.{◌≡◌};
-    ghost use Rattle.trace_clauses.specs.Verdict.{tells_outcome};
-    ghost use Rattle.trace_law.specs.View.{event_view};
-
-    fn tells_outcome(&self) -> bool
-        ensures { result ≡ tells_outcome (event_view self.now) }
-    {
-        match self.out_disposition() {
-            Some(disposition) => disposition.role == Role::Receiver,
-            None => false,
-        }
+/// It tells an outcome.
+fn tells_outcome(event: &Event) -> bool
+    ensures { result ≡ tells_outcome (event_view event.now) }
+{
+    match event.out_disposition() {
+        Some(disposition) => disposition.role == Role::Receiver,
+        None => false,
     }
 }
 
@@ -25,7 +26,7 @@ impl<'p, 'a> Past<'p, 'a> {
     ghost use Rattle.std.specs.Prelude.{◌≡◌, ◌<◌, ◌^◌, length, count_by};
     ghost use Rattle.trace_events.specs.Credit.{begins_outgoing};
     ghost use Rattle.trace_clauses.specs.Verdict.{tells_outcome, tally_of};
-    ghost use Rattle.trace_law.specs.View.{events};
+    ghost use Rattle.trace_law.specs.OnStack.{events};
 
     /// How many deliveries to clients have begun.
     fn deliveries(&self) -> u64
@@ -51,7 +52,7 @@ impl<'p, 'a> Past<'p, 'a> {
         let mut count = 0;
         let mut rest = self;
         while let Past::After(event, earlier) = rest {
-            if event.tells_outcome() {
+            if tells_outcome(event) {
                 count += 1;
             }
             rest = *earlier;
@@ -94,10 +95,6 @@ impl Asked for Tallied {
         past.tally(number)
     }
 }
-
-ghost use Rattle.std.specs.Prelude.{◌≡◌};
-ghost use Rattle.trace_events.specs.History.{history};
-ghost use Rattle.trace_clauses.specs.Verdict.{tally_of};
 
 /// What the capture holds. It takes stack as `slow_check` does, and no other memory.
 pub fn tally_capture<'a>(capture: &'a Capture) -> Tally

@@ -4,9 +4,9 @@
 
 ghost use Rattle.std.specs.Prelude.{◌≡◌, ◌≤◌, length, slice_range, drop};
 ghost use Rattle.trace_events.specs.History.{continued};
-ghost use Rattle.trace_law.specs.View.{events};
+ghost use Rattle.trace_law.specs.OnStack.{events};
 
-use crate::history::event::Past;
+use crate::past::Past;
 use capture_form::{Record, Rule};
 
 /// What is asked of the events of a capture's first records.
@@ -14,7 +14,8 @@ pub(crate) trait Asked {
     ghost use Rattle.std.specs.Prelude.{◌≡◌, List, length};
     ghost use Rattle.capture_form.specs.declared.records.Record.{Record};
     ghost use Rattle.capture_form.specs.Rules.{RuleText};
-    ghost use Rattle.trace_law.specs.View.{Events, events};
+    ghost use Rattle.trace_law.specs.OnStack.{events};
+    ghost use Rattle.trace_values.specs.View.{Events};
 
     type Answer;
 

@@ -1,13 +1,14 @@
 //! The copies of a multicast delivery: to whose links one is due, and which of them are sent.
 
-use crate::history::event::{Event, Incoming, Link, Past};
-use crate::link::address::has_multicast;
+use crate::past::Past;
 use capture_form::Rule;
+use trace_values::{Event, Incoming, Link, has_multicast};
 
 impl<'p, 'a> Past<'p, 'a> {
     ghost use Rattle.std.specs.Prelude.{◌≡◌, ◌<◌, ◌^◌, length};
     ghost use Rattle.trace_events.specs.Due as law;
-    ghost use Rattle.trace_law.specs.View.{events, event_view, link_view, incoming_view};
+    ghost use Rattle.trace_law.specs.OnStack.{events};
+    ghost use Rattle.trace_values.specs.View.{event_view, link_view, incoming_view};
 
     /// The multicast delivery that this event completes is for the link: a live one of a consumer of its address.
     fn is_copied_to(&self, rules: &[Rule], link: &Link, event: &Event) -> bool

@@ -1,103 +1,11 @@
 //! Deliveries to clients: their parts, the incoming delivery that each carries, and what its consumer decides (part 2 of
 //! the standard, sections 2.6.12 and 2.6.14).
 
-ghost use Rattle.std.specs.Prelude.{◌≡◌};
-ghost use Rattle.trace_events.specs.Outgoing as law;
-
-use crate::delivery::disposition::{Decision, covers_id, is_decisive};
-use crate::history::event::{Event, Incoming, Link, Outgoing, Past};
-use amqp_perf::{Disposition, Role};
+use crate::past::Past;
+use amqp_perf::Disposition;
 use pairing_cert::Note;
 use trace_events::Session;
-
-/// The note names the incoming delivery of this number.
-pub(crate) fn names(number: u64, note: Note) -> bool
-    ensures { result ≡ law.names number note }
-{
-    match note {
-        Note::Pair(named) => named == number,
-        Note::None | Note::Told(_) => false,
-    }
-}
-
-impl<'a> Event<'a> {
-    ghost use Rattle.std.specs.Prelude.{◌≡◌, ◌&&◌, option_map, is_some, not};
-    ghost use Rattle.amqp_perf.specs.Meaning.{flag};
-    ghost use Rattle.amqp_perf.specs.View.{disposition_fields};
-    ghost use Rattle.trace_events.specs.Event.{is_on_link};
-    ghost use Rattle.trace_events.specs.Words.{is_some_and};
-    ghost use Rattle.trace_events.specs.Said.{out_transfer};
-    ghost use Rattle.trace_events.specs.Outgoing as law;
-    ghost use Rattle.trace_events.specs.Queue.{pairs};
-    ghost use Rattle.trace_law.specs.View.{link_view, incoming_view, outgoing_view, event_view};
-
-    /// It is one of the delivery's parts.
-    pub fn is_outgoing_part(&self, delivery: &Outgoing) -> bool
-        ensures { result ≡ law.is_part (outgoing_view delivery.now) (event_view self.now) }
-    {
-        match self.outgoing {
-            Some(own) => own.number == delivery.number,
-            None => false,
-        }
-    }
-
-    /// It is the delivery's last part.
-    pub fn ends(&self, delivery: &Outgoing) -> bool
-        ensures { result ≡ (law.is_part (outgoing_view delivery.now) (event_view self.now)
-            && is_some_and (out_transfer (event_view self.now)) (λ fields. not (flag fields.more))) }
-    {
-        match self.out_transfer() {
-            Some(transfer) => !transfer.has_more() && self.is_outgoing_part(delivery),
-            None => false,
-        }
-    }
-
-    /// The delivery that begins in it.
-    pub fn outgoing_begun(&self) -> Option<Outgoing<'a>>
-        ensures { option_map outgoing_view result ≡ law.outgoing_begun (event_view self.now) }
-    {
-        match self.outgoing {
-            Some(own) if own.number == self.number => Some(own),
-            _ => None,
-        }
-    }
-
-    /// A delivery to a client that carries the incoming one begins in it.
-    pub fn pairs(&self, delivery: &Incoming) -> bool
-        ensures { result ≡ pairs (incoming_view delivery.now) (event_view self.now) }
-    {
-        match self.outgoing_begun() {
-            Some(outgoing) => names(delivery.number, outgoing.note),
-            None => false,
-        }
-    }
-
-    /// A transfer on the link that names the incoming delivery.
-    fn names_on(&self, delivery: &Incoming, link: &Link) -> bool
-        ensures { result ≡ (is_some (out_transfer (event_view self.now))
-            && law.names delivery.now.number self.now.note
-            && is_on_link (link_view link.now) (event_view self.now)) }
-    {
-        names(delivery.number, self.note) && self.is_on_link(link) && self.out_transfer().is_some()
-    }
-
-    /// A heard disposition of the consumer, behind the delivery's first transfer, that covers its id.
-    pub fn answering(&self, delivery: &Outgoing) -> Option<Disposition<'a>>
-        ensures { option_map disposition_fields result ≡ law.answering (outgoing_view delivery.now) (event_view self.now) }
-    {
-        if !(self.is_heard
-            && self.is_on_session(delivery.link.session)
-            && delivery.number < self.number)
-        {
-            return None;
-        }
-        match self.in_disposition() {
-            Some(fields) if fields.role == Role::Receiver && covers_id(&fields, delivery.id) =>
-                Some(fields),
-            _ => None,
-        }
-    }
-}
+use trace_values::{Decision, Event, Incoming, Link, Outgoing, is_decisive, names};
 
 impl<'p, 'a> Past<'p, 'a> {
     ghost use Rattle.std.specs.Prelude.{◌≡◌, ◌&&◌, option_map};
@@ -107,7 +15,8 @@ impl<'p, 'a> Past<'p, 'a> {
     ghost use Rattle.trace_events.specs.Link.{is_live};
     ghost use Rattle.trace_events.specs.Outgoing as law;
     ghost use Rattle.trace_events.specs.Disposition.{terminal_state};
-    ghost use Rattle.trace_law.specs.View.{decision_view, link_view, incoming_view, outgoing_view, event_view, events};
+    ghost use Rattle.trace_law.specs.OnStack.{events};
+    ghost use Rattle.trace_values.specs.View.{decision_view, link_view, incoming_view, outgoing_view, event_view};
 
     /// The delivery of the link whose last part isn't written yet.
     pub(crate) fn outgoing_in_progress(&self, link: &Link) -> Option<Outgoing<'a>>
@@ -296,7 +205,8 @@ impl<'p, 'a> Past<'p, 'a> {
     ghost use Rattle.std.specs.Prelude.{◌≡◌, option_map, find};
     ghost use Rattle.trace_events.specs.Outgoing.{is_on, outgoing_deliveries};
     ghost use Rattle.trace_clauses.specs.TransferClause.{carried_before};
-    ghost use Rattle.trace_law.specs.View.{events, incoming_view, link_view, outgoing_view};
+    ghost use Rattle.trace_law.specs.OnStack.{events};
+    ghost use Rattle.trace_values.specs.View.{incoming_view, link_view, outgoing_view};
 
     /// The last delivery that was begun on the link.
     fn last_begun_on(&self, link: &Link) -> Option<Outgoing<'a>>

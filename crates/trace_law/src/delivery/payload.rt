@@ -1,7 +1,8 @@
 //! Payloads of deliveries, compared without a copy: octet by octet from the last one, through the parts as they stand in
 //! the history.
 
-use crate::history::event::{Event, Incoming, Outgoing, Past};
+use crate::past::Past;
+use trace_values::{Event, Incoming, Outgoing};
 
 /// A delivery, by its direction and its number.
 #[derive(Clone, Copy)]
@@ -18,20 +19,20 @@ struct Backward<'p, 'a> {
     rest: &'p Past<'p, 'a>,
 }
 
-impl<'a> Event<'a> {
+impl Delivery {
     ghost use Rattle.std.specs.Prelude.{◌≡◌};
     ghost use Rattle.trace_law.specs.Payloads.{part_of};
-    ghost use Rattle.trace_law.specs.View.{event_view};
+    ghost use Rattle.trace_values.specs.View.{event_view};
 
-    /// What the event adds to the delivery's payload.
-    fn part(&self, delivery: Delivery) -> &'a [u8]
-        ensures { result.now ≡ part_of delivery (event_view self.now) }
+    /// What an event adds to the delivery's payload.
+    fn part<'a>(self, event: &Event<'a>) -> &'a [u8]
+        ensures { result.now ≡ part_of self (event_view event.now) }
     {
-        let spoken = match (delivery, self.incoming, self.outgoing) {
+        let spoken = match (self, event.incoming, event.outgoing) {
             (Delivery::Incoming(number), Some(incoming), _) if incoming.number == number =>
-                self.in_spoken(),
+                event.in_spoken(),
             (Delivery::Outgoing(number), _, Some(outgoing)) if outgoing.number == number =>
-                self.out_spoken(),
+                event.out_spoken(),
             _ => None,
         };
         match spoken {
@@ -56,7 +57,7 @@ impl<'p, 'a> Backward<'p, 'a> {
             let Past::After(event, earlier) = rest else {
                 return None;
             };
-            part = event.part(self.delivery);
+            part = self.delivery.part(event);
             rest = *earlier;
         }
         let (octet, front) = part.split_last()?;
@@ -121,7 +122,8 @@ impl<'p, 'a> Past<'p, 'a> {
     ghost use Rattle.trace_clauses.specs.TransferClause as clause;
     ghost use Rattle.trace_events.specs.Incoming as received;
     ghost use Rattle.trace_events.specs.Outgoing as sent;
-    ghost use Rattle.trace_law.specs.View.{events, incoming_view, outgoing_view};
+    ghost use Rattle.trace_law.specs.OnStack.{events};
+    ghost use Rattle.trace_values.specs.View.{incoming_view, outgoing_view};
 
     /// The whole payload of a delivery.
     fn backward<'s>(&'s self, incoming: &Incoming) -> Backward<'s, 'a>
@@ -178,7 +180,7 @@ impl<'p, 'a> Past<'p, 'a> {
         };
         let mut rest = self;
         while let Past::After(event, earlier) = rest {
-            let part = event.part(Delivery::Incoming(incoming.number));
+            let part = Delivery::Incoming(incoming.number).part(event);
             match room.checked_sub(part.len() as u64) {
                 Some(left) => room = left,
                 None => return true,

@@ -1,15 +1,17 @@
 //! Which delivery the router settles with its consumer, and which one an outcome is told of (part 2 of the standard,
 //! section 2.6.12; own rules).
 
-use crate::history::event::{Incoming, Outgoing, Past};
+use crate::past::Past;
 use capture_form::Rule;
 use trace_events::Session;
+use trace_values::{Incoming, Outgoing};
 
 impl<'p, 'a> Past<'p, 'a> {
     ghost use Rattle.std.specs.Prelude.{◌≡◌, ◌==◌, ◌&&◌, option_map};
     ghost use Rattle.trace_events.specs.Words.{is_number};
     ghost use Rattle.trace_events.specs.Settling as law;
-    ghost use Rattle.trace_law.specs.View.{incoming_view, outgoing_view, events};
+    ghost use Rattle.trace_law.specs.OnStack.{events};
+    ghost use Rattle.trace_values.specs.View.{incoming_view, outgoing_view};
 
     /// Nothing more is to be told of an incoming delivery: it is told, settled, or of a link that is over.
     pub(crate) fn is_closed(&self, delivery: &Incoming) -> bool
@@ -46,7 +48,7 @@ impl<'p, 'a> Past<'p, 'a> {
     }
 
     /// The earliest such delivery of the id on the session.
-    #[tactic(auto, using(crate::proofs::Earliest::the_earliest))]
+    #[tactic(auto, using(trace_values::proofs::Earliest::the_earliest))]
     pub(crate) fn to_settle(&self, session: Session, id: u32) -> Option<Outgoing<'a>>
         ensures { option_map outgoing_view result ≡ law.to_settle session id (events self.now) }
     {

@@ -1,21 +1,10 @@
 //! What becomes of a delivery from a client: whether it waits for a consumer, is gone, or is decided (own rules).
 
-ghost use Rattle.std.specs.Prelude.{◌≡◌};
-ghost use Rattle.trace_events.specs.Waiting as law;
-ghost use Rattle.trace_law.specs.View.{incoming_view};
-
-use crate::history::event::{Incoming, Link, Past};
-use crate::link::address::has_multicast;
+use crate::past::Past;
 use capture_form::Rule;
 use pairing_cert::Note;
 use trace_events::Session;
-
-/// Its address goes to all its consumers.
-pub(crate) fn is_of_multicast(rules: &[Rule], delivery: &Incoming) -> bool
-    ensures { result ≡ law.is_of_multicast rules.now (incoming_view delivery.now) }
-{
-    has_multicast(rules, delivery.address())
-}
+use trace_values::{Incoming, Link, is_of_multicast};
 
 impl<'p, 'a> Past<'p, 'a> {
     ghost use Rattle.std.specs.Prelude.{◌≡◌, ◌<◌, ◌^◌, ◌&&◌, length, bytes_eq, option_map};
@@ -23,7 +12,8 @@ impl<'p, 'a> Past<'p, 'a> {
     ghost use Rattle.trace_clauses.specs.TransferClause.{to_carry};
     ghost use Rattle.trace_events.specs.Fault.{is_id_in_use};
     ghost use Rattle.trace_events.specs.Waiting as law;
-    ghost use Rattle.trace_law.specs.View.{link_view, incoming_view, events};
+    ghost use Rattle.trace_law.specs.OnStack.{events};
+    ghost use Rattle.trace_values.specs.View.{link_view, incoming_view};
 
     /// At each moment since the delivery's completion its address had a consumer.
     fn always_had_consumer(&self, delivery: &Incoming) -> bool

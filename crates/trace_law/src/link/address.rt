@@ -1,22 +1,13 @@
-//! Addresses: how their deliveries are distributed, and their consumers.
+//! The consumers of an address.
 
-ghost use Rattle.std.specs.Prelude.{◌≡◌};
-ghost use Rattle.trace_events.specs.Address as law;
-
-use crate::history::event::{Link, Past};
-use capture_form::{Distribution, Rule, distribution_of};
-
-/// Each delivery of the address goes to all its consumers, or to one.
-pub fn has_multicast(rules: &[Rule], address: &[u8]) -> bool
-    ensures { result ≡ law.has_multicast rules.now address.now }
-{
-    matches!(distribution_of(rules, address), Distribution::Multicast)
-}
+use crate::past::Past;
+use trace_values::Link;
 
 impl<'p, 'a> Past<'p, 'a> {
     ghost use Rattle.std.specs.Prelude.{◌≡◌};
     ghost use Rattle.trace_events.specs.Address as law;
-    ghost use Rattle.trace_law.specs.View.{events, link_view};
+    ghost use Rattle.trace_law.specs.OnStack.{events};
+    ghost use Rattle.trace_values.specs.View.{link_view};
 
     /// The link is a live one of a consumer of the address.
     pub(crate) fn is_consumer_of(&self, address: &[u8], link: &Link) -> bool

@@ -1,51 +1,15 @@
 //! A connection's opening and end, and the longest frame that is written on it (part 2 of the standard, section 2.4).
 
-use crate::history::event::{Event, Moment, Past};
-use crate::history::frame::{Frame, Spoken};
-use amqp_perf::{Open, Performative};
+use crate::past::Past;
+use amqp_perf::Open;
 use flow_counts::{MAX_FRAME_SIZE, MIN_MAX_FRAME_SIZE};
-
-impl<'a> Frame<'a> {
-    ghost use Rattle.std.specs.Prelude.{◌≡◌};
-    ghost use Rattle.trace_events.specs.Connection.{says_close};
-    ghost use Rattle.trace_law.specs.View.{frame_view};
-
-    fn says_close(&self) -> bool
-        ensures { result ≡ says_close (frame_view self.now) }
-    {
-        matches!(
-            self.spoken(),
-            Some(Spoken {
-                performative: Performative::Close(_),
-                ..
-            })
-        )
-    }
-}
-
-impl<'a> Moment<'a> {
-    ghost use Rattle.std.specs.Prelude.{◌≡◌};
-    ghost use Rattle.trace_events.specs.Connection.{is_final};
-    ghost use Rattle.trace_law.specs.View.{moment_view};
-
-    /// A close in either direction, the end of the device, or octets that stopped being frames.
-    pub fn is_final(&self) -> bool
-        ensures { result ≡ is_final (moment_view self.now) }
-    {
-        match self {
-            Moment::In(frame) | Moment::Out(frame) => frame.says_close(),
-            Moment::Lost | Moment::Broken => true,
-            Moment::Opened => false,
-        }
-    }
-}
 
 impl<'p, 'a> Past<'p, 'a> {
     ghost use Rattle.std.specs.Prelude.{◌≡◌, option_map};
     ghost use Rattle.amqp_perf.specs.View.{open_fields};
     ghost use Rattle.trace_events.specs.Connection as law;
     ghost use Rattle.trace_events.specs.Connection.{was_finished, was_stopped, has_out_frame};
-    ghost use Rattle.trace_law.specs.View.{events};
+    ghost use Rattle.trace_law.specs.OnStack.{events};
 
     /// The connection is over.
     pub(crate) fn is_over(&self, connection: u32) -> bool

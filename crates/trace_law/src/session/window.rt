@@ -1,62 +1,14 @@
 //! The windows of a session (part 2 of the standard, section 2.5.6).
 
-use crate::history::event::{Event, Moment, Past};
-use amqp_perf::Performative;
+use crate::past::Past;
 use flow_counts::{INCOMING_WINDOW, WindowEvent};
 use trace_events::Session;
-
-impl<'a> Moment<'a> {
-    ghost use Rattle.std.specs.Prelude.{◌≡◌};
-    ghost use Rattle.trace_events.specs.Window.{window_event};
-    ghost use Rattle.trace_law.specs.View.{moment_view};
-
-    /// How it moves the windows of the session on which it stands.
-    pub fn window_event(&self) -> Option<WindowEvent>
-        ensures { result ≡ window_event (moment_view self.now) }
-    {
-        match self {
-            Moment::In(frame) => match frame.spoken()?.performative {
-                Performative::Flow(flow) => Some(WindowEvent::TheirFlow {
-                    next_incoming: flow.next_incoming_id,
-                    incoming_window: flow.incoming_window,
-                }),
-                Performative::Transfer(_) => Some(WindowEvent::Received),
-                _ => None,
-            },
-            Moment::Out(frame) => match frame.spoken()?.performative {
-                Performative::Flow(_) => Some(WindowEvent::OurFlow),
-                Performative::Transfer(_) => Some(WindowEvent::Sent),
-                _ => None,
-            },
-            _ => None,
-        }
-    }
-}
-
-impl<'a> Event<'a> {
-    ghost use Rattle.std.specs.Prelude.{◌≡◌, if◌then◌else◌, None};
-    ghost use Rattle.trace_events.specs.Event.{is_on_session};
-    ghost use Rattle.trace_events.specs.Window.{window_event};
-    ghost use Rattle.trace_law.specs.View.{event_view};
-
-    /// How it moves the windows of this session.
-    fn window_event(&self, session: Session) -> Option<WindowEvent>
-        ensures { result
-            ≡ (if is_on_session session (event_view self.now) then window_event (event_view self.now).moment else None) }
-    {
-        if self.is_on_session(session) {
-            self.moment.window_event()
-        } else {
-            None
-        }
-    }
-}
 
 impl<'p, 'a> Past<'p, 'a> {
     ghost use Rattle.std.specs.Prelude.{◌≡◌};
     ghost use Rattle.flow_counts.specs.Window.{granted_window};
     ghost use Rattle.trace_events.specs.Window as law;
-    ghost use Rattle.trace_law.specs.View.{events};
+    ghost use Rattle.trace_law.specs.OnStack.{events};
 
     /// The id of the next transfer to the client.
     #[tactic(auto, using(crate::proofs::Counted::serial_step))]

@@ -1,7 +1,7 @@
 use Rattle.std.proofs.Common.{◌≡◌, ap, sym, ◌∙◌, ℕ, Option, Some, option_and_then, option_map, rules}
 use Rattle.trace_events.specs.History.{history}
 use Rattle.trace_events.proofs.Judged.{history-judged}
-use Rattle.trace_law.specs.View.{link_view}
+use Rattle.trace_values.specs.View.{link_view}
 use Rattle.audit_addresses.specs.ConsumerLinks.{consumer_at}
 use Rattle.audit_addresses.proofs.ConsumerLinkSteps.{consumer-lives}
 use Rattle.audit_copies.specs.Receivers.{receiver_at, receiver_on}

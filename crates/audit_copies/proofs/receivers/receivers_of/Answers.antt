@@ -4,7 +4,7 @@ use Rattle.trace_events.specs.Event.{Incoming}
 use Rattle.trace_events.specs.History.{history}
 use Rattle.trace_events.specs.Incoming.{address_of}
 use Rattle.trace_events.proofs.Judged.{history-judged}
-use Rattle.trace_law.specs.View.{event_view, incoming_view}
+use Rattle.trace_values.specs.View.{event_view, incoming_view}
 use Rattle.audit_addresses.specs.Consumers.{numbers_at}
 use Rattle.audit_copies.specs.Copies.{AreReceiversOf, copied_by}
 use Rattle.audit_copies.specs.declared.copies.Receiver.{Receiver}

@@ -1,8 +1,8 @@
 use Rattle.std.proofs.Common.{sym, ap, subst, ◌∙◌}
 use Rattle.trace_clauses.specs.Clauses.{broken_clause}
 use Rattle.trace_events.specs.Event.{Event}
-use Rattle.trace_law.specs.Known.{CarriesKnown, OpensKnown}
-use Rattle.trace_law.specs.View.{event_view, moment_view}
+use Rattle.trace_values.specs.Known.{CarriesKnown, OpensKnown}
+use Rattle.trace_values.specs.View.{event_view, moment_view}
 use Rattle.audit_events.proofs.UnopenedRecords.{read-unopened, stands-live, names-live, number-is, broken-is, opened-is}
 use Rattle.audit_events.proofs.judging.next_event.Goals as goal
 

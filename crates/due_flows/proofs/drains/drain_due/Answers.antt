@@ -1,6 +1,6 @@
 use Rattle.std.proofs.Common.{◌≡◌, sym, ◌∙◌, true, false, Option, Some, None}
 use Rattle.trace_events.specs.Event.{Link}
-use Rattle.trace_law.specs.View.{link_view}
+use Rattle.trace_values.specs.View.{link_view}
 use Rattle.audit_held.proofs.GroupAnswers.{judged-of}
 use Rattle.audit_addresses.specs.ConsumerLinks.{consumer_at}
 use Rattle.due_flows.proofs.DrainsFollowed.{drainable-found, drainable-same}

@@ -3,7 +3,7 @@ use Rattle.std.proofs.lemmas.List.Folds.{list_any_more}
 use Rattle.pairing_cert.specs.declared.note.Why.{Why}
 use Rattle.pairing_cert.specs.declared.note.Why.TheVariants.{C}
 use Rattle.trace_clauses.specs.Outcome.{reasons, row}
-use Rattle.trace_law.specs.View.{incoming_view}
+use Rattle.trace_values.specs.View.{incoming_view}
 use Rattle.due_outcomes.proofs.outcome.first_row.Goals as goal
 
 pub loop-why-preserved : goal.loop-why-preserved

@@ -2,7 +2,7 @@ use Rattle.std.proofs.Common.{◌≡◌, false, is_some, take}
 use Rattle.std.specs.List.{list_any}
 use Rattle.trace_clauses.specs.Outcome as rows
 use Rattle.trace_clauses.specs.Outcome.{reasons}
-use Rattle.trace_law.specs.View.{Events, incoming_view}
+use Rattle.trace_values.specs.View.{Events, incoming_view}
 use Rattle.audit_held.specs.EntryAnswers.{Knows}
 use Rattle.due_outcomes.specs.LookedTables.{AreLooked}
 use Rattle.due_outcomes.proofs.outcome.first_row.Given as goal

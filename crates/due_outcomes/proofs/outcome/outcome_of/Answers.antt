@@ -4,7 +4,7 @@ use Rattle.trace_events.specs.Event.{Incoming}
 use Rattle.trace_events.specs.History.{history}
 use Rattle.trace_events.specs.Incoming.{incoming_at}
 use Rattle.trace_clauses.specs.Outcome.{may_be_told, reasons, row}
-use Rattle.trace_law.specs.View.{incoming_view}
+use Rattle.trace_values.specs.View.{incoming_view}
 use Rattle.audit_held.specs.EntryAnswers.{has_number}
 use Rattle.audit_held.proofs.KnownEntries.{knows-at}
 use Rattle.due_outcomes.proofs.OutcomeTables.{begun-at, knows-has, unless-told}

@@ -9,8 +9,8 @@ use Rattle.trace_clauses.specs.Clauses.{broken_clause}
 use Rattle.trace_clauses.specs.declared.tally.Tally.{Tally}
 use Rattle.trace_clauses.proofs.LiveLinks.{placed-names}
 use Rattle.trace_clauses.proofs.Unopened.{broken-unopened}
-use Rattle.trace_law.specs.Known.{CarriesKnown}
-use Rattle.trace_law.specs.View.{event_view}
+use Rattle.trace_values.specs.Known.{CarriesKnown}
+use Rattle.trace_values.specs.View.{event_view}
 use Rattle.audit_held.specs.Held.{held_at}
 use Rattle.audit_held.specs.EntryAnswers.{has_number}
 use Rattle.audit_sent.specs.SentAnswers.{KnowsOrBegins}

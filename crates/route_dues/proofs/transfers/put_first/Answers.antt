@@ -1,6 +1,6 @@
 use Rattle.std.proofs.Common.{subst, true, length, nat_lt}
 use Rattle.amqp_perf.specs.View.{transfer_fields}
-use Rattle.trace_law.specs.View.{link_view, incoming_view}
+use Rattle.trace_values.specs.View.{link_view, incoming_view}
 use Rattle.trace_clauses.specs.Written.{first_part}
 use Rattle.trace_events.specs.Incoming as received
 use Rattle.route_dues.specs.Writing.{IsReadAgain}

@@ -1,6 +1,6 @@
 use Rattle.std.proofs.Common.{true, drop, length}
 use Rattle.amqp_perf.specs.View.{transfer_fields}
-use Rattle.trace_law.specs.View.{link_view}
+use Rattle.trace_values.specs.View.{link_view}
 use Rattle.trace_clauses.specs.Written.{next_part}
 use Rattle.trace_events.specs.Incoming as received
 use Rattle.trace_events.specs.Outgoing as sent

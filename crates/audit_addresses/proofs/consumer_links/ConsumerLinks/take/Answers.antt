@@ -1,7 +1,7 @@
 use Rattle.std.proofs.Common.{ap, ◌∙◌}
 use Rattle.trace_events.specs.History.{history}
 use Rattle.trace_events.proofs.Judged.{history-judged}
-use Rattle.trace_law.specs.View.{event_view}
+use Rattle.trace_values.specs.View.{event_view}
 use Rattle.audit_tables.specs.EndedLinks.{views}
 use Rattle.audit_addresses.specs.ConsumerLinks.{with_opened, without}
 use Rattle.audit_addresses.proofs.ConsumerLinkSteps.{links-next}

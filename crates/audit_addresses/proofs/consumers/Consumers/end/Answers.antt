@@ -1,5 +1,5 @@
 use Rattle.std.proofs.Common.{◌&&◌, ◌==◌, bytes_eq}
-use Rattle.trace_law.specs.View.{link_view}
+use Rattle.trace_values.specs.View.{link_view}
 use Rattle.trace_events.specs.Event.{Link}
 use Rattle.audit_addresses.specs.Consumers.{stands}
 use Rattle.audit_addresses.proofs.Leaving.{one-leaves}

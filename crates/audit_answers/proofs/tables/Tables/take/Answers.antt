@@ -2,8 +2,8 @@ use Rattle.std.proofs.Common.{sym, subst, ◌∷◌, List}
 use Rattle.trace_events.specs.History.{history}
 use Rattle.trace_events.proofs.Judged.{AreJudged, history-judged}
 use Rattle.trace_clauses.proofs.JudgedHistories.{judged-history}
-use Rattle.trace_law.specs.View.{event_view}
-use Rattle.trace_law.specs.declared.history.event.Link.{Link}
+use Rattle.trace_values.specs.View.{event_view}
+use Rattle.trace_values.specs.declared.event.Link.{Link}
 use Rattle.audit_tables.specs.EndedLinks.{AreEnded, views}
 use Rattle.audit_addresses.proofs.ConsumersOf.{are-served}
 use Rattle.audit_copies.specs.Copies.{AreReceivers}

@@ -1,7 +1,7 @@
 use Rattle.std.proofs.Common.{◌∙◌}
 use Rattle.trace_events.specs.History.{history}
 use Rattle.trace_events.proofs.Judged.{history-judged}
-use Rattle.trace_law.specs.View.{incoming_view, link_view}
+use Rattle.trace_values.specs.View.{incoming_view, link_view}
 use Rattle.audit_copies.proofs.CopiesKnown.{unsent-is}
 use Rattle.audit_copies.proofs.copies.Copies.is_unsent.Goals as goal
 

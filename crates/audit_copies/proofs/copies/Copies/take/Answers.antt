@@ -1,7 +1,7 @@
 use Rattle.std.proofs.Common.{ap, ◌∙◌, ◌&&◌, ◌||◌, ◌∷◌, ℕ, not, length}
 use Rattle.trace_events.specs.History.{history}
 use Rattle.trace_events.proofs.Judged.{AreJudged, history-judged}
-use Rattle.trace_law.specs.View.{event_view}
+use Rattle.trace_values.specs.View.{event_view}
 use Rattle.audit_tables.specs.EndedLinks.{views}
 use Rattle.audit_copies.specs.Copies.{AreCounted, comes_to, copies_at, is_ended, names_at}
 use Rattle.audit_copies.proofs.CopySteps.{copies-counted, copies-next}

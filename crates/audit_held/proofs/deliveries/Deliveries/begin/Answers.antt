@@ -1,6 +1,6 @@
 use Rattle.std.proofs.Common.{◌≡◌, ap, sym, ◌∙◌, ℕ, None, Some, refl, subst, if◌then◌else◌, ◌==◌, rules}
 use Rattle.trace_events.specs.Event.{Incoming}
-use Rattle.trace_law.specs.View.{event_view, incoming_view}
+use Rattle.trace_values.specs.View.{event_view, incoming_view}
 use Rattle.audit_held.specs.Grouped.{IsPut, marks_of}
 use Rattle.audit_held.specs.Held.{held_begun}
 use Rattle.audit_held.specs.HeldViews.{held_view}

@@ -1,5 +1,5 @@
 use Rattle.std.proofs.Common.{sym, subst, Option, IfSome, ◌∙◌, nat_eq}
-use Rattle.trace_law.specs.View.{link_view}
+use Rattle.trace_values.specs.View.{link_view}
 use Rattle.number_groups.specs.Groups.{numbers}
 use Rattle.audit_held.specs.HeldTables.{held_in}
 use Rattle.audit_held.proofs.ArrivingKnown.{progress-is}

@@ -1,5 +1,5 @@
 use Rattle.std.proofs.Common.{◌∙◌}
-use Rattle.trace_law.specs.View.{incoming_view}
+use Rattle.trace_values.specs.View.{incoming_view}
 use Rattle.audit_held.proofs.KnownEntries.{known-closed}
 use Rattle.audit_held.proofs.deliveries.Deliveries.is_closed.Goals as goal
 

@@ -5,7 +5,7 @@ use Rattle.trace_events.specs.Words.{is_some_and, or_else}
 use Rattle.trace_events.specs.Incoming.{address_of, incoming_begun}
 use Rattle.trace_events.specs.History.{history}
 use Rattle.trace_events.proofs.Judged.{AreJudged, history-judged}
-use Rattle.trace_law.specs.View.{event_view, link_view}
+use Rattle.trace_values.specs.View.{event_view, link_view}
 use Rattle.audit_held.specs.Held.{Held, held_begun}
 use Rattle.audit_held.specs.HeldTouched.{is_touched}
 use Rattle.audit_held.specs.HeldTables.{held_in}

@@ -1,6 +1,6 @@
 use Rattle.std.proofs.Common.{◌≡◌, ap, sym, ◌∙◌, ℕ, None, Some, IfSome, refl, subst, if◌then◌else◌, ◌==◌, rules}
 use Rattle.trace_events.specs.Event.{Incoming}
-use Rattle.trace_law.specs.View.{incoming_view}
+use Rattle.trace_values.specs.View.{incoming_view}
 use Rattle.audit_held.specs.declared.groups.Marks.{Marks}
 use Rattle.audit_held.specs.Grouped.{IsPut, unmarked}
 use Rattle.audit_held.specs.Held.{Held}

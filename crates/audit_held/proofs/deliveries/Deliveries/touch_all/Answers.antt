@@ -1,7 +1,7 @@
 use Rattle.std.proofs.Common.{◌≡◌, ap, ◌∙◌, ℕ, nat_eq, arith, option_and_then, if◌then◌else◌, ◌==◌}
 use Rattle.std.proofs.lemmas.Result.{err_from_is_err_and}
 use Rattle.number_groups.specs.Numbers.{is_among}
-use Rattle.trace_law.specs.View.{event_view}
+use Rattle.trace_values.specs.View.{event_view}
 use Rattle.audit_held.specs.Held.{held_next}
 use Rattle.audit_held.specs.HeldTables.{held_in}
 use Rattle.audit_held.proofs.TouchedAll.{nothing-moved, all-moved, still-within, one-more, popped-in, none-left}

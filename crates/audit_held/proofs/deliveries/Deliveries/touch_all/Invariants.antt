@@ -1,6 +1,6 @@
 use Rattle.std.proofs.Common.{◌≡◌, ℕ, true, ◌&&◌, not, nat_eq, length, if◌then◌else◌}
 use Rattle.number_groups.specs.Numbers.{is_among}
-use Rattle.trace_law.specs.View.{event_view}
+use Rattle.trace_values.specs.View.{event_view}
 use Rattle.audit_held.specs.Grouped.{AreGrouped}
 use Rattle.audit_held.specs.HeldTables.{held_in}
 use Rattle.audit_held.proofs.TouchedAll.{on}

@@ -3,7 +3,7 @@ use Rattle.std.proofs.lemmas.Result.{err_from_is_err_and}
 use Rattle.std.specs.List.{list_any}
 use Rattle.trace_events.specs.Words.{is_number}
 use Rattle.audit_held.specs.Touched as law
-use Rattle.trace_law.specs.View.{event_view, link_view}
+use Rattle.trace_values.specs.View.{event_view, link_view}
 use Rattle.audit_held.proofs.GroupLists.{any-map, five-in}
 use Rattle.audit_held.proofs.SomeTouched.{by-part, by-told, by-carried, by-settled, by-left}
 use Rattle.audit_held.proofs.groups.HeldGroups.touched.Goals as goal

@@ -1,5 +1,5 @@
 use Rattle.std.proofs.Common.{option_map}
-use Rattle.trace_law.specs.View.{event_view}
+use Rattle.trace_values.specs.View.{event_view}
 use Rattle.audit_held.specs.HeldViews.{held_view}
 use Rattle.audit_held.proofs.HeldKnown.{begins}
 use Rattle.audit_held.proofs.held.HeldDelivery.begin.Goals as goal

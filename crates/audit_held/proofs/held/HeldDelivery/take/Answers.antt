@@ -1,4 +1,4 @@
-use Rattle.trace_law.specs.View.{event_view}
+use Rattle.trace_values.specs.View.{event_view}
 use Rattle.audit_held.specs.HeldViews.{held_view}
 use Rattle.audit_held.proofs.HeldKnown.{follows}
 use Rattle.audit_held.proofs.held.HeldDelivery.take.Goals as goal

@@ -1,5 +1,5 @@
 use Rattle.trace_events.specs.History.{history}
-use Rattle.trace_law.specs.View.{event_view}
+use Rattle.trace_values.specs.View.{event_view}
 use Rattle.audit_ledger.proofs.Entered.{few, longer}
 use Rattle.audit_ledger.proofs.ledger.Ledger.follow.Goals as goal
 

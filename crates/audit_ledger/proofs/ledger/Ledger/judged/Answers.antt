@@ -2,8 +2,8 @@ use Rattle.std.proofs.Common.{refl, ap, subst, ◌∙◌, Result}
 use Rattle.trace_clauses.specs.declared.clause.Clause.{Clause}
 use Rattle.trace_clauses.specs.declared.tally.Tally.{Tally}
 use Rattle.trace_events.specs.History.{history, moment_of}
-use Rattle.trace_law.specs.View.{event_view}
-use Rattle.trace_law.specs.declared.history.event.Event.{Event}
+use Rattle.trace_values.specs.View.{event_view}
+use Rattle.trace_values.specs.declared.event.Event.{Event}
 use Rattle.audit_events.specs.NextEvents.{IsAnswer, viewed}
 use Rattle.audit_events.specs.HeldEvents.{held_event_view}
 use Rattle.audit_answers.proofs.NextKnown.{next-carries, next-opens}

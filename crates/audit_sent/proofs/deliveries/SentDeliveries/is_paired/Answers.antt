@@ -1,7 +1,7 @@
 use Rattle.std.proofs.Common.{◌∙◌}
 use Rattle.trace_events.specs.History.{history}
 use Rattle.trace_events.proofs.Judged.{history-judged}
-use Rattle.trace_law.specs.View.{incoming_view}
+use Rattle.trace_values.specs.View.{incoming_view}
 use Rattle.audit_sent.proofs.AnswersKnown.{paired-table}
 use Rattle.audit_sent.proofs.deliveries.SentDeliveries.is_paired.Goals as goal
 

@@ -1,7 +1,7 @@
 use Rattle.std.proofs.Common.{◌∙◌}
 use Rattle.trace_events.specs.History.{history}
 use Rattle.trace_events.proofs.Judged.{history-judged}
-use Rattle.trace_law.specs.View.{outgoing_view}
+use Rattle.trace_values.specs.View.{outgoing_view}
 use Rattle.audit_sent.proofs.AnswersKnown.{sent-known}
 use Rattle.audit_sent.proofs.deliveries.SentDeliveries.is_sent.Goals as goal
 

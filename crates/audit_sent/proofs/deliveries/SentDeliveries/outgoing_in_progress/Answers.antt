@@ -1,7 +1,7 @@
 use Rattle.std.proofs.Common.{◌∙◌}
 use Rattle.trace_events.specs.History.{history}
 use Rattle.trace_events.proofs.Judged.{history-judged}
-use Rattle.trace_law.specs.View.{link_view}
+use Rattle.trace_values.specs.View.{link_view}
 use Rattle.audit_sent.proofs.AnswersKnown.{progress-table}
 use Rattle.audit_sent.proofs.deliveries.SentDeliveries.outgoing_in_progress.Goals as goal
 

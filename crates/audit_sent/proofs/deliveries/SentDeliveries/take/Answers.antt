@@ -2,7 +2,7 @@ use Rattle.std.proofs.Common.{◌≡◌, sym, subst, ◌∙◌, ℕ, map, nat_eq
 use Rattle.number_groups.specs.Numbers.{is_among}
 use Rattle.trace_events.specs.History.{history}
 use Rattle.trace_events.proofs.Judged.{AreJudged, history-judged}
-use Rattle.trace_law.specs.View.{event_view, link_view}
+use Rattle.trace_values.specs.View.{event_view, link_view}
 use Rattle.audit_sent.specs.Sent.{Sent}
 use Rattle.audit_sent.specs.SentTouched.{touches}
 use Rattle.audit_sent.specs.SentTables.{AreBegun, sent_in}

@@ -1,6 +1,6 @@
 use Rattle.std.proofs.Common.{◌≡◌, ap, sym, ◌∙◌, ℕ, Some, IfSome, refl, subst, if◌then◌else◌, ◌==◌, ◌<◌, ◌^◌, rules}
 use Rattle.trace_events.specs.Event.{Outgoing}
-use Rattle.trace_law.specs.View.{outgoing_view}
+use Rattle.trace_values.specs.View.{outgoing_view}
 use Rattle.audit_sent.specs.SentGrouped.{IsPut}
 use Rattle.audit_sent.specs.Sent.{Sent}
 use Rattle.audit_sent.specs.SentViews.{sent_view}

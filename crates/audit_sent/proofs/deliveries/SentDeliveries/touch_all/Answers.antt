@@ -1,6 +1,6 @@
 use Rattle.std.proofs.Common.{refl, ◌∙◌, nat_eq, arith}
 use Rattle.number_groups.specs.Numbers.{is_among}
-use Rattle.trace_law.specs.View.{event_view}
+use Rattle.trace_values.specs.View.{event_view}
 use Rattle.audit_sent.specs.SentTables.{sent_in}
 use Rattle.audit_sent.proofs.SentTaken.{nothing-moved, all-moved, still-within, one-more, popped-in, none-left}
 use Rattle.audit_sent.proofs.deliveries.SentDeliveries.touch_all.Goals as goal

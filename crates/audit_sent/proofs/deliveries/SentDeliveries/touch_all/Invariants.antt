@@ -1,6 +1,6 @@
 use Rattle.std.proofs.Common.{◌≡◌, ℕ, true, ◌&&◌, not, nat_eq, length, if◌then◌else◌}
 use Rattle.number_groups.specs.Numbers.{is_among}
-use Rattle.trace_law.specs.View.{event_view}
+use Rattle.trace_values.specs.View.{event_view}
 use Rattle.audit_sent.specs.SentGrouped.{AreGrouped}
 use Rattle.audit_sent.specs.SentTables.{sent_in}
 use Rattle.audit_sent.proofs.SentTaken.{on}

@@ -1,5 +1,5 @@
 use Rattle.std.proofs.Common.{option_map}
-use Rattle.trace_law.specs.View.{event_view}
+use Rattle.trace_values.specs.View.{event_view}
 use Rattle.audit_sent.specs.SentViews.{sent_view}
 use Rattle.audit_sent.proofs.SentKnown.{begins}
 use Rattle.audit_sent.proofs.sent.SentDelivery.begin.Goals as goal

@@ -1,4 +1,4 @@
-use Rattle.trace_law.specs.View.{event_view}
+use Rattle.trace_values.specs.View.{event_view}
 use Rattle.audit_sent.specs.SentViews.{sent_view}
 use Rattle.audit_sent.proofs.SentKnown.{follows}
 use Rattle.audit_sent.proofs.sent.SentDelivery.take.Goals as goal

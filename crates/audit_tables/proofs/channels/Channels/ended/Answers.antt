@@ -1,5 +1,5 @@
 use Rattle.std.proofs.Common.{sym, Result, Ok, Err, IfOk, OnOk}
-use Rattle.trace_law.specs.View.{event_view}
+use Rattle.trace_values.specs.View.{event_view}
 use Rattle.audit_tables.specs.EndedLinks.{views}
 use Rattle.audit_tables.proofs.EndedTables.{all-over, session-ended}
 use Rattle.audit_tables.proofs.channels.Channels.ended.Goals as goal

@@ -1,4 +1,4 @@
-use Rattle.trace_law.specs.View.{event_view}
+use Rattle.trace_values.specs.View.{event_view}
 use Rattle.audit_tables.proofs.EntrySteps.{first-moved}
 use Rattle.audit_tables.proofs.connections.Connections.put_first.Goals as goal
 

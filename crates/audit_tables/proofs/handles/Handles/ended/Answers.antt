@@ -1,5 +1,5 @@
 use Rattle.std.proofs.Common.{ap, sym, ◌∙◌, ◌++◌}
-use Rattle.trace_law.specs.View.{event_view}
+use Rattle.trace_values.specs.View.{event_view}
 use Rattle.audit_tables.specs.EndedLinks.{links_on, views}
 use Rattle.audit_tables.proofs.EndedTables.{all-ended}
 use Rattle.audit_tables.proofs.handles.Handles.ended.Goals as goal

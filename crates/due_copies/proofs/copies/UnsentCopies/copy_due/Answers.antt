@@ -2,7 +2,7 @@ use Rattle.std.proofs.Common.{◌≡◌, refl, sym, ap, ◌∙◌, Option, Some,
 use Rattle.trace_events.specs.Event.{Link}
 use Rattle.trace_events.specs.Due.{has_unsent}
 use Rattle.trace_duties.specs.Pick.{may_take}
-use Rattle.trace_law.specs.View.{incoming_view, link_view}
+use Rattle.trace_values.specs.View.{incoming_view, link_view}
 use Rattle.audit_held.proofs.GroupAnswers.{judged-of}
 use Rattle.audit_addresses.specs.ConsumerLinks.{consumer_at}
 use Rattle.due_flows.proofs.LiveOnes.{link-found}

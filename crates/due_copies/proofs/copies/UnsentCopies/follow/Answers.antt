@@ -5,8 +5,8 @@ use Rattle.trace_events.specs.History.{history}
 use Rattle.trace_events.specs.Incoming.{completes}
 use Rattle.trace_events.proofs.Judged.{history-judged}
 use Rattle.trace_clauses.proofs.Lawful.{history-push}
-use Rattle.trace_law.specs.View.{event_view}
-use Rattle.trace_law.specs.declared.history.event.Link.{Link}
+use Rattle.trace_values.specs.View.{event_view}
+use Rattle.trace_values.specs.declared.event.Link.{Link}
 use Rattle.audit_addresses.specs.ConsumerLinks.{consumer_at}
 use Rattle.audit_copies.specs.Copies.{AreCopies, AreReceivers}
 use Rattle.audit_copies.specs.declared.copies.Receiver.{Receiver}

@@ -1,5 +1,5 @@
 use Rattle.std.proofs.Common.{◌≡◌, ◌∙◌, ◌∷◌, ◌++◌, ℕ, List, [], rules, ap, subst, sym}
-use Rattle.trace_law.specs.View.{event_view}
+use Rattle.trace_values.specs.View.{event_view}
 use Rattle.audit_sent.specs.SentTables.{sent_in}
 use Rattle.due_deliveries.specs.AddressCounts.{CountsMore, decided_on}
 use Rattle.due_deliveries.specs.Picks.{decided_among}

@@ -1,5 +1,5 @@
 use Rattle.std.proofs.Common.{◌≡◌, ◌++◌, ℕ, List, length, is_some}
-use Rattle.trace_law.specs.View.{Events, event_view}
+use Rattle.trace_values.specs.View.{Events, event_view}
 use Rattle.audit_sent.specs.SentTables.{sent_in}
 use Rattle.audit_tables.specs.LinkTables.{AreLinked}
 use Rattle.due_deliveries.specs.AddressCounts.{CountsMore}

@@ -5,7 +5,7 @@ use Rattle.address_table.specs.Links.{IsCount}
 use Rattle.trace_events.specs.Link.{own_link}
 use Rattle.trace_events.specs.History.{history}
 use Rattle.trace_events.proofs.Judged.{AreJudged, history-judged}
-use Rattle.trace_law.specs.View.{event_view}
+use Rattle.trace_values.specs.View.{event_view}
 use Rattle.trace_duties.specs.Consumers.{attached_as, begun_by, address_events}
 use Rattle.audit_sent.specs.SentTables.{sent_in}
 use Rattle.audit_tables.specs.EndedLinks.{views}

@@ -3,7 +3,7 @@ use Rattle.indexmap.specs.IndexMap.{get_by}
 use Rattle.number_groups.proofs.Octets.{changed, under}
 use Rattle.trace_events.specs.History.{history}
 use Rattle.trace_events.proofs.Judged.{history-judged}
-use Rattle.trace_law.specs.View.{incoming_view}
+use Rattle.trace_values.specs.View.{incoming_view}
 use Rattle.audit_held.specs.HeldTables.{held_in}
 use Rattle.due_deliveries.specs.Queues.{queued, IsQueue}
 use Rattle.due_deliveries.proofs.QueueLists.{none-waits}

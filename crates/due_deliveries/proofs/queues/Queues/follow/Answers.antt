@@ -4,7 +4,7 @@ use Rattle.trace_events.specs.Incoming.{completed_by}
 use Rattle.trace_events.specs.Waiting.{is_of_multicast}
 use Rattle.trace_events.specs.History.{history}
 use Rattle.trace_events.proofs.Judged.{AreJudged, history-judged}
-use Rattle.trace_law.specs.View.{event_view, incoming_view}
+use Rattle.trace_values.specs.View.{event_view, incoming_view}
 use Rattle.due_deliveries.specs.Queues.{queue_in}
 use Rattle.due_deliveries.proofs.QueueLists.{queue-step}
 use Rattle.due_deliveries.proofs.QueueMoves.{pushed-is, unpushed-is}

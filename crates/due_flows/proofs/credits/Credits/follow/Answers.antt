@@ -1,8 +1,8 @@
 use Rattle.std.proofs.Common.{sym, subst, List}
 use Rattle.trace_events.specs.History.{history}
 use Rattle.trace_events.proofs.Judged.{history-judged}
-use Rattle.trace_law.specs.View.{event_view}
-use Rattle.trace_law.specs.declared.history.event.Link.{Link}
+use Rattle.trace_values.specs.View.{event_view}
+use Rattle.trace_values.specs.declared.event.Link.{Link}
 use Rattle.audit_tables.specs.EndedLinks.{AreEnded, views}
 use Rattle.due_flows.proofs.CreditsFollowed.{have-credits}
 use Rattle.due_flows.proofs.credits.Credits.follow.Goals as goal

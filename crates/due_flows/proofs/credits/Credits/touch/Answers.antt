@@ -1,5 +1,5 @@
 use Rattle.std.proofs.Common.{◌≡◌, refl, ◌∙◌, ℕ, true}
-use Rattle.trace_law.specs.View.{event_view}
+use Rattle.trace_values.specs.View.{event_view}
 use Rattle.due_flows.specs.Numbers.{has}
 use Rattle.due_flows.proofs.CreditsTouched.{put-more, put-here, named-producer}
 use Rattle.due_flows.proofs.credits.Credits.touch.Goals as goal

@@ -1,7 +1,7 @@
 use Rattle.std.proofs.Common.{refl}
 use Rattle.trace_events.specs.History.{history}
 use Rattle.trace_events.proofs.Judged.{history-judged}
-use Rattle.trace_law.specs.View.{event_view}
+use Rattle.trace_values.specs.View.{event_view}
 use Rattle.due_flows.specs.Candidates.{value_of}
 use Rattle.due_flows.proofs.WindowsFollowed.{on_ok, have-lowered}
 use Rattle.due_flows.proofs.windows.Windows.follow.Goals as goal

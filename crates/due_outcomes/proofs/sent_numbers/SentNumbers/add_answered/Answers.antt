@@ -1,4 +1,4 @@
-use Rattle.trace_law.specs.View.{event_view}
+use Rattle.trace_values.specs.View.{event_view}
 use Rattle.number_groups.specs.Ascending.{has}
 use Rattle.due_outcomes.proofs.Spoken.{found-both}
 use Rattle.due_outcomes.proofs.sent_numbers.SentNumbers.add_answered.Goals as goal

@@ -1,6 +1,6 @@
 use Rattle.std.proofs.Common.{rules, ◌∙◌, sym, subst, ◌≡◌, ◌<◌, ◌^◌, ℕ, true, Option, IfSome, nat_eq, eq-eqb, refl}
 use Rattle.number_groups.specs.Groups.{is_member}
-use Rattle.trace_law.specs.View.{outgoing_view}
+use Rattle.trace_values.specs.View.{outgoing_view}
 use Rattle.number_groups.specs.Ids.{same_id}
 use Rattle.number_groups.specs.declared.id_on.IdOn.{IdOn}
 use Rattle.due_outcomes.proofs.UnderKeys.{if-such, joined-own, joined-kept, id-same}

@@ -1,6 +1,6 @@
 use Rattle.std.proofs.Common.{◌≡◌, ◌<◌, ◌^◌, true, nat_eq}
 use Rattle.number_groups.specs.Groups.{is_member}
-use Rattle.trace_law.specs.View.{outgoing_view}
+use Rattle.trace_values.specs.View.{outgoing_view}
 use Rattle.number_groups.specs.Ids.{same_id}
 use Rattle.number_groups.specs.declared.id_on.IdOn.{IdOn}
 use Rattle.due_outcomes.proofs.UnderKeys.{if-such, left-kept}

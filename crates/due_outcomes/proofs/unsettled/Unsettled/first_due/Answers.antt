@@ -2,8 +2,8 @@ use Rattle.std.proofs.Common.{◌≡◌, refl, sym, ℕ, List, Option, Some, Non
 use Rattle.capture_form.specs.Rules.{RuleText}
 use Rattle.capture_form.specs.declared.records.Record.{Record}
 use Rattle.trace_events.specs.History.{history}
-use Rattle.trace_law.specs.View.{outgoing_view}
-use Rattle.trace_law.specs.declared.history.event.Outgoing.{Outgoing}
+use Rattle.trace_values.specs.View.{outgoing_view}
+use Rattle.trace_values.specs.declared.event.Outgoing.{Outgoing}
 use Rattle.audit_answers.specs.declared.looked.Looked.{Looked}
 use Rattle.due_outcomes.specs.LookedTables.{AreLooked}
 use Rattle.due_outcomes.specs.Settlings.{IsDueSettling, due_in}

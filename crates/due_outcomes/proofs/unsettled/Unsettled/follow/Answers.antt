@@ -3,7 +3,7 @@ use Rattle.std.specs.List.{list_any}
 use Rattle.number_groups.specs.Groups.{is_member}
 use Rattle.trace_events.specs.History.{history}
 use Rattle.trace_events.proofs.Judged.{AreJudged, history-judged}
-use Rattle.trace_law.specs.View.{event_view, link_view}
+use Rattle.trace_values.specs.View.{event_view, link_view}
 use Rattle.number_groups.specs.Ascending.{has}
 use Rattle.number_groups.specs.declared.ascending.Ascending.{Ascending}
 use Rattle.due_outcomes.specs.declared.unsettled.Unsettled.{Unsettled}

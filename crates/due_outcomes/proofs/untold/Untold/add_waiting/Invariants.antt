@@ -1,7 +1,7 @@
 use Rattle.std.proofs.Common.{◌≡◌, ℕ, ◌&&◌, ◌||◌, take}
 use Rattle.std.specs.List.{list_any}
 use Rattle.trace_events.specs.Link.{is_consumer}
-use Rattle.trace_law.specs.View.{link_view}
+use Rattle.trace_values.specs.View.{link_view}
 use Rattle.number_groups.specs.Ascending.{has}
 use Rattle.due_outcomes.specs.Untold.{waits_in}
 use Rattle.due_outcomes.proofs.untold.Untold.add_waiting.Given as goal

@@ -4,7 +4,7 @@ use Rattle.number_groups.specs.Groups.{is_member}
 use Rattle.trace_events.specs.History.{history}
 use Rattle.trace_events.specs.Link.{is_consumer}
 use Rattle.trace_events.proofs.Judged.{AreJudged, history-judged}
-use Rattle.trace_law.specs.View.{event_view, link_view}
+use Rattle.trace_values.specs.View.{event_view, link_view}
 use Rattle.audit_tables.specs.EndedLinks.{views}
 use Rattle.number_groups.specs.Ascending.{has}
 use Rattle.due_outcomes.specs.Untold.{waits_in}

@@ -5,7 +5,7 @@ use Rattle.trace_events.specs.Event.{Event, Link, Incoming}
 use Rattle.trace_events.specs.History.{history}
 use Rattle.trace_events.specs.Incoming.{address_of, completed_before}
 use Rattle.trace_events.proofs.Judged.{history-judged}
-use Rattle.trace_law.specs.View.{incoming_view}
+use Rattle.trace_values.specs.View.{incoming_view}
 use Rattle.audit_held.specs.EntryAnswers.{Knows}
 use Rattle.audit_held.specs.HeldTables.{AreHeld}
 use Rattle.audit_held.specs.declared.deliveries.Deliveries.{Deliveries}

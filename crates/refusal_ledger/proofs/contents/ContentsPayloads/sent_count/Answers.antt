@@ -1,5 +1,5 @@
 use Rattle.std.proofs.Common.{◌∙◌}
-use Rattle.trace_law.specs.View.{outgoing_view}
+use Rattle.trace_values.specs.View.{outgoing_view}
 use Rattle.refusal_ledger.proofs.SentCounts.{count_known}
 use Rattle.refusal_ledger.proofs.contents.ContentsPayloads.sent_count.Goals as goal
 

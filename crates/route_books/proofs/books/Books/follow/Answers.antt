@@ -1,5 +1,5 @@
 use Rattle.trace_events.specs.History.{history}
-use Rattle.trace_law.specs.View.{event_view}
+use Rattle.trace_values.specs.View.{event_view}
 use Rattle.audit_answers.specs.Tables.{AreTables}
 use Rattle.route_books.proofs.Entering.{longer}
 use Rattle.route_books.proofs.books.Books.follow.Goals as goal

@@ -2,7 +2,7 @@ use Rattle.std.proofs.Common.{sym, ◌∙◌}
 use Rattle.trace_clauses.proofs.Unopened.{broken-unopened}
 use Rattle.trace_events.specs.Event.{Moment}
 use Rattle.trace_events.specs.History.{history, judge, moment_of}
-use Rattle.trace_law.specs.View.{event_view}
+use Rattle.trace_values.specs.View.{event_view}
 use Rattle.audit_events.specs.HeldEvents.{held_event_view}
 use Rattle.audit_events.specs.declared.held_event.HeldEvent.{HeldEvent}
 use Rattle.audit_tables.specs.Connections.{IsLawfulNext}

@@ -1,5 +1,6 @@
 use Rattle.std.proofs.Common.{subst, drop, arith}
-use Rattle.trace_law.specs.View.{event_view, events}
+use Rattle.trace_law.specs.OnStack.{events}
+use Rattle.trace_values.specs.View.{event_view}
 use Rattle.trace_law.proofs.Checking.{events-next}
 use Rattle.trace_law.proofs.ask.walk.+walk.Goals as goal
 

@@ -2,7 +2,7 @@ use Rattle.std.proofs.Common.{◌≡◌, sym, subst, ◌∙◌, List, Option, If
 use Rattle.trace_events.specs.Event.{Event, Incoming}
 use Rattle.trace_events.specs.Incoming.{incoming_at}
 use Rattle.trace_clauses.specs.TransferClause as transfers
-use Rattle.trace_law.specs.View.{link_view}
+use Rattle.trace_values.specs.View.{link_view}
 use Rattle.audit_held.specs.EntryAnswers.{Knows}
 use Rattle.audit_held.proofs.CarriedHeld.{before-given}
 use Rattle.audit_held.proofs.GroupAnswers.{judged-of}

@@ -1,7 +1,7 @@
 use Rattle.std.proofs.Common.{◌≡◌, sym, subst, List}
 use Rattle.trace_events.specs.Event.{Event}
 use Rattle.trace_events.specs.Outgoing as law
-use Rattle.trace_law.specs.View.{incoming_view}
+use Rattle.trace_values.specs.View.{incoming_view}
 use Rattle.audit_sent.specs.SentTables.{IsTable}
 use Rattle.audit_answers.proofs.looked.carriage.LookedCarriage.is_paired.Goals as goal
 

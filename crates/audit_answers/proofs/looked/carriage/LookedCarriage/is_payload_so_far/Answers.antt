@@ -4,8 +4,8 @@ use Rattle.trace_events.specs.Incoming as received
 use Rattle.trace_events.specs.Outgoing as law
 use Rattle.trace_clauses.specs.Clauses.{first_broken}
 use Rattle.trace_clauses.specs.TransferClause.{is_payload_so_far}
-use Rattle.trace_law.specs.Known.{IsCarriedBy}
-use Rattle.trace_law.specs.View.{incoming_view, outgoing_view}
+use Rattle.trace_values.specs.Known.{IsCarriedBy}
+use Rattle.trace_values.specs.View.{incoming_view, outgoing_view}
 use Rattle.audit_sent.specs.Sent.{IsKnownTo}
 use Rattle.audit_sent.specs.SentTables.{AreSent}
 use Rattle.audit_sent.proofs.AnswersKnown.{knows-begun}

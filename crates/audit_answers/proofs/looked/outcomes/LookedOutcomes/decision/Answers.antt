@@ -2,7 +2,7 @@ use Rattle.std.proofs.Common.{◌≡◌, sym, subst, List, option_map}
 use Rattle.trace_events.specs.Event.{Event}
 use Rattle.trace_events.specs.Disposition.{terminal_state}
 use Rattle.trace_events.specs.Outgoing as law
-use Rattle.trace_law.specs.View.{decision_view, outgoing_view}
+use Rattle.trace_values.specs.View.{decision_view, outgoing_view}
 use Rattle.audit_sent.specs.SentAnswers.{KnowsOrBegins}
 use Rattle.audit_sent.specs.SentTables.{AreSent}
 use Rattle.audit_answers.proofs.looked.outcomes.LookedOutcomes.decision.Goals as goal

@@ -1,7 +1,7 @@
 use Rattle.std.proofs.Common.{◌≡◌, sym, subst, List, option_map}
 use Rattle.trace_events.specs.Event.{Event}
 use Rattle.trace_events.specs.Outgoing as law
-use Rattle.trace_law.specs.View.{incoming_view, outgoing_view}
+use Rattle.trace_values.specs.View.{incoming_view, outgoing_view}
 use Rattle.audit_sent.specs.SentTables.{IsTable}
 use Rattle.audit_answers.proofs.ClosingsKnown.{known-one}
 use Rattle.audit_answers.proofs.looked.outcomes.LookedOutcomes.pairing.Goals as goal

@@ -1,7 +1,7 @@
 use Rattle.std.proofs.Common.{◌≡◌, sym, subst, ℕ, List, option_map}
 use Rattle.trace_events.specs.Event.{Event}
 use Rattle.trace_events.specs.Settling as settling
-use Rattle.trace_law.specs.View.{outgoing_view}
+use Rattle.trace_values.specs.View.{outgoing_view}
 use Rattle.audit_held.specs.EntryAnswers.{says_closed}
 use Rattle.audit_held.specs.HeldTables.{held_in}
 use Rattle.audit_held.proofs.GroupAnswers.{judged-of}

@@ -1,5 +1,5 @@
 use Rattle.std.proofs.Common.{◌∙◌}
-use Rattle.trace_law.specs.View.{events}
+use Rattle.trace_law.specs.OnStack.{events}
 use Rattle.trace_law.proofs.Checking.{broken-next}
 use Rattle.trace_law.proofs.ask.check.BrokenByNextAsked.answer.Goals as goal
 

@@ -1,6 +1,6 @@
 use Rattle.std.proofs.Common.{◌≡◌, length, reverse, ◌++◌}
 use Rattle.trace_law.specs.Payloads.{left, backward}
-use Rattle.trace_law.specs.View.{events}
+use Rattle.trace_law.specs.OnStack.{events}
 use Rattle.trace_law.proofs.delivery.payload.Backward.pop.Given as goal
 
 abbrev pub invariant-loop-part : goal.invariant-loop-part

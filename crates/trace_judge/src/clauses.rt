@@ -1,0 +1,234 @@
+//! The law: the clauses that each record which the router has written must meet.
+
+ghost use Rattle.std.specs.Prelude.{◌≡◌, IfSome, Some, None, if◌then◌else◌, find, length, not};
+ghost use Rattle.amqp_perf.specs.View.{disposition_fields, transfer_fields, attach_fields};
+ghost use Rattle.trace_events.specs.Words.{is_some_and};
+ghost use Rattle.trace_events.specs.Session.{StandsLive};
+ghost use Rattle.trace_events.specs.Link.{NamesLive};
+ghost use Rattle.trace_values.specs.Known.{CarriesKnown};
+ghost use Rattle.trace_values.specs.View.{event_view, spoken_view, frame_view, Events};
+ghost use Rattle.trace_clauses.specs.LinkClause.{answers_attach};
+ghost use Rattle.trace_clauses.specs.declared.clause.Clause.TheVariants as clauses;
+ghost use Rattle.trace_clauses.specs.Clauses as law;
+ghost use Rattle.trace_clauses.specs.TransferClause as transfers;
+
+mod connection;
+mod disposition;
+pub(crate) mod flow;
+pub(crate) mod link;
+mod session;
+mod transfer;
+
+use self::connection::{fits_limit, may_be_written};
+use self::disposition::{is_outcome, settles_one};
+use self::flow::tells_counts;
+use self::link::{answers_attach, may_detach};
+use self::session::{answers_begin, may_end};
+use self::transfer::{carries, goes_on_with, is_alike, may_be_sent, may_begin, may_go_to};
+use crate::questions::{Carriage, Counts, Inputs, Openings, Outcomes, Questions};
+use amqp_perf::{Attach, Disposition, Performative, Role, Transfer};
+use capture_form::Rule;
+use pairing_cert::Note;
+use trace_clauses::Clause;
+use trace_values::{Event, Frame, Moment, Spoken};
+
+/// L14: no note.
+fn has_no_note(note: Note) -> bool
+    ensures { result ≡ law.has_no_note note }
+{
+    matches!(note, Note::None)
+}
+
+/// The clause, unless it is met.
+fn unless_met(clause: Clause, is_met: bool) -> Option<Clause>
+    ensures { result ≡ (if is_met then None else Some clause) }
+{
+    if is_met { None } else { Some(clause) }
+}
+
+/// This clause, unless it is met; then L14, unless there is no note.
+fn first_broken(clause: Clause, is_met: bool, note: Note) -> Option<Clause>
+    ensures { result ≡ (if is_met then (if law.has_no_note note then None else Some clauses.L14) else Some clause) }
+{
+    if is_met {
+        unless_met(Clause::L14, has_no_note(note))
+    } else {
+        Some(clause)
+    }
+}
+
+// The first clause that is broken, by what is written.
+
+fn broken_by_transfer<'a, P: Counts + Carriage<'a>>(
+    past: &P,
+    rules: &[Rule],
+    event: &Event,
+    transfer: &Transfer,
+    payload: &'a [u8],
+) -> Option<Clause>
+    requires few { P.is_short past.now }
+    ensures { (history : Events) → P.stands_for past.now rules.now history → StandsLive (event_view event.now) history → NamesLive (event_view event.now) history →
+        (event_view event.now).number ≡ length history →
+        CarriesKnown (λ n. P.knows_number past.now n history) (λ j. P.knows_outgoing past.now j history) (event_view event.now) →
+        (result ≡ find (λ clause. not (law.transfer_meets rules.now (event_view event.now) (transfer_fields transfer.now) payload.now history clause)) law.clauses) }
+{
+    let begins = event.begins_outgoing();
+    if !may_be_sent(past, event, transfer) {
+        return Some(Clause::L4);
+    }
+    let Some(link) = event.link else {
+        return Some(Clause::L4);
+    };
+    if begins && !may_begin(past, &link, transfer) {
+        return Some(Clause::L5);
+    }
+    if !begins && !goes_on_alike(event, transfer) {
+        return Some(Clause::L6);
+    }
+    let Some(delivery) = past.to_carry(rules, event.note) else {
+        return Some(Clause::L7);
+    };
+    if !is_alike(event, &link, transfer, &delivery) {
+        return Some(Clause::L7);
+    }
+    if !carries(past, event, transfer, payload, &delivery) {
+        return Some(Clause::L8);
+    }
+    let is_met = !begins || may_go_to(past, rules, &link, &delivery);
+    unless_met(Clause::L9, is_met)
+}
+
+fn broken_by_disposition<'a, P: Outcomes<'a>>(
+    past: &P,
+    rules: &[Rule],
+    event: &Event,
+    disposition: &Disposition,
+) -> Option<Clause>
+    ensures { (history : Events) → P.stands_for past.now rules.now history →
+        IfSome (event_view event.now).told (λ n. P.knows_number past.now n history) →
+        (result ≡ find (λ clause. not (law.disposition_meets rules.now (event_view event.now) (disposition_fields disposition.now) history
+        (disposition_fields disposition.now).role clause)) law.clauses) }
+{
+    match disposition.role {
+        Role::Receiver => unless_met(Clause::L11, is_outcome(past, rules, event, disposition)),
+        Role::Sender if settles_one(disposition) && event.settled.is_some() => {
+            unless_met(Clause::L14, has_no_note(event.note))
+        }
+        Role::Sender => Some(Clause::L12),
+    }
+}
+
+/// The clause of what is neither a transfer nor a disposition, apart from its note.
+fn broken_by_other<'a, P: Inputs<'a> + Openings<'a> + Counts>(
+    past: &P,
+    rules: &[Rule],
+    event: &Event,
+    spoken: &Spoken,
+) -> Option<Clause>
+    requires few { P.is_short past.now }
+    ensures { (history : Events) → P.stands_for past.now rules.now history → StandsLive (event_view event.now) history → NamesLive (event_view event.now) history →
+        (result ≡ find (λ clause. not (law.other_meets rules.now (event_view event.now) (spoken_view spoken.now).channel history
+        (spoken_view spoken.now).meaning clause)) law.clauses) }
+{
+    let note = event.note;
+    match spoken.performative {
+        Performative::Begin(begin) => {
+            let is_met = answers_begin(past, event.connection, spoken.channel, &begin);
+            first_broken(Clause::L2, is_met, note)
+        }
+        Performative::Attach(attach) => {
+            first_broken(Clause::L3, answers_live(past, rules, event, &attach), note)
+        }
+        Performative::Flow(flow) => {
+            first_broken(Clause::L10, tells_counts(past, rules, event, &flow), note)
+        }
+        Performative::Detach(detach) => {
+            first_broken(Clause::L13, may_detach(past, event, &detach), note)
+        }
+        Performative::End(_) => {
+            first_broken(Clause::L13, may_end(past, event, spoken.channel), note)
+        }
+        _ => unless_met(Clause::L14, has_no_note(note)),
+    }
+}
+
+/// On a live session, the answer to the client's attach.
+fn answers_live<'a, P: Openings<'a>>(
+    past: &P,
+    rules: &[Rule],
+    event: &Event,
+    attach: &Attach,
+) -> bool
+    ensures { (history : Events) → P.stands_for past.now rules.now history → StandsLive (event_view event.now) history →
+        (result ≡ is_some_and (event_view event.now).session (answers_attach rules.now (attach_fields attach.now) history)) }
+{
+    match event.session {
+        Some(session) => answers_attach(past, rules, attach, session),
+        None => false,
+    }
+}
+
+/// A performative: L1 speaks of each.
+fn broken_by_spoken<'a, P: Questions<'a>>(
+    past: &P,
+    rules: &[Rule],
+    event: &Event<'a>,
+    frame: &Frame,
+    spoken: &Spoken<'a>,
+) -> Option<Clause>
+    requires few { P.is_short past.now }
+    ensures { (history : Events) → P.stands_for past.now rules.now history → StandsLive (event_view event.now) history → NamesLive (event_view event.now) history →
+        (event_view event.now).number ≡ length history →
+        CarriesKnown (λ n. P.knows_number past.now n history) (λ j. P.knows_outgoing past.now j history) (event_view event.now) →
+        (result ≡ law.broken_by rules.now (event_view event.now) (frame_view frame.now) history (Some (spoken_view spoken.now))) }
+{
+    if !may_be_written(past, event.connection, spoken)
+        || !fits_limit(past, event.connection, frame)
+    {
+        return Some(Clause::L1);
+    }
+    match spoken.performative {
+        Performative::Transfer(transfer) => {
+            broken_by_transfer(past, rules, event, &transfer, spoken.payload)
+        }
+        Performative::Disposition(disposition) => broken_by_disposition(
+            past,
+            rules,
+            event,
+            &disposition,
+        ),
+        _ => broken_by_other(past, rules, event, spoken),
+    }
+}
+
+/// The first clause that an event breaks. A frame that is no performative breaks L1.
+pub fn broken_clause<'a, P: Questions<'a>>(
+    past: &P,
+    rules: &[Rule],
+    event: &Event<'a>,
+) -> Option<Clause>
+    requires few { P.is_short past.now }
+    ensures { (history : Events) → P.stands_for past.now rules.now history → StandsLive (event_view event.now) history → NamesLive (event_view event.now) history →
+        (event_view event.now).number ≡ length history →
+        CarriesKnown (λ n. P.knows_number past.now n history) (λ j. P.knows_outgoing past.now j history) (event_view event.now) →
+        (result ≡ law.broken_clause rules.now (event_view event.now) history) }
+{
+    let Moment::Out(frame) = event.moment else {
+        return None;
+    };
+    match frame.spoken() {
+        Some(spoken) => broken_by_spoken(past, rules, event, &frame, &spoken),
+        None => Some(Clause::L1),
+    }
+}
+
+/// A later transfer goes on with its delivery.
+fn goes_on_alike(event: &Event, transfer: &Transfer) -> bool
+    ensures { let e = event_view event.now in
+        result ≡ is_some_and e.outgoing (λ j. transfers.goes_on_with j e.note (transfer_fields transfer.now)) }
+{
+    match event.outgoing {
+        Some(delivery) => goes_on_with(&delivery, event.note, transfer),
+        None => false,
+    }
+}

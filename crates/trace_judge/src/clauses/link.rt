@@ -1,0 +1,42 @@
+//! L3 and L13: attaches and detaches that the router writes.
+
+ghost use Rattle.capture_form.specs.Rules.{RuleText};
+ghost use Rattle.std.specs.Prelude.{List, ◌≡◌};
+ghost use Rattle.amqp_perf.specs.View.{attach_fields, detach_fields};
+ghost use Rattle.trace_events.specs.Session.{IsLiveOn, StandsLive};
+ghost use Rattle.trace_values.specs.View.{event_view, Events};
+ghost use Rattle.trace_clauses.specs.LinkClause as law;
+
+use crate::questions::Openings;
+use amqp_perf::{Attach, Detach};
+use capture_form::Rule;
+use trace_events::Session;
+use trace_values::Event;
+
+/// L3: it answers the client's last attach of the handle.
+pub(crate) fn answers_attach<'a, P: Openings<'a>>(
+    past: &P,
+    rules: &[Rule],
+    ours: &Attach,
+    session: Session,
+) -> bool
+    ensures { (history : Events) → P.stands_for past.now rules.now history → IsLiveOn session history →
+        (result ≡ law.answers_attach rules.now (attach_fields ours.now) history session) }
+{
+    match past.asking(session, ours.handle) {
+        Some(asked) => asked.is_answered(rules, ours),
+        None => false,
+    }
+}
+
+/// L13: the link lives, or the client's detach of it, or a refused attach, is to be answered.
+pub(crate) fn may_detach<'a, P: Openings<'a>>(past: &P, event: &Event, detach: &Detach) -> bool
+    ensures { (rules : List RuleText) (history : Events) → P.stands_for past.now rules history → StandsLive (event_view event.now) history →
+        (result ≡ law.may_detach (event_view event.now) (detach_fields detach.now) history) }
+{
+    match event.session {
+        _ if event.link.is_some() => true,
+        Some(session) => past.owes_detach(session, detach.handle),
+        None => false,
+    }
+}

@@ -1,0 +1,202 @@
+//! What is told of an incoming delivery, and why (states: part 3 of the standard, section 3.4; the rows are a choice of
+//! this router).
+
+ghost use Rattle.capture_form.specs.Rules.{RuleText};
+ghost use Rattle.std.specs.Prelude.{List, ◌≡◌, ◌≤◌, ◌^◌, option_map};
+ghost use Rattle.trace_clauses.specs.Outcome.{outcome_octets, bare_outcome};
+ghost use Rattle.std.specs.Option.{option_copied};
+ghost use Rattle.trace_events.specs.Outgoing.{pairing};
+ghost use Rattle.trace_judge.specs.OutcomeSize.{decided_view, told_view};
+ghost use Rattle.trace_values.specs.View.{incoming_view, outgoing_view, Events};
+ghost use Rattle.trace_judge.specs.OutcomeSize as law;
+ghost use Rattle.trace_clauses.specs.Outcome as rows;
+
+use crate::questions::Outcomes;
+use amqp_perf::{Outcome, State};
+use capture_form::Rule;
+use pairing_cert::Why;
+use trace_values::{Decision, Incoming, Outgoing, is_of_multicast};
+
+/// The state that is told of a delivery.
+#[derive(Clone, Copy)]
+pub enum Told<'a> {
+    /// None.
+    Nothing,
+    /// An outcome without fields.
+    Bare(Outcome),
+    /// Modified, with delivery-failed true.
+    DeliveryFailed,
+    /// A state as its octets came.
+    Octets(&'a [u8]),
+}
+
+/// How many octets of a frame stand around the fields of a disposition: its header's 8, the descriptor's 3, and code,
+/// size and count of the list (part 1, section 1.6.22; part 2, sections 2.3.1 and 2.7.6).
+const AROUND_SHORT: u64 = 14;
+
+/// The same of a list whose size and count have four octets each.
+const AROUND_LONG: u64 = 20;
+
+/// The role, the absent last id and the settled flag.
+const FIXED_FIELDS: u64 = 3;
+
+/// How many octets a uint has (part 1, section 1.6.5).
+fn uint_size(n: u32) -> u64
+    ensures { result ≡ law.uint_size n }
+{
+    if n == 0 {
+        1
+    } else if n < 256 {
+        2
+    } else {
+        5
+    }
+}
+
+/// How many octets the frame has that tells of the delivery of this id a state of so many octets.
+fn outcome_frame_size(id: u32, state: u64) -> u64
+    requires { state ≤ 2 ^ 32 }
+    ensures { result ≡ law.outcome_frame_size id state }
+{
+    let fields = FIXED_FIELDS + uint_size(id) + state;
+    if fields + 1 < 256 {
+        AROUND_SHORT + fields
+    } else {
+        AROUND_LONG + fields
+    }
+}
+
+/// The outcome that a decision tells, as its octets came; none without a terminal state.
+fn decided<'a>(decision: &Decision<'a>) -> Told<'a>
+    ensures { law.told_view result ≡ outcome_octets (decided_view decision.now) }
+{
+    match *decision {
+        Decision::Terminal(_, octets) => Told::Octets(octets),
+        Decision::Settled => Told::Nothing,
+    }
+}
+
+/// The same outcome without its fields.
+fn decided_bare(decision: &Decision) -> Told<'static>
+    ensures { law.told_view result ≡ bare_outcome (decided_view decision.now) }
+{
+    match *decision {
+        Decision::Terminal(outcome, _) => Told::Bare(outcome),
+        Decision::Settled => Told::Nothing,
+    }
+}
+
+impl<'a> Told<'a> {
+    ghost use Rattle.std.specs.Prelude.{◌≡◌};
+    ghost use Rattle.std.specs.Option.{option_copied};
+    ghost use Rattle.trace_judge.specs.OutcomeSize.{told_view};
+    ghost use Rattle.trace_events.specs.Words.{are_same_octets};
+
+    /// The state has these octets, or there is none.
+    pub fn has_octets(&self, state: Option<&[u8]>) -> bool
+        ensures { result ≡ are_same_octets (option_copied state.entry) (told_view self.now) }
+    {
+        let Some(octets) = state else {
+            return matches!(self, Told::Nothing);
+        };
+        match self {
+            Told::Nothing => false,
+            Told::Bare(outcome) => octets == State::of_outcome(*outcome).raw(),
+            Told::DeliveryFailed => octets == State::delivery_failed().raw(),
+            Told::Octets(own) => octets == *own,
+        }
+    }
+}
+
+/// The producer takes the frame that tells this state.
+#[tactic(auto, using(crate::proofs::OutcomeSizes::outcome_long))]
+fn fits_producer<'a, P: Outcomes<'a>>(past: &P, delivery: &Incoming, state: Option<&[u8]>) -> bool
+    ensures { (rules : List RuleText) (history : Events) → P.stands_for past.now rules history →
+        (result ≡ rows.fits_producer (incoming_view delivery.now) (option_copied state.entry) history) }
+{
+    let limit = u64::from(past.frame_limit(delivery.link.session.connection));
+    let size = match state {
+        Some(octets) => octets.len() as u64,
+        None => 0,
+    };
+    size <= limit && outcome_frame_size(delivery.id.unwrap_or(0), size) <= limit
+}
+
+/// The producer takes the frame that tells the decision's outcome.
+fn takes_decided<'a, P: Outcomes<'a>>(past: &P, delivery: &Incoming, decision: &Decision) -> bool
+    ensures { (rules : List RuleText) (history : Events) → P.stands_for past.now rules history →
+        (result ≡ rows.fits_producer (incoming_view delivery.now) (rows.outcome_octets (decided_view decision.now)) history) }
+{
+    match *decision {
+        Decision::Terminal(_, octets) => fits_producer(past, delivery, Some(octets)),
+        Decision::Settled => fits_producer(past, delivery, None),
+    }
+}
+
+/// The last transfer to a pre-settled link is written.
+fn is_sent_settled<'a, P: Outcomes<'a>>(past: &P, outgoing: &Outgoing) -> bool
+    ensures { (rules : List RuleText) (history : Events) → P.stands_for past.now rules history → P.knows_outgoing past.now (outgoing_view outgoing.now) history →
+        (result ≡ rows.is_sent_settled (outgoing_view outgoing.now) history) }
+{
+    outgoing.link.is_pre_settled && past.is_sent(outgoing)
+}
+
+/// What row `why` tells of an anycast delivery that went to a consumer, where it applies.
+fn paired_row<'a, P: Outcomes<'a>>(
+    past: &P,
+    delivery: &Incoming,
+    outgoing: &Outgoing,
+    decision: &Option<Decision<'a>>,
+    why: Why,
+) -> Option<Told<'a>>
+    ensures { (rules : List RuleText) (history : Events) → P.stands_for past.now rules history → P.knows_outgoing past.now (outgoing_view outgoing.now) history → (option_map told_view result
+        ≡ rows.paired_row (incoming_view delivery.now) (outgoing_view outgoing.now) history (option_map decided_view decision.now) why) }
+{
+    match (decision, why) {
+        (Some(own), Why::C) if takes_decided(past, delivery, own) => Some(decided(own)),
+        (Some(own), Why::Z) if !takes_decided(past, delivery, own) => Some(decided_bare(own)),
+        (_, Why::S) if is_sent_settled(past, outgoing) => Some(Told::Bare(Outcome::Accepted)),
+        (None, Why::L) if !past.is_live(&outgoing.link) && !is_sent_settled(past, outgoing) => Some(
+            Told::DeliveryFailed,
+        ),
+        _ => None,
+    }
+}
+
+#[tactic(auto, using(crate::proofs::DecidedRows::row_decided))]
+fn anycast_row<'a, P: Outcomes<'a>>(past: &P, delivery: &Incoming, why: Why) -> Option<Told<'a>>
+    ensures { (rules : List RuleText) (history : Events) → P.stands_for past.now rules history → P.knows_incoming past.now (incoming_view delivery.now) history → (option_map told_view result
+        ≡ rows.anycast_row (incoming_view delivery.now) history why (pairing (incoming_view delivery.now) history)) }
+{
+    let outgoing = past.pairing(delivery)?;
+    let decision = past.decision(&outgoing);
+    paired_row(past, delivery, &outgoing, &decision, why)
+}
+
+/// What row `why` tells of a delivery, where it applies.
+pub fn row<'a, P: Outcomes<'a>>(
+    past: &P,
+    rules: &[Rule],
+    delivery: &Incoming,
+    why: Why,
+) -> Option<Told<'a>>
+    ensures { (history : Events) → P.stands_for past.now rules.now history → P.knows_incoming past.now (incoming_view delivery.now) history →
+        (option_map told_view result ≡ rows.row rules.now (incoming_view delivery.now) history why) }
+{
+    match why {
+        Why::N if past.is_gone(rules, delivery) => Some(Told::Bare(Outcome::Released)),
+        Why::N => None,
+        Why::M if is_of_multicast(rules, delivery) => Some(Told::Bare(Outcome::Accepted)),
+        Why::M => None,
+        _ if is_of_multicast(rules, delivery) => None,
+        _ => anycast_row(past, delivery, why),
+    }
+}
+
+/// It may be told: complete, of a live link, neither settled nor told.
+pub fn may_be_told<'a, P: Outcomes<'a>>(past: &P, delivery: &Incoming) -> bool
+    ensures { (rules : List RuleText) (history : Events) → P.stands_for past.now rules history → P.knows_incoming past.now (incoming_view delivery.now) history →
+        (result ≡ rows.may_be_told (incoming_view delivery.now) history) }
+{
+    past.is_complete(delivery) && !past.is_closed(delivery)
+}

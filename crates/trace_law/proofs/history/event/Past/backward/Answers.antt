@@ -1,6 +1,0 @@
-use Rattle.trace_law.specs.View.{events, incoming_view}
-use Rattle.trace_law.proofs.Payloads.{backward_incoming}
-use Rattle.trace_law.proofs.history.event.Past.backward.Goals as goal
-
-pub returns : goal.returns
-returns c = backward_incoming (incoming_view c.args.incoming.now) (events c.args.self.now)

@@ -1,7 +1,0 @@
-use Rattle.std.proofs.Common.{◌≡◌}
-use Rattle.trace_events.specs.Incoming.{completion}
-use Rattle.trace_law.specs.View.{incoming_view, events}
-use Rattle.trace_law.proofs.history.event.Past.completion.Given as goal
-
-abbrev pub invariant-loop-rest : goal.invariant-loop-rest
-invariant-loop-rest l = completion (incoming_view l.delivery) (events l.rest) ≡ completion (incoming_view l.delivery) (events l.self)

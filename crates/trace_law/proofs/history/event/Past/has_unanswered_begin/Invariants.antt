@@ -1,7 +1,0 @@
-use Rattle.std.proofs.Common.{◌≡◌}
-use Rattle.trace_events.specs.Session.{has_unanswered_begin}
-use Rattle.trace_law.specs.View.{events}
-use Rattle.trace_law.proofs.history.event.Past.has_unanswered_begin.Given as goal
-
-abbrev pub invariant-loop-rest : goal.invariant-loop-rest
-invariant-loop-rest l = has_unanswered_begin l.connection l.channel (events l.rest) ≡ has_unanswered_begin l.connection l.channel (events l.self)

@@ -1,7 +1,0 @@
-use Rattle.std.proofs.Common.{◌≡◌}
-use Rattle.trace_events.specs.Incoming.{incoming_at}
-use Rattle.trace_law.specs.View.{events}
-use Rattle.trace_law.proofs.history.event.Past.incoming_at.Given as goal
-
-abbrev pub invariant-loop-rest : goal.invariant-loop-rest
-invariant-loop-rest l = incoming_at l.number (events l.rest) ≡ incoming_at l.number (events l.self)

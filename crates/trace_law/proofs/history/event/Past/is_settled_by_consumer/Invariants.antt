@@ -1,7 +1,0 @@
-use Rattle.std.proofs.Common.{◌≡◌}
-use Rattle.trace_events.specs.Outgoing.{is_settled_by_consumer}
-use Rattle.trace_law.specs.View.{outgoing_view, events}
-use Rattle.trace_law.proofs.history.event.Past.is_settled_by_consumer.Given as goal
-
-abbrev pub invariant-loop-rest : goal.invariant-loop-rest
-invariant-loop-rest l = is_settled_by_consumer (outgoing_view l.delivery) (events l.rest) ≡ is_settled_by_consumer (outgoing_view l.delivery) (events l.self)

@@ -1,7 +1,0 @@
-use Rattle.std.proofs.Common.{◌≡◌}
-use Rattle.trace_events.specs.Link.{last_in_attach}
-use Rattle.trace_law.specs.View.{events}
-use Rattle.trace_law.proofs.history.event.Past.last_in_attach.Given as goal
-
-abbrev pub invariant-loop-rest : goal.invariant-loop-rest
-invariant-loop-rest l = last_in_attach l.session l.handle (events l.rest) ≡ last_in_attach l.session l.handle (events l.self)

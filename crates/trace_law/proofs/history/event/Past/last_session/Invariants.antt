@@ -1,7 +1,0 @@
-use Rattle.std.proofs.Common.{◌≡◌}
-use Rattle.trace_events.specs.Session.{last_session}
-use Rattle.trace_law.specs.View.{events}
-use Rattle.trace_law.proofs.history.event.Past.last_session.Given as goal
-
-abbrev pub invariant-loop-rest : goal.invariant-loop-rest
-invariant-loop-rest l = last_session l.connection l.channel (events l.rest) ≡ last_session l.connection l.channel (events l.self)

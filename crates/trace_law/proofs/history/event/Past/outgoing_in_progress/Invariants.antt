@@ -1,7 +1,0 @@
-use Rattle.std.proofs.Common.{◌≡◌}
-use Rattle.trace_events.specs.Outgoing.{in_progress}
-use Rattle.trace_law.specs.View.{link_view, events}
-use Rattle.trace_law.proofs.history.event.Past.outgoing_in_progress.Given as goal
-
-abbrev pub invariant-loop-rest : goal.invariant-loop-rest
-invariant-loop-rest l = in_progress (link_view l.link) (events l.rest) ≡ in_progress (link_view l.link) (events l.self)

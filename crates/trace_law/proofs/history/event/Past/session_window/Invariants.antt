@@ -1,8 +1,0 @@
-use Rattle.std.proofs.Common.{◌≡◌, ◌-◌}
-use Rattle.flow_counts.specs.Window.{sent_since_flow}
-use Rattle.trace_events.specs.Window.{session_window, window_events}
-use Rattle.trace_law.specs.View.{events}
-use Rattle.trace_law.proofs.history.event.Past.session_window.Given as goal
-
-abbrev pub invariant-loop-rest : goal.invariant-loop-rest
-invariant-loop-rest l = l.left - sent_since_flow (window_events l.session (events l.rest)) ≡ session_window l.session (events l.self)

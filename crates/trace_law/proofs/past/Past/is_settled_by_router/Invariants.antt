@@ -1,0 +1,8 @@
+use Rattle.std.proofs.Common.{◌≡◌}
+use Rattle.trace_events.specs.Outgoing.{is_settled_by_router}
+use Rattle.trace_law.specs.OnStack.{events}
+use Rattle.trace_values.specs.View.{outgoing_view}
+use Rattle.trace_law.proofs.past.Past.is_settled_by_router.Given as goal
+
+abbrev pub invariant-loop-rest : goal.invariant-loop-rest
+invariant-loop-rest l = is_settled_by_router (outgoing_view l.delivery) (events l.rest) ≡ is_settled_by_router (outgoing_view l.delivery) (events l.self)
