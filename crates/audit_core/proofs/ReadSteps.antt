@@ -16,7 +16,7 @@ use Rattle.capture_form.proofs.Loops.{flat_map_push}
 use Rattle.trace_clauses.specs.declared.tally.Tally.{Tally}
 use Rattle.trace_clauses.specs.Verdict.{tally_of}
 use Rattle.trace_events.specs.History.{history}
-use Rattle.trace_judge.proofs.Broken.{length-history}
+use Rattle.trace_clauses.proofs.Broken.{length-history}
 use Rattle.audit_core.specs.declared.auditor.Auditor.{Auditor}
 use Rattle.audit_core.specs.declared.verdict.Refusal.{Refusal}
 use Rattle.audit_core.specs.declared.verdict.Verdict.{Verdict}

@@ -11,7 +11,7 @@ use Rattle.trace_clauses.specs.Clauses.{first_broken}
 use Rattle.trace_clauses.specs.Verdict.{tallied_or}
 use Rattle.trace_clauses.proofs.Lawful.{broken-stays}
 use Rattle.trace_events.specs.History.{history}
-use Rattle.trace_judge.proofs.Broken.{length-history}
+use Rattle.trace_clauses.proofs.Broken.{length-history}
 use Rattle.audit_core.specs.declared.auditor.Auditor.{Auditor}
 use Rattle.audit_core.specs.declared.verdict.Refusal.{Refusal}
 use Rattle.audit_core.specs.declared.verdict.Refusal.TheVariants.{Broken, Memory}

@@ -9,7 +9,7 @@ use Rattle.trace_clauses.specs.declared.tally.Tally.{Tally}
 use Rattle.trace_clauses.proofs.Lawful.{history-push, lawful-push}
 use Rattle.trace_events.specs.History.{history}
 use Rattle.trace_clauses.specs.Clauses.{first_broken}
-use Rattle.trace_judge.proofs.Broken.{length-history}
+use Rattle.trace_clauses.proofs.Broken.{length-history}
 use Rattle.audit_ledger.specs.Ledger.{Stands, IsReason, broken_behind}
 use Rattle.audit_ledger.specs.declared.not_entered.NotEntered.{NotEntered}
 use Rattle.audit_ledger.specs.declared.not_entered.NotEntered.TheVariants as why

@@ -13,7 +13,7 @@ use Rattle.trace_clauses.specs.declared.clause.Clause.{Clause}
 use Rattle.trace_events.specs.History.{history}
 use Rattle.trace_clauses.specs.Clauses.{first_broken}
 use Rattle.trace_clauses.proofs.Lawful.{broken-stays}
-use Rattle.trace_judge.proofs.Broken.{broken_at}
+use Rattle.trace_clauses.proofs.Broken.{broken_at}
 use Rattle.audit_core.specs.declared.verdict.Verdict.{Verdict}
 use Rattle.audit_core.specs.declared.verdict.Verdict.TheVariants.{Accepted, Refused, Malformed, NoMemory, Unreadable}
 use Rattle.audit_core.specs.Verdict.{broken_in, tally_in, Accepts, Refuses, Holds}

@@ -10,7 +10,7 @@ ghost use Rattle.trace_values.specs.View.{Events, moment_view};
 use capture_form::Rule;
 use pairing_cert::Note;
 use trace_clauses::Clause;
-use trace_judge::{Questions, broken_clause, judge_moment, opened};
+use trace_judge::{Questions, broken_clause, judge_unopened_moment, opened};
 use trace_values::{Event, Moment};
 
 /// The event of the next record, of this number, connection, moment and note. The past must be able to tell of what the event
@@ -35,7 +35,7 @@ pub fn next_event<'a, P: Questions<'a>>(
         OpensKnown (λ c channel. P.knows_begin past.now c channel history) (λ s handle. P.knows_attach past.now s handle history) (unopened rules.now history r)) →
         IsAnswer rules.now history r (viewed result) }
 {
-    let event = judge_moment(past, rules, number, connection, moment, note);
+    let event = judge_unopened_moment(past, rules, number, connection, moment, note);
     match broken_clause(past, rules, &event) {
         Some(clause) => Err(clause),
         None => Ok(opened(past, event)),

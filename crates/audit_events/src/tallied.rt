@@ -1,22 +1,11 @@
 //! What a capture holds, counted record by record.
 
 ghost use Rattle.std.specs.Prelude.{◌≡◌, ◌∷◌, ◌<◌, ◌^◌, length};
-ghost use Rattle.trace_clauses.specs.Verdict.{tally_of, tells_outcome};
+ghost use Rattle.trace_clauses.specs.Verdict.{tally_of};
 ghost use Rattle.trace_values.specs.View.{Events, event_view};
 
-use amqp_perf::Role;
 use trace_clauses::Tally;
 use trace_values::Event;
-
-/// The event tells an outcome.
-fn is_outcome(event: &Event) -> bool
-    ensures { result ≡ tells_outcome (event_view event.now) }
-{
-    match event.out_disposition() {
-        Some(disposition) => disposition.role == Role::Receiver,
-        None => false,
-    }
-}
 
 /// The tally of some events and this one more, from theirs, where they are fewer than 2^63; beyond that a count stays at the
 /// greatest number of 64 bits.
@@ -28,6 +17,8 @@ pub fn counted(tally: Tally, event: &Event) -> Tally
         deliveries: tally
             .deliveries
             .saturating_add(u64::from(event.begins_outgoing())),
-        outcomes: tally.outcomes.saturating_add(u64::from(is_outcome(event))),
+        outcomes: tally
+            .outcomes
+            .saturating_add(u64::from(event.tells_outcome())),
     }
 }

@@ -32,7 +32,7 @@ use Rattle.trace_clauses.proofs.Incomings.{complete-payload, judged-part, judged
 use Rattle.trace_clauses.proofs.JudgedHistories.{judged-keeps}
 use Rattle.trace_clauses.proofs.OutgoingProgress.{IsPartOf, judged-outgoing_part, judged-carrying, noted_pair}
 use Rattle.trace_values.specs.Known.{IsCarriedBy}
-use Rattle.trace_values.proofs.Carrying.{by_note}
+use Rattle.trace_clauses.proofs.SameNotes.{by_note}
 use Rattle.audit_sent.specs.Sent.{Sent, sent, outgoing_at, sent_at, IsEntry, IsKnownTo}
 use Rattle.audit_sent.specs.Sent as kept
 use Rattle.audit_sent.proofs.SentBegun.{at-number, found-below, payload-none}

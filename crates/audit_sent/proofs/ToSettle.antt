@@ -8,7 +8,7 @@ use Rattle.trace_events.specs.Event.{Event, Outgoing}
 use Rattle.trace_events.specs.Outgoing.{outgoing_deliveries}
 use Rattle.trace_events.specs.Settling.{is_to_settle, to_settle}
 use Rattle.trace_events.proofs.Judged.{AreJudged}
-use Rattle.trace_values.proofs.Earliest.{earliest, find-reverse}
+use Rattle.trace_events.proofs.Earliest.{earliest, find-reverse}
 use Rattle.audit_sent.specs.Sent.{Sent, sent, outgoing_at, sent_at}
 use Rattle.audit_sent.specs.Earliest.{least}
 use Rattle.audit_sent.proofs.LeastNumbers.{least-is, least-none}

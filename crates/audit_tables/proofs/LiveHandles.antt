@@ -8,7 +8,7 @@ use Rattle.trace_events.specs.Said.{in_attach}
 use Rattle.trace_events.specs.Session.{live_session}
 use Rattle.trace_events.specs.Link.{session_link, is_live, unanswered_attach, last_in_attach, attaches_in, attaches_out, first_count}
 use Rattle.trace_clauses.specs.LinkClause.{asked_by, asking}
-use Rattle.trace_values.specs.Known.{their_first_count}
+use Rattle.trace_values.specs.Answering.{their_first_count}
 use Rattle.audit_tables.specs.Links.{Standing, nothing, link_of, counts_of, asking_of, first_count_of, link_counts, counted, asks, asked_in, standing, standing_at}
 
 -- of a live session

@@ -8,7 +8,7 @@ ghost use Rattle.trace_events.specs.Link.{IsLiveLink};
 ghost use Rattle.trace_events.specs.Session.{IsLiveOn};
 ghost use Rattle.audit_tables.specs.LinkTables.{AreLinked};
 ghost use Rattle.audit_tables.specs.Links.{link_counts};
-ghost use Rattle.trace_values.specs.Known.{their_first_count};
+ghost use Rattle.trace_values.specs.Answering.{their_first_count};
 ghost use Rattle.trace_values.specs.View.{Events, asking_view, link_view};
 
 use crate::link_counts::LinkCounts;

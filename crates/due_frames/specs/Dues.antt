@@ -13,7 +13,7 @@ use Rattle.trace_events.specs.Link.{IsLiveLink, link_at}
 use Rattle.trace_events.specs.Incoming.{incoming_at, payload}
 use Rattle.trace_clauses.specs.Written.{spoken_octets}
 use Rattle.trace_duties.specs.Diligent.{is_next_waiting, is_picked_link}
-use Rattle.trace_judge.specs.OutcomeSize.{told_view}
+use Rattle.trace_judge.specs.Told.{told_view}
 use Rattle.trace_values.specs.View.{link_view, incoming_view, outgoing_view}
 use Rattle.route_dues.specs.Writing.{IsReadAgain, IsInOrder, MayFollow}
 use Rattle.due_outcomes.specs.DueOutcomes.{IsDueOutcome}

@@ -8,7 +8,7 @@ ghost use Rattle.trace_clauses.specs.Outcome.{is_to_tell, reasons};
 ghost use Rattle.trace_events.specs.Event as events;
 ghost use Rattle.trace_events.specs.History.{history};
 ghost use Rattle.trace_events.specs.Incoming.{incoming_deliveries};
-ghost use Rattle.trace_judge.specs.OutcomeSize.{told_view};
+ghost use Rattle.trace_judge.specs.Told.{told_view};
 ghost use Rattle.trace_values.specs.View.{Events, incoming_view};
 ghost use Rattle.audit_held.specs.EntryAnswers.{Knows};
 ghost use Rattle.due_outcomes.specs.DueOutcomes.{IsDueOutcome};

@@ -7,7 +7,7 @@ ghost use Rattle.amqp_perf.specs.NestedViews.{state_view};
 ghost use Rattle.amqp_perf.specs.Router.{FitsFrame, outcome_told};
 ghost use Rattle.amqp_perf.specs.View.{view};
 ghost use Rattle.amqp_perf.specs.Writing.{IfThere, IsWritableState, performative_octets};
-ghost use Rattle.trace_judge.specs.OutcomeSize.{told_view};
+ghost use Rattle.trace_judge.specs.Told.{told_view};
 ghost use Rattle.route_dues.specs.Outcomes.{HasState, octets_in};
 
 use crate::outcome::DueOutcome;

@@ -14,7 +14,7 @@ ghost use Rattle.trace_events.specs.Link.{is_consumer};
 ghost use Rattle.trace_events.specs.Outgoing.{names, outgoing_begun};
 ghost use Rattle.trace_events.specs.Waiting as fates;
 ghost use Rattle.trace_events.specs.Words.{is_number, is_some_and};
-ghost use Rattle.trace_judge.specs.OutcomeSize.{told_view};
+ghost use Rattle.trace_judge.specs.Told.{told_view};
 ghost use Rattle.trace_values.specs.View.{event_view, incoming_view, link_view};
 ghost use Rattle.audit_held.specs.EntryAnswers.{says_closed};
 ghost use Rattle.audit_held.specs.Held.{says_waiting};

@@ -6,7 +6,7 @@ use Rattle.trace_events.specs.Event.{Event, Moment}
 use Rattle.trace_events.specs.History.{judge, history, moment_of}
 use Rattle.trace_clauses.specs.Clauses.{first_broken}
 use Rattle.trace_clauses.proofs.Lawful.{history-push}
-use Rattle.trace_judge.proofs.Broken.{length-history}
+use Rattle.trace_clauses.proofs.Broken.{length-history}
 use Rattle.audit_tables.specs.Connections.{IsLawfulNext}
 use Rattle.route_books.specs.Books.{IsUnbroken}
 

@@ -20,6 +20,8 @@ pub mod UndecidedCount
 pub mod WithinWindow
 pub mod WithinCredit
 pub mod Captures
+pub mod Broken
+pub mod SameNotes
 pub mod Made
 pub mod OpenedConnections
 pub mod JudgedHistories

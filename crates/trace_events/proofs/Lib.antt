@@ -33,3 +33,4 @@ pub mod SessionNumbers
 pub mod SessionPlaces
 pub mod EventSessions
 pub mod Ends
+pub mod Earliest

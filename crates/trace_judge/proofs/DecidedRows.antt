@@ -7,7 +7,7 @@ use Rattle.trace_events.specs.Event.{Event, Incoming, Outgoing}
 use Rattle.trace_events.specs.Disposition.{terminal_state}
 use Rattle.trace_events.specs.Outgoing.{decision}
 use Rattle.trace_clauses.specs.Outcome.{paired_row}
-use Rattle.trace_judge.specs.OutcomeSize.{decided_view}
+use Rattle.trace_judge.specs.Told.{decided_view}
 use Rattle.trace_values.specs.View.{decision_view}
 use Rattle.trace_values.specs.declared.disposition.Decision.{Decision}
 use Rattle.trace_values.specs.declared.disposition.Decision.TheVariants as decisions

@@ -15,7 +15,7 @@ ghost use Rattle.trace_clauses.specs.TransferClause as transfers;
 mod connection;
 mod disposition;
 pub(crate) mod flow;
-pub(crate) mod link;
+mod link;
 mod session;
 mod transfer;
 
@@ -201,7 +201,8 @@ fn broken_by_spoken<'a, P: Questions<'a>>(
     }
 }
 
-/// The first clause that an event breaks. A frame that is no performative breaks L1.
+/// The first clause that an event breaks: only what the router wrote breaks one. A frame of the router's that is no performative
+/// breaks L1.
 pub fn broken_clause<'a, P: Questions<'a>>(
     past: &P,
     rules: &[Rule],

@@ -323,12 +323,11 @@ pub fn judge_unopened<'a, P: Inputs<'a> + Outcomes<'a> + Carriage<'a>>(
         (event_view result ≡ law.judge_unopened rules.now history entry.now.connection (law.moment_of entry.now.what) entry.now.note) }
 {
     let moment = Moment::of(&entry.what);
-    judge_moment(past, rules, number, entry.connection, moment, entry.note)
+    judge_unopened_moment(past, rules, number, entry.connection, moment, entry.note)
 }
 
-/// The same where the octets of the frame are read already, of this moment and note: without what it opens, too. (The law's
-/// `judge_moment` has what it opens: it is this, and then `opened`.)
-pub fn judge_moment<'a, P: Inputs<'a> + Outcomes<'a> + Carriage<'a>>(
+/// The same where the octets of the frame are read already, of this moment and note.
+pub fn judge_unopened_moment<'a, P: Inputs<'a> + Outcomes<'a> + Carriage<'a>>(
     past: &P,
     rules: &[Rule],
     number: u64,

@@ -6,7 +6,7 @@ ghost use Rattle.std.specs.Prelude.{List, ◌≡◌, ◌≤◌, ◌^◌, option_
 ghost use Rattle.trace_clauses.specs.Outcome.{outcome_octets, bare_outcome};
 ghost use Rattle.std.specs.Option.{option_copied};
 ghost use Rattle.trace_events.specs.Outgoing.{pairing};
-ghost use Rattle.trace_judge.specs.OutcomeSize.{decided_view, told_view};
+ghost use Rattle.trace_judge.specs.Told.{decided_view, told_view};
 ghost use Rattle.trace_values.specs.View.{incoming_view, outgoing_view, Events};
 ghost use Rattle.trace_judge.specs.OutcomeSize as law;
 ghost use Rattle.trace_clauses.specs.Outcome as rows;
@@ -20,7 +20,7 @@ use trace_values::{Decision, Incoming, Outgoing, is_of_multicast};
 /// The state that is told of a delivery.
 #[derive(Clone, Copy)]
 pub enum Told<'a> {
-    /// None.
+    /// No state: the delivery is settled without an outcome.
     Nothing,
     /// An outcome without fields.
     Bare(Outcome),
@@ -68,7 +68,7 @@ fn outcome_frame_size(id: u32, state: u64) -> u64
 
 /// The outcome that a decision tells, as its octets came; none without a terminal state.
 fn decided<'a>(decision: &Decision<'a>) -> Told<'a>
-    ensures { law.told_view result ≡ outcome_octets (decided_view decision.now) }
+    ensures { told_view result ≡ outcome_octets (decided_view decision.now) }
 {
     match *decision {
         Decision::Terminal(_, octets) => Told::Octets(octets),
@@ -78,7 +78,7 @@ fn decided<'a>(decision: &Decision<'a>) -> Told<'a>
 
 /// The same outcome without its fields.
 fn decided_bare(decision: &Decision) -> Told<'static>
-    ensures { law.told_view result ≡ bare_outcome (decided_view decision.now) }
+    ensures { told_view result ≡ bare_outcome (decided_view decision.now) }
 {
     match *decision {
         Decision::Terminal(outcome, _) => Told::Bare(outcome),
@@ -89,7 +89,7 @@ fn decided_bare(decision: &Decision) -> Told<'static>
 impl<'a> Told<'a> {
     ghost use Rattle.std.specs.Prelude.{◌≡◌};
     ghost use Rattle.std.specs.Option.{option_copied};
-    ghost use Rattle.trace_judge.specs.OutcomeSize.{told_view};
+    ghost use Rattle.trace_judge.specs.Told.{told_view};
     ghost use Rattle.trace_events.specs.Words.{are_same_octets};
 
     /// The state has these octets, or there is none.

@@ -1,5 +1,5 @@
 -- What is asked of a capture at one of its records: by the records below it.
-use Rattle.std.specs.Prelude.{ℕ, Bool, List, take, drop, Option, Some, None, Result, Ok, Err, option_map}
+use Rattle.std.specs.Prelude.{ℕ, Bool, List, [], ◌∷◌, take, drop, Option, Some, None, Result, Ok, Err, option_map}
 use Rattle.capture_form.specs.declared.records.Record.{Record}
 use Rattle.capture_form.specs.Rules.{RuleText}
 use Rattle.capture_form.specs.Text.{Trace}
@@ -12,14 +12,19 @@ use Rattle.trace_events.specs.Window.{session_window}
 use Rattle.trace_events.specs.Credit.{link_credit}
 use Rattle.trace_events.specs.Incoming.{incoming_at}
 use Rattle.trace_events.specs.Waiting.{is_waiting}
-use Rattle.trace_events.specs.History.{history}
-use Rattle.trace_judge.specs.First.{broken_by_first}
+use Rattle.trace_events.specs.History.{judge, history}
+use Rattle.trace_clauses.specs.Clauses.{broken_clause}
 
 -- the events of the records below this number
 abbrev pub events_below : ℕ → Trace → List Event
 events_below i capture = history capture.rules (take i capture.records)
 
 -- ---- the law
+
+-- the first clause that the first of some records breaks
+abbrev pub broken_by_first : List RuleText → List Event → List Record → Option Clause
+broken_by_first rules past [] = None
+broken_by_first rules past (r ∷ rs) = broken_clause rules (judge rules past r) past
 
 -- the first clause that the record of this number breaks
 abbrev pub clause_broken_by : ℕ → Trace → Option Clause

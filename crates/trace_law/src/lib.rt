@@ -2,8 +2,7 @@
 //! the records before it. It takes no memory of the heap: the events of `trace_events` stand on the stack, one call for
 //! each, the newest first, and each definition is computed anew by the function of the same name, whose contract it is.
 //!
-//! - `past`: the events on the stack, and `scans`, their answers to the questions of `trace_judge`, each by the scan of the same
-//!   name: `session`, with `connection` and `window`; `link`, with `credit` and `address`; `delivery`, with `incoming`,
+//! - `past`: the events on the stack, and `scans`, their answers to the questions of `trace_judge`, each by a scan: `session`, with `connection` and `window`; `link`, with `credit` and `address`; `delivery`, with `incoming`,
 //!   `outgoing`, `payload`, `waiting`, `due` and `settling`;
 //! - `ask`: `slow_check`, `window_at`, `credit_at` and `waiting_at` (`check`) answer what the law says at one record,
 //!   `tally_capture` (`tally`) what a capture holds, in one walk over the records (`walk`).
@@ -22,4 +21,4 @@ mod session;
 
 pub use ask::check::{credit_at, slow_check, waiting_at, window_at};
 pub use ask::tally::tally_capture;
-pub use trace_clauses::{Clause, Tally, laws_of_captures};
+pub use trace_clauses::{Clause, Tally};

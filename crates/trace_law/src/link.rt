@@ -1,7 +1,7 @@
 //! The link of a handle (part 2 of the standard, section 2.6).
 
-pub(crate) mod address;
-pub(crate) mod credit;
+mod address;
+mod credit;
 
 use crate::past::Past;
 use trace_events::Session;

@@ -1,7 +1,7 @@
 //! The session on a channel (part 2 of the standard, section 2.5).
 
-pub(crate) mod connection;
-pub(crate) mod window;
+mod connection;
+mod window;
 
 use crate::past::Past;
 use amqp_perf::Begin;

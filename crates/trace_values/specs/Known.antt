@@ -1,19 +1,9 @@
 -- What of the past is asked for because of an event, where the one who is asked need not know of all that was.
-use Rattle.std.specs.Prelude.{◌≡◌, ℕ, ◌⊎◌, List, length, Option, Some, None, IfSome, option_and_then, option_map, unwrap_or}
-use Rattle.amqp_perf.specs.Meaning.{AttachFields}
-use Rattle.trace_events.specs.Event.{Event, Link, Incoming, Outgoing}
+use Rattle.std.specs.Prelude.{◌≡◌, ℕ, ◌⊎◌, List, length, Some, IfSome}
+use Rattle.trace_events.specs.Event.{Event, Incoming, Outgoing}
 use Rattle.trace_events.specs.declared.session.Session.{Session}
-use Rattle.trace_events.specs.Said.{in_attach, out_spoken, out_begin, out_attach}
-use Rattle.trace_events.specs.Link.{first_count, new_link}
+use Rattle.trace_events.specs.Said.{out_spoken, out_begin, out_attach}
 use Rattle.trace_events.specs.Outgoing.{noted}
-
--- the initial-delivery-count of the client's attach that an event is, 0 where there is none
-abbrev pub their_first_count : Option Event → ℕ
-their_first_count theirs = unwrap_or (option_map first_count (option_and_then in_attach theirs)) 0
-
--- the link that an Out attach, in this record, opens in answer to one of this initial-delivery-count
-abbrev pub link_answering : ℕ → Session → AttachFields → ℕ → Link
-link_answering number s ours count = record (new_link number s ours None) { their_first_count = count }
 
 -- the begin that an Out begin answers, and the attach that an Out attach on a session answers
 abbrev pub OpensKnown : (ℕ → ℕ → Type 0) → (Session → ℕ → Type 0) → Event → Type 0

@@ -1,3 +1,4 @@
+pub mod Answering
 pub mod Known
 pub mod LinkEvents
 pub mod View

@@ -1,5 +1,5 @@
 -- What the code's events stand for.
-use Rattle.std.specs.Prelude.{ℕ, List, [], ◌∷◌, ◌++◌, Option, Some, None, option_map, codes, decimal}
+use Rattle.std.specs.Prelude.{ℕ, List, ◌++◌, Option, Some, None, option_map, codes, decimal}
 use Rattle.amqp_perf.specs.Nested.{StateFields}
 use Rattle.amqp_perf.specs.View as performatives
 use Rattle.trace_values.specs.declared.disposition.Decision.{Decision}

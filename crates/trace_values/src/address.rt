@@ -8,7 +8,7 @@ ghost use Rattle.trace_values.specs.View.{incoming_view};
 use crate::event::Incoming;
 use capture_form::{Distribution, Rule, distribution_of};
 
-/// Each delivery of the address goes to all its consumers, or to one.
+/// Each delivery of the address goes to all its consumers, and not to one.
 pub fn has_multicast(rules: &[Rule], address: &[u8]) -> bool
     ensures { result ≡ law.has_multicast rules.now address.now }
 {

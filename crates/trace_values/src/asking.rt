@@ -83,6 +83,7 @@ fn is_dynamic_address(address: &[u8], number: u64) -> bool
 /// The address for which a client's attach asks.
 #[derive(Clone, Copy)]
 pub enum AskedAddress<'a> {
+    /// The one that its target or source names; empty where that is no text.
     Given(&'a [u8]),
     /// One that is made up, for the attach in this record.
     Made(u64),
@@ -149,7 +150,7 @@ impl<'a> Asking<'a> {
 
     /// How the router's sender settles: to a producer as it says; to a consumer as it asks, and settled where the address,
     /// which is this one, is multicast.
-    fn answering_sender_mode(&self, rules: &[Rule], address: &[u8]) -> SenderSettleMode
+    pub fn answering_sender_mode(&self, rules: &[Rule], address: &[u8]) -> SenderSettleMode
         ensures { result ≡ law.answering_sender_mode rules.now address.now self.now.sender_mode self.now.role }
     {
         match self.role {
@@ -158,7 +159,8 @@ impl<'a> Asking<'a> {
         }
     }
 
-    fn answering_receiver_mode(&self) -> ReceiverSettleMode
+    /// When the router's receiver settles: at once from a producer; from a consumer as it asks.
+    pub fn answering_receiver_mode(&self) -> ReceiverSettleMode
         ensures { result ≡ law.answering_receiver_mode self.now.receiver_mode self.now.role }
     {
         match self.role {

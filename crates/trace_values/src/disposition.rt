@@ -35,7 +35,7 @@ impl<'a> Decision<'a> {
 
 /// The id stands from the first to the last, counted as serial numbers; a range of half of all ids or more covers
 /// nothing.
-pub fn covers(first: u32, last: u32, id: u32) -> bool
+fn covers(first: u32, last: u32, id: u32) -> bool
     ensures { result ≡ ranges.covers first last id }
 {
     let span = last.wrapping_sub(first);
@@ -43,7 +43,7 @@ pub fn covers(first: u32, last: u32, id: u32) -> bool
 }
 
 /// The disposition covers a delivery of this id; one without id is covered by nothing.
-pub fn covers_id(fields: &Disposition, id: Option<u32>) -> bool
+pub(crate) fn covers_id(fields: &Disposition, id: Option<u32>) -> bool
     ensures { result ≡ law.covers_id (disposition_fields fields.now) id }
 {
     match id {
@@ -53,7 +53,7 @@ pub fn covers_id(fields: &Disposition, id: Option<u32>) -> bool
 }
 
 /// The outcome that it tells: a terminal state (part 3, section 3.4).
-pub fn terminal_state<'a>(fields: &Disposition<'a>) -> Option<State<'a>>
+fn terminal_state<'a>(fields: &Disposition<'a>) -> Option<State<'a>>
     ensures { option_map state_view result ≡ law.terminal_state (disposition_fields fields.now) }
 {
     match fields.state {

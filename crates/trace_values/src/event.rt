@@ -60,9 +60,13 @@ pub enum Moment<'a> {
 /// A record in its place.
 #[derive(Clone, Copy)]
 pub struct Event<'a> {
+    /// Its place in the capture, from 0.
     pub number: u64,
+    /// That of the record.
     pub connection: u32,
+    /// What happened.
     pub moment: Moment<'a>,
+    /// What the router certifies of it.
     pub note: Note,
     /// The live session on which a frame stands; an Out begin's own.
     pub session: Option<Session>,

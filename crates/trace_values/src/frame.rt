@@ -21,6 +21,7 @@ pub enum Body<'a> {
     Empty(u16),
     /// A frame on this channel that begins with no performative.
     NoPerformative(u16),
+    /// A frame that begins with a performative.
     Says(Spoken<'a>),
 }
 

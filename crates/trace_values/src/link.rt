@@ -4,7 +4,7 @@ ghost use Rattle.std.specs.Prelude.{◌≡◌, option_map};
 ghost use Rattle.amqp_perf.specs.View.{attach_fields};
 ghost use Rattle.amqp_perf.specs.NestedViews.{address_view, terminus_view, target_view};
 ghost use Rattle.trace_events.specs.Link.{opens_link, address_text, source_address, target_address, address_at, first_count, is_settled_mode};
-ghost use Rattle.trace_values.specs.Known.{their_first_count};
+ghost use Rattle.trace_values.specs.Answering.{their_first_count};
 ghost use Rattle.trace_values.specs.View.{event_view};
 
 use crate::event::{Event, Link};
@@ -88,7 +88,7 @@ impl<'a> Link<'a> {
     ghost use Rattle.std.specs.Prelude.{◌≡◌};
     ghost use Rattle.amqp_perf.specs.View.{attach_fields};
     ghost use Rattle.trace_events.specs.Link.{is_producer, is_consumer};
-    ghost use Rattle.trace_values.specs.Known.{link_answering};
+    ghost use Rattle.trace_values.specs.Answering.{link_answering};
     ghost use Rattle.trace_values.specs.View.{link_view};
 
     /// The link that an Out attach, in this record, opens in answer to the client's of this initial-delivery-count.

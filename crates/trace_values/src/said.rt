@@ -3,7 +3,7 @@
 
 use crate::event::{Event, Link, Moment};
 use crate::frame::{Frame, Spoken};
-use amqp_perf::{Attach, Begin, Detach, Disposition, Flow, Open, Performative, Transfer};
+use amqp_perf::{Attach, Begin, Detach, Disposition, Flow, Open, Performative, Role, Transfer};
 use trace_events::Session;
 
 impl<'a> Moment<'a> {
@@ -83,6 +83,7 @@ impl<'a> Event<'a> {
     ghost use Rattle.amqp_perf.specs.View.{open_fields, attach_fields, transfer_fields, disposition_fields, detach_fields};
     ghost use Rattle.trace_events.specs.Event.{is_on_channel, is_on_session, is_on_link};
     ghost use Rattle.trace_events.specs.Said as said;
+    ghost use Rattle.trace_clauses.specs.Verdict.{tells_outcome};
     ghost use Rattle.trace_values.specs.View.{spoken_view, link_view, event_view};
 
     /// It stands on the channel of the connection.
@@ -249,6 +250,16 @@ impl<'a> Event<'a> {
         match self.out_spoken()?.performative {
             Performative::Disposition(disposition) => Some(disposition),
             _ => None,
+        }
+    }
+
+    /// It tells an outcome.
+    pub fn tells_outcome(&self) -> bool
+        ensures { result ≡ tells_outcome (event_view self.now) }
+    {
+        match self.out_disposition() {
+            Some(disposition) => disposition.role == Role::Receiver,
+            None => false,
         }
     }
 

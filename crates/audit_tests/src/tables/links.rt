@@ -7,8 +7,7 @@ use amqp_perf::{Attach, ErrorCondition, Flow, Performative, Role, Transfer};
 use audit_tables::{Connections, LinkCounts, Links};
 use pairing_cert::Note;
 use std::test::Fail;
-use trace_events::Session;
-use trace_events::Fault;
+use trace_events::{Fault, Session};
 use trace_values::{Event, Frame, Link, Moment, Outgoing};
 
 // A consumer's attach from the queue `q`, and the link that the router opens in answer to it in record 21.

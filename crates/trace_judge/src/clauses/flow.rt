@@ -25,8 +25,8 @@ fn has_session_numbers<P: Counts>(past: &P, flow: &Flow, session: Session) -> bo
         && flow.next_incoming_id == Some(past.next_incoming_id(session))
 }
 
-/// A producer's link is to be given more credit: that and its undecided deliveries have come down so far, and
-/// someone may take its deliveries.
+/// A producer's link may be given more credit: its given credit and its undecided deliveries together have come down to the
+/// low mark, and its address is multicast or has a consumer.
 pub fn may_be_topped_up<'a, P: Inputs<'a> + Counts>(past: &P, rules: &[Rule], link: &Link) -> bool
     requires few { P.is_short past.now }
     ensures { (history : Events) → P.stands_for past.now rules.now history → IsLiveLink (link_view link.now) history →
@@ -94,8 +94,8 @@ fn drained_count<P: Counts>(past: &P, link: &Link) -> u32
         .wrapping_add(past.link_credit(link))
 }
 
-/// The flow says that all credit is used up.
-pub(crate) fn is_drain_answer<P: Counts>(past: &P, rules: &[Rule], flow: &Flow, link: &Link) -> bool
+/// A drain answer of a consumer's link: the flow says that all credit is used up, by the count, where it may be.
+fn is_drain_answer<P: Counts>(past: &P, rules: &[Rule], flow: &Flow, link: &Link) -> bool
     requires few { P.is_short past.now }
     ensures { (history : Events) → P.stands_for past.now rules.now history → IsLiveLink (link_view link.now) history →
         (result ≡ law.is_drain_answer rules.now flow.now history (link_view link.now)) }

@@ -16,7 +16,7 @@ pub trait Openings<'a>: History {
     ghost use Rattle.trace_events.specs.Link as links;
     ghost use Rattle.trace_events.specs.Session as sessions;
     ghost use Rattle.trace_events.specs.Session.{IsLiveOn};
-    ghost use Rattle.trace_values.specs.Known.{their_first_count};
+    ghost use Rattle.trace_values.specs.Answering.{their_first_count};
     ghost use Rattle.trace_values.specs.View.{Events, asking_view};
 
     /// The connection was opened.

@@ -102,7 +102,7 @@ struct BrokenByNext;
 
 impl Asked for BrokenByNext {
     ghost use Rattle.std.specs.Prelude.{◌≡◌};
-    ghost use Rattle.trace_judge.specs.First.{broken_by_first};
+    ghost use Rattle.trace_law.specs.Check.{broken_by_first};
 
     type Answer = Option<Clause>;
 

@@ -1,26 +1,13 @@
 //! What a capture holds, counted.
 
 ghost use Rattle.std.specs.Prelude.{◌≡◌};
-ghost use Rattle.trace_clauses.specs.Verdict.{tally_of, tells_outcome};
+ghost use Rattle.trace_clauses.specs.Verdict.{tally_of};
 ghost use Rattle.trace_events.specs.History.{history};
-ghost use Rattle.trace_values.specs.View.{event_view};
 
 use crate::ask::walk::{Asked, walk};
 use crate::past::Past;
-use amqp_perf::Role;
 use capture_form::{Capture, Record, Rule};
 use trace_clauses::Tally;
-use trace_values::Event;
-
-/// It tells an outcome.
-fn tells_outcome(event: &Event) -> bool
-    ensures { result ≡ tells_outcome (event_view event.now) }
-{
-    match event.out_disposition() {
-        Some(disposition) => disposition.role == Role::Receiver,
-        None => false,
-    }
-}
 
 impl<'p, 'a> Past<'p, 'a> {
     ghost use Rattle.std.specs.Prelude.{◌≡◌, ◌<◌, ◌^◌, length, count_by};
@@ -52,7 +39,7 @@ impl<'p, 'a> Past<'p, 'a> {
         let mut count = 0;
         let mut rest = self;
         while let Past::After(event, earlier) = rest {
-            if tells_outcome(event) {
+            if event.tells_outcome() {
                 count += 1;
             }
             rest = *earlier;

@@ -48,7 +48,7 @@ impl<'p, 'a> Past<'p, 'a> {
     }
 
     /// The earliest such delivery of the id on the session.
-    #[tactic(auto, using(trace_values::proofs::Earliest::the_earliest))]
+    #[tactic(auto, using(trace_events::proofs::Earliest::the_earliest))]
     pub(crate) fn to_settle(&self, session: Session, id: u32) -> Option<Outgoing<'a>>
         ensures { option_map outgoing_view result ≡ law.to_settle session id (events self.now) }
     {

@@ -2,7 +2,7 @@ use Rattle.std.proofs.Common.{option_map}
 use Rattle.amqp_perf.specs.NestedViews.{state_view}
 use Rattle.pairing_cert.specs.declared.note.Note.TheVariants as notes
 use Rattle.trace_clauses.specs.Written.{spoken_octets}
-use Rattle.trace_judge.specs.OutcomeSize.{told_view}
+use Rattle.trace_judge.specs.Told.{told_view}
 use Rattle.trace_values.specs.View.{incoming_view}
 use Rattle.route_dues.specs.Outcomes.{outcome_frame}
 use Rattle.due_frames.specs.Dues.{IsFrameFor}

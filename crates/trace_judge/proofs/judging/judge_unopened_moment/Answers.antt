@@ -6,7 +6,7 @@ use Rattle.trace_events.specs.History as law
 use Rattle.trace_events.proofs.Standing.{placed-stands}
 use Rattle.trace_clauses.proofs.LiveLinks.{placed-names}
 use Rattle.trace_values.specs.View.{moment_view}
-use Rattle.trace_judge.proofs.judging.judge_moment.Goals as goal
+use Rattle.trace_judge.proofs.judging.judge_unopened_moment.Goals as goal
 
 -- each step gives what its definition gives of the step before it, and leaves session and link as they were placed
 pub returns : goal.returns
