@@ -2,20 +2,17 @@
 
 ghost use Rattle.capture_form.specs.Rules.{RuleText};
 ghost use Rattle.std.specs.Prelude.{List, ◌≡◌, is_some, IfSome, option_and_then, option_map};
-ghost use Rattle.amqp_perf.specs.NestedViews.{address_view, terminus_view, target_view};
-ghost use Rattle.amqp_perf.specs.View.{attach_fields};
-ghost use Rattle.trace_events.specs.Link as links;
 ghost use Rattle.trace_events.specs.Session.{IsLiveOn, StandsLive};
 ghost use Rattle.trace_clauses.specs.LinkClause as attaches;
 ghost use Rattle.trace_values.specs.View.{Events, asking_view, event_view};
 ghost use Rattle.trace_events.specs.Said as said;
 ghost use Rattle.refusal_facts.specs.OpeningFacts.{AreAttach, AreBegin};
 
-use amqp_perf::{Address, Attach, ReceiverSettleMode, Role, SenderSettleMode, Target, Terminus};
+use amqp_perf::{Attach, ReceiverSettleMode, SenderSettleMode};
 use capture_form::Rule;
 use trace_events::Session;
 use trace_judge::Openings;
-use trace_values::{Asking, Event, has_multicast};
+use trace_values::{Asking, Event, address_at};
 
 /// A begin of the router's.
 #[derive(Clone, Copy)]
@@ -60,44 +57,6 @@ pub(crate) fn begin_facts<'a, P: Openings<'a>>(past: &P, event: &Event) -> Optio
     })
 }
 
-/// An address that is a text; any other is empty.
-fn address_text<'a>(address: Option<Address<'a>>) -> &'a [u8]
-    ensures { result.now ≡ links.address_text (option_map address_view address.entry) }
-{
-    match address {
-        Some(Address::Text(text)) => text.as_bytes(),
-        _ => &[],
-    }
-}
-
-fn source_address<'a>(source: Option<Terminus<'a>>) -> &'a [u8]
-    ensures { result.now ≡ links.source_address (option_map terminus_view source.entry) }
-{
-    match source {
-        Some(terminus) => address_text(terminus.address),
-        None => &[],
-    }
-}
-
-fn target_address<'a>(target: Option<Target<'a>>) -> &'a [u8]
-    ensures { result.now ≡ links.target_address (option_map target_view target.entry) }
-{
-    match target {
-        Some(Target::Terminus(terminus)) => address_text(terminus.address),
-        _ => &[],
-    }
-}
-
-/// The address of a link, by the role that the router has on it.
-fn address_at<'a>(role: Role, attach: &Attach<'a>) -> &'a [u8]
-    ensures { result.now ≡ links.address_at role (attach_fields attach.now) }
-{
-    match role {
-        Role::Receiver => target_address(attach.target),
-        Role::Sender => source_address(attach.source),
-    }
-}
-
 /// How the router's sender is to settle on a link of this address, if one is asked for.
 fn due_sender_mode(
     rules: &[Rule],
@@ -107,10 +66,7 @@ fn due_sender_mode(
     ensures { result ≡ option_map (λ a. attaches.answering_sender_mode rules.now address.now a.sender_mode a.role) (option_map asking_view asked.now) }
 {
     match asked {
-        Some(asked) => match asked.role {
-            Role::Receiver if has_multicast(rules, address) => Some(SenderSettleMode::Settled),
-            _ => Some(asked.sender_mode),
-        },
+        Some(asked) => Some(asked.answering_sender_mode(rules, address)),
         None => None,
     }
 }
@@ -120,10 +76,7 @@ fn due_receiver_mode(asked: &Option<Asking>) -> Option<ReceiverSettleMode>
     ensures { result ≡ option_map (λ a. attaches.answering_receiver_mode a.receiver_mode a.role) (option_map asking_view asked.now) }
 {
     match asked {
-        Some(asked) => match asked.role {
-            Role::Sender => Some(ReceiverSettleMode::First),
-            Role::Receiver => Some(asked.receiver_mode),
-        },
+        Some(asked) => Some(asked.answering_receiver_mode()),
         None => None,
     }
 }
