@@ -13,9 +13,8 @@ use Rattle.trace_clauses.proofs.Made.{write}
 use Rattle.trace_events.specs.History.{history}
 use Rattle.audit_ledger.specs.Ledger.{broken_behind}
 use Rattle.audit_core.specs.declared.auditor.Auditor.{Auditor}
-use Rattle.audit_core.specs.declared.verdict.Refusal.{Refusal}
 use Rattle.audit_core.specs.declared.verdict.Refusal.TheVariants.{Broken, Memory}
-use Rattle.audit_core.specs.Auditor.{Agrees, StandsFor, Stopped, IsRefusalBehind}
+use Rattle.audit_core.specs.Auditor.{Agrees, StandsFor, IsRefusalBehind}
 use Rattle.audit_core.specs.Verdict.{WantsMemory, AnswersCapture}
 
 -- the router's open on a connection that nobody opened

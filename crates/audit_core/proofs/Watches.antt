@@ -1,5 +1,5 @@
 -- What a watcher has seen of octets where their reading ends.
-use Rattle.std.proofs.Common.{◌≡◌, refl, sym, ap, subst, ◌∙◌, ℕ, List, [], ◌∷◌, ◌++◌, length, Option, None, Some}
+use Rattle.std.proofs.Common.{◌≡◌, sym, ap, subst, ◌∙◌, ℕ, List, [], ◌++◌, length, Option, None, Some}
 use Rattle.std.specs.Prelude.{◌≢◌, ◌<◌, Err, IfSome, is_ok}
 use Rattle.std.specs.Io.KnownBytes.{Consumes}
 use Rattle.std.proofs.lemmas.List.{append-nil}
@@ -24,7 +24,7 @@ use Rattle.audit_core.specs.declared.verdict.Verdict.{Verdict}
 use Rattle.audit_core.specs.declared.verdict.Verdict.TheVariants.{Accepted}
 use Rattle.audit_core.specs.Auditor.{IsRefusalBehind, StandsFor, rules_of}
 use Rattle.audit_core.specs.Verdict.{verdict_of_fault, verdict_of_refusal}
-use Rattle.audit_core.specs.Watching.{SawAll, SawRefused, Watched}
+use Rattle.audit_core.specs.Watching.{SawAll, Watched}
 use Rattle.audit_core.proofs.ReadSoFar.{ReadSoFar}
 use Rattle.audit_core.proofs.ReadSteps.{begins}
 use Rattle.audit_core.proofs.Streams.{longer_bounds, longer_begins, reads_to}

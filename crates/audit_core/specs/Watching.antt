@@ -30,8 +30,8 @@ pub record SawRefused {W : Type 0} (refuses : W → List RuleText → List Recor
   pub place : number ≡ length before
   pub seen : refuses watcher rules before entry
 
--- what a watcher has seen at a verdict: all records of what is accepted, the one that is refused, and the records in front of
--- the first fault of a text
+-- what a watcher has seen at a verdict: all records of what is accepted, the refused one behind those in front of it, and the
+-- records in front of the first fault of a text; nothing is said where memory was refused or a read failed
 abbrev pub Watched : {W : Type 0} → (W → List Record → Type 0) → (W → List RuleText → List Record → Record → Type 0) → W → List ℕ → Verdict → Type 0
 Watched saw refuses watcher octets (Accepted tally) = SawAll saw watcher octets
 Watched saw refuses watcher octets (Refused number clause) = SawRefused refuses watcher octets number

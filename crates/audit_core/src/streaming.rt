@@ -31,15 +31,16 @@ where
     audit_watched(alloc, reader, &mut Unwatched)
 }
 
-/// The same verdict. On its way a watcher is told of each record that is taken, and of the one that is refused. Where the
-/// watcher lacks memory for a record, the audit ends there with `NoMemory`.
+/// The verdict of `audit_stream`. On its way a watcher is told of each record that is taken, and of the one that is refused.
+/// Where the watcher lacks memory for a record, the audit ends there with `NoMemory`. Of a watcher that has seen records before,
+/// `watched` says nothing.
 pub fn audit_watched<R: Read, W: Watcher>(alloc: Global, reader: R, watcher: &mut W) -> Verdict
 where
     R: Drop,
     ensures answers { IfSome (R.remaining reader) (λ octets. AnswersRead octets result) }
     ensures kept { IfSome (R.remaining reader) (λ octets. (tally : Tally) → result ≡ Accepted tally → IsKept octets) }
-    // A watcher that had seen none was told of each record that was taken, and of the one that was refused, unless memory was
-    // refused or a read failed.
+    // A watcher that had seen none saw, at `Accepted`, all records; at `Refused`, the refused one behind the others; at
+    // `Malformed`, those in front of the fault.
     ensures watched { W.saw watcher.old [] → IfSome (R.remaining reader) (λ octets. Watched W.saw W.saw_refused watcher.new octets result) }
 {
     match Reader::start(alloc, reader) {

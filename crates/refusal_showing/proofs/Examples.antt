@@ -4,8 +4,12 @@ use Rattle.std.proofs.lemmas.List.{length-append}
 use Rattle.capture_form.specs.declared.records.Record.{Record}
 use Rattle.capture_form.specs.Rules.{RuleText}
 use Rattle.capture_form.specs.Text.{Trace, IsCapture, text}
-use Rattle.capture_form.proofs.ReadingLaws.{one_capture}
-use Rattle.audit_core.specs.Watching.{SawAll, SawRefused}
+use Rattle.capture_form.specs.declared.fault.FormKind.{FormKind}
+use Rattle.capture_form.specs.declared.fault.FormKind.TheVariants as kinds
+use Rattle.capture_form.specs.Reading.{announced_at, head_at, magic_at, reading}
+use Rattle.capture_form.proofs.ReadingLaws.{headless, one_capture}
+use Rattle.audit_core.specs.declared.verdict.Verdict.TheVariants.{Malformed}
+use Rattle.audit_core.specs.Watching.{SawAll, SawRefused, Watched}
 
 -- a watcher that keeps the records of which it is told, and knows just these
 abbrev keeps : List Record → List Record → Type 0
@@ -34,3 +38,14 @@ as_many_seen kept octets number s =
 
 nothing_seen : (octets : List ℕ) (number : ℕ) → SawRefused keeps_refused [] octets number → ⊥
 nothing_seen octets number s = absurd (omega (arith, as_many_seen [] octets number s))
+
+-- in front of a fault it has seen the records that can be read where it keeps just these, and where there are none, not where
+-- it keeps one
+front_seen : (octets : List ℕ) (offset : ℕ) (form_kind : FormKind) → Watched keeps keeps_refused (reading octets).records octets (Malformed offset form_kind)
+front_seen octets offset form_kind = refl
+
+one_more_seen : (entry : Record) → Watched keeps keeps_refused (entry ∷ []) [] (Malformed 0 kinds.Magic) → ⊥
+unfolding head_at announced_at magic_at
+one_more_seen entry s =
+    let none : entry ∷ [] ≡ [] = s ∙ (headless [] refl).1 in
+    absurd cc
