@@ -5,7 +5,5 @@
 #![tactic(auto)]
 
 mod ids;
-#[cfg(test)]
-mod tests;
 
 pub use ids::{Ids, Scope, Sender};

@@ -21,6 +21,3 @@ mod writer;
 
 pub use laws::laws_of_packets;
 pub use writer::{PacketFault, PacketWriter};
-
-#[cfg(test)]
-mod tests;

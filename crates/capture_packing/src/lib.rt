@@ -7,7 +7,5 @@
 #![tactic(auto)]
 
 mod packing;
-#[cfg(test)]
-mod tests;
 
 pub use packing::{NotPacked, pack_capture};

@@ -13,8 +13,6 @@ mod links;
 mod row;
 mod summary;
 mod table;
-#[cfg(test)]
-mod tests;
 mod waiting;
 
 pub use row::Row;

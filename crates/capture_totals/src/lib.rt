@@ -6,8 +6,6 @@
 #![tactic(auto)]
 
 mod rows;
-#[cfg(test)]
-mod tests;
 mod totals;
 
 pub use rows::TotalsByRow;

@@ -13,7 +13,5 @@ mod flaws;
 mod item;
 mod line;
 mod page;
-#[cfg(test)]
-mod tests;
 
 pub use page::Page;

@@ -5,6 +5,3 @@
 mod fields;
 
 pub use fields::{Fields, framed};
-
-#[cfg(test)]
-mod tests;

@@ -17,6 +17,3 @@ mod seat;
 pub use exchange::Exchange;
 pub use port::ExchangePort;
 pub use seat::Seat;
-
-#[cfg(test)]
-mod tests;

@@ -21,6 +21,3 @@ pub use given::{GivenCredit, Over};
 pub use history::{ConsumerEvent, ProducerEvent, given_credit_after, sender_credit_after};
 pub use laws::laws_of_flows;
 pub use sender::SenderCredit;
-
-#[cfg(test)]
-mod tests;

@@ -4,6 +4,3 @@
 mod serving;
 
 pub use serving::serve;
-
-#[cfg(test)]
-mod tests;

@@ -11,8 +11,6 @@ mod groups;
 mod id_on;
 mod number_set;
 mod octet_groups;
-#[cfg(test)]
-mod tests;
 
 pub use ascending::{Ascending, Ascent, NumberTest};
 pub use group::Group;

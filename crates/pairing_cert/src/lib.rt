@@ -8,6 +8,3 @@
 mod note;
 
 pub use note::{Note, NoteFault, Why};
-
-#[cfg(test)]
-mod tests;

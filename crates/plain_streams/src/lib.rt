@@ -5,6 +5,3 @@
 mod reading;
 
 pub use reading::{AMQP_HEADER, MECHANISMS, REFUSAL, Reading, SASL_HEADER, WELCOME, read};
-
-#[cfg(test)]
-mod tests;

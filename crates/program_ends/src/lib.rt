@@ -11,8 +11,6 @@
 
 mod growth;
 mod telling;
-#[cfg(test)]
-mod tests;
 mod unread;
 mod words;
 

@@ -6,6 +6,3 @@ mod item;
 
 pub use fault::StepFault;
 pub use item::Item;
-
-#[cfg(test)]
-mod tests;

@@ -2,7 +2,5 @@
 #![tactic(auto)]
 
 mod lives;
-#[cfg(test)]
-mod tests;
 
 pub use lives::Lives;

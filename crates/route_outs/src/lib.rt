@@ -3,7 +3,5 @@
 #![tactic(auto)]
 
 mod outs;
-#[cfg(test)]
-mod tests;
 
 pub use outs::Outs;

@@ -22,6 +22,3 @@ pub use outcome::Outcome;
 pub use service::Service;
 pub use telling::tell;
 pub use words::Words;
-
-#[cfg(test)]
-mod tests;

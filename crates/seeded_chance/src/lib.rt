@@ -4,6 +4,3 @@
 mod chance;
 
 pub use chance::Chance;
-
-#[cfg(test)]
-mod tests;

@@ -14,6 +14,3 @@ mod window;
 
 pub use history::window_after;
 pub use window::{Violation, Window};
-
-#[cfg(test)]
-mod tests;

@@ -18,6 +18,3 @@ mod watch;
 
 pub use opening::{open_slots, slots_at};
 pub use slot::Slot;
-
-#[cfg(test)]
-mod tests;

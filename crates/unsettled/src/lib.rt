@@ -21,6 +21,3 @@ pub use history::{PartEvent, inbound_after, outstanding_after};
 pub use inbound::Inbound;
 pub use outstanding::{Covered, Outstanding};
 pub use partial::Partial;
-
-#[cfg(test)]
-mod tests;
