@@ -1,9 +1,7 @@
 //! A line for each record that is asked for.
 
-use capture_choice::{Choice, Trail, Traits};
-use capture_names::Names;
 use capture_showing::View;
-use capture_view::RecordView;
+use capture_view::{Choice, Names, RecordView, Trail, Traits};
 use capture_words::Page;
 use std::alloc::{AllocError, Global};
 
@@ -47,7 +45,7 @@ impl<'a> Lines<'a> {
 }
 
 impl View for Lines<'_> {
-    ghost use Rattle.capture_names.specs.Tables.{StandsFor};
+    ghost use Rattle.capture_view.specs.Tables.{StandsFor};
 
     ghost agrees = { λ lines past. StandsFor lines.names past };
 

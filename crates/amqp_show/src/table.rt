@@ -22,7 +22,7 @@ impl Table {
 
 impl View for Table {
     ghost use Rattle.std.specs.Prelude.{◌≡◌};
-    ghost use Rattle.capture_totals.specs.Totals.{counted};
+    ghost use Rattle.capture_view.specs.Totals.{counted};
     ghost use Rattle.capture_summary.specs.Summary.{totals_of};
 
     ghost agrees = { λ table past. totals_of table.summary ≡ counted past };

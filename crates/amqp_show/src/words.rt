@@ -4,7 +4,7 @@ ghost use Rattle.std.specs.Prelude.{◌≡◌, false, IfOk};
 ghost use Rattle.clap.specs.Words.{app_of, rule_of};
 ghost use Rattle.amqp_show.specs.Words.{asking_argument, bare_command, command_line, flag_argument};
 
-use capture_choice::Choice;
+use capture_view::Choice;
 use clap::builder::ValueParser;
 use clap::{Arg, ArgAction, Command, Error, value_parser};
 use std::alloc::{AllocError, Global};

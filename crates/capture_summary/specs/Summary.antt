@@ -1,5 +1,5 @@
 -- The totals of a summary.
-use Rattle.capture_totals.specs.declared.totals.Totals.{Totals}
+use Rattle.capture_view.specs.declared.totals.Totals.{Totals}
 use Rattle.capture_summary.specs.declared.summary.Summary.{Summary}
 
 -- its totals

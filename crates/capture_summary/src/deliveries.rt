@@ -3,8 +3,7 @@
 use crate::links::Links;
 use crate::row::{Delivery, Progress};
 use amqp_perf::{Disposition, Outcome, Role, Transfer};
-use capture_ids::{Scope, Sender};
-use capture_names::{LinkKey, LinkRole, Writer};
+use capture_view::{LinkKey, LinkRole, Scope, Sender, Writer};
 use pairing_cert::Note;
 use std::alloc::AllocError;
 

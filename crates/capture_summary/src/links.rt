@@ -4,9 +4,9 @@ use crate::deliveries::Part;
 use crate::row::{Delivery, Row};
 use crate::waiting::ToSend;
 use amqp_perf::{Attach, Performative};
-use capture_ids::{Ids, Scope, Sender};
-use capture_names::{Link, LinkKey, Writer, link_told};
-use capture_view::{Happened, RecordView, Said};
+use capture_view::{
+    Happened, Ids, Link, LinkKey, RecordView, Said, Scope, Sender, Writer, link_told,
+};
 use std::alloc::{AllocError, Global};
 use std::collections::{HashMap, HashSet};
 

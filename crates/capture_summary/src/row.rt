@@ -1,7 +1,7 @@
 //! A link of the table.
 
 use amqp_perf::Outcome;
-use capture_names::Link;
+use capture_view::Link;
 
 /// A link, and what came of the deliveries that began on it. Numbers stop at 18446744073709551615.
 #[derive(Debug, Drop)]

@@ -2,8 +2,7 @@
 
 use crate::links::Links;
 use crate::row::Row;
-use capture_totals::Totals;
-use capture_view::RecordView;
+use capture_view::{RecordView, Totals};
 use std::alloc::{AllocError, Global};
 
 /// Totals, connections, sessions and links of the records so far.
@@ -16,7 +15,7 @@ pub struct Summary {
 impl Summary {
     ghost use Rattle.std.specs.Prelude.{◌≡◌, []};
     ghost use Rattle.capture_view.specs.Viewed.{viewed};
-    ghost use Rattle.capture_totals.specs.Totals.{CountsOneMore, counted};
+    ghost use Rattle.capture_view.specs.Totals.{CountsOneMore, counted};
     ghost use Rattle.capture_summary.specs.Summary.{totals_of};
 
     /// Of no records.

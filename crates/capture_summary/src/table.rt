@@ -2,8 +2,7 @@
 
 use crate::row::Row;
 use crate::summary::Summary;
-use capture_names::LinkRole;
-use capture_totals::TotalsByRow;
+use capture_view::{LinkRole, TotalsByRow};
 use capture_words::Page;
 use std::alloc::AllocError;
 

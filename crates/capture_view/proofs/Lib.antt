@@ -1,1 +1,4 @@
 mod Examples
+mod NamesExamples
+mod TotalsExamples
+mod ChoiceExamples

@@ -1,3 +1,11 @@
 pub mod Saying
 pub mod Viewed
 pub mod State
+pub mod Told
+pub mod Named
+pub mod Tables
+pub mod Numbers
+pub mod Rows
+pub mod Shares
+pub mod Totals
+pub mod Choice

@@ -2,8 +2,7 @@
 
 use crate::page::Page;
 use amqp_perf::Performative;
-use capture_names::{AddressTold, LinkRole, LinkTold};
-use capture_view::{Happened, RecordView, Said};
+use capture_view::{AddressTold, Happened, LinkRole, LinkTold, RecordView, Said};
 use pairing_cert::{Note, Why};
 use std::alloc::AllocError;
 

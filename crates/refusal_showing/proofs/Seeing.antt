@@ -5,8 +5,8 @@ use Rattle.std.proofs.Math.Nat.{min-eq_left}
 use Rattle.std.proofs.lemmas.List.{length-append}
 use Rattle.capture_form.specs.declared.records.Record.{Record}
 use Rattle.capture_view.specs.Viewed.{Viewed, view_of}
-use Rattle.capture_names.specs.declared.names.Names.{Names}
-use Rattle.capture_names.specs.Tables.{StandsFor as NamesStand, TakesOneMore as NamesTake}
+use Rattle.capture_view.specs.declared.names.Names.{Names}
+use Rattle.capture_view.specs.Tables.{StandsFor as NamesStand, TakesOneMore as NamesTake}
 use Rattle.capture_showing.specs.Taken.{views_of}
 use Rattle.capture_showing.proofs.Streaming.{views_push}
 use Rattle.refusal_origins.specs.Tables.{StandsFor as OriginsStand, TakesOneMore as OriginsTake}

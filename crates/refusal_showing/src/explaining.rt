@@ -2,8 +2,7 @@
 
 use audit_core::{Ledger, Watcher};
 use capture_form::{Record, Rule};
-use capture_names::Names;
-use capture_view::view_of;
+use capture_view::{Names, view_of};
 use capture_words::Page;
 use refusal_ledger::explain_refused;
 use refusal_origins::Origins;

@@ -5,10 +5,10 @@ use Rattle.pairing_cert.specs.declared.note.Note.TheVariants as notes
 use Rattle.pairing_cert.specs.declared.note.Why.TheVariants.{C, Z, S, L, N, M}
 use Rattle.capture_view.specs.Saying.{NoBody}
 use Rattle.capture_view.specs.Viewed.{Happening, Viewed, Opened, In, Out, Lost, Broken}
-use Rattle.capture_totals.specs.Numbers.{most}
-use Rattle.capture_totals.specs.Rows.{counted_by_row, is_row, tells, told, total_told}
-use Rattle.capture_totals.specs.Shares.{broken, inputs, lost, octets, of_input, opened, outputs, transfers}
-use Rattle.capture_totals.specs.Totals.{counted, plus, share}
+use Rattle.capture_view.specs.Numbers.{most}
+use Rattle.capture_view.specs.Rows.{counted_by_row, is_row, tells, told, total_told}
+use Rattle.capture_view.specs.Shares.{broken, inputs, lost, octets, of_input, opened, outputs, transfers}
+use Rattle.capture_view.specs.Totals.{counted, plus, share}
 
 abbrev noted : ℕ → Happening → Note → Viewed
 noted number happened note = record { number = number; connection = 0; happened = happened; note = note }

@@ -1,10 +1,10 @@
 -- The numbers of a capture's records.
 use Rattle.std.specs.Prelude.{◌≡◌, ℕ, ◌+◌, List, [], ◌∷◌, length}
 use Rattle.capture_view.specs.Viewed.{Happening, Viewed}
-use Rattle.capture_totals.specs.declared.totals.Totals.{Totals}
-use Rattle.capture_totals.specs.Numbers.{most}
-use Rattle.capture_totals.specs.Rows.{counted_by_row, plus_by_row, share_by_row}
-use Rattle.capture_totals.specs.Shares.{broken, inputs, lost, octets, of_input, of_output, opened, outputs, transfers}
+use Rattle.capture_view.specs.declared.totals.Totals.{Totals}
+use Rattle.capture_view.specs.Numbers.{most}
+use Rattle.capture_view.specs.Rows.{counted_by_row, plus_by_row, share_by_row}
+use Rattle.capture_view.specs.Shares.{broken, inputs, lost, octets, of_input, of_output, opened, outputs, transfers}
 
 -- the sum of what each record adds by what happened in it
 abbrev pub total : (Happening → ℕ) → List Viewed → ℕ

@@ -23,8 +23,8 @@ pub struct Link {
 
 impl Link {
     ghost use Rattle.std.specs.Prelude.{◌≡◌, IfOk};
-    ghost use Rattle.capture_names.specs.Told.{told_text};
-    ghost use Rattle.capture_names.specs.Named.{link_text};
+    ghost use Rattle.capture_view.specs.Told.{told_text};
+    ghost use Rattle.capture_view.specs.Named.{link_text};
 
     /// A copy of what an attach told.
     pub fn new(alloc: Global, told: &LinkTold<'_>) -> Result<Link, AllocError>
@@ -51,8 +51,8 @@ impl Link {
 
 impl LinkAddress {
     ghost use Rattle.std.specs.Prelude.{◌≡◌, IfOk};
-    ghost use Rattle.capture_names.specs.Told.{address_text};
-    ghost use Rattle.capture_names.specs.Named.{kept_address};
+    ghost use Rattle.capture_view.specs.Told.{address_text};
+    ghost use Rattle.capture_view.specs.Named.{kept_address};
 
     fn new(alloc: Global, told: AddressTold<'_>) -> Result<LinkAddress, AllocError>
         ensures { IfOk result (λ address. kept_address address ≡ address_text told.entry) }

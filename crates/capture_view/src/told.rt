@@ -3,7 +3,7 @@
 ghost use Rattle.std.specs.Prelude.{◌≡◌, option_map};
 ghost use Rattle.amqp_perf.specs.NestedViews.{target_view, terminus_view};
 ghost use Rattle.amqp_perf.specs.View.{attach_fields};
-ghost use Rattle.capture_names.specs.Told.{address_of, address_text, link_told, role_told, source_address, target_address, told_text};
+ghost use Rattle.capture_view.specs.Told.{address_of, address_text, link_told, role_told, source_address, target_address, told_text};
 
 use amqp_perf::{Address, Attach, Role, Target, Terminus};
 

@@ -3,12 +3,12 @@ use Rattle.std.specs.Prelude.{◌≡◌, ℕ, List, ◌∷◌, option_map}
 use Rattle.std.specs.HashMap.{get}
 use Rattle.capture_view.specs.Saying.{Saying}
 use Rattle.capture_view.specs.Viewed.{Viewed}
-use Rattle.capture_names.specs.declared.told.Writer.{Writer}
-use Rattle.capture_names.specs.declared.names.LinkKey.{LinkKey}
-use Rattle.capture_names.specs.declared.names.ChannelKey.{ChannelKey}
-use Rattle.capture_names.specs.declared.names.Attached.{Attached}
-use Rattle.capture_names.specs.declared.names.Names.{Names}
-use Rattle.capture_names.specs.Named.{Attachment, attach_on, attached_or, begin_on, begun_or, is_channel, is_link, last_attach, last_begin, link_text}
+use Rattle.capture_view.specs.declared.told.Writer.{Writer}
+use Rattle.capture_view.specs.declared.names.LinkKey.{LinkKey}
+use Rattle.capture_view.specs.declared.names.ChannelKey.{ChannelKey}
+use Rattle.capture_view.specs.declared.names.Attached.{Attached}
+use Rattle.capture_view.specs.declared.names.Names.{Names}
+use Rattle.capture_view.specs.Named.{Attachment, attach_on, attached_or, begin_on, begun_or, is_channel, is_link, last_attach, last_begin, link_text}
 
 abbrev pub attachment : Attached → Attachment
 attachment attached = record { number = attached.number; link = link_text attached.link }

@@ -5,9 +5,9 @@ use Rattle.pairing_cert.specs.declared.note.Note.TheVariants as notes
 use Rattle.pairing_cert.specs.declared.note.Why.{Why}
 use Rattle.pairing_cert.specs.declared.note.Why.TheVariants.{C, Z, S, L, N, M}
 use Rattle.capture_view.specs.Viewed.{Viewed}
-use Rattle.capture_totals.specs.declared.rows.TotalsByRow.{TotalsByRow}
-use Rattle.capture_totals.specs.Numbers.{most}
-use Rattle.capture_totals.specs.Shares.{of_output}
+use Rattle.capture_view.specs.declared.rows.TotalsByRow.{TotalsByRow}
+use Rattle.capture_view.specs.Numbers.{most}
+use Rattle.capture_view.specs.Shares.{of_output}
 
 -- 1 where the second row is the first
 abbrev pub is_row : Why → Why → ℕ

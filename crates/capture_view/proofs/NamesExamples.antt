@@ -5,12 +5,12 @@ use Rattle.amqp_perf.specs.Meaning.{AttachFields, TransferFields, AnAttach, ATra
 use Rattle.amqp_perf.specs.Nested.{AText, AnOther, ATerminus, ACoordinator}
 use Rattle.capture_view.specs.Saying.{NoBody, Says}
 use Rattle.capture_view.specs.Viewed.{In, Out, Opened}
-use Rattle.capture_names.specs.declared.told.Writer.TheVariants.{Client, Router}
-use Rattle.capture_names.specs.declared.told.LinkRole.TheVariants.{Producer, Consumer}
-use Rattle.capture_names.specs.declared.names.LinkKey.{LinkKey}
-use Rattle.capture_names.specs.declared.names.ChannelKey.{ChannelKey}
-use Rattle.capture_names.specs.Named.{Attachment, attach_by, attached_or, begin_by, begun_or, channel_by, is_channel, is_link, key_by, last_attach, last_begin, unless_begun}
-use Rattle.capture_names.specs.Told.{LinkText, NoAddress, TextAddress, OtherAddress, DynamicAddress, CoordinatorAddress, address_or_dynamic, link_told, role_told, source_address, target_address}
+use Rattle.capture_view.specs.declared.told.Writer.TheVariants.{Client, Router}
+use Rattle.capture_view.specs.declared.told.LinkRole.TheVariants.{Producer, Consumer}
+use Rattle.capture_view.specs.declared.names.LinkKey.{LinkKey}
+use Rattle.capture_view.specs.declared.names.ChannelKey.{ChannelKey}
+use Rattle.capture_view.specs.Named.{Attachment, attach_by, attached_or, begin_by, begun_or, channel_by, is_channel, is_link, key_by, last_attach, last_begin, unless_begun}
+use Rattle.capture_view.specs.Told.{LinkText, NoAddress, TextAddress, OtherAddress, DynamicAddress, CoordinatorAddress, address_or_dynamic, link_told, role_told, source_address, target_address}
 
 -- ---- keys
 

@@ -22,7 +22,7 @@ pub struct TotalsByRow {
 
 impl TotalsByRow {
     ghost use Rattle.std.specs.Prelude.{◌≡◌, []};
-    ghost use Rattle.capture_totals.specs.Rows.{counted_by_row, note_share, plus_by_row};
+    ghost use Rattle.capture_view.specs.Rows.{counted_by_row, note_share, plus_by_row};
 
     /// Of no records.
     pub(crate) fn new() -> TotalsByRow

@@ -5,14 +5,14 @@ use Rattle.std.specs.String.{string_bytes}
 use Rattle.amqp_perf.specs.Meaning.{Meaning, ABegin, AnAttach, AFlow, ATransfer, ADetach}
 use Rattle.capture_view.specs.Saying.{Saying, Says}
 use Rattle.capture_view.specs.Viewed.{Happening, In, Out, Viewed}
-use Rattle.capture_names.specs.declared.told.Writer.{Writer}
-use Rattle.capture_names.specs.declared.told.Writer.TheVariants.{Client, Router}
-use Rattle.capture_names.specs.declared.link.LinkAddress.{LinkAddress}
-use Rattle.capture_names.specs.declared.link.LinkAddress.TheVariants as kept
-use Rattle.capture_names.specs.declared.link.Link.{Link}
-use Rattle.capture_names.specs.declared.names.LinkKey.{LinkKey}
-use Rattle.capture_names.specs.declared.names.ChannelKey.{ChannelKey}
-use Rattle.capture_names.specs.Told.{LinkText, LinkAddressText, NoAddress, TextAddress, OtherAddress, DynamicAddress, CoordinatorAddress, link_told}
+use Rattle.capture_view.specs.declared.told.Writer.{Writer}
+use Rattle.capture_view.specs.declared.told.Writer.TheVariants.{Client, Router}
+use Rattle.capture_view.specs.declared.link.LinkAddress.{LinkAddress}
+use Rattle.capture_view.specs.declared.link.LinkAddress.TheVariants as kept
+use Rattle.capture_view.specs.declared.link.Link.{Link}
+use Rattle.capture_view.specs.declared.names.LinkKey.{LinkKey}
+use Rattle.capture_view.specs.declared.names.ChannelKey.{ChannelKey}
+use Rattle.capture_view.specs.Told.{LinkText, LinkAddressText, NoAddress, TextAddress, OtherAddress, DynamicAddress, CoordinatorAddress, link_told}
 
 -- ---- keys
 

@@ -1,8 +1,8 @@
 -- Records that are asked for, and records that are not.
 use Rattle.std.proofs.Common.{◌≡◌, ◌≤◌, ℕ, Bor, false, true, List, None, Some, refl, arith}
-use Rattle.capture_choice.specs.declared.choice.Choice.{Choice}
-use Rattle.capture_choice.specs.declared.choice.Traits.{Traits}
-use Rattle.capture_choice.specs.Choice.{IsAskedFor, IsInRange, IsOnConnection}
+use Rattle.capture_view.specs.declared.choice.Choice.{Choice}
+use Rattle.capture_view.specs.declared.choice.Traits.{Traits}
+use Rattle.capture_view.specs.Choice.{IsAskedFor, IsInRange, IsOnConnection}
 
 -- records 3 to 5 of connection 1
 abbrev asked : Choice

@@ -1,8 +1,8 @@
 //! Counters over records.
 
 use crate::rows::TotalsByRow;
+use crate::{Happened, RecordView, Said};
 use amqp_perf::Performative;
-use capture_view::{Happened, RecordView, Said};
 
 /// How many records, by what happened, how many of them are transfers, how many octets their payloads have, and how many
 /// tell an outcome, by its row. Each number stops at 18446744073709551615.
@@ -27,7 +27,7 @@ pub struct Totals {
 impl Totals {
     ghost use Rattle.std.specs.Prelude.{◌≡◌, []};
     ghost use Rattle.capture_view.specs.Viewed.{viewed};
-    ghost use Rattle.capture_totals.specs.Totals.{CountsOneMore, counted, plus, share};
+    ghost use Rattle.capture_view.specs.Totals.{CountsOneMore, counted, plus, share};
 
     /// Of no records.
     pub fn new() -> Totals
@@ -102,7 +102,7 @@ impl Totals {
 
 ghost use Rattle.std.specs.Prelude.{◌≡◌};
 ghost use Rattle.capture_view.specs.Saying.{saying};
-ghost use Rattle.capture_totals.specs.Shares.{octets, transfers};
+ghost use Rattle.capture_view.specs.Shares.{octets, transfers};
 
 /// 1 where a transfer is said.
 fn transfers(said: Said<'_>) -> u64

@@ -1,8 +1,8 @@
 -- Which records are asked for (own format).
 use Rattle.std.specs.Prelude.{◌≡◌, ℕ, ◌≤◌, List, Option, Some, None, IfSome, IsTrue}
 use Rattle.std.specs.Borrow.{Bor}
-use Rattle.capture_choice.specs.declared.choice.Choice.{Choice}
-use Rattle.capture_choice.specs.declared.choice.Traits.{Traits}
+use Rattle.capture_view.specs.declared.choice.Choice.{Choice}
+use Rattle.capture_view.specs.declared.choice.Traits.{Traits}
 
 -- the number is neither before the first that is asked for nor behind the last
 pub record IsInRange (choice : Choice) (number : ℕ) : Type 0 where

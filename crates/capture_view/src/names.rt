@@ -2,8 +2,8 @@
 
 use crate::link::Link;
 use crate::told::{LinkTold, Writer, link_told};
+use crate::{Happened, RecordView, Said};
 use amqp_perf::Performative;
-use capture_view::{Happened, RecordView, Said};
 use std::alloc::{AllocError, Global};
 use std::collections::HashMap;
 
@@ -44,11 +44,11 @@ impl Names {
     ghost use Rattle.capture_view.specs.Saying.{saying};
     ghost use Rattle.capture_view.specs.Viewed.{Viewed, viewed};
     ghost use Rattle.std.specs.HashMap.{get};
-    ghost use Rattle.capture_names.specs.declared.names.ChannelKey.{ChannelKey};
-    ghost use Rattle.capture_names.specs.declared.names.LinkKey.{LinkKey};
-    ghost use Rattle.capture_names.specs.Told.{told_text};
-    ghost use Rattle.capture_names.specs.Named.{attached_or, begun_or, channel_of, is_channel, is_link, last_begin, key_of, link_named, link_text};
-    ghost use Rattle.capture_names.specs.Tables.{StandsFor, TakesOneMore, TakesSaid, attachment};
+    ghost use Rattle.capture_view.specs.declared.names.ChannelKey.{ChannelKey};
+    ghost use Rattle.capture_view.specs.declared.names.LinkKey.{LinkKey};
+    ghost use Rattle.capture_view.specs.Told.{told_text};
+    ghost use Rattle.capture_view.specs.Named.{attached_or, begun_or, channel_of, is_channel, is_link, last_begin, key_of, link_named, link_text};
+    ghost use Rattle.capture_view.specs.Tables.{StandsFor, TakesOneMore, TakesSaid, attachment};
 
     /// Knows no link.
     pub fn new(alloc: Global) -> Names
@@ -192,7 +192,7 @@ impl Names {
 
 ghost use Rattle.std.specs.Prelude.{◌≡◌};
 ghost use Rattle.capture_view.specs.Viewed.{viewed};
-ghost use Rattle.capture_names.specs.Named.{key_of};
+ghost use Rattle.capture_view.specs.Named.{key_of};
 
 /// The handle that a record names: that of an attach, a flow of a link, a transfer or a detach.
 pub fn key_of(view: &RecordView<'_>) -> Option<LinkKey>

@@ -1,9 +1,7 @@
 //! Following one delivery from a client.
 
+use crate::{Happened, Ids, LinkKey, RecordView, Said, Scope, Sender, Writer};
 use amqp_perf::{Disposition, Performative, Role, Transfer};
-use capture_ids::{Ids, Scope, Sender};
-use capture_names::{LinkKey, Writer};
-use capture_view::{Happened, RecordView, Said};
 use pairing_cert::Note;
 use std::alloc::{AllocError, Global};
 

@@ -4,13 +4,13 @@ use Rattle.amqp_perf.specs.declared.attach.Role.{Role}
 use Rattle.amqp_perf.specs.declared.attach.Role.TheVariants.{Sender, Receiver}
 use Rattle.amqp_perf.specs.Meaning.{AttachFields, flag}
 use Rattle.amqp_perf.specs.Nested.{AddressFields, AText, AnOther, TerminusFields, TargetFields, ATerminus, ACoordinator}
-use Rattle.capture_names.specs.declared.told.Writer.{Writer}
-use Rattle.capture_names.specs.declared.told.Writer.TheVariants.{Client, Router}
-use Rattle.capture_names.specs.declared.told.LinkRole.{LinkRole}
-use Rattle.capture_names.specs.declared.told.LinkRole.TheVariants.{Producer, Consumer}
-use Rattle.capture_names.specs.declared.told.AddressTold.{AddressTold}
-use Rattle.capture_names.specs.declared.told.AddressTold.TheVariants as tolds
-use Rattle.capture_names.specs.declared.told.LinkTold.{LinkTold}
+use Rattle.capture_view.specs.declared.told.Writer.{Writer}
+use Rattle.capture_view.specs.declared.told.Writer.TheVariants.{Client, Router}
+use Rattle.capture_view.specs.declared.told.LinkRole.{LinkRole}
+use Rattle.capture_view.specs.declared.told.LinkRole.TheVariants.{Producer, Consumer}
+use Rattle.capture_view.specs.declared.told.AddressTold.{AddressTold}
+use Rattle.capture_view.specs.declared.told.AddressTold.TheVariants as tolds
+use Rattle.capture_view.specs.declared.told.LinkTold.{LinkTold}
 
 -- the address of a link: there is none, a text, octets of another type, one that is to be made up, or the coordinator
 pub data LinkAddressText : Type 0 where

@@ -29,7 +29,7 @@ pub struct Choice<'a> {
 
 impl Choice<'_> {
     ghost use Rattle.std.specs.Prelude.{◌≡◌, ◌↔◌, IsTrue};
-    ghost use Rattle.capture_choice.specs.Choice.{IsAskedFor};
+    ghost use Rattle.capture_view.specs.Choice.{IsAskedFor};
 
     /// Whether a record with these traits is asked for.
     pub fn shows(&self, traits: &Traits<'_>) -> bool
@@ -41,7 +41,7 @@ impl Choice<'_> {
             && (self.delivery.is_none() || traits.is_of_delivery)
     }
 
-    ghost use Rattle.capture_choice.specs.Choice.{IsInRange, IsOnConnection, NamesLink};
+    ghost use Rattle.capture_view.specs.Choice.{IsInRange, IsOnConnection, NamesLink};
 
     fn is_in_range(&self, number: u64) -> bool
         ensures { IsTrue result ↔ IsInRange self.now number }

@@ -1,4 +1,0 @@
-pub mod Numbers
-pub mod Rows
-pub mod Shares
-pub mod Totals
