@@ -7,11 +7,11 @@ use Rattle.clap.specs.declared.error.Error.{Error}
 use Rattle.clap.specs.declared.error.kind.ErrorKind.TheVariants.{OutOfMemory}
 use Rattle.program_ends.specs.Telling.{TellsNoMemory, is_mistake}
 use Rattle.program_ends.proofs.Statuses.{low_is_memory, or_not_written, status_so}
-use Rattle.capture_showing.specs.declared.ending.Ending.{Ending}
-use Rattle.capture_showing.specs.declared.ending.Ending.TheVariants.{NoMemory}
-use Rattle.capture_showing.specs.Ending.{line_of, status_of}
-use Rattle.capture_showing.specs.Shown.{AppendsSome, EndsText}
-use Rattle.capture_showing.proofs.Known.{appends_nothing, appends_then}
+use Rattle.capture_words.specs.declared.ending.Ending.{Ending}
+use Rattle.capture_words.specs.declared.ending.Ending.TheVariants.{NoMemory}
+use Rattle.capture_words.specs.Ending.{line_of, status_of}
+use Rattle.capture_words.specs.Shown.{AppendsSome, EndsText}
+use Rattle.capture_words.proofs.Known.{appends_nothing, appends_then}
 use Rattle.amqp_show.specs.declared.words.Words.{Words}
 use Rattle.amqp_show.specs.Run.{ExplainsInput, IsRunOn, ShowsInput, Tells, TellsEnd, TellsSome, is_whole, tail_of}
 use Rattle.amqp_show.specs.Words.{AnswersWords, AsksWhy, is_why, packets_of, path_of}

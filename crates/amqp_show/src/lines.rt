@@ -1,8 +1,7 @@
 //! A line for each record that is asked for.
 
-use capture_showing::View;
 use capture_view::{Choice, Names, RecordView, Trail, Traits};
-use capture_words::Page;
+use capture_words::{Page, View};
 use std::alloc::{AllocError, Global};
 
 /// The records that are asked for, and what has to be known of those before for their lines.

@@ -2,12 +2,12 @@
 
 ghost use Rattle.std.specs.Prelude.{◌≡◌, ◌≢◌, ◌≤◌, ◌⊎◌, IfOk, IfSome};
 ghost use Rattle.std.specs.Io.KnownBytes.{Appends};
-ghost use Rattle.capture_showing.specs.Shown.{EndsText};
+ghost use Rattle.capture_words.specs.Shown.{EndsText};
 ghost use Rattle.amqp_show.specs.Run.{ShowsInput, TellsAlone, no_packets};
 
 use crate::telling::{NO_PACKETS, tell, tell_no_packets};
 use capture_packing::{NotPacked, pack_capture};
-use capture_showing::Ending;
+use capture_words::Ending;
 use program_ends::NOT_WRITTEN;
 use std::alloc::Global;
 use std::fs::File;

@@ -1,7 +1,7 @@
 //! A run over any words, reader and writers.
 
 ghost use Rattle.std.specs.Prelude.{◌≡◌, ◌≢◌, ◌<◌, ◌≤◌, ◌⊎◌, ◌↔◌, ◌∷◌, [], codes, false, true, map, None};
-ghost use Rattle.capture_showing.specs.declared.ending.Ending.TheVariants.{NoMemory, Unreadable};
+ghost use Rattle.capture_words.specs.declared.ending.Ending.TheVariants.{NoMemory, Unreadable};
 ghost use Rattle.std.specs.Io.KnownBytes.{Appends};
 ghost use Rattle.program_ends.specs.Growth.{IsRefusedGrowth};
 ghost use Rattle.amqp_show.specs.Run.{ExplainsInput, ExplainsSome, IsRunOn, IsStatus, ShowsInput, TellsSome, no_packets};
@@ -13,8 +13,7 @@ use crate::table::Table;
 use crate::telling::{NO_PACKETS, tell};
 use crate::why::show_why;
 use crate::words::{Mode, Source, Words};
-use capture_showing::{Ending, NotWritten, View, show_capture};
-use capture_words::Page;
+use capture_words::{Ending, NotWritten, Page, View, show_capture};
 use program_ends::{NOT_WRITTEN, WORDS_FAULT, is_refused_growth, tell_refused_words};
 use std::alloc::Global;
 use std::convert::AsStr;

@@ -1,9 +1,7 @@
 //! One table of all records.
 
-use capture_showing::View;
-use capture_summary::Summary;
 use capture_view::RecordView;
-use capture_words::Page;
+use capture_words::{Page, Summary, View};
 use std::alloc::{AllocError, Global};
 
 /// What the records so far come to.
@@ -23,7 +21,7 @@ impl Table {
 impl View for Table {
     ghost use Rattle.std.specs.Prelude.{◌≡◌};
     ghost use Rattle.capture_view.specs.Totals.{counted};
-    ghost use Rattle.capture_summary.specs.Summary.{totals_of};
+    ghost use Rattle.capture_words.specs.Summary.{totals_of};
 
     ghost agrees = { λ table past. totals_of table.summary ≡ counted past };
 

@@ -1,11 +1,11 @@
 //! What is told behind what was shown, and the exit status.
 
 ghost use Rattle.std.specs.Prelude.{◌≡◌, ◌≢◌, ◌⊎◌};
-ghost use Rattle.capture_showing.specs.Ending.{status_of};
+ghost use Rattle.capture_words.specs.Ending.{status_of};
 ghost use Rattle.std.specs.Io.KnownBytes.{Appends};
 ghost use Rattle.amqp_show.specs.Run.{Tells, TellsEnd, is_whole, no_packets};
 
-use capture_showing::Ending;
+use capture_words::Ending;
 use program_ends::{NOT_WRITTEN, tell_line};
 use std::io::Write;
 

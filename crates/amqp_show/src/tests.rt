@@ -2,7 +2,7 @@
 
 use crate::run::run_words;
 use crate::telling::{tell, tell_no_packets};
-use capture_showing::Ending;
+use capture_words::Ending;
 use std::io::{ErrorKind, Read, Write};
 use std::test::Fail;
 use std::{fs, io};

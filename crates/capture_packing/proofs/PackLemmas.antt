@@ -18,11 +18,11 @@ use Rattle.capture_packets.specs.Conversation.{record_blocks}
 use Rattle.capture_packets.specs.Text.{blocks_at, conversation_of, packets_text}
 use Rattle.capture_packets.specs.Writer.{IsBehind, StopsWrite, writer_of}
 use Rattle.capture_packets.proofs.TextLemmas.{text_grows}
-use Rattle.capture_showing.specs.declared.ending.Ending.{Ending}
-use Rattle.capture_showing.specs.declared.ending.Ending.TheVariants.{Whole, Malformed, NoMemory, Unreadable}
-use Rattle.capture_showing.specs.Ending.{ending_at}
-use Rattle.capture_showing.proofs.Heads.{behind_head, head_fault}
-use Rattle.capture_showing.proofs.Streaming.{EndsWith, Follows, IsAllOf}
+use Rattle.capture_words.specs.declared.ending.Ending.{Ending}
+use Rattle.capture_words.specs.declared.ending.Ending.TheVariants.{Whole, Malformed, NoMemory, Unreadable}
+use Rattle.capture_words.specs.Ending.{ending_at}
+use Rattle.capture_words.proofs.Heads.{behind_head, head_fault}
+use Rattle.capture_words.proofs.Streaming.{EndsWith, Follows, IsAllOf}
 use Rattle.capture_packing.specs.declared.packing.NotPacked.{NotPacked}
 use Rattle.capture_packing.specs.Packed.{AreFirstOf, AreReadOf, PacksText, StopsText, Turns}
 

@@ -4,9 +4,9 @@ use Rattle.capture_form.specs.declared.records.Record.{Record}
 use Rattle.capture_form.specs.Laws.{records_behind}
 use Rattle.capture_form.specs.Reading.{reading}
 use Rattle.capture_packets.specs.Text.{packets_text}
-use Rattle.capture_showing.specs.declared.ending.Ending.{Ending}
-use Rattle.capture_showing.specs.declared.ending.Ending.TheVariants.{Whole, Malformed, NoMemory, Unreadable}
-use Rattle.capture_showing.specs.Shown.{EndsRecords, EndsText}
+use Rattle.capture_words.specs.declared.ending.Ending.{Ending}
+use Rattle.capture_words.specs.declared.ending.Ending.TheVariants.{Whole, Malformed, NoMemory, Unreadable}
+use Rattle.capture_words.specs.Shown.{EndsRecords, EndsText}
 
 -- the first ones of records
 abbrev pub AreFirstOf : List Record → List Record → Type 0

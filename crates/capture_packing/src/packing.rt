@@ -7,7 +7,7 @@ ghost use Rattle.capture_packing.specs.Packed.{PacksRecords, PacksText, StopsRec
 
 use capture_form::Reader;
 use capture_packets::{PacketFault, PacketWriter};
-use capture_showing::Ending;
+use capture_words::Ending;
 use std::alloc::Global;
 use std::io::{Read, Write};
 

@@ -1,1 +1,5 @@
 pub mod Page
+pub mod Summary
+pub mod Ending
+pub mod Shown
+pub mod Taken

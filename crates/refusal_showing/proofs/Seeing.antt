@@ -7,8 +7,8 @@ use Rattle.capture_form.specs.declared.records.Record.{Record}
 use Rattle.capture_view.specs.Viewed.{Viewed, view_of}
 use Rattle.capture_view.specs.declared.names.Names.{Names}
 use Rattle.capture_view.specs.Tables.{StandsFor as NamesStand, TakesOneMore as NamesTake}
-use Rattle.capture_showing.specs.Taken.{views_of}
-use Rattle.capture_showing.proofs.Streaming.{views_push}
+use Rattle.capture_words.specs.Taken.{views_of}
+use Rattle.capture_words.proofs.Streaming.{views_push}
 use Rattle.refusal_origins.specs.Tables.{StandsFor as OriginsStand, TakesOneMore as OriginsTake}
 use Rattle.refusal_origins.specs.declared.origins.Origins.{Origins}
 use Rattle.refusal_showing.specs.declared.explaining.Explaining.{Explaining}

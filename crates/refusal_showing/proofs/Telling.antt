@@ -3,7 +3,7 @@ use Rattle.std.proofs.Common.{◌≡◌, ℕ, List, [], ◌∷◌, ◌++◌, Opt
 use Rattle.std.specs.Io.KnownBytes.{Appends}
 use Rattle.audit_core.specs.declared.verdict.Verdict.{Verdict}
 use Rattle.audit_core.specs.Report.{line_of}
-use Rattle.capture_showing.proofs.Known.{appends_then}
+use Rattle.capture_words.proofs.Known.{appends_then}
 use Rattle.refusal_showing.specs.Explained.{Tells}
 
 pub tells_behind : (before between after : Option (List ℕ)) (verdict : Verdict) (text : List ℕ) → Appends before between (line_of verdict ++ 10 ∷ []) → Appends between after text

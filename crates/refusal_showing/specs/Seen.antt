@@ -4,7 +4,7 @@ use Rattle.capture_form.specs.declared.records.Record.{Record}
 use Rattle.capture_form.specs.Rules.{RuleText}
 use Rattle.capture_view.specs.Viewed.{Viewed, view_of}
 use Rattle.capture_view.specs.Tables.{StandsFor as NamesStand}
-use Rattle.capture_showing.specs.Taken.{views_of}
+use Rattle.capture_words.specs.Taken.{views_of}
 use Rattle.refusal_origins.specs.Tables.{StandsFor as OriginsStand}
 use Rattle.refusal_showing.specs.declared.explaining.Explaining.{Explaining}
 

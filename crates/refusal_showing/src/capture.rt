@@ -8,7 +8,7 @@ use crate::explaining::Explaining;
 use crate::recalling::Recalling;
 use audit_core::{Verdict, audit_watched};
 use capture_form::FormKind;
-use capture_showing::NotWritten;
+use capture_words::NotWritten;
 use refusal_words::{Around, Malformed};
 use std::alloc::{AllocError, Global};
 use std::io;

@@ -14,4 +14,4 @@ mod recalling;
 
 pub use audit_core::Verdict;
 pub use capture::explain_capture;
-pub use capture_showing::NotWritten;
+pub use capture_words::NotWritten;

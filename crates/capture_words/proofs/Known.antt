@@ -1,7 +1,7 @@
 -- Known bytes that are written one text after another.
 use Rattle.std.proofs.Common.{ℕ, List, [], ◌++◌, Option, Some, None, sym, ap, ◌∙◌, append_assoc, append-nil}
 use Rattle.std.specs.Io.KnownBytes.{Appends}
-use Rattle.capture_showing.specs.Shown.{AppendsSome}
+use Rattle.capture_words.specs.Shown.{AppendsSome}
 
 pub appends_then : (u v w : Option (List ℕ)) (a b : List ℕ) → Appends u v a → Appends v w b → Appends u w (a ++ b)
 appends_then None v w a b x y = tt

@@ -1,7 +1,7 @@
 use Rattle.std.proofs.Common.{◌≡◌, false}
-use Rattle.capture_showing.specs.Shown.{AppendsSome}
-use Rattle.capture_showing.proofs.Streaming.{StreamsOn}
-use Rattle.capture_showing.proofs.stream.take_records.Given as goal
+use Rattle.capture_words.specs.Shown.{AppendsSome}
+use Rattle.capture_words.proofs.Streaming.{StreamsOn}
+use Rattle.capture_words.proofs.stream.take_records.Given as goal
 
 abbrev pub invariant-loop-number : goal.invariant-loop-number
 invariant-loop-number g l =

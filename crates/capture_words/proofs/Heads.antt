@@ -9,13 +9,13 @@ use Rattle.capture_form.specs.Rules.{RuleText}
 use Rattle.capture_form.specs.Reading.{Reads, head_at, reading, reads_behind, records_at}
 use Rattle.capture_form.specs.Laws.{records_behind}
 use Rattle.capture_form.specs.Reader.{IsHead, StopsHead, text_of_head}
-use Rattle.capture_showing.specs.declared.ending.Ending.{Ending}
-use Rattle.capture_showing.specs.declared.ending.Ending.TheVariants.{Malformed}
+use Rattle.capture_words.specs.declared.ending.Ending.{Ending}
+use Rattle.capture_words.specs.declared.ending.Ending.TheVariants.{Malformed}
 use Rattle.capture_view.specs.Viewed.{Viewed}
-use Rattle.capture_showing.specs.Taken.{TakesAll, views_of}
+use Rattle.capture_words.specs.Taken.{TakesAll, views_of}
 use Rattle.capture_form.specs.declared.records.Record.{Record}
-use Rattle.capture_showing.specs.Ending.{ending_at}
-use Rattle.capture_showing.specs.Shown.{EndsBy, EndsRecords, EndsText}
+use Rattle.capture_words.specs.Ending.{ending_at}
+use Rattle.capture_words.specs.Shown.{EndsBy, EndsRecords, EndsText}
 
 -- what is read of a text, by its head
 reads_by : (octets : List ℕ) (head : Result (List RuleText × List ℕ) FormFault) → head_at octets ≡ head

@@ -16,7 +16,7 @@ impl Summary {
     ghost use Rattle.std.specs.Prelude.{◌≡◌, []};
     ghost use Rattle.capture_view.specs.Viewed.{viewed};
     ghost use Rattle.capture_view.specs.Totals.{CountsOneMore, counted};
-    ghost use Rattle.capture_summary.specs.Summary.{totals_of};
+    ghost use Rattle.capture_words.specs.Summary.{totals_of};
 
     /// Of no records.
     pub fn new(alloc: Global) -> Summary

@@ -2,8 +2,8 @@
 use Rattle.std.specs.Prelude.{ℕ, suc, List, [], ◌∷◌, ⊤}
 use Rattle.capture_form.specs.declared.records.Record.{Record}
 use Rattle.capture_view.specs.Viewed.{Viewed, view_of}
-use Rattle.capture_showing.specs.declared.ending.Ending.{Ending}
-use Rattle.capture_showing.specs.declared.ending.Ending.TheVariants.{Whole, Malformed, NoMemory, Unreadable}
+use Rattle.capture_words.specs.declared.ending.Ending.{Ending}
+use Rattle.capture_words.specs.declared.ending.Ending.TheVariants.{Whole, Malformed, NoMemory, Unreadable}
 
 -- these records, the oldest first and numbered from here on, are looked at in front of those before: the newest first
 abbrev pub views_on : List Viewed → ℕ → List Record → List Viewed

@@ -12,12 +12,12 @@ use Rattle.capture_form.specs.Reading.{Records, record_at, records_at, then_more
 use Rattle.capture_form.specs.Laws.{records_behind}
 use Rattle.capture_form.specs.Reader.{IsNext, StopsNext, fault_of, left_of, offset_of, text_of_next}
 use Rattle.capture_form.proofs.TextLemmas.{long_record}
-use Rattle.capture_showing.specs.declared.ending.Ending.{Ending}
-use Rattle.capture_showing.specs.declared.ending.Ending.TheVariants.{Whole, Malformed, NoMemory, Unreadable}
-use Rattle.capture_showing.specs.Ending.{ending_at}
-use Rattle.capture_showing.specs.Shown.{EndsRecords}
+use Rattle.capture_words.specs.declared.ending.Ending.{Ending}
+use Rattle.capture_words.specs.declared.ending.Ending.TheVariants.{Whole, Malformed, NoMemory, Unreadable}
+use Rattle.capture_words.specs.Ending.{ending_at}
+use Rattle.capture_words.specs.Shown.{EndsRecords}
 use Rattle.capture_view.specs.Viewed.{Viewed, view_of}
-use Rattle.capture_showing.specs.Taken.{TakesAll, TakesOneMore, views_of, views_on}
+use Rattle.capture_words.specs.Taken.{TakesAll, TakesOneMore, views_of, views_on}
 
 -- the records that were read, and those that are read from here on, are all there are, with their fault
 pub record FollowsOn (offset : ℕ) (all : List ℕ) (place : ℕ) (rest : List ℕ) (read : List Record) : Type 0 where

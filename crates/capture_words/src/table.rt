@@ -1,9 +1,9 @@
 //! The table of a summary.
 
+use crate::Page;
 use crate::row::Row;
 use crate::summary::Summary;
 use capture_view::{LinkRole, TotalsByRow};
-use capture_words::Page;
 use std::alloc::AllocError;
 
 impl Summary {

@@ -18,7 +18,7 @@ pub enum Ending {
 
 impl Ending {
     ghost use Rattle.std.specs.Prelude.{◌≡◌};
-    ghost use Rattle.capture_showing.specs.Ending.{status_of};
+    ghost use Rattle.capture_words.specs.Ending.{status_of};
 
     /// The exit status that tells it.
     pub fn status(&self) -> u8
@@ -36,7 +36,7 @@ impl Ending {
 /// The one line that tells a fault, without its newline. A whole capture has none.
 impl fmt::Display for Ending {
     ghost use Rattle.std.specs.Prelude.{Some};
-    ghost use Rattle.capture_showing.specs.Ending.{line_of};
+    ghost use Rattle.capture_words.specs.Ending.{line_of};
 
     ghost output = { λ ending. Some (line_of ending) };
 
@@ -52,7 +52,7 @@ impl fmt::Display for Ending {
 
 impl From<FormFault> for Ending {
     ghost use Rattle.std.specs.Prelude.{◌≡◌};
-    ghost use Rattle.capture_showing.specs.Ending.{ending_of};
+    ghost use Rattle.capture_words.specs.Ending.{ending_of};
 
     ghost from_gives = { λ fault ending. ending ≡ ending_of fault };
 

@@ -6,13 +6,13 @@ ghost use Rattle.capture_form.specs.Reader.{fault_of, left_of, offset_of};
 ghost use Rattle.capture_form.specs.Laws.{records_behind};
 ghost use Rattle.capture_form.specs.Reading.{reading};
 ghost use Rattle.capture_words.specs.Page.{text_of};
-ghost use Rattle.capture_showing.specs.Taken.{TakesAll};
-ghost use Rattle.capture_showing.specs.Shown.{AppendsSome, EndsRecords, EndsText};
+ghost use Rattle.capture_words.specs.Taken.{TakesAll};
+ghost use Rattle.capture_words.specs.Shown.{AppendsSome, EndsRecords, EndsText};
 
+use crate::Page;
 use crate::ending::Ending;
 use capture_form::Reader;
 use capture_view::{RecordView, view_of};
-use capture_words::Page;
 use std::alloc::{AllocError, Global};
 use std::io::{Read, Write};
 
@@ -20,7 +20,7 @@ use std::io::{Read, Write};
 pub trait View {
     ghost use Rattle.std.specs.Prelude.{List, OnOk};
     ghost use Rattle.capture_view.specs.Viewed.{Viewed, viewed};
-    ghost use Rattle.capture_showing.specs.Taken.{TakesOneMore};
+    ghost use Rattle.capture_words.specs.Taken.{TakesOneMore};
 
     /// What is known of it after these records, the newest first.
     ghost agrees: { Self → List Viewed → Type 0 };

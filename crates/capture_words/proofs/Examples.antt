@@ -4,10 +4,10 @@ use Rattle.capture_form.specs.declared.records.Record.{Record}
 use Rattle.capture_form.specs.declared.fault.FormFault.{FormFault}
 use Rattle.capture_form.specs.declared.fault.FormKind.TheVariants as kinds
 use Rattle.capture_view.specs.Viewed.{Viewed, view_of}
-use Rattle.capture_showing.specs.declared.ending.Ending.TheVariants.{Whole, Malformed, NoMemory, Unreadable}
-use Rattle.capture_showing.specs.Ending.{ending_at, line_of, status_of}
-use Rattle.capture_showing.specs.Shown.{AppendsSome, EndsBy}
-use Rattle.capture_showing.specs.Taken.{views_of}
+use Rattle.capture_words.specs.declared.ending.Ending.TheVariants.{Whole, Malformed, NoMemory, Unreadable}
+use Rattle.capture_words.specs.Ending.{ending_at, line_of, status_of}
+use Rattle.capture_words.specs.Shown.{AppendsSome, EndsBy}
+use Rattle.capture_words.specs.Taken.{views_of}
 
 -- ---- endings
 

@@ -1,6 +1,6 @@
 -- The totals of a summary.
 use Rattle.capture_view.specs.declared.totals.Totals.{Totals}
-use Rattle.capture_summary.specs.declared.summary.Summary.{Summary}
+use Rattle.capture_words.specs.declared.summary.Summary.{Summary}
 
 -- its totals
 abbrev pub totals_of : Summary → Totals

@@ -5,8 +5,8 @@ use Rattle.capture_form.specs.declared.fault.FormFault.{FormFault}
 use Rattle.capture_form.specs.declared.fault.FormKind.{FormKind}
 use Rattle.capture_form.specs.Reading.{reading}
 use Rattle.capture_form.specs.Laws.{records_behind}
-use Rattle.capture_showing.specs.declared.ending.Ending.{Ending}
-use Rattle.capture_showing.specs.declared.ending.Ending.TheVariants.{Whole, Malformed, NoMemory, Unreadable}
+use Rattle.capture_words.specs.declared.ending.Ending.{Ending}
+use Rattle.capture_words.specs.declared.ending.Ending.TheVariants.{Whole, Malformed, NoMemory, Unreadable}
 
 -- the known bytes gained some text
 abbrev pub AppendsSome : Option (List ℕ) → Option (List ℕ) → Type 0

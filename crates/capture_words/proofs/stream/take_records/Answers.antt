@@ -1,11 +1,11 @@
 use Rattle.std.proofs.Common.{None, Some, refl, subst, sym, [], ◌∷◌, ◌++◌, arith}
 use Rattle.std.proofs.lemmas.List.{length-append}
 use Rattle.capture_form.specs.Reader.{left_of, offset_of}
-use Rattle.capture_showing.specs.declared.ending.Ending.TheVariants.{Whole}
-use Rattle.capture_showing.specs.Taken.{TakesOneMore}
-use Rattle.capture_showing.proofs.Known.{appends_some, some_some}
-use Rattle.capture_showing.proofs.Streaming.{EndsWith, ends_of, follows_end, follows_fault, follows_next, follows_start, found_so, moved_so, took_all, took_more}
-use Rattle.capture_showing.proofs.stream.take_records.Goals as goal
+use Rattle.capture_words.specs.declared.ending.Ending.TheVariants.{Whole}
+use Rattle.capture_words.specs.Taken.{TakesOneMore}
+use Rattle.capture_words.proofs.Known.{appends_some, some_some}
+use Rattle.capture_words.proofs.Streaming.{EndsWith, ends_of, follows_end, follows_fault, follows_next, follows_start, found_so, moved_so, took_all, took_more}
+use Rattle.capture_words.proofs.stream.take_records.Goals as goal
 
 pub loop-number-init : goal.loop-number-init
 loop-number-init g c = (

@@ -2,10 +2,10 @@ use Rattle.std.proofs.Common.{subst, sym}
 use Rattle.std.proofs.lemmas.Result.{IfOk-weaker}
 use Rattle.std.specs.Prelude.{IfSome}
 use Rattle.capture_form.specs.Reading.{reading}
-use Rattle.capture_showing.specs.Shown.{EndsText}
-use Rattle.capture_showing.specs.Taken.{TakesAll}
-use Rattle.capture_showing.proofs.Heads.{ends_behind_head, ends_in_head, taken_behind_head, taken_in_head}
-use Rattle.capture_showing.proofs.stream.show_capture.Goals as goal
+use Rattle.capture_words.specs.Shown.{EndsText}
+use Rattle.capture_words.specs.Taken.{TakesAll}
+use Rattle.capture_words.proofs.Heads.{ends_behind_head, ends_in_head, taken_behind_head, taken_in_head}
+use Rattle.capture_words.proofs.stream.show_capture.Goals as goal
 
 pub returns-in-Ok-clause-ending : goal.returns-in-Ok-clause-ending
 returns-in-Ok-clause-ending g c =
