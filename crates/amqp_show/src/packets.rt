@@ -6,7 +6,7 @@ ghost use Rattle.capture_words.specs.Shown.{EndsText};
 ghost use Rattle.amqp_show.specs.Run.{ShowsInput, TellsAlone, no_packets};
 
 use crate::telling::{NO_PACKETS, tell, tell_no_packets};
-use capture_packing::{NotPacked, pack_capture};
+use capture_packets::{NotPacked, pack_capture};
 use capture_words::Ending;
 use program_ends::NOT_WRITTEN;
 use std::alloc::Global;

@@ -5,3 +5,4 @@ pub mod TextLemmas
 pub mod LawLemmas
 pub mod PacketLemmas
 mod Examples
+pub mod PackLemmas

@@ -6,3 +6,4 @@ pub mod Conversation
 pub mod Text
 pub mod Writer
 pub mod Laws
+pub mod Packed

@@ -6,8 +6,8 @@ use Rattle.capture_packets.specs.Conversation.{record_blocks}
 use Rattle.capture_packets.specs.Writer.{StopsPut, StopsWrite, conversation_in, has_failed, writer_of}
 use Rattle.capture_words.specs.declared.ending.Ending.TheVariants.{Whole}
 use Rattle.capture_words.proofs.Streaming.{EndsWith, ends_of, follows_end, follows_fault, follows_next, follows_start, found_so, moved_so}
-use Rattle.capture_packing.proofs.PackLemmas.{cut_record, follows_first, read_with}
-use Rattle.capture_packing.proofs.packing.pack_records.Goals as goal
+use Rattle.capture_packets.proofs.PackLemmas.{cut_record, follows_first, read_with}
+use Rattle.capture_packets.proofs.packing.pack_records.Goals as goal
 
 pub loop-number-init : goal.loop-number-init
 loop-number-init g c = record {

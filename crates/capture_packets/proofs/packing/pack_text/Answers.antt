@@ -5,9 +5,9 @@ use Rattle.capture_form.specs.Reading.{reading}
 use Rattle.capture_packets.specs.Writer.{has_failed}
 use Rattle.capture_words.specs.Shown.{EndsText}
 use Rattle.capture_words.proofs.Heads.{ends_behind_head, ends_in_head}
-use Rattle.capture_packing.specs.Packed.{AreReadOf}
-use Rattle.capture_packing.proofs.PackLemmas.{cut_head, first_behind_head, none_first, read_behind_head, read_in_head}
-use Rattle.capture_packing.proofs.packing.pack_text.Goals as goal
+use Rattle.capture_packets.specs.Packed.{AreReadOf}
+use Rattle.capture_packets.proofs.PackLemmas.{cut_head, first_behind_head, none_first, read_behind_head, read_in_head}
+use Rattle.capture_packets.proofs.packing.pack_text.Goals as goal
 
 pub returns-in-Err-clause-stops : goal.returns-in-Err-clause-stops
 returns-in-Err-clause-stops g c = record {

@@ -3,10 +3,10 @@
 ghost use Rattle.std.specs.Prelude.{◌≡◌, [], IfOk, OnErr, None};
 ghost use Rattle.capture_form.specs.Reader.{fault_of, left_of, offset_of};
 ghost use Rattle.capture_packets.specs.Writer.{IsBehind, writer_of};
-ghost use Rattle.capture_packing.specs.Packed.{PacksRecords, PacksText, StopsRecords, StopsText};
+ghost use Rattle.capture_packets.specs.Packed.{PacksRecords, PacksText, StopsRecords, StopsText};
 
+use crate::{PacketFault, PacketWriter};
 use capture_form::Reader;
-use capture_packets::{PacketFault, PacketWriter};
 use capture_words::Ending;
 use std::alloc::Global;
 use std::io::{Read, Write};

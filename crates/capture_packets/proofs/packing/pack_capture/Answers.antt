@@ -2,9 +2,9 @@ use Rattle.std.proofs.Common.{subst}
 use Rattle.std.specs.Prelude.{IfOk, OnErr}
 use Rattle.std.specs.Io.KnownBytes.{Keeps}
 use Rattle.capture_packets.specs.Writer.{writer_of}
-use Rattle.capture_packing.specs.Packed.{PacksText, StopsText}
-use Rattle.capture_packing.proofs.PackLemmas.{flush_stopped, packed_kept, stopped_kept}
-use Rattle.capture_packing.proofs.packing.pack_capture.Goals as goal
+use Rattle.capture_packets.specs.Packed.{PacksText, StopsText}
+use Rattle.capture_packets.proofs.PackLemmas.{flush_stopped, packed_kept, stopped_kept}
+use Rattle.capture_packets.proofs.packing.pack_capture.Goals as goal
 
 pub returns-in-Ok-clause-packs : goal.returns-in-Ok-clause-packs
 returns-in-Ok-clause-packs g c =

@@ -23,8 +23,8 @@ use Rattle.capture_words.specs.declared.ending.Ending.TheVariants.{Whole, Malfor
 use Rattle.capture_words.specs.Ending.{ending_at}
 use Rattle.capture_words.proofs.Heads.{behind_head, head_fault}
 use Rattle.capture_words.proofs.Streaming.{EndsWith, Follows, IsAllOf}
-use Rattle.capture_packing.specs.declared.packing.NotPacked.{NotPacked}
-use Rattle.capture_packing.specs.Packed.{AreFirstOf, AreReadOf, PacksText, StopsText, Turns}
+use Rattle.capture_packets.specs.declared.packing.NotPacked.{NotPacked}
+use Rattle.capture_packets.specs.Packed.{AreFirstOf, AreReadOf, PacksText, StopsText, Turns}
 
 -- what holds of a reader and a writer of packets that came so far
 pub record PacksOn {R : Type 0} (remaining : R → Option (List ℕ)) {W : Type 0} (contents : W → Option (List ℕ))
