@@ -5,8 +5,8 @@ use Rattle.capture_form.specs.declared.records.What.{What}
 use Rattle.capture_form.specs.declared.records.Record.{Record}
 use Rattle.capture_form.specs.Rules.{RuleText}
 use Rattle.capture_form.specs.Text.{Trace, frame_of}
-use Rattle.route_lives.specs.Inputs.{is_output}
-use Rattle.route_outs.specs.Outs.{writes_on}
+use Rattle.route_items.specs.Inputs.{is_output}
+use Rattle.route_items.specs.Outs.{writes_on}
 use Rattle.core_exchange.specs.declared.seat.Seat.{Seat}
 
 -- ---- what a capture has of a connection

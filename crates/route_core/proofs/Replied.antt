@@ -18,7 +18,7 @@ use Rattle.route_dues.specs.Writing.{IsInOrder}
 use Rattle.route_steps.specs.Steps.{IsAnswering, IsUnderWay}
 use Rattle.route_steps.proofs.Steps as steps
 use Rattle.step_measure.specs.Work.{work_left}
-use Rattle.route_lives.specs.Inputs.{inputs, is_output}
+use Rattle.route_items.specs.Inputs.{inputs, is_output}
 use Rattle.route_core.specs.Replies.{AreReplies}
 use Rattle.route_core.specs.Cores.{AreBooksOf, IsAnswered, IsDraft}
 use Rattle.route_core.proofs.Drafts.{due-less, due-unbroken, due-under_way, reply-unbroken, reply-answering}

@@ -4,9 +4,9 @@ use Rattle.indexmap.specs.IndexMap.{get}
 use Rattle.capture_form.specs.declared.records.Record.{Record}
 use Rattle.route_items.specs.declared.item.Item.{Item}
 use Rattle.route_items.specs.declared.item.Item.TheVariants.{Opened, In, Broken, Lost}
-use Rattle.route_lives.specs.declared.lives.Life.{Life}
-use Rattle.route_lives.specs.declared.lives.Lives.{Lives}
-use Rattle.route_lives.specs.Inputs.{is_opening, is_losing, is_breaking, has_one}
+use Rattle.route_items.specs.declared.lives.Life.{Life}
+use Rattle.route_items.specs.declared.lives.Lives.{Lives}
+use Rattle.route_items.specs.Inputs.{is_opening, is_losing, is_breaking, has_one}
 
 -- nothing happened yet
 abbrev pub no_life : Life

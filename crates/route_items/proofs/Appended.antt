@@ -3,7 +3,7 @@ use Rattle.std.proofs.Common.{◌≡◌, refl, sym, ap, ◌∙◌, ℕ, Bool, tr
 use Rattle.std.proofs.Math.Bool.{or_assoc, or-false, or-true}
 use Rattle.capture_form.specs.declared.records.Record.{Record}
 use Rattle.capture_form.specs.declared.records.What.{What}
-use Rattle.route_lives.specs.Inputs.{has_one}
+use Rattle.route_items.specs.Inputs.{has_one}
 
 module _ (test : What → Bool) (c : ℕ) where
   pub has_one-more : (records more : List Record) → has_one test c (records ++ more) ≡ has_one test c records || has_one test c more

@@ -3,11 +3,11 @@
 ghost use Rattle.std.specs.Prelude.{◌≡◌, ◌∷◌, [], ◌++◌, List, OnOk};
 ghost use Rattle.capture_form.specs.declared.records.Record.{Record};
 ghost use Rattle.route_items.specs.Items.{record_of};
-ghost use Rattle.route_lives.specs.Inputs as law;
-ghost use Rattle.route_lives.specs.Lives.{AreLives, life_after, life_in};
+ghost use Rattle.route_items.specs.Inputs as law;
+ghost use Rattle.route_items.specs.Lives.{AreLives, life_after, life_in};
 
+use crate::Item;
 use indexmap::IndexMap;
-use route_items::Item;
 use std::alloc::{AllocError, Global};
 
 /// What became of a connection.

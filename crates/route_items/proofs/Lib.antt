@@ -1,3 +1,5 @@
+pub mod Appended
+mod Coming
 mod Numbers
 mod Moves
 mod Found

@@ -7,11 +7,11 @@ use Rattle.capture_form.specs.declared.records.What.{What}
 use Rattle.route_items.specs.declared.item.Item.{Item}
 use Rattle.route_items.specs.declared.item.Item.TheVariants.{Opened, In, Broken, Lost}
 use Rattle.route_items.specs.Items.{record_of, connection_of}
-use Rattle.route_lives.specs.declared.lives.Life.{Life}
-use Rattle.route_lives.specs.declared.lives.Lives.{Lives}
-use Rattle.route_lives.specs.Inputs.{has_one, is_opening, is_losing, is_breaking}
-use Rattle.route_lives.specs.Lives.{AreLives, life_in, life_of, life_after, no_life}
-use Rattle.route_lives.proofs.Appended.{has_one-other, has_one-now}
+use Rattle.route_items.specs.declared.lives.Life.{Life}
+use Rattle.route_items.specs.declared.lives.Lives.{Lives}
+use Rattle.route_items.specs.Inputs.{has_one, is_opening, is_losing, is_breaking}
+use Rattle.route_items.specs.Lives.{AreLives, life_in, life_of, life_after, no_life}
+use Rattle.route_items.proofs.Appended.{has_one-other, has_one-now}
 
 abbrev made : Bool → Bool → Bool → Life
 made a b c = record { is_opened = a; is_lost = b; is_broken = c }
