@@ -15,9 +15,9 @@ use Rattle.route_work.specs.Dues.{IsNextFrame}
 use Rattle.route_work.specs.HandedOn.{Books}
 use Rattle.route_work.specs.Books.{AreBooks, AreInOrder, IsUnbroken}
 use Rattle.route_dues.specs.Writing.{IsInOrder}
-use Rattle.route_steps.specs.Steps.{IsAnswering, IsUnderWay}
-use Rattle.route_steps.proofs.Steps as steps
-use Rattle.step_measure.specs.Work.{work_left}
+use Rattle.route_dues.specs.Steps.{IsAnswering, IsUnderWay}
+use Rattle.route_dues.proofs.Steps as steps
+use Rattle.route_dues.specs.Work.{work_left}
 use Rattle.route_items.specs.Inputs.{inputs, is_output}
 use Rattle.route_core.specs.Replies.{AreReplies}
 use Rattle.route_core.specs.Cores.{AreBooksOf, IsAnswered, IsDraft}

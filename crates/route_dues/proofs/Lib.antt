@@ -17,3 +17,15 @@ pub mod Again
 pub mod PartsWritten
 pub mod DueExamples
 pub mod StatesWritable
+pub mod NoTransfers
+pub mod Answered
+pub mod Steps
+pub mod Sums
+pub mod OwnCounts
+pub mod FlowOctets
+pub mod OwnEvents
+pub mod Parts
+pub mod Places
+pub mod Frames
+pub mod FlowFrames
+pub mod Measures

@@ -1,3 +1,5 @@
 pub mod Writing
 pub mod Transfers
 pub mod Outcomes
+pub mod Steps
+pub mod Work

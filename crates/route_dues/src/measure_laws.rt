@@ -10,8 +10,8 @@ ghost use Rattle.trace_events.specs.Event.{Event};
 ghost use Rattle.trace_events.specs.History.{history};
 ghost use Rattle.trace_clauses.specs.Written.{spoken_octets};
 ghost use Rattle.route_dues.specs.Writing.{writing, IsReadAgain, MayFollow};
-ghost use Rattle.route_steps.specs.Steps.{IsUnderWay};
-ghost use Rattle.step_measure.specs.Work.{work_left};
+ghost use Rattle.route_dues.specs.Steps.{IsUnderWay};
+ghost use Rattle.route_dues.specs.Work.{work_left};
 
 /// The law of what is left. The function does nothing: its contract is the law.
 pub fn laws_of_measures()

@@ -28,9 +28,9 @@ use Rattle.route_dues.specs.Writing.{writing, frame_of, IsReadAgain, IsLawful, I
 use Rattle.route_dues.proofs.Behind.{stays_in_order}
 use Rattle.route_dues.proofs.Connections.{lawful_judged}
 use Rattle.route_dues.proofs.Lengths.{within}
-use Rattle.route_steps.specs.Steps.{IsUnderWay, IsAtRest, AreNoTransfers, IsAnswering}
-use Rattle.route_steps.proofs.NoTransfers.{begins_nothing, answer_plain}
-use Rattle.route_steps.proofs.Answered.{answered_more, due-no_open}
+use Rattle.route_dues.specs.Steps.{IsUnderWay, IsAtRest, AreNoTransfers, IsAnswering}
+use Rattle.route_dues.proofs.NoTransfers.{begins_nothing, answer_plain}
+use Rattle.route_dues.proofs.Answered.{answered_more, due-no_open}
 
 both : (a b : Bool) → a ≡ true → b ≡ true → a && b ≡ true
 both a b left right = rw (left, right) refl

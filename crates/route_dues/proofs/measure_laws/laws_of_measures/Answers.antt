@@ -1,5 +1,5 @@
-use Rattle.step_measure.proofs.Measures.{lessens, written}
-use Rattle.step_measure.proofs.laws.laws_of_measures.Goals as goal
+use Rattle.route_dues.proofs.Measures.{lessens, written}
+use Rattle.route_dues.proofs.measure_laws.laws_of_measures.Goals as goal
 
 pub returns-clause-lessens : goal.returns-clause-lessens
 returns-clause-lessens c = lessens

@@ -32,13 +32,13 @@ use Rattle.trace_clauses.specs.DispositionClause.{settles_one, is_outcome, is_ou
 use Rattle.trace_clauses.specs.TransferClause.{has_window}
 use Rattle.trace_clauses.specs.Outcome.{may_be_told}
 use Rattle.trace_clauses.proofs.WaitingQueue.{find_has, in_reverse}
-use Rattle.step_measure.specs.Work.{sendable, lacking, drainable, grantable, untold, unsettled, work_left}
+use Rattle.route_dues.specs.Work.{sendable, lacking, drainable, grantable, untold, unsettled, work_left}
 use Rattle.route_dues.specs.Writing.{spoken_with, frame_of, writing}
-use Rattle.step_measure.proofs.OwnCounts.{IsOurCredit}
-use Rattle.step_measure.proofs.OwnEvents.{IsOwn, on-known, sendable-most, sendable-less, lacking-most, drainable-most, grantable-most, untold-most, untold-less, unsettled-most, unsettled-kept, unsettled-less}
-use Rattle.step_measure.proofs.Sums.{no_more}
-use Rattle.step_measure.proofs.Parts.{both, not_true, some_is, map_some, found_passes, is_same_number, no_both, none_opened, by_transfer, by_untold, by_unsettled}
-use Rattle.step_measure.proofs.Places.{session-there, link-known, no_handle}
+use Rattle.route_dues.proofs.OwnCounts.{IsOurCredit}
+use Rattle.route_dues.proofs.OwnEvents.{IsOwn, on-known, sendable-most, sendable-less, lacking-most, drainable-most, grantable-most, untold-most, untold-less, unsettled-most, unsettled-kept, unsettled-less}
+use Rattle.route_dues.proofs.Sums.{no_more}
+use Rattle.route_dues.proofs.Parts.{both, not_true, some_is, map_some, found_passes, is_same_number, no_both, none_opened, by_transfer, by_untold, by_unsettled}
+use Rattle.route_dues.proofs.Places.{session-there, link-known, no_handle}
 
 module _ (rules : List RuleText) (past : List Event) (are : AreJudged rules past) (c : ℕ) (note : Note) (channel : ℕ) (payload : List ℕ) where
   abbrev said : Meaning → Event

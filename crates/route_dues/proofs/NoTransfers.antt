@@ -20,7 +20,7 @@ use Rattle.trace_events.specs.Said.{as_transfer}
 use Rattle.trace_duties.specs.Answer.{answer, closing, link_flow, flow_on, echo_on, plain_answer, refusal, fault_answer, heard_answer, passed_answer, unread_answer, body_answer, moment_answer}
 use Rattle.pairing_cert.specs.declared.note.Note.{Note}
 use Rattle.route_dues.specs.Writing.{writing}
-use Rattle.route_steps.specs.Steps.{AreNoTransfers}
+use Rattle.route_dues.specs.Steps.{AreNoTransfers}
 
 -- ---- a frame that is no transfer
 

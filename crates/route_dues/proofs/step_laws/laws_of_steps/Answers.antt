@@ -1,5 +1,5 @@
-use Rattle.route_steps.proofs.Steps.{start, input, fits, reply, answered, due, rest, diligent}
-use Rattle.route_steps.proofs.laws.laws_of_steps.Goals as goal
+use Rattle.route_dues.proofs.Steps.{start, input, fits, reply, answered, due, rest, diligent}
+use Rattle.route_dues.proofs.step_laws.laws_of_steps.Goals as goal
 
 pub returns-clause-start : goal.returns-clause-start
 returns-clause-start c = start

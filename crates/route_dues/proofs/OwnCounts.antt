@@ -8,7 +8,7 @@ use Rattle.flow_counts.specs.Window.{window}
 use Rattle.flow_counts.specs.GivenWindow.{given_window}
 use Rattle.flow_counts.specs.Credit.{LinkEvent, TheirFlow, OurFlow, Begun, credit, granted_credit, begun_since_grant, is_drain_answer}
 use Rattle.flow_counts.specs.GivenCredit.{given_credit}
-use Rattle.step_measure.proofs.Sums.{no_more}
+use Rattle.route_dues.proofs.Sums.{no_more}
 
 -- ---- a session's windows
 

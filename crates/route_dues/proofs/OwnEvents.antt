@@ -25,9 +25,9 @@ use Rattle.trace_events.proofs.LinkNumbers.{links-found}
 use Rattle.trace_events.proofs.Links.{IsKnown}
 use Rattle.trace_clauses.proofs.WaitingQueue.{contains_none, contains_cases, in_filter}
 use Rattle.trace_duties.specs.Quiet.{lacks_window}
-use Rattle.step_measure.specs.Work.{sessions, to_consumers, from_producers, sendable, lacking, drainable, grantable, untold, unsettled}
-use Rattle.step_measure.proofs.OwnCounts.{IsOurs, IsOurCredit, window-most, window-less, lacks, lacks-most, lacks-less, credit-most, credit-less, short-most, short-less}
-use Rattle.step_measure.proofs.Sums.{sum-most, sum-less, absent-most, absent-less, no_more}
+use Rattle.route_dues.specs.Work.{sessions, to_consumers, from_producers, sendable, lacking, drainable, grantable, untold, unsettled}
+use Rattle.route_dues.proofs.OwnCounts.{IsOurs, IsOurCredit, window-most, window-less, lacks, lacks-most, lacks-less, credit-most, credit-less, short-most, short-less}
+use Rattle.route_dues.proofs.Sums.{sum-most, sum-less, absent-most, absent-less, no_more}
 
 -- the event is of the router's own, opens no session and no link, and begins no delivery of a client
 pub record IsOwn (e : Event) : Type 0 where

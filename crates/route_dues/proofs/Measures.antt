@@ -22,11 +22,11 @@ use Rattle.trace_clauses.proofs.Lawful.{history-push}
 use Rattle.trace_duties.specs.Diligent.{is_called_for, is_due_frame, is_of_answer, is_picked}
 use Rattle.route_dues.specs.Writing.{spoken_with, frame_of, writing, IsReadAgain, MayFollow}
 use Rattle.route_dues.proofs.Connections.{lawful_judged}
-use Rattle.route_steps.specs.Steps.{IsUnderWay}
-use Rattle.route_steps.proofs.Answered.{not_of_answer}
-use Rattle.step_measure.specs.Work.{work_left}
-use Rattle.step_measure.proofs.FlowFrames.{flow-less}
-use Rattle.step_measure.proofs.Frames.{transfer-less, disposition-less}
+use Rattle.route_dues.specs.Steps.{IsUnderWay}
+use Rattle.route_dues.proofs.Answered.{not_of_answer}
+use Rattle.route_dues.specs.Work.{work_left}
+use Rattle.route_dues.proofs.FlowFrames.{flow-less}
+use Rattle.route_dues.proofs.Frames.{transfer-less, disposition-less}
 
 -- ---- each kind
 

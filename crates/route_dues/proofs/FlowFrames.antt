@@ -25,13 +25,13 @@ use Rattle.trace_clauses.specs.Written.{says, spoken_octets, link_numbers, writt
 use Rattle.trace_clauses.proofs.WaitingQueue.{filter_has}
 use Rattle.trace_duties.specs.Quiet.{lacks_window}
 use Rattle.trace_duties.specs.Diligent.{is_owed_flow, is_owed_on, writes}
-use Rattle.step_measure.specs.Work.{sendable, lacking, drainable, grantable, untold, unsettled, work_left}
+use Rattle.route_dues.specs.Work.{sendable, lacking, drainable, grantable, untold, unsettled, work_left}
 use Rattle.route_dues.specs.Writing.{spoken_with, writing}
-use Rattle.step_measure.proofs.FlowOctets.{NamesLink, same_credit, same_number}
-use Rattle.step_measure.proofs.OwnCounts.{given-more}
-use Rattle.step_measure.proofs.OwnEvents.{IsOwn, on-known, sendable-most, lacking-most, lacking-less, drainable-most, drainable-less, grantable-most, grantable-less, untold-most, unsettled-kept}
-use Rattle.step_measure.proofs.Parts.{both, no_both, none_opened, by_lacking, by_drainable, by_grantable, number_some, receives}
-use Rattle.step_measure.proofs.Places.{session-there, link-known, link-there, link-place, no_handle}
+use Rattle.route_dues.proofs.FlowOctets.{NamesLink, same_credit, same_number}
+use Rattle.route_dues.proofs.OwnCounts.{given-more}
+use Rattle.route_dues.proofs.OwnEvents.{IsOwn, on-known, sendable-most, lacking-most, lacking-less, drainable-most, drainable-less, grantable-most, grantable-less, untold-most, unsettled-kept}
+use Rattle.route_dues.proofs.Parts.{both, no_both, none_opened, by_lacking, by_drainable, by_grantable, number_some, receives}
+use Rattle.route_dues.proofs.Places.{session-there, link-known, link-there, link-place, no_handle}
 
 module _ (rules : List RuleText) (past : List Event) (are : AreJudged rules past) (c : ℕ) (note : Note) (channel : ℕ) (payload : List ℕ) (flow : Flow) where
   abbrev sent : Spoken

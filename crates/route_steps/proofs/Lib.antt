@@ -1,3 +1,0 @@
-pub mod NoTransfers
-pub mod Answered
-pub mod Steps

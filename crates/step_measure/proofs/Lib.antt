@@ -1,9 +1,0 @@
-pub mod Sums
-pub mod OwnCounts
-pub mod FlowOctets
-pub mod OwnEvents
-pub mod Parts
-pub mod Places
-pub mod Frames
-pub mod FlowFrames
-pub mod Measures
