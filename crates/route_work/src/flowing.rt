@@ -7,12 +7,12 @@ ghost use Rattle.capture_form.specs.declared.records.Record.{Record};
 ghost use Rattle.trace_events.specs.History.{history};
 ghost use Rattle.trace_values.specs.View.{event_view};
 ghost use Rattle.audit_tables.specs.Connections.{IsLawfulNext};
-ghost use Rattle.route_books.specs.Dues.{IsDue};
-ghost use Rattle.route_books.specs.Books.{TellsOf};
+ghost use Rattle.route_work.specs.Dues.{IsDue};
+ghost use Rattle.route_work.specs.Books.{TellsOf};
 ghost use Rattle.route_work.specs.Work.{HasFlowing, IsAllGiven};
 
+use crate::{Credits, Drains, Due, Looked, Windows};
 use capture_form::Rule;
-use route_books::{Credits, Drains, Due, Looked, Windows};
 use std::alloc::{AllocError, Global};
 use trace_values::Event;
 

@@ -1,15 +1,30 @@
-//! All that may be due of a router's work: the lists of what is due as one, in the order in which a step goes over them.
+//! All that may be due of a router's work, and what a router knows of its capture while it writes it.
 //!
+//! - `due`: whatever is due to be written next, as one type over what the lists of a router's work answer;
+//! - `writing`: the record of the frame that is then written;
+//! - `dues`: what is asked of lists of what is due;
+//! - `books`: the tables that answer the questions about the past, with such lists, moved together by one record after the
+//!   other;
 //! - `telling`: outcomes, and settlings behind them;
 //! - `sending`: deliveries in progress, those that wait, and copies;
 //! - `flowing`: drain answers, credit and windows;
-//! - `work`: all of them.
+//! - `work`: all of these lists as one, in the order in which a step goes over them.
 #![tactic(auto)]
 
+mod books;
+mod due;
+mod dues;
 mod flowing;
 mod sending;
 mod telling;
 mod work;
+mod writing;
 
-pub use route_books::{Books, Dues, Looked};
+pub use audit_answers::Looked;
+pub use books::Books;
+pub use due::{Due, DueBegin};
+pub use due_copies::{Credits, Drains, DueCopy, Parts, UnsentCopies, Windows};
+pub use due_outcomes::{Unsettled, Untold};
+pub use dues::Dues;
 pub use work::Work;
+pub use writing::record_of;

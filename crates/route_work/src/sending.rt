@@ -7,15 +7,15 @@ ghost use Rattle.capture_form.specs.declared.records.Record.{Record};
 ghost use Rattle.trace_events.specs.History.{history};
 ghost use Rattle.trace_values.specs.View.{Events, event_view};
 ghost use Rattle.audit_tables.specs.Connections.{IsLawfulNext};
-ghost use Rattle.route_books.specs.Copies.{IsDueCopy};
+ghost use Rattle.route_work.specs.Copies.{IsDueCopy};
 ghost use Rattle.due_waiting.specs.Waiting.{IsDueWaiting};
-ghost use Rattle.route_books.specs.Dues.{IsDue};
-ghost use Rattle.route_books.specs.Books.{TellsOf};
+ghost use Rattle.route_work.specs.Dues.{IsDue};
+ghost use Rattle.route_work.specs.Books.{TellsOf};
 ghost use Rattle.route_work.specs.Work.{HasSending, IsAllSent};
 
+use crate::{Due, DueBegin, DueCopy, Looked, Parts, UnsentCopies};
 use capture_form::Rule;
 use due_waiting::{DueWaiting, Waiting};
-use route_books::{Due, DueBegin, DueCopy, Looked, Parts, UnsentCopies};
 use std::alloc::{AllocError, Global};
 use trace_values::Event;
 

@@ -6,8 +6,8 @@ ghost use Rattle.route_work.specs.Work.{HasWork};
 use crate::flowing::Flowing;
 use crate::sending::Sending;
 use crate::telling::Telling;
+use crate::{Due, Dues, Looked};
 use capture_form::Rule;
-use route_books::{Due, Dues, Looked};
 use std::alloc::{AllocError, Global};
 use trace_values::Event;
 

@@ -9,8 +9,8 @@ ghost use Rattle.trace_values.specs.View.{Events, incoming_view};
 ghost use Rattle.route_dues.specs.Outcomes.{HasState};
 ghost use Rattle.route_dues.specs.Writing.{IsInOrder};
 ghost use Rattle.due_outcomes.specs.DueOutcomes.{IsDueOutcome};
-ghost use Rattle.due_frames.specs.Dues as dues;
-ghost use Rattle.due_frames.specs.Dues.{IsDue, IsDueBehind, IsNextFrame, IsFrameFor};
+ghost use Rattle.route_work.specs.Dues as dues;
+ghost use Rattle.route_work.specs.Dues.{IsDue, IsDueBehind, IsNextFrame, IsFrameFor};
 
 use crate::due::Due;
 use capture_form::{Frame, Record, Rule, What};

@@ -4,10 +4,10 @@ use Rattle.trace_clauses.specs.Written.{spoken_octets, written_settling, written
 use Rattle.trace_values.specs.View.{link_view, incoming_view, outgoing_view}
 use Rattle.route_dues.specs.Transfers.{first_frame, next_frame}
 use Rattle.route_dues.specs.Writing.{IsReadAgain}
-use Rattle.due_frames.specs.declared.due.Due.TheVariants as dues
-use Rattle.due_frames.specs.Dues.{IsDue, IsFrameFor, connection_of, note_of}
-use Rattle.due_frames.proofs.Follow.{appended, appended-again, frame_of_due, on_ok, outcome_told, settling_frame_for, part_frame_for, waiting_frame_for, copy_frame_for, drain_frame_for, credit_frame_for, window_frame_for}
-use Rattle.due_frames.proofs.writing.put_due.Goals as goal
+use Rattle.route_work.specs.declared.due.Due.TheVariants as dues
+use Rattle.route_work.specs.Dues.{IsDue, IsFrameFor, connection_of, note_of}
+use Rattle.route_work.proofs.Follow.{appended, appended-again, frame_of_due, on_ok, outcome_told, settling_frame_for, part_frame_for, waiting_frame_for, copy_frame_for, drain_frame_for, credit_frame_for, window_frame_for}
+use Rattle.route_work.proofs.writing.put_due.Goals as goal
 
 pub put_told-requires-clause-told : goal.put_told-requires-clause-told
 put_told-requires-clause-told g c =

@@ -8,7 +8,7 @@ use Rattle.trace_clauses.specs.Clauses.{broken_clause}
 use Rattle.audit_answers.specs.declared.looked.Looked.{Looked}
 use Rattle.audit_answers.specs.Tables.{StandFor, AreTables}
 use Rattle.route_dues.specs.Writing.{IsInOrder}
-use Rattle.route_books.specs.declared.books.Books.{Books}
+use Rattle.route_work.specs.declared.books.Books.{Books}
 
 -- the tables that are lent tell of these events
 abbrev pub TellsOf : List RuleText → Looked → List Event → Type 0

@@ -7,8 +7,8 @@ use Rattle.audit_events.specs.HeldEvents.{held_event_view}
 use Rattle.audit_events.specs.declared.held_event.HeldEvent.{HeldEvent}
 use Rattle.audit_tables.specs.Connections.{IsLawfulNext}
 use Rattle.audit_answers.proofs.NextKnown.{next-opens}
-use Rattle.route_books.proofs.Entering.{numbered, same-event, lawful-next, if_ok}
-use Rattle.route_books.proofs.books.Books.judged.Goals as goal
+use Rattle.route_work.proofs.Entering.{numbered, same-event, lawful-next, if_ok}
+use Rattle.route_work.proofs.books.Books.judged.Goals as goal
 
 pub returns : goal.returns
 returns g c =

@@ -23,9 +23,9 @@ use Rattle.due_copies.specs.Draining.{IsDrainable}
 use Rattle.due_copies.specs.Topping.{IsToppable}
 use Rattle.due_copies.specs.Lacking.{IsLacking}
 use Rattle.due_copies.specs.Copies.{IsDueCopy}
-use Rattle.due_frames.specs.declared.due.Due.{Due}
-use Rattle.due_frames.specs.declared.due.Due.TheVariants as dues
-use Rattle.due_frames.specs.declared.due.DueBegin.{DueBegin}
+use Rattle.route_work.specs.declared.due.Due.{Due}
+use Rattle.route_work.specs.declared.due.Due.TheVariants as dues
+use Rattle.route_work.specs.declared.due.DueBegin.{DueBegin}
 
 -- ---- each kind, as the lists say it
 

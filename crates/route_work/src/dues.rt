@@ -7,12 +7,12 @@ ghost use Rattle.trace_events.specs.History.{history};
 ghost use Rattle.audit_tables.specs.Connections.{IsLawfulNext};
 ghost use Rattle.trace_duties.specs.Quiet.{is_quiet};
 ghost use Rattle.trace_values.specs.View.{Events, event_view};
-ghost use Rattle.due_frames.specs.Dues.{IsDue};
-ghost use Rattle.route_books.specs.Books.{TellsOf};
+ghost use Rattle.route_work.specs.Dues.{IsDue};
+ghost use Rattle.route_work.specs.Books.{TellsOf};
 
+use crate::Due;
 use audit_answers::Looked;
 use capture_form::Rule;
-use due_frames::Due;
 use std::alloc::{AllocError, Global};
 use trace_values::Event;
 

@@ -1,8 +1,8 @@
 use Rattle.trace_events.specs.History.{history}
 use Rattle.trace_values.specs.View.{event_view}
 use Rattle.audit_answers.specs.Tables.{AreTables}
-use Rattle.route_books.proofs.Entering.{longer}
-use Rattle.route_books.proofs.books.Books.follow.Goals as goal
+use Rattle.route_work.proofs.Entering.{longer}
+use Rattle.route_work.proofs.books.Books.follow.Goals as goal
 
 pub returns : goal.returns
 returns g c = λ records r next stand.

@@ -1,8 +1,8 @@
 use Rattle.std.proofs.Common.{ap}
 use Rattle.capture_form.specs.declared.records.What.TheVariants as whats
-use Rattle.due_frames.specs.Dues.{connection_of, note_of}
-use Rattle.due_frames.proofs.Follow.{frame_recorded}
-use Rattle.due_frames.proofs.writing.record_of.Goals as goal
+use Rattle.route_work.specs.Dues.{connection_of, note_of}
+use Rattle.route_work.proofs.Follow.{frame_recorded}
+use Rattle.route_work.proofs.writing.record_of.Goals as goal
 
 pub returns-clause-next : goal.returns-clause-next
 returns-clause-next g c = λ history stands order is.

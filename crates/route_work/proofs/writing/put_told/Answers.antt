@@ -5,9 +5,9 @@ use Rattle.trace_clauses.specs.Written.{spoken_octets}
 use Rattle.trace_judge.specs.Told.{told_view}
 use Rattle.trace_values.specs.View.{incoming_view}
 use Rattle.route_dues.specs.Outcomes.{outcome_frame}
-use Rattle.due_frames.specs.Dues.{IsFrameFor}
-use Rattle.due_frames.proofs.Follow.{appended, outcome_frame_for}
-use Rattle.due_frames.proofs.writing.put_told.Goals as goal
+use Rattle.route_work.specs.Dues.{IsFrameFor}
+use Rattle.route_work.proofs.Follow.{appended, outcome_frame_for}
+use Rattle.route_work.proofs.writing.put_told.Goals as goal
 
 pub returns-in-Ok : goal.returns-in-Ok
 returns-in-Ok c = record {

@@ -36,10 +36,10 @@ use Rattle.due_copies.specs.Lacking.{IsLacking}
 use Rattle.due_copies.specs.DuePart.{DuePart}
 use Rattle.due_copies.specs.Copies.{IsDueCopy}
 use Rattle.due_copies.specs.declared.copies.DueCopy.{DueCopy}
-use Rattle.due_frames.specs.declared.due.DueBegin.{DueBegin}
-use Rattle.due_frames.specs.declared.due.Due.{Due}
-use Rattle.due_frames.specs.declared.due.Due.TheVariants as dues
-use Rattle.due_frames.specs.Dues.{IsDue, IsWaitingDue, IsFrameFor, IsNextFrame, connection_of, note_of}
+use Rattle.route_work.specs.declared.due.DueBegin.{DueBegin}
+use Rattle.route_work.specs.declared.due.Due.{Due}
+use Rattle.route_work.specs.declared.due.Due.TheVariants as dues
+use Rattle.route_work.specs.Dues.{IsDue, IsWaitingDue, IsFrameFor, IsNextFrame, connection_of, note_of}
 
 module _ (rules : List RuleText) (past : List Event) (order : IsInOrder rules past) where
   framed : (c : ℕ) (note : Note) (spoken : Spoken) (octets : List ℕ) → MayFollow rules past c note spoken → IsReadAgain spoken → octets ≡ spoken_octets spoken → IsFrameFor rules past c note octets
