@@ -1,1 +1,4 @@
 mod Entered
+mod UnopenedRecords
+pub mod NextAnswers
+mod EventExamples

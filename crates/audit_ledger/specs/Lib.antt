@@ -1,1 +1,3 @@
 pub mod Ledger
+pub mod HeldEvents
+pub mod NextEvents

@@ -6,14 +6,14 @@ ghost use Rattle.capture_form.specs.declared.records.Record.{Record};
 ghost use Rattle.trace_events.specs.History.{history, moment_of};
 ghost use Rattle.audit_tables.specs.Connections.{IsLawfulNext};
 ghost use Rattle.audit_answers.specs.Tables.{StandFor, entries_of};
-ghost use Rattle.audit_events.specs.HeldEvents.{held_event_view};
+ghost use Rattle.audit_ledger.specs.HeldEvents.{held_event_view};
 ghost use Rattle.audit_ledger.specs.declared.not_entered.NotEntered.TheVariants.{Memory};
 ghost use Rattle.audit_ledger.specs.Ledger.{IsReason, Stands, broken_behind};
 ghost use Rattle.trace_values.specs.View.{event_view};
 
 use crate::not_entered::NotEntered;
+use crate::{HeldEvent, counted, next_event};
 use audit_answers::{Looked, Tables};
-use audit_events::{HeldEvent, counted, next_event};
 use capture_form::{Record, Rule};
 use std::alloc::{AllocError, Global};
 use trace_clauses::Tally;

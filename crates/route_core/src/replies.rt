@@ -3,11 +3,11 @@
 ghost use Rattle.std.specs.Prelude.{◌≡◌, IfOk};
 ghost use Rattle.trace_events.specs.History.{moment_of};
 ghost use Rattle.trace_values.specs.View.{event_view};
-ghost use Rattle.audit_events.specs.HeldEvents.{held_event_view};
+ghost use Rattle.audit_ledger.specs.HeldEvents.{held_event_view};
 ghost use Rattle.route_answers.specs.Replies.{answer_view, reply_view, CanBeSaid, CanBeWritten};
 ghost use Rattle.route_core.specs.Replies.{IsReply, AreReplies, IsAnswerable, IsAnswerOf, AreAnswers, replies_of};
 
-use audit_events::HeldEvent;
+use audit_ledger::HeldEvent;
 use capture_form::{Frame, Record, Rule, What};
 use pairing_cert::Note;
 use route_answers::{Answer, Reply, answer_to};

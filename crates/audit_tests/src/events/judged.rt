@@ -3,7 +3,7 @@
 use crate::events::asked::OneConnection;
 use crate::events::says;
 use amqp_perf::{Begin, Open, Performative};
-use audit_events::next_event;
+use audit_ledger::next_event;
 use flow_counts::INCOMING_WINDOW;
 use pairing_cert::Note;
 use std::test::Fail;

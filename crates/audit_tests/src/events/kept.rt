@@ -2,7 +2,7 @@
 
 use crate::events::{SESSION, TRANSFER, consumer, event, says};
 use amqp_perf::{ErrorCondition, Role};
-use audit_events::HeldEvent;
+use audit_ledger::HeldEvent;
 use pairing_cert::{Note, Why};
 use std::test::Fail;
 use trace_events::Fault;

@@ -2,7 +2,7 @@
 
 use crate::events::{TRANSFER, consumer, event, says};
 use amqp_perf::{Disposition, Performative, Role};
-use audit_events::counted;
+use audit_ledger::counted;
 use pairing_cert::Note;
 use std::test::Fail;
 use trace_clauses::Tally;

@@ -4,8 +4,8 @@ use Rattle.trace_clauses.specs.declared.tally.Tally.{Tally}
 use Rattle.trace_events.specs.History.{history, moment_of}
 use Rattle.trace_values.specs.View.{event_view}
 use Rattle.trace_values.specs.declared.event.Event.{Event}
-use Rattle.audit_events.specs.NextEvents.{IsAnswer, viewed}
-use Rattle.audit_events.specs.HeldEvents.{held_event_view}
+use Rattle.audit_ledger.specs.NextEvents.{IsAnswer, viewed}
+use Rattle.audit_ledger.specs.HeldEvents.{held_event_view}
 use Rattle.audit_answers.proofs.NextKnown.{next-carries, next-opens}
 use Rattle.audit_ledger.proofs.Entered.{lawful-next, same-event}
 use Rattle.audit_ledger.proofs.ledger.Ledger.judged.Goals as goal

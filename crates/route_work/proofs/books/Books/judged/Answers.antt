@@ -3,8 +3,8 @@ use Rattle.trace_clauses.proofs.Unopened.{broken-unopened}
 use Rattle.trace_events.specs.Event.{Moment}
 use Rattle.trace_events.specs.History.{history, judge, moment_of}
 use Rattle.trace_values.specs.View.{event_view}
-use Rattle.audit_events.specs.HeldEvents.{held_event_view}
-use Rattle.audit_events.specs.declared.held_event.HeldEvent.{HeldEvent}
+use Rattle.audit_ledger.specs.HeldEvents.{held_event_view}
+use Rattle.audit_ledger.specs.declared.held_event.HeldEvent.{HeldEvent}
 use Rattle.audit_tables.specs.Connections.{IsLawfulNext}
 use Rattle.audit_answers.proofs.NextKnown.{next-opens}
 use Rattle.route_work.proofs.Entering.{numbered, same-event, lawful-next, if_ok}

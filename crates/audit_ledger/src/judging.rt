@@ -3,7 +3,7 @@
 ghost use Rattle.std.specs.Prelude.{◌≡◌, None, length};
 ghost use Rattle.capture_form.specs.declared.records.Record.{Record};
 ghost use Rattle.trace_clauses.specs.Clauses as law;
-ghost use Rattle.audit_events.specs.NextEvents.{IsRead, IsAnswer, unopened, viewed};
+ghost use Rattle.audit_ledger.specs.NextEvents.{IsRead, IsAnswer, unopened, viewed};
 ghost use Rattle.trace_values.specs.Known.{CarriesKnown, OpensKnown};
 ghost use Rattle.trace_values.specs.View.{Events, moment_view};
 

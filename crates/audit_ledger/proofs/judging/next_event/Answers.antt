@@ -3,8 +3,8 @@ use Rattle.trace_clauses.specs.Clauses.{broken_clause}
 use Rattle.trace_events.specs.Event.{Event}
 use Rattle.trace_values.specs.Known.{CarriesKnown, OpensKnown}
 use Rattle.trace_values.specs.View.{event_view, moment_view}
-use Rattle.audit_events.proofs.UnopenedRecords.{read-unopened, stands-live, names-live, number-is, broken-is, opened-is}
-use Rattle.audit_events.proofs.judging.next_event.Goals as goal
+use Rattle.audit_ledger.proofs.UnopenedRecords.{read-unopened, stands-live, names-live, number-is, broken-is, opened-is}
+use Rattle.audit_ledger.proofs.judging.next_event.Goals as goal
 
 pub returns-in-Some : goal.returns-in-Some
 returns-in-Some g c = λ past r stands numbered read carries opens.

@@ -1,7 +1,7 @@
 //! The link of an event and the deliveries that its transfer begins or goes on with, kept: with addresses of their own.
 
 ghost use Rattle.std.specs.Prelude.{◌≡◌, IfOk, OnErr, is_some, true, option_map};
-ghost use Rattle.audit_events.specs.HeldEvents.{parts_of, has_parts, held_incoming_view, held_outgoing_view, held_parts_view};
+ghost use Rattle.audit_ledger.specs.HeldEvents.{parts_of, has_parts, held_incoming_view, held_outgoing_view, held_parts_view};
 ghost use Rattle.audit_tables.specs.HeldViews.{held_link_view};
 ghost use Rattle.trace_values.specs.View.{event_view, incoming_view, link_view, outgoing_view};
 

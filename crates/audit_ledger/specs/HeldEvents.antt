@@ -2,11 +2,11 @@
 use Rattle.std.specs.Prelude.{Bool, ◌||◌, Option, None, is_some, option_map}
 use Rattle.trace_events.specs.Event.{Event, Link, Incoming, Outgoing, Moment}
 use Rattle.audit_tables.specs.HeldViews.{held_link_view}
-use Rattle.audit_events.specs.declared.held_parts.HeldIncoming.{HeldIncoming}
-use Rattle.audit_events.specs.declared.held_parts.HeldOutgoing.{HeldOutgoing}
-use Rattle.audit_events.specs.declared.held_parts.HeldParts.{HeldParts}
-use Rattle.audit_events.specs.declared.held_event.HeldFacts.{HeldFacts}
-use Rattle.audit_events.specs.declared.held_event.HeldEvent.{HeldEvent}
+use Rattle.audit_ledger.specs.declared.held_parts.HeldIncoming.{HeldIncoming}
+use Rattle.audit_ledger.specs.declared.held_parts.HeldOutgoing.{HeldOutgoing}
+use Rattle.audit_ledger.specs.declared.held_parts.HeldParts.{HeldParts}
+use Rattle.audit_ledger.specs.declared.held_event.HeldFacts.{HeldFacts}
+use Rattle.audit_ledger.specs.declared.held_event.HeldEvent.{HeldEvent}
 
 -- ---- its parts
 

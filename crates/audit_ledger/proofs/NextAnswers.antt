@@ -7,7 +7,7 @@ use Rattle.trace_events.specs.History.{judge, history}
 use Rattle.trace_clauses.specs.declared.clause.Clause.{Clause}
 use Rattle.trace_clauses.specs.Clauses.{first_broken}
 use Rattle.audit_tables.specs.Connections.{IsLawfulNext}
-use Rattle.audit_events.specs.NextEvents.{IsAnswer}
+use Rattle.audit_ledger.specs.NextEvents.{IsAnswer}
 
 module _ (rules : List RuleText) (records : List Record) (r : Record) (lawful : first_broken rules (history rules records) ≡ None) where
   -- with its event the capture is lawful

@@ -11,8 +11,8 @@ use Rattle.trace_clauses.specs.declared.clause.Clause.TheVariants.{L1, L2}
 use Rattle.trace_clauses.specs.Written.{spoken_octets, written_open}
 use Rattle.trace_clauses.proofs.Captures.{opened}
 use Rattle.trace_clauses.proofs.Made.{write}
-use Rattle.audit_events.specs.HeldEvents.{no_parts, has_parts, facts_of, parts_of, event_of}
-use Rattle.audit_events.specs.NextEvents.{IsRead, IsAnswer}
+use Rattle.audit_ledger.specs.HeldEvents.{no_parts, has_parts, facts_of, parts_of, event_of}
+use Rattle.audit_ledger.specs.NextEvents.{IsRead, IsAnswer}
 
 -- ---- memory is asked for the link alone, for either delivery alone, and for nothing else
 

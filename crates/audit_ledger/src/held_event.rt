@@ -1,7 +1,7 @@
 //! An event that is kept, but for its moment, with addresses of its own: what it borrowed them from may then be moved by it.
 
 ghost use Rattle.std.specs.Prelude.{◌≡◌, IfOk, OnErr, true};
-ghost use Rattle.audit_events.specs.HeldEvents.{event_of, facts_of, parts_of, no_parts, has_parts, held_event_view};
+ghost use Rattle.audit_ledger.specs.HeldEvents.{event_of, facts_of, parts_of, no_parts, has_parts, held_event_view};
 ghost use Rattle.trace_events.specs.Event as law;
 ghost use Rattle.trace_values.specs.View.{event_view, moment_view};
 

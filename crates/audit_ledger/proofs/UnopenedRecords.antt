@@ -11,7 +11,7 @@ use Rattle.trace_events.proofs.Standing.{placed-stands}
 use Rattle.trace_clauses.specs.Clauses.{broken_clause}
 use Rattle.trace_clauses.proofs.LiveLinks.{placed-names}
 use Rattle.trace_clauses.proofs.Unopened.{broken-unopened}
-use Rattle.audit_events.specs.NextEvents.{IsRead, unopened}
+use Rattle.audit_ledger.specs.NextEvents.{IsRead, unopened}
 
 -- what is judged of a connection, a moment and a note is judged of the record that has them
 pub read-unopened : (rules : List RuleText) (past : List Event) (r : Record) (c : ℕ) (m : Moment) (note : Note) → IsRead r c m note → judge_unopened rules past c m note ≡ unopened rules past r

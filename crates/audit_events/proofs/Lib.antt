@@ -1,3 +1,0 @@
-mod UnopenedRecords
-pub mod NextAnswers
-mod EventExamples

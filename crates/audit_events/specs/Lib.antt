@@ -1,2 +1,0 @@
-pub mod HeldEvents
-pub mod NextEvents
