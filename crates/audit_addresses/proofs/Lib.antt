@@ -3,3 +3,9 @@ pub mod ConsumersOf
 pub mod ConsumerLinkSteps
 mod ConsumerExamples
 mod Leaving
+mod CopyNumbers
+mod CopySteps
+mod CopiesKnown
+mod CopiesExamples
+mod TableSteps
+mod ReceiversOf

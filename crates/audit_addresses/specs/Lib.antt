@@ -1,2 +1,4 @@
 pub mod Consumers
 pub mod ConsumerLinks
+pub mod Copies
+pub mod Receivers

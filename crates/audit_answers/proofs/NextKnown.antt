@@ -19,7 +19,7 @@ use Rattle.audit_tables.specs.declared.links.Links.{Links}
 use Rattle.audit_addresses.specs.declared.consumers.Consumers.{Consumers}
 use Rattle.audit_addresses.specs.declared.consumer_links.ConsumerLinks.{ConsumerLinks}
 use Rattle.audit_held.specs.declared.deliveries.Deliveries.{Deliveries}
-use Rattle.audit_copies.specs.declared.copies.Copies.{Copies}
+use Rattle.audit_addresses.specs.declared.copies.Copies.{Copies}
 use Rattle.audit_answers.specs.Tables.{StandFor}
 use Rattle.audit_answers.proofs.CarriedKnown.{carries-known}
 use Rattle.audit_answers.proofs.OutgoingKnown.{BeginsOrGoesOn}

@@ -14,8 +14,8 @@ use Rattle.audit_addresses.specs.ConsumerLinks.{AreConsumerLinks}
 use Rattle.audit_addresses.specs.declared.consumer_links.ConsumerLinks.{ConsumerLinks}
 use Rattle.audit_held.specs.HeldTables.{IsHistory, IsTable, count_of}
 use Rattle.audit_held.specs.declared.deliveries.Deliveries.{Deliveries}
-use Rattle.audit_copies.specs.Copies.{AreCopies}
-use Rattle.audit_copies.specs.declared.copies.Copies.{Copies}
+use Rattle.audit_addresses.specs.Copies.{AreCopies}
+use Rattle.audit_addresses.specs.declared.copies.Copies.{Copies}
 use Rattle.audit_sent.specs.SentTables as sent_tables
 use Rattle.audit_sent.specs.declared.deliveries.SentDeliveries.{SentDeliveries}
 use Rattle.audit_answers.specs.declared.tables.Tables.{Tables}

@@ -4,8 +4,7 @@ mod carriage;
 mod outcomes;
 
 use amqp_perf::Begin;
-use audit_addresses::{ConsumerLinks, Consumers};
-use audit_copies::Copies;
+use audit_addresses::{ConsumerLinks, Consumers, Copies};
 use audit_held::Deliveries;
 use audit_sent::SentDeliveries;
 use audit_tables::{Connections, Links};

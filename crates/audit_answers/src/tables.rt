@@ -9,8 +9,7 @@ ghost use Rattle.audit_answers.specs.Tables.{AreTables, StandFor, entries_of};
 ghost use Rattle.trace_values.specs.View.{Events, event_view};
 
 use crate::looked::Looked;
-use audit_addresses::{ConsumerLinks, Consumers};
-use audit_copies::{Copies, receivers_of};
+use audit_addresses::{ConsumerLinks, Consumers, Copies, receivers_of};
 use audit_held::Deliveries;
 use audit_sent::SentDeliveries;
 use audit_tables::{Connections, Links};

@@ -23,8 +23,8 @@ use Rattle.trace_clauses.proofs.UnsentCopies.{unsent_complete}
 use Rattle.trace_clauses.proofs.WaitingQueue.{completed_below, completed_once, completion_complete}
 use Rattle.trace_duties.specs.Pick.{may_take}
 use Rattle.audit_addresses.specs.ConsumerLinks.{has_number, consumer_at}
-use Rattle.audit_copies.specs.Copies.{AreReceivers, names_at}
-use Rattle.audit_copies.specs.declared.copies.Receiver.{Receiver}
+use Rattle.audit_addresses.specs.Copies.{AreReceivers, names_at}
+use Rattle.audit_addresses.specs.declared.copies.Receiver.{Receiver}
 use Rattle.due_flows.specs.Standing.{grants_window}
 use Rattle.due_flows.proofs.DrainingLinks.{on-link}
 use Rattle.due_flows.proofs.PartsFollowed.{not-ended}

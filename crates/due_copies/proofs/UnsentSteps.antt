@@ -29,8 +29,8 @@ use Rattle.trace_clauses.proofs.Parts.{IsKept, holds_some}
 use Rattle.trace_clauses.proofs.Undecided.{link_of_session}
 use Rattle.trace_clauses.proofs.UnsentCopies.{unsent_complete}
 use Rattle.audit_addresses.specs.ConsumerLinks.{consumer_at}
-use Rattle.audit_copies.specs.Copies.{AreReceiversOf, AreReceivers, copied_by, names_at}
-use Rattle.audit_copies.specs.declared.copies.Receiver.{Receiver}
+use Rattle.audit_addresses.specs.Copies.{AreReceiversOf, AreReceivers, copied_by, names_at}
+use Rattle.audit_addresses.specs.declared.copies.Receiver.{Receiver}
 use Rattle.due_flows.proofs.DrainingLinks.{event-link, link-unused}
 use Rattle.due_flows.proofs.LiveOnes.{link-before, link-found}
 use Rattle.due_flows.proofs.PartsDue.{consumer-found}

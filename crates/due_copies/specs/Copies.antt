@@ -8,7 +8,7 @@ use Rattle.trace_events.specs.Due.{is_unsent, has_unsent}
 use Rattle.trace_duties.specs.Pick.{may_take}
 use Rattle.trace_duties.specs.Quiet.{has_earlier_unsent}
 use Rattle.trace_values.specs.View.{link_view, incoming_view}
-use Rattle.audit_copies.specs.Copies.{AreCopies}
+use Rattle.audit_addresses.specs.Copies.{AreCopies}
 use Rattle.audit_held.specs.EntryAnswers.{Knows}
 use Rattle.audit_held.specs.declared.deliveries.Deliveries.{Deliveries}
 use Rattle.due_copies.specs.Lists.{Waits, copy_on, stands}

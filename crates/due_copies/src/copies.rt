@@ -15,7 +15,7 @@ ghost use Rattle.due_flows.specs.Lent.{AreOf};
 ghost use Rattle.due_copies.specs.Copies.{HasUnsent, IsDueCopy, IsKnownCopy, IsReady, IsUnsentOn};
 
 use crate::lists::Lists;
-use audit_copies::{Copies, receivers_of};
+use audit_addresses::{Copies, receivers_of};
 use capture_form::Rule;
 use due_flows::Looked;
 use pairing_cert::Note;

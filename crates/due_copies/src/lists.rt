@@ -14,14 +14,13 @@ ghost use Rattle.trace_events.specs.Link.{IsLiveLink};
 ghost use Rattle.trace_values.specs.View.{event_view, incoming_view};
 ghost use Rattle.audit_tables.specs.EndedLinks.{views};
 ghost use Rattle.audit_addresses.specs.ConsumerLinks.{has_number, link_in};
-ghost use Rattle.audit_copies.specs.Copies.{AreCopies, names_at};
+ghost use Rattle.audit_addresses.specs.Copies.{AreCopies, names_at};
 ghost use Rattle.due_flows.specs.Standing.{grants_window};
 ghost use Rattle.due_copies.specs.Lists.{AreWith, IsIn, IsKept, IsKeptBut, IsOfBoth, Stays, Waits, copy_on, receives, stands, waits};
 
 use crate::by_link::ByLink;
 use crate::candidates::Candidates;
-use audit_addresses::ConsumerLinks;
-use audit_copies::{Copies, Receiver};
+use audit_addresses::{ConsumerLinks, Copies, Receiver};
 use flow_counts::WindowEvent;
 use number_groups::Groups;
 use pairing_cert::Note;

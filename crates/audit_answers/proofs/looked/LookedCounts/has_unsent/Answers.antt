@@ -3,7 +3,7 @@ use Rattle.trace_events.specs.Due.{has_unsent}
 use Rattle.trace_events.specs.Event.{Event}
 use Rattle.trace_events.specs.Link.{IsLiveLink}
 use Rattle.trace_values.specs.View.{link_view}
-use Rattle.audit_copies.specs.Copies.{AreCopies}
+use Rattle.audit_addresses.specs.Copies.{AreCopies}
 use Rattle.audit_answers.proofs.looked.LookedCounts.has_unsent.Goals as goal
 
 pub returns : goal.returns

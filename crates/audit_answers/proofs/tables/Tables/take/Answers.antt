@@ -6,8 +6,8 @@ use Rattle.trace_values.specs.View.{event_view}
 use Rattle.trace_values.specs.declared.event.Link.{Link}
 use Rattle.audit_tables.specs.EndedLinks.{AreEnded, views}
 use Rattle.audit_addresses.proofs.ConsumersOf.{are-served}
-use Rattle.audit_copies.specs.Copies.{AreReceivers}
-use Rattle.audit_copies.specs.declared.copies.Receiver.{Receiver}
+use Rattle.audit_addresses.specs.Copies.{AreReceivers}
+use Rattle.audit_addresses.specs.declared.copies.Receiver.{Receiver}
 use Rattle.audit_answers.proofs.tables.Tables.take.Goals as goal
 
 pub returns : goal.returns

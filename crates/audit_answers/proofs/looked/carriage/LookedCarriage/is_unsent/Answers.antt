@@ -4,7 +4,7 @@ use Rattle.trace_events.specs.Event.{Event}
 use Rattle.trace_events.specs.Incoming.{incoming_at}
 use Rattle.trace_events.specs.Link.{IsLiveLink}
 use Rattle.trace_values.specs.View.{incoming_view, link_view}
-use Rattle.audit_copies.specs.Copies.{AreCopies}
+use Rattle.audit_addresses.specs.Copies.{AreCopies}
 use Rattle.audit_held.proofs.KnownEntries.{knows-at}
 use Rattle.audit_answers.proofs.looked.carriage.LookedCarriage.is_unsent.Goals as goal
 

@@ -1,6 +1,0 @@
-mod CopyNumbers
-mod CopySteps
-mod CopiesKnown
-mod CopiesExamples
-mod TableSteps
-mod ReceiversOf
