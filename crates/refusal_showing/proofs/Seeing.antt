@@ -9,8 +9,8 @@ use Rattle.capture_view.specs.declared.names.Names.{Names}
 use Rattle.capture_view.specs.Tables.{StandsFor as NamesStand, TakesOneMore as NamesTake}
 use Rattle.capture_words.specs.Taken.{views_of}
 use Rattle.capture_words.proofs.Streaming.{views_push}
-use Rattle.refusal_origins.specs.Tables.{StandsFor as OriginsStand, TakesOneMore as OriginsTake}
-use Rattle.refusal_origins.specs.declared.origins.Origins.{Origins}
+use Rattle.refusal_words.specs.Tables.{StandsFor as OriginsStand, TakesOneMore as OriginsTake}
+use Rattle.refusal_words.specs.declared.origins.Origins.{Origins}
 use Rattle.refusal_showing.specs.declared.explaining.Explaining.{Explaining}
 use Rattle.refusal_showing.specs.Seen.{HasSeen}
 

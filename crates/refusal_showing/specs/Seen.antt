@@ -5,7 +5,7 @@ use Rattle.capture_form.specs.Rules.{RuleText}
 use Rattle.capture_view.specs.Viewed.{Viewed, view_of}
 use Rattle.capture_view.specs.Tables.{StandsFor as NamesStand}
 use Rattle.capture_words.specs.Taken.{views_of}
-use Rattle.refusal_origins.specs.Tables.{StandsFor as OriginsStand}
+use Rattle.refusal_words.specs.Tables.{StandsFor as OriginsStand}
 use Rattle.refusal_showing.specs.declared.explaining.Explaining.{Explaining}
 
 -- the links by name, and where windows and credits come from, are those of these records

@@ -5,8 +5,7 @@ use capture_form::{Record, Rule};
 use capture_view::{Names, view_of};
 use capture_words::Page;
 use refusal_ledger::explain_refused;
-use refusal_origins::Origins;
-use refusal_words::Explained;
+use refusal_words::{Explained, Origins};
 use std::alloc::{AllocError, Global};
 
 /// At how many characters the texts and octets of the refused record's line are cut.

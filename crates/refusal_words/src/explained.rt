@@ -1,5 +1,6 @@
 //! A reason, in words.
 
+use crate::Origins;
 use crate::clauses::sentence;
 use crate::flow::write_flow;
 use crate::opening::{
@@ -11,7 +12,6 @@ use crate::transfer::{
     write_beginning, write_carrying, write_going_on, write_order, write_payload, write_sending,
 };
 use refusal_facts::{Facts, Reason};
-use refusal_origins::Origins;
 use std::fmt;
 
 /// A reason, with the records from which windows and credits come. Its text has several lines, without a newline at the end.

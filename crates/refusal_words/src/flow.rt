@@ -1,5 +1,6 @@
 //! What L10 compares, in words.
 
+use crate::Origins;
 use crate::text::OrNone;
 use crate::transfer::{
     Linked, NO_SESSION, origin_of, write_credit_origin, write_flag, write_no_link, write_number,
@@ -7,7 +8,6 @@ use crate::transfer::{
 };
 use flow_counts::{INCOMING_WINDOW, LOW_MARK, OUTGOING_WINDOW};
 use refusal_facts::{ConsumerNumbers, FlowFacts, FlowLink, ProducerNumbers};
-use refusal_origins::Origins;
 use std::fmt;
 
 /// The numbers of the session.

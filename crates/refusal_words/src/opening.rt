@@ -1,5 +1,6 @@
 //! What L1 to L3 and L13 compare, in words.
 
+use crate::Origins;
 use crate::text::{Asked, Quoted, receiver_mode_name, role_name, sender_mode_name};
 use crate::transfer::{Linked, NO_SESSION, write_no_link, write_session};
 use amqp_perf::{Performative, Role};
@@ -7,7 +8,6 @@ use flow_counts::INCOMING_WINDOW;
 use refusal_facts::{
     AskedAddress, Asking, AttachFacts, BeginFacts, DetachFacts, EndFacts, FrameFacts, WritingFacts,
 };
-use refusal_origins::Origins;
 use std::fmt;
 use trace_events::Fault;
 use trace_values::Body;

@@ -3,11 +3,11 @@
 ghost use Rattle.std.specs.Prelude.{◌≡◌, IfSome};
 
 use crate::text::{Noted, OrNone, Quoted, flag_name};
+use crate::{LinkOrigin, Origins, SessionOrigin};
 use refusal_facts::{
     BeginningFacts, CarryingFacts, Difference, GoingOnFacts, Incoming, Link, Named, OrderFacts,
     Outgoing, PayloadFacts, SendingFacts,
 };
-use refusal_origins::{LinkOrigin, Origins, SessionOrigin};
 use std::fmt;
 use trace_events::Session;
 

@@ -6,9 +6,9 @@ use Rattle.amqp_perf.specs.declared.flow.Flow.{Flow}
 use Rattle.amqp_perf.specs.Meaning.{Meaning, ABegin, AFlow, ATransfer, AnEnd}
 use Rattle.capture_view.specs.Saying.{Says}
 use Rattle.capture_view.specs.Viewed.{Happening, In, Out, Viewed}
-use Rattle.refusal_origins.specs.declared.session.Opened.{Opened}
-use Rattle.refusal_origins.specs.declared.session.Windowed.{Windowed}
-use Rattle.refusal_origins.specs.declared.origins.ChannelKey.{ChannelKey}
+use Rattle.refusal_words.specs.declared.session.Opened.{Opened}
+use Rattle.refusal_words.specs.declared.session.Windowed.{Windowed}
+use Rattle.refusal_words.specs.declared.origins.ChannelKey.{ChannelKey}
 
 -- ---- words
 

@@ -7,14 +7,14 @@ use Rattle.amqp_perf.specs.Meaning.{AttachFields, DetachFields, TransferFields, 
 use Rattle.amqp_perf.specs.Nested.{TargetFields, TerminusFields}
 use Rattle.capture_view.specs.Saying.{NoBody, Says}
 use Rattle.capture_view.specs.Viewed.{In, Out, Opened as AnOpening}
-use Rattle.refusal_origins.specs.declared.session.Opened.{Opened}
-use Rattle.refusal_origins.specs.declared.session.Windowed.{Windowed}
-use Rattle.refusal_origins.specs.declared.link.Credited.{Credited}
-use Rattle.refusal_origins.specs.declared.link.Change.TheVariants.{Credit, Transfer, Drain}
-use Rattle.refusal_origins.specs.declared.origins.ChannelKey.{ChannelKey}
-use Rattle.refusal_origins.specs.Session.{SessionEvent, AnyEnd, Changes, OurBegin, OurTransfer, TheirBegin, TheirFlow, began, capped, event_by, heard, is_channel, last_begin, lives, opened, sent, session_of, window, written}
-use Rattle.refusal_origins.specs.Link as links
-use Rattle.refusal_origins.specs.Link.{LinkEvent, OurAttach, Over, attached, attached_in, begun, credit, credit_granted, drain_answered, drained, heard_of_handle, heard_of_link, in_progress, link_by, link_of, name, opens_link, written_of_handle, written_of_link}
+use Rattle.refusal_words.specs.declared.session.Opened.{Opened}
+use Rattle.refusal_words.specs.declared.session.Windowed.{Windowed}
+use Rattle.refusal_words.specs.declared.link.Credited.{Credited}
+use Rattle.refusal_words.specs.declared.link.Change.TheVariants.{Credit, Transfer, Drain}
+use Rattle.refusal_words.specs.declared.origins.ChannelKey.{ChannelKey}
+use Rattle.refusal_words.specs.Session.{SessionEvent, AnyEnd, Changes, OurBegin, OurTransfer, TheirBegin, TheirFlow, began, capped, event_by, heard, is_channel, last_begin, lives, opened, sent, session_of, window, written}
+use Rattle.refusal_words.specs.Link as links
+use Rattle.refusal_words.specs.Link.{LinkEvent, OurAttach, Over, attached, attached_in, begun, credit, credit_granted, drain_answered, drained, heard_of_handle, heard_of_link, in_progress, link_by, link_of, name, opens_link, written_of_handle, written_of_link}
 
 -- ---- words
 

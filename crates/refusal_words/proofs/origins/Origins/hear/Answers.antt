@@ -1,10 +1,10 @@
 use Rattle.std.proofs.Common.{refl, sym, ap, ◌∙◌}
 use Rattle.std.specs.Option.{option_copied_mut}
 use Rattle.amqp_perf.specs.View.{view}
-use Rattle.refusal_origins.specs.Session.{heard_change}
-use Rattle.refusal_origins.specs.Link.{heard_of_handle}
-use Rattle.refusal_origins.proofs.Channels.{changed-there, heard-there}
-use Rattle.refusal_origins.proofs.origins.Origins.hear.Goals as goal
+use Rattle.refusal_words.specs.Session.{heard_change}
+use Rattle.refusal_words.specs.Link.{heard_of_handle}
+use Rattle.refusal_words.proofs.Channels.{changed-there, heard-there}
+use Rattle.refusal_words.proofs.origins.Origins.hear.Goals as goal
 
 pub returns-in-Some : goal.returns-in-Some
 returns-in-Some c =

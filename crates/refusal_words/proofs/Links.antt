@@ -1,11 +1,11 @@
 -- What one event more does to a link.
 use Rattle.std.proofs.Common.{◌≡◌, refl, ap, ℕ, ◌+◌, Bool, true, false, List, ◌∷◌, Option, Some, None, option_map, if◌then◌else◌, arith}
 use Rattle.std.specs.List.{cons_option}
-use Rattle.refusal_origins.specs.declared.link.Change.{Change}
-use Rattle.refusal_origins.specs.declared.link.Change.TheVariants.{Credit, Transfer, Drain}
-use Rattle.refusal_origins.specs.Session.{capped}
-use Rattle.refusal_origins.specs.Link.{LinkEvent, LinkTold, Changes, OurAttach, Over, attached, attached_in, begun, credit, drained, in_progress, link_of, name, told}
-use Rattle.refusal_origins.specs.Tables.{changed, link_next}
+use Rattle.refusal_words.specs.declared.link.Change.{Change}
+use Rattle.refusal_words.specs.declared.link.Change.TheVariants.{Credit, Transfer, Drain}
+use Rattle.refusal_words.specs.Session.{capped}
+use Rattle.refusal_words.specs.Link.{LinkEvent, LinkTold, Changes, OurAttach, Over, attached, attached_in, begun, credit, drained, in_progress, link_of, name, told}
+use Rattle.refusal_words.specs.Tables.{changed, link_next}
 
 pub capped-more : (n : ℕ) → capped (n + 1) ≡ capped (capped n + 1)
 capped-more n = omega arith

@@ -1,7 +1,7 @@
 //! Where the credit of a link comes from (part 2 of the standard, section 2.6.7).
 
 ghost use Rattle.std.specs.Prelude.{◌≡◌};
-ghost use Rattle.refusal_origins.specs.Link.{credit_granted, drain_answered, opens_link};
+ghost use Rattle.refusal_words.specs.Link.{credit_granted, drain_answered, opens_link};
 ghost use Rattle.amqp_perf.specs.View.{attach_fields};
 
 use amqp_perf::{Attach, Flow};
@@ -47,8 +47,8 @@ pub struct LinkOrigin {
 
 impl LinkOrigin {
     ghost use Rattle.std.specs.Prelude.{◌≡◌, IfOk};
-    ghost use Rattle.refusal_origins.specs.Link.{fresh_link};
-    ghost use Rattle.refusal_origins.specs.Tables.{changed, link_told};
+    ghost use Rattle.refusal_words.specs.Link.{fresh_link};
+    ghost use Rattle.refusal_words.specs.Tables.{changed, link_told};
 
     /// Of a link of this name that the router attaches in the record of this number.
     pub(crate) fn new(alloc: Global, number: u64, name: &str) -> Result<LinkOrigin, AllocError>

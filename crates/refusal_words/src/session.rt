@@ -42,9 +42,9 @@ impl SessionOrigin {
     ghost use Rattle.std.specs.Option.{option_copied};
     ghost use Rattle.amqp_perf.specs.Meaning.{AFlow};
     ghost use Rattle.amqp_perf.specs.View.{attach_fields, view};
-    ghost use Rattle.refusal_origins.specs.Session.{OurTransfer, fresh_session, heard_change, written_change};
-    ghost use Rattle.refusal_origins.specs.Link.{attach_event, heard_of_handle, written_of_handle};
-    ghost use Rattle.refusal_origins.specs.Tables.{SessionMoves, changed, link_next, link_on, link_told, session_told, told_next};
+    ghost use Rattle.refusal_words.specs.Session.{OurTransfer, fresh_session, heard_change, written_change};
+    ghost use Rattle.refusal_words.specs.Link.{attach_event, heard_of_handle, written_of_handle};
+    ghost use Rattle.refusal_words.specs.Tables.{SessionMoves, changed, link_next, link_on, link_told, session_told, told_next};
 
     /// Of a session that begins in the record of this number.
     pub(crate) fn new(alloc: Global, number: u64, opened: Option<Opened>) -> SessionOrigin

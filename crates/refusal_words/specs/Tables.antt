@@ -4,15 +4,15 @@ use Rattle.std.specs.List.{cons_option}
 use Rattle.std.specs.HashMap.{get}
 use Rattle.std.specs.String.{string_bytes}
 use Rattle.capture_view.specs.Viewed.{Viewed}
-use Rattle.refusal_origins.specs.declared.link.Change.{Change}
-use Rattle.refusal_origins.specs.declared.link.Change.TheVariants.{Credit, Transfer, Drain}
-use Rattle.refusal_origins.specs.declared.link.LinkOrigin.{LinkOrigin}
-use Rattle.refusal_origins.specs.declared.session.Opened.{Opened}
-use Rattle.refusal_origins.specs.declared.session.SessionOrigin.{SessionOrigin}
-use Rattle.refusal_origins.specs.declared.origins.ChannelKey.{ChannelKey}
-use Rattle.refusal_origins.specs.declared.origins.Origins.{Origins}
-use Rattle.refusal_origins.specs.Session.{SessionChange, SessionEvent, SessionTold, OurTransfer, TheirFlow, capped, if_here, is_channel, last_begin, lives, session_events, told}
-use Rattle.refusal_origins.specs.Link.{LinkEvent, LinkTold, Changes, OurAttach, Over, fresh_link, link_events, link_of}
+use Rattle.refusal_words.specs.declared.link.Change.{Change}
+use Rattle.refusal_words.specs.declared.link.Change.TheVariants.{Credit, Transfer, Drain}
+use Rattle.refusal_words.specs.declared.link.LinkOrigin.{LinkOrigin}
+use Rattle.refusal_words.specs.declared.session.Opened.{Opened}
+use Rattle.refusal_words.specs.declared.session.SessionOrigin.{SessionOrigin}
+use Rattle.refusal_words.specs.declared.origins.ChannelKey.{ChannelKey}
+use Rattle.refusal_words.specs.declared.origins.Origins.{Origins}
+use Rattle.refusal_words.specs.Session.{SessionChange, SessionEvent, SessionTold, OurTransfer, TheirFlow, capped, if_here, is_channel, last_begin, lives, session_events, told}
+use Rattle.refusal_words.specs.Link.{LinkEvent, LinkTold, Changes, OurAttach, Over, fresh_link, link_events, link_of}
 
 -- ---- values of the code
 

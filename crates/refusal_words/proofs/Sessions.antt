@@ -1,12 +1,12 @@
 -- What one event more does to a session and its links.
 use Rattle.std.proofs.Common.{◌≡◌, refl, sym, ap, ◌∙◌, subst, ℕ, List, ◌∷◌, Option, Some, None, option_map}
 use Rattle.std.specs.List.{cons_option}
-use Rattle.refusal_origins.specs.declared.session.Opened.{Opened}
-use Rattle.refusal_origins.specs.declared.session.SessionOrigin.{SessionOrigin}
-use Rattle.refusal_origins.specs.Session.{SessionChange, SessionEvent, SessionTold, Changes, OurBegin, OurTransfer, TheirFlow, began, fresh_session, last_begin, lives, opened, sent, told, window}
-use Rattle.refusal_origins.specs.Link.{LinkEvent, Over}
-use Rattle.refusal_origins.specs.Tables.{ChannelStands, SessionMoves, SessionStands, Stands, link_next, link_on, session_told, told_next}
-use Rattle.refusal_origins.proofs.Links.{capped-more, link-step}
+use Rattle.refusal_words.specs.declared.session.Opened.{Opened}
+use Rattle.refusal_words.specs.declared.session.SessionOrigin.{SessionOrigin}
+use Rattle.refusal_words.specs.Session.{SessionChange, SessionEvent, SessionTold, Changes, OurBegin, OurTransfer, TheirFlow, began, fresh_session, last_begin, lives, opened, sent, told, window}
+use Rattle.refusal_words.specs.Link.{LinkEvent, Over}
+use Rattle.refusal_words.specs.Tables.{ChannelStands, SessionMoves, SessionStands, Stands, link_next, link_on, session_told, told_next}
+use Rattle.refusal_words.proofs.Links.{capped-more, link-step}
 
 abbrev pub changing : Option SessionChange → Option SessionEvent
 changing change = option_map Changes change

@@ -29,10 +29,10 @@ impl Origins {
     ghost use Rattle.amqp_perf.specs.View.{view};
     ghost use Rattle.capture_view.specs.Saying.{saying};
     ghost use Rattle.capture_view.specs.Viewed.{In, Out, Viewed, viewed};
-    ghost use Rattle.refusal_origins.specs.declared.origins.ChannelKey.{ChannelKey};
-    ghost use Rattle.refusal_origins.specs.Session.{AnyEnd, OurBegin, TheirBegin, event_by, heard, session_of, session_events, written};
-    ghost use Rattle.refusal_origins.specs.Link.{Over, heard_of_link, link_by, link_past, written_of_link};
-    ghost use Rattle.refusal_origins.specs.Tables.{MovesChannel, MovesTo, StandsFor, TakesOneMore, link_told, session_told};
+    ghost use Rattle.refusal_words.specs.declared.origins.ChannelKey.{ChannelKey};
+    ghost use Rattle.refusal_words.specs.Session.{AnyEnd, OurBegin, TheirBegin, event_by, heard, session_of, session_events, written};
+    ghost use Rattle.refusal_words.specs.Link.{Over, heard_of_link, link_by, link_past, written_of_link};
+    ghost use Rattle.refusal_words.specs.Tables.{MovesChannel, MovesTo, StandsFor, TakesOneMore, link_told, session_told};
 
     /// No records.
     pub fn new(alloc: Global) -> Origins

@@ -1,13 +1,13 @@
 use Rattle.std.proofs.Common.{ap, ◌∙◌, Option, Some}
 use Rattle.std.specs.HashMap.{get}
-use Rattle.refusal_origins.specs.declared.session.Opened.{Opened}
-use Rattle.refusal_origins.specs.declared.session.SessionOrigin.{SessionOrigin}
-use Rattle.refusal_origins.specs.declared.origins.ChannelKey.{ChannelKey}
-use Rattle.refusal_origins.specs.Session.{OurBegin, fresh_session, is_channel}
-use Rattle.refusal_origins.specs.Link.{Over}
-use Rattle.refusal_origins.proofs.Sessions.{entry-begun}
-use Rattle.refusal_origins.proofs.Channels.{at-channel}
-use Rattle.refusal_origins.proofs.origins.Origins.begin.Goals as goal
+use Rattle.refusal_words.specs.declared.session.Opened.{Opened}
+use Rattle.refusal_words.specs.declared.session.SessionOrigin.{SessionOrigin}
+use Rattle.refusal_words.specs.declared.origins.ChannelKey.{ChannelKey}
+use Rattle.refusal_words.specs.Session.{OurBegin, fresh_session, is_channel}
+use Rattle.refusal_words.specs.Link.{Over}
+use Rattle.refusal_words.proofs.Sessions.{entry-begun}
+use Rattle.refusal_words.proofs.Channels.{at-channel}
+use Rattle.refusal_words.proofs.origins.Origins.begin.Goals as goal
 
 pub returns : goal.returns
 returns c =

@@ -1,10 +1,10 @@
 use Rattle.std.proofs.Common.{refl, sym, ap, ◌∙◌}
 use Rattle.std.specs.Option.{option_copied_mut}
 use Rattle.amqp_perf.specs.View.{view}
-use Rattle.refusal_origins.specs.Session.{written_change}
-use Rattle.refusal_origins.specs.Link.{written_of_handle}
-use Rattle.refusal_origins.proofs.Channels.{changed-there, written-there}
-use Rattle.refusal_origins.proofs.origins.Origins.write.Goals as goal
+use Rattle.refusal_words.specs.Session.{written_change}
+use Rattle.refusal_words.specs.Link.{written_of_handle}
+use Rattle.refusal_words.proofs.Channels.{changed-there, written-there}
+use Rattle.refusal_words.proofs.origins.Origins.write.Goals as goal
 
 pub returns-in_ok-write-in_default : goal.returns-in_ok-write-in_default
 returns-in_ok-write-in_default c =

@@ -5,11 +5,11 @@ use Rattle.amqp_perf.specs.declared.flow.Flow.{Flow}
 use Rattle.amqp_perf.specs.Meaning.{Meaning, ABegin, AnAttach, AFlow, ATransfer, ADetach, AnEnd, AttachFields, flag}
 use Rattle.capture_view.specs.Saying.{Says}
 use Rattle.capture_view.specs.Viewed.{Happening, In, Out, Viewed}
-use Rattle.refusal_origins.specs.declared.link.Credited.{Credited}
-use Rattle.refusal_origins.specs.declared.link.Change.{Change}
-use Rattle.refusal_origins.specs.declared.link.Change.TheVariants.{Credit, Transfer, Drain}
-use Rattle.refusal_origins.specs.declared.origins.ChannelKey.{ChannelKey}
-use Rattle.refusal_origins.specs.Session.{capped, if_here, is_channel, lives, session_events}
+use Rattle.refusal_words.specs.declared.link.Credited.{Credited}
+use Rattle.refusal_words.specs.declared.link.Change.{Change}
+use Rattle.refusal_words.specs.declared.link.Change.TheVariants.{Credit, Transfer, Drain}
+use Rattle.refusal_words.specs.declared.origins.ChannelKey.{ChannelKey}
+use Rattle.refusal_words.specs.Session.{capped, if_here, is_channel, lives, session_events}
 
 -- ---- what a record does to the link on a handle (own rule: by the client's and the router's performatives of it)
 

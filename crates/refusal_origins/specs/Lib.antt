@@ -1,3 +1,0 @@
-pub mod Session
-pub mod Link
-pub mod Tables
