@@ -1,3 +1,6 @@
 mod Telling
 mod Seeing
 mod Examples
+mod FactsKnown
+mod Completions
+mod SentCounts

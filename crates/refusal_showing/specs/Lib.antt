@@ -1,2 +1,4 @@
 pub mod Explained
 pub mod Seen
+pub mod Contents
+pub mod Refused

@@ -1,10 +1,10 @@
 //! What is kept of the records that were taken, to explain the one that is refused.
 
+use crate::explain_refused;
 use audit_core::{Ledger, Watcher};
 use capture_form::{Record, Rule};
 use capture_view::{Names, view_of};
 use capture_words::Page;
-use refusal_ledger::explain_refused;
 use refusal_words::{Explained, Origins};
 use std::alloc::{AllocError, Global};
 

@@ -3,15 +3,19 @@
 //! `explain_capture` writes the line of the auditor's verdict, and behind it, where a record is refused, that record and the
 //! reason; where the octets stop being a capture, what was expected there and the octets that follow.
 //!
+//! - `contents`, `refused`: the reason of a record, which are the facts of `refusal_facts`, asked of the auditor's tables;
 //! - `recalling`: a reader that recalls the last octets that it gave;
 //! - `explaining`: what is kept on the way, to explain a record by;
 //! - `capture`: a capture, audited and explained.
 #![tactic(auto)]
 
 mod capture;
+mod contents;
 mod explaining;
 mod recalling;
+mod refused;
 
 pub use audit_core::Verdict;
 pub use capture::explain_capture;
 pub use capture_words::NotWritten;
+pub use refused::explain_refused;

@@ -16,7 +16,7 @@ use Rattle.audit_sent.specs.SentTables.{sent_count_in, sent_in}
 use Rattle.audit_sent.specs.declared.deliveries.SentDeliveries.{SentDeliveries}
 use Rattle.audit_held.specs.HeldTables.{IsHistory}
 use Rattle.audit_held.specs.declared.deliveries.Deliveries.{Deliveries}
-use Rattle.refusal_ledger.specs.Contents.{TellOf}
+use Rattle.refusal_showing.specs.Contents.{TellOf}
 
 -- ---- of one that begins later nothing was sent
 

@@ -1,7 +1,7 @@
 use Rattle.std.proofs.Common.{◌∙◌}
 use Rattle.trace_values.specs.View.{outgoing_view}
-use Rattle.refusal_ledger.proofs.SentCounts.{count_known}
-use Rattle.refusal_ledger.proofs.contents.ContentsPayloads.sent_count.Goals as goal
+use Rattle.refusal_showing.proofs.SentCounts.{count_known}
+use Rattle.refusal_showing.proofs.contents.ContentsPayloads.sent_count.Goals as goal
 
 pub returns : goal.returns
 returns c = λ rules history tells knows.

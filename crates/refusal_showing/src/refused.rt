@@ -3,7 +3,7 @@
 ghost use Rattle.capture_form.specs.declared.records.Record.{Record};
 ghost use Rattle.std.specs.Prelude.{List, ◌≡◌, IfSome, option_map};
 ghost use Rattle.audit_ledger.specs.Ledger.{Stands, broken_behind};
-ghost use Rattle.refusal_ledger.specs.Refused.{IsReasonBehind};
+ghost use Rattle.refusal_showing.specs.Refused.{IsReasonBehind};
 
 use crate::contents::Contents;
 use audit_ledger::Ledger;

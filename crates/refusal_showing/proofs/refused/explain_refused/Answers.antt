@@ -16,9 +16,9 @@ use Rattle.audit_held.specs.EntryAnswers.{has_number}
 use Rattle.audit_sent.specs.SentAnswers.{KnowsOrBegins}
 use Rattle.audit_answers.proofs.NextKnown.{next-carries}
 use Rattle.refusal_facts.specs.Facts.{IsReasonOf}
-use Rattle.refusal_ledger.specs.Contents.{TellOf}
-use Rattle.refusal_ledger.proofs.FactsKnown.{reason-less}
-use Rattle.refusal_ledger.proofs.refused.explain_refused.Goals as goal
+use Rattle.refusal_showing.specs.Contents.{TellOf}
+use Rattle.refusal_showing.proofs.FactsKnown.{reason-less}
+use Rattle.refusal_showing.proofs.refused.explain_refused.Goals as goal
 
 pub returns-clause-clause : goal.returns-clause-clause
 returns-clause-clause c = λ records stands.

@@ -13,7 +13,7 @@ pub(crate) struct Contents<'t> {
 
 impl<'t> Payloads<'t> for Contents<'t> {
     ghost use Rattle.audit_held.specs.EntryAnswers.{Knows};
-    ghost use Rattle.refusal_ledger.specs.Contents.{TellOf};
+    ghost use Rattle.refusal_showing.specs.Contents.{TellOf};
     ghost use Rattle.audit_sent.specs.SentAnswers.{KnowsOrBegins};
 
     ghost tells_of = { λ contents rules history. TellOf rules contents.deliveries.now contents.sent.now history };

@@ -1,3 +1,0 @@
-mod FactsKnown
-mod Completions
-mod SentCounts
