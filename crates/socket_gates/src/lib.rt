@@ -1,4 +1,5 @@
-//! The gates of connections over sockets, with one poll for all sockets of a worker.
+//! A router over sockets: the gates of connections, with one poll for all sockets of a worker, and the workers of a run, each
+//! with the slots that take its connections (`serve`).
 //!
 //! Each gate is a slot (`Slot`) that takes one connection from a listener. The slots of a worker share a station: a poll in
 //! which all its sockets and the listener stand, what is known of each socket since, and a waker. So a read or a write
@@ -6,15 +7,17 @@
 //! socket of another worker has delivered octets, since the router may have written frames because of them.
 //!
 //! In reading order: `signs` is what is known of one socket; `watch` is a worker's poll; `station` is what its slots share;
-//! `connection` is one socket; `slot` is a gate; `opening` makes the slots of a listener.
+//! `connection` is one socket; `slot` is a gate; `opening` makes the slots of a listener; `serving` runs the workers.
 #![tactic(auto)]
 
 mod connection;
 mod opening;
+mod serving;
 mod signs;
 mod slot;
 mod station;
 mod watch;
 
 pub use opening::{open_slots, slots_at};
+pub use serving::serve;
 pub use slot::Slot;

@@ -2,11 +2,11 @@
 
 ghost use Rattle.std.specs.Prelude.{◌<◌, ◌≤◌, IfOk, IfErr};
 ghost use Rattle.conn_workers.specs.Faults.{Brings};
-ghost use Rattle.loopback_serving.specs.Served.{IsServedRun};
+ghost use Rattle.socket_gates.specs.Served.{IsServedRun};
 
+use crate::{Slot, open_slots};
 use address_table::Rules;
 use conn_workers::{RunFault, RunReport, run_workers};
-use socket_gates::{Slot, open_slots};
 use std::alloc::Global;
 use std::io;
 use std::io::ErrorKind;
