@@ -2,7 +2,7 @@
 
 use crate::run::run_words;
 use audit_core::{Verdict, audit_bytes};
-use scripted_clients::{CONSUMER, PRODUCER, talks};
+use kit_clients::{CONSUMER, PRODUCER, talks};
 use std::alloc::Global;
 use std::net::Net;
 use std::rt::Files;

@@ -3,9 +3,9 @@
 use crate::device::Device;
 use capture_form::What;
 use conn_engine::EngineFault;
+use kit_clients::Chance;
 use route_core::Core;
 use route_items::StepFault;
-use seeded_chance::Chance;
 use std::alloc::{AllocError, Global};
 use std::cell::RefCell;
 

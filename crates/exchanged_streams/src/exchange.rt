@@ -6,7 +6,7 @@ use crate::device::Device;
 use address_table::Rules;
 use capture_form::Capture;
 use conn_engine::EngineFault;
-use plain_streams::AMQP_HEADER;
+use kit_clients::AMQP_HEADER;
 use route_core::Core;
 use std::alloc::{AllocError, Global};
 use std::cell::RefCell;

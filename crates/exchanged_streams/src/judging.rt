@@ -5,7 +5,7 @@ use crate::running::Run;
 use audit_core::{Verdict, audit_bytes};
 use capture_form::{Capture, What, write_capture};
 use conn_engine::EngineFault;
-use plain_streams::Reading;
+use kit_clients::Reading;
 use route_items::StepFault;
 use std::alloc::{AllocError, Global};
 
@@ -58,7 +58,7 @@ fn is_served(
 ) -> Result<bool, AllocError> {
     let recorded = recorded_of(alloc, capture, served.connection)?;
     let fed = served.stream.get(..served.seen.fed).unwrap_or(&[]);
-    let reading = plain_streams::read(alloc, fed)?;
+    let reading = kit_clients::read(alloc, fed)?;
     let read = told_of(alloc, &reading)?;
     Ok(
         served.seen.is_steady

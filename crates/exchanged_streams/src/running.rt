@@ -6,8 +6,8 @@ use crate::client::{Client, Served};
 use crate::streams::stream;
 use address_table::Rules;
 use capture_form::{Capture, Distribution, Rule};
+use kit_clients::Chance;
 use route_core::Core;
-use seeded_chance::Chance;
 use std::alloc::{AllocError, Global};
 use std::cell::RefCell;
 

@@ -7,7 +7,7 @@ use crate::exchange::ROUTER_OPEN;
 use address_table::Rules;
 use capture_form::Capture;
 use conn_engine::EngineFault;
-use plain_streams::{AMQP_HEADER, MECHANISMS, REFUSAL, SASL_HEADER, WELCOME};
+use kit_clients::{AMQP_HEADER, MECHANISMS, REFUSAL, SASL_HEADER, WELCOME};
 use route_core::Core;
 use std::alloc::{AllocError, Global};
 use std::cell::RefCell;

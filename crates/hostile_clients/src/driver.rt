@@ -2,7 +2,7 @@
 
 use crate::deed::Deed;
 use crate::known::{ADDRESSES, Client, Known};
-use seeded_chance::Chance;
+use kit_clients::Chance;
 use std::alloc::{AllocError, Global};
 
 /// Makes items by chance.

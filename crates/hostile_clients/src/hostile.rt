@@ -5,7 +5,7 @@ use crate::driver::Driver;
 use crate::known::{Client, Life, Place};
 use crate::said;
 use crate::said::{Attaching, Crediting, Sending};
-use client_frames::framed;
+use kit_clients::framed;
 use std::alloc::AllocError;
 
 /// Numbers that are likely to be no right ones.

@@ -1,6 +1,6 @@
 //! What the clients know of their connections, sessions, links and deliveries, as far as they need it to go on.
 
-use seeded_chance::Chance;
+use kit_clients::Chance;
 use std::alloc::{AllocError, Global};
 
 /// Addresses of each distribution, under the rules of most runs.

@@ -5,7 +5,7 @@ use crate::driver::Driver;
 use crate::known::{Client, Life, Link, Place, Session, Stage};
 use crate::said;
 use crate::said::{Attaching, Crediting, Sending};
-use client_frames::framed;
+use kit_clients::framed;
 use std::alloc::AllocError;
 
 /// Windows and credits.

@@ -6,9 +6,9 @@ use crate::judging::gives_its_frames;
 use crate::known::Known;
 use address_table::Rules;
 use capture_form::{Capture, Distribution, Rule};
+use kit_clients::Chance;
 use route_core::Core;
 use route_items::StepFault;
-use seeded_chance::Chance;
 use std::alloc::{AllocError, Global};
 
 /// As many records as a core may have here.

@@ -1,6 +1,6 @@
 //! What clients say: the bodies of their frames.
 
-use client_frames::Fields;
+use kit_clients::Fields;
 use std::alloc::{AllocError, Global};
 
 /// An open of this limit of octets in a frame, where there is one.

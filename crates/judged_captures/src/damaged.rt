@@ -5,7 +5,7 @@ ghost use Rattle.std.specs.Prelude.{◌<◌, ◌≤◌, length, IfSome};
 
 use audit_core::{Refusal, Tally, audit};
 use capture_form::{Capture, Reader, Reading, Rule, read_whole_records};
-use seeded_chance::Chance;
+use kit_clients::Chance;
 use std::alloc::{AllocError, Global};
 use trace_law::{slow_check, tally_capture};
 

@@ -1,7 +1,7 @@
 //! The frames of clients, made of the words that tell them.
 
 use crate::words::Words;
-use client_frames::{Fields, framed};
+use kit_clients::{Fields, framed};
 use std::alloc::{AllocError, Global};
 
 /// The words without a value that a client's line may have.

@@ -5,8 +5,7 @@ ghost use Rattle.std.specs.Prelude.{◌<◌};
 use crate::router::{EMPTY_FRAME, Router};
 use capture_form::What;
 use conn_engine::{Engine, EngineFault};
-use plain_streams::Reading;
-use seeded_chance::Chance;
+use kit_clients::{Chance, Reading};
 use std::alloc::{AllocError, Global};
 
 /// The number of the connection.

@@ -17,7 +17,7 @@ mod streams;
 ghost use Rattle.std.specs.Prelude.{◌<◌};
 
 use compared::agrees;
-use seeded_chance::Chance;
+use kit_clients::Chance;
 use std::alloc::{AllocError, Global};
 use std::io;
 
@@ -43,7 +43,7 @@ fn first_other(alloc: Global, most: usize) -> Result<Option<u64>, AllocError>
     for seed in 0..STREAMS {
         let mut chance = Chance::new(seed);
         let stream = streams::stream(alloc, &mut chance)?;
-        let reading = plain_streams::read(alloc, &stream)?;
+        let reading = kit_clients::read(alloc, &stream)?;
         if !agrees(alloc, &mut chance, &stream, most, &reading)? {
             return Ok(Some(seed));
         }

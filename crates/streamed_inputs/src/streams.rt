@@ -1,7 +1,6 @@
 //! Streams of a client, as it should send them and otherwise.
 
-use plain_streams::{AMQP_HEADER, SASL_HEADER};
-use seeded_chance::Chance;
+use kit_clients::{AMQP_HEADER, Chance, SASL_HEADER};
 use std::alloc::{AllocError, Global};
 
 /// A header of another protocol, and one of another version.

@@ -1,7 +1,6 @@
-//! Two clients over loopback for tests, whose octets were worked out: a producer that sends a message to the address `q`,
+//! Two clients over loopback, whose octets were worked out: a producer that sends a message to the address `q`,
 //! and a consumer that takes it. Served by a router over one core, their exchange makes 26 records, with one delivery and one
 //! outcome.
-#![tactic(auto)]
 
 use std::alloc::{AllocError, Global};
 use std::io::{Read, Write};
