@@ -1,11 +1,11 @@
-use Rattle.std.proofs.Common.{None, Some, ◌∷◌, [], ◌++◌, arith, length, refl, subst, sym, ◌+◌}
+use Rattle.std.proofs.Common.{None, Some, ◌∷◌, [], ◌++◌, ◌∙◌, ap, arith, length, refl, subst, sym, ◌+◌}
 use Rattle.std.proofs.lemmas.List.{length-append}
 use Rattle.capture_form.specs.Reader.{left_of, offset_of}
 use Rattle.capture_packets.specs.Text.{packets_text}
 use Rattle.capture_packets.specs.Conversation.{record_blocks}
 use Rattle.capture_packets.specs.Writer.{StopsPut, StopsWrite, conversation_in, has_failed, writer_of}
-use Rattle.capture_words.specs.declared.ending.Ending.TheVariants.{Whole}
-use Rattle.capture_words.proofs.Streaming.{EndsWith, ends_of, follows_end, follows_fault, follows_next, follows_start, found_so, moved_so}
+use Rattle.capture_words.specs.declared.ending.Ending.TheVariants.{NoMemory, Unreadable, Whole}
+use Rattle.capture_words.proofs.Streaming.{EndsWith, ends_of, follows_end, follows_fault, follows_next, follows_start, found_so, given_up, moved_so, unread}
 use Rattle.capture_packets.proofs.PackLemmas.{cut_record, follows_first, read_with}
 use Rattle.capture_packets.proofs.packing.pack_records.Goals as goal
 
@@ -81,4 +81,31 @@ returns-in-Err-clause-packs g c =
       text = so.text;
       ends = ends_of offset first so.read c.from.result ends;
       whole = read_with offset first so.read c.from.result ends (follows_first offset first _ _ so.read so.follows);
+    }
+
+pub returns-in-Err-Memory-clause-packs : goal.returns-in-Err-Memory-clause-packs
+returns-in-Err-Memory-clause-packs g c =
+    let so = c.loop-number.invariant in
+    let first = left_of g.R.Read.remaining c.args.records in
+    let offset = offset_of c.args.records in
+    let same = c.in-Err-Memory.ensures.refused c.in-Err-Memory.field-0-is in
+    let ends = given_up offset first so.read in
+    record {
+      read = so.read;
+      text = λ front known. ap g.W.Write.contents same.writer ∙ so.text front known;
+      ends = ends_of offset first so.read NoMemory ends;
+      whole = read_with offset first so.read NoMemory ends (follows_first offset first _ _ so.read so.follows);
+    }
+
+pub returns-clause-packs : goal.returns-clause-packs
+returns-clause-packs g c =
+    let so = c.loop-number.invariant in
+    let first = left_of g.R.Read.remaining c.args.records in
+    let offset = offset_of c.args.records in
+    let ends = unread offset first so.read 0 in
+    record {
+      read = so.read;
+      text = so.text;
+      ends = ends_of offset first so.read (Unreadable 0) ends;
+      whole = read_with offset first so.read (Unreadable 0) ends (follows_first offset first _ _ so.read so.follows);
     }
