@@ -1,8 +1,7 @@
 pub mod Work
 pub mod HandedOn
-pub use Rattle.route_work.specs.Books
-pub use Rattle.route_work.specs.Dues
 pub mod Dues
+pub mod Books
 pub use Rattle.due_copies.specs.Copies
 pub use Rattle.due_copies.specs.Credits
 pub use Rattle.due_copies.specs.Drains
@@ -10,13 +9,4 @@ pub use Rattle.due_copies.specs.Parts
 pub use Rattle.due_copies.specs.Windows
 pub use Rattle.due_outcomes.specs.Unsettled
 pub use Rattle.due_outcomes.specs.Untold
-pub mod Books
-pub use Rattle.route_work.specs.Dues
-pub use Rattle.route_work.specs.Copies
-pub use Rattle.route_work.specs.Credits
-pub use Rattle.route_work.specs.Drains
-pub use Rattle.route_work.specs.Parts
-pub use Rattle.route_work.specs.Unsettled
-pub use Rattle.route_work.specs.Untold
-pub use Rattle.route_work.specs.Windows
 pub use Rattle.audit_answers.specs.declared.looked.Looked
