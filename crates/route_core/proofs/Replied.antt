@@ -12,7 +12,7 @@ use Rattle.trace_events.specs.Event.{Event}
 use Rattle.trace_events.specs.History.{history}
 use Rattle.trace_clauses.specs.Written.{spoken_octets}
 use Rattle.route_work.specs.Dues.{IsNextFrame}
-use Rattle.route_work.specs.HandedOn.{Books}
+use Rattle.route_work.specs.declared.books.Books.{Books}
 use Rattle.route_work.specs.Books.{AreBooks, AreInOrder, IsUnbroken}
 use Rattle.route_dues.specs.Writing.{IsInOrder}
 use Rattle.route_dues.specs.Steps.{IsAnswering, IsUnderWay}

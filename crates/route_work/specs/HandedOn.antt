@@ -1,3 +1,2 @@
--- Types of the crates below that clauses of the core name.
-pub use Rattle.route_work.specs.declared.books.Books.{Books}
+-- A type of a crate below that clauses of the core name.
 pub use Rattle.route_work.specs.Looked.{Looked}
