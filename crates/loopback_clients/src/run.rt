@@ -10,7 +10,7 @@ use crate::words::{Task, USAGE};
 use program_ends::{WORDS_FAULT, tell_line};
 use std::alloc::Global;
 use std::io::Write;
-use std::net::{Net, OpenStream, SocketAddr, SocketAddrV4, TcpStream};
+use std::net::{Net, OpenStream, SocketAddr, TcpStream};
 use std::rt::Clock;
 use std::thread;
 use std::time::Duration;
@@ -18,8 +18,8 @@ use std::time::Duration;
 /// The exit status where the exchange was not finished.
 pub const UNFINISHED: u8 = 1;
 
-/// How often a connection is tried.
-const TRIES: u32 = 25;
+/// How often a connection is tried in a second.
+const TRIES: u32 = 5;
 
 /// How many milliseconds each try may take, and the pause behind it.
 const PAUSE: u64 = 200;
@@ -53,15 +53,15 @@ fn made<R: Net + Clock, O: Write>(
     task: &Task,
     out: &mut O,
 ) -> Result<Tally, Fault> {
-    let mut consumer = Client::new(alloc, connected(rt, task.address)?);
-    let mut producer = Client::new(alloc, connected(rt, task.address)?);
+    let mut consumer = Client::new(alloc, connected(rt, task)?);
+    let mut producer = Client::new(alloc, connected(rt, task)?);
     exchange(alloc, &mut consumer, &mut producer, task.count, out)
 }
 
-/// A connection to the router at the address, which may still be starting.
-fn connected<R: Net + Clock>(rt: &R, address: SocketAddrV4) -> Result<R::Stream, Fault> {
-    let (addr, pause) = (SocketAddr::V4(address), Duration::from_millis(PAUSE));
-    for _ in 0..TRIES {
+/// A connection to the router at the task's address, which may still be starting.
+fn connected<R: Net + Clock>(rt: &R, task: &Task) -> Result<R::Stream, Fault> {
+    let (addr, pause) = (SocketAddr::V4(task.address), Duration::from_millis(PAUSE));
+    for _ in 0..=u32::from(task.wait) * TRIES {
         if let Ok(stream) = TcpStream::connect_timeout(rt, &addr, pause) {
             stream.set_read_timeout(Some(Duration::from_secs(PATIENCE)))?;
             // Each frame is to go at once.
@@ -70,5 +70,5 @@ fn connected<R: Net + Clock>(rt: &R, address: SocketAddrV4) -> Result<R::Stream,
         }
         thread::sleep(rt, pause);
     }
-    Err(Fault::NoRouter(address))
+    Err(Fault::NoRouter(task.address))
 }
