@@ -9,9 +9,11 @@
 //! - `words`: a line
 //! - `client`: the frames of clients
 //! - `router`: what the router wrote, in words
+//! - `asked`: what the auditor's tables answer, in words
 //! - `talk`: a scenario, line by line
 #![tactic(auto)]
 
+mod asked;
 mod client;
 mod router;
 mod talk;

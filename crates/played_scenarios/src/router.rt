@@ -32,6 +32,16 @@ impl Names {
         Ok(())
     }
 
+    /// The record of this name.
+    pub(crate) fn number(&self, name: &str) -> Option<u64> {
+        for named in self.names.iter() {
+            if named.1.as_str() == name {
+                return Some(named.0);
+            }
+        }
+        None
+    }
+
     /// The name of the record, or a sign for one without.
     fn of(&self, number: u64) -> &str {
         for named in self.names.iter() {
@@ -45,26 +55,41 @@ impl Names {
 
 /// Words that grow.
 #[derive(Drop)]
-struct Telling {
+pub(crate) struct Telling {
     text: String,
 }
 
 impl Telling {
+    /// These words, of which more are to come.
+    pub(crate) fn new(text: String) -> Telling {
+        Telling { text }
+    }
+
+    /// All words.
+    pub(crate) fn into_text(self) -> String {
+        self.text
+    }
+
     /// A word.
-    fn word(&mut self, word: &str) -> Result<(), AllocError> {
+    pub(crate) fn word(&mut self, word: &str) -> Result<(), AllocError> {
         self.text.push_str(" ")?;
         self.text.push_str(word)
     }
 
     /// A word with a name.
-    fn value(&mut self, name: &str, value: &str) -> Result<(), AllocError> {
+    pub(crate) fn value(&mut self, name: &str, value: &str) -> Result<(), AllocError> {
         self.word(name)?;
         self.text.push_str("=")?;
         self.text.push_str(value)
     }
 
     /// A number with a name; a sign where it is absent.
-    fn number(&mut self, name: &str, number: Option<u32>) -> Result<(), AllocError> {
+    pub(crate) fn number(&mut self, name: &str, number: Option<u32>) -> Result<(), AllocError> {
+        self.count(name, number.map(u64::from))
+    }
+
+    /// The same, of a number that may be larger.
+    pub(crate) fn count(&mut self, name: &str, number: Option<u64>) -> Result<(), AllocError> {
         let alloc = *self.text.allocator();
         match number {
             Some(number) => self.value(name, format!(in alloc; "{number}")?.as_str()),
@@ -72,19 +97,24 @@ impl Telling {
         }
     }
 
-    /// A word where something holds, the same with `not-` where it doesn't, and nothing where it isn't said.
-    fn flag(&mut self, word: &str, holds: Option<bool>) -> Result<(), AllocError> {
-        match holds {
-            Some(true) => self.word(word),
-            Some(false) => {
-                self.word("not-")?;
-                self.text.push_str(word)
-            }
+    /// A word where something holds, the same with `not-` where it doesn't.
+    pub(crate) fn fact(&mut self, word: &str, holds: bool) -> Result<(), AllocError> {
+        if holds {
+            return self.word(word);
+        }
+        self.word("not-")?;
+        self.text.push_str(word)
+    }
+
+    /// The same, and nothing where it isn't said.
+    fn flag(&mut self, word: &str, said: Option<bool>) -> Result<(), AllocError> {
+        match said {
+            Some(holds) => self.fact(word, holds),
             None => Ok(()),
         }
     }
 
-    fn role(&mut self, role: Role) -> Result<(), AllocError> {
+    pub(crate) fn role(&mut self, role: Role) -> Result<(), AllocError> {
         self.word(match role {
             Role::Sender => "sender",
             Role::Receiver => "receiver",

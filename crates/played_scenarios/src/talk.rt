@@ -1,8 +1,11 @@
 //! Playing a scenario: its lines are done to a core, or compared with what the core wrote.
 
+use crate::asked::Tables;
 use crate::client::{octets_of, unknown_word};
 use crate::router::{Names, is_told_by, told};
 use crate::words::Words;
+use audit_ledger::{Ledger, NotEntered};
+use capture_form::Capture;
 use flow_counts::MAX_FRAME_SIZE;
 use route_core::Core;
 use route_items::{Item, StepFault};
@@ -26,8 +29,13 @@ struct Stage {
     /// How many records are told.
     told: usize,
     names: Names,
+    /// The auditor's tables, as far as they were asked.
+    ledger: Ledger,
     differences: Vec<Difference>,
 }
+
+/// As many records as a ledger may have.
+const MOST_RECORDS: u64 = 9223372036854775807;
 
 /// Plays the lines: all differences, in order.
 pub(crate) fn play(
@@ -40,6 +48,7 @@ pub(crate) fn play(
         line: 0,
         told: 0,
         names: Names::new(alloc),
+        ledger: Ledger::new(alloc),
         differences: Vec::new(alloc),
     };
     for text in lines {
@@ -71,6 +80,7 @@ impl Stage {
         for turn in 0..words.times() {
             match words.at(1) {
                 "<" => self.compare(core, words)?,
+                "?" => self.ask(core.capture(), words)?,
                 _ => self.act(core, words, connection, turn)?,
             }
         }
@@ -110,6 +120,40 @@ impl Stage {
             return Ok(());
         }
         self.differ(format!(in alloc; "there stands `{wrote}`")?.as_str())
+    }
+
+    /// Compares what the auditor's tables answer behind the records that are told.
+    fn ask(&mut self, capture: &Capture, line: &Words<'_>) -> Result<(), AllocError> {
+        let alloc = self.alloc;
+        self.follow(capture)?;
+        let tables = Tables {
+            alloc,
+            ledger: &self.ledger,
+            rules: capture.rules(),
+            names: &self.names,
+        };
+        let answer = tables.answer(line)?;
+        if is_told_by(&Words::of(alloc, answer.as_str())?, line) {
+            return Ok(());
+        }
+        self.differ(format!(in alloc; "the tables answer `{answer}`")?.as_str())
+    }
+
+    /// The auditor's tables follow the records that are told.
+    fn follow(&mut self, capture: &Capture) -> Result<(), AllocError> {
+        let entered = self.ledger.tally().records as usize;
+        let told = capture.records().get(entered..self.told).unwrap_or(&[]);
+        for entry in told {
+            if self.ledger.tally().records >= MOST_RECORDS {
+                return Ok(());
+            }
+            match self.ledger.enter(capture.rules(), entry) {
+                Ok(()) => {}
+                Err(NotEntered::Memory) => return Err(AllocError),
+                Err(NotEntered::Broken(_)) => return self.differ("the auditor refuses a record"),
+            }
+        }
+        Ok(())
     }
 
     /// Does to the core what the line tells.

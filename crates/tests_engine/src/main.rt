@@ -1,0 +1,35 @@
+//! Does what each line of its input says to an engine over a port that plays a router's part, and compares what comes of it with
+//! what the line tells. It prints each line of which something else came, and how many lines there are. `README.md` says how a
+//! line is written. The modules, in reading order:
+//!
+//! - `names`: octets by their names
+//! - `router`: a router's part
+//! - `bench`: an engine, and what is done to it
+#![tactic(auto)]
+
+mod bench;
+mod names;
+mod router;
+
+use bench::Bench;
+use std::io;
+
+fn main(rt: HostRuntime) -> io::Result<()> {
+    let alloc = rt.alloc();
+    let mut bench = Bench::new(alloc);
+    let (mut told, mut others) = (0u64, 0u64);
+    for line in rt.lines(alloc) {
+        let line = line?;
+        let Some((said, wanted)) = line.split_once(" = ") else {
+            bench.prepare(line.as_str())?;
+            continue;
+        };
+        told = told.saturating_add(1);
+        let came = bench.answer(said)?;
+        if came.as_str() != wanted {
+            others = others.saturating_add(1);
+            println!(rt; "{said} = {wanted}: but it is {came}")?;
+        }
+    }
+    println!(rt; "{told} lines, of which {others} tell something else")
+}
