@@ -2,19 +2,12 @@
 //! where no word is given, and prints its verdict as one line on standard output.
 //!
 //! The exit status tells the verdict too (`Verdict::status`). A fault of the words gives the parser's text on
-//! standard error, nothing on standard output, and status 64. The modules, in reading order:
-//!
-//! - `words`: what the words of the command line ask for
-//! - `run`: a run over any words, reader and writers
+//! standard error, nothing on standard output, and status 64. The library `audit_program` is a run over any words, reader
+//! and writers.
 #![tactic(auto)]
 
-mod run;
-#[cfg(test)]
-mod tests;
-mod words;
-
+use audit_program::run_words;
 use program_ends::{tell_unread_words, words_of};
-use run::run_words;
 use std::process::ExitCode;
 
 fn main(rt: HostRuntime) -> ExitCode {

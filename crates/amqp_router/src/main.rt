@@ -3,15 +3,12 @@
 //!
 //! It prints how the run ended as one line on standard output; the exit status tells it too (`router_words::Outcome`).
 //! Words that the parser does not take give its text on standard error, nothing on standard output, and status 64; those
-//! that it takes and that are wrong have a line and status 64 too. The module `run` is a run over any words and writers.
+//! that it takes and that are wrong have a line and status 64 too. The library `router_program` is a run over any words and
+//! writers.
 #![tactic(auto)]
 
-mod run;
-#[cfg(test)]
-mod tests;
-
 use program_ends::{tell_unread_words, words_of};
-use run::run_words;
+use router_program::run_words;
 use std::process::ExitCode;
 
 fn main(rt: HostRuntime) -> ExitCode {

@@ -4,31 +4,12 @@
 //! verdict and why it is not accepted.
 //!
 //! The exit status tells whether the capture is whole (`Ending::status`), or the verdict. What was read in front of a fault is
-//! printed, and then the line of the fault. A mistake in the words gives the parser's text on standard error alone, and status 64. The
-//! modules, in reading order:
-//!
-//! - `words`: what the words of the command line ask for
-//! - `lines`, `table`: the two ways in which records are shown
-//! - `telling`: what is told behind what was shown
-//! - `packets`: a capture as packets in a file
-//! - `why`: a capture, audited
-//! - `run`: a run over any words, reader and writers
-//!
-//! Another way to show a capture is a variant of `Mode`, its word in `words`, and its arm in `run::show_input`.
+//! printed, and then the line of the fault. A mistake in the words gives the parser's text on standard error alone, and status
+//! 64. The library `show_program` is a run over any words, reader and writers.
 #![tactic(auto)]
 
-mod lines;
-mod packets;
-mod run;
-mod table;
-mod telling;
-#[cfg(test)]
-mod tests;
-mod why;
-mod words;
-
 use program_ends::{tell_unread_words, words_of};
-use run::run_words;
+use show_program::run_words;
 use std::io::IsTerminal;
 use std::process::ExitCode;
 

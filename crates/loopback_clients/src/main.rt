@@ -7,36 +7,11 @@
 //! not listen yet is waited for, SECONDS long, or else five.
 //!
 //! Where no router is at ADDRESS, or it says something else, the last line tells that, and the exit status is 1.
-//! `README.md` has an example. The modules, in reading order:
-//!
-//! - `words`: what the command line asks for
-//! - `greeting`: a message, by its number: its text, its octets, and how it is decided
-//! - `said`: the performatives that clients say
-//! - `fault`: why an exchange was not finished
-//! - `client`: a connection, on which frames are said and heard
-//! - `opening`: what each client says first and last
-//! - `consumer`, `producer`: what each of them says between
-//! - `tally`: how many messages there were
-//! - `exchange`: the two of them, step by step
-//! - `run`: connecting, and how it ended
+//! `README.md` has an example. The library `clients_program` is a run over any words, network and writer.
 #![tactic(auto)]
 
-mod client;
-mod consumer;
-mod exchange;
-mod fault;
-mod greeting;
-mod opening;
-mod producer;
-mod run;
-mod said;
-mod tally;
-#[cfg(test)]
-mod tests;
-mod words;
-
+use clients_program::run_words;
 use program_ends::words_of;
-use run::run_words;
 use std::process::ExitCode;
 
 fn main(rt: HostRuntime) -> ExitCode {

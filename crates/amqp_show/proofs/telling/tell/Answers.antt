@@ -1,5 +1,0 @@
-use Rattle.amqp_show.proofs.RunLemmas.{tells_alone}
-use Rattle.amqp_show.proofs.telling.tell.Goals as goal
-
-pub returns-clause-told : goal.returns-clause-told
-returns-clause-told g c = tells_alone _ _ _ _ c.tell_end.ensures.alone c.tell_end.ensures.status

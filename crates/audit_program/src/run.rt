@@ -1,0 +1,82 @@
+//! A run over any words, reader and writers.
+ghost use Rattle.std.specs.Prelude.{◌≡◌, ◌≢◌, ◌<◌, ◌≤◌, ◌⊎◌, ◌↔◌, None, map};
+ghost use Rattle.program_ends.specs.Growth.{IsRefusedGrowth};
+ghost use Rattle.audit_core.specs.declared.verdict.Verdict.TheVariants.{NoMemory, Unreadable};
+ghost use Rattle.audit_core.specs.Report.{status_of};
+ghost use Rattle.audit_program.specs.Run.{IsRunOn, IsStatus, IsVerdictOnInput, Tells, TellsSome};
+ghost use Rattle.audit_program.specs.Words.{path_of};
+
+use crate::words::Source;
+use audit_core::{Verdict, audit_stream};
+use program_ends::{NOT_WRITTEN, WORDS_FAULT, is_refused_growth, tell_line, tell_refused_words};
+use std::alloc::Global;
+use std::convert::AsStr;
+use std::io::{Read, Write};
+use std::rt::Files;
+use std::{fs, io};
+
+/// Audits the capture that `words`, those behind the program's name, ask for: the file that they name,
+/// or `input`. Writes the line of its verdict to `out`, and answers the exit status.
+///
+/// A fault of the words is told on `err` alone, with `WORDS_FAULT`; the help goes to `out`, with status 0. Where `out` fails
+/// the status is `NOT_WRITTEN`, and nothing is said of what stands there.
+pub fn run_words<F: Files, S: AsStr, R: Read, O: Write, E: Write>(
+    files: &F,
+    alloc: Global,
+    words: &[S],
+    input: &mut R,
+    out: &mut O,
+    err: &mut E,
+) -> u8
+    ensures run { IsRunOn (map S.text words.now) (R.remaining input.old) (O.contents out.old) (O.contents out.new) result }
+
+    // Statuses 1 to 4 come only with the line of a verdict, which has that status.
+    ensures told { 0 < result → result ≤ 4 → TellsSome (O.contents out.old) (O.contents out.new) result }
+    ensures mistake { result ≡ WORDS_FAULT → out.new ≡ out.old }
+    ensures quiet { result ≢ WORDS_FAULT → err.new ≡ err.old }
+    ensures status { IsStatus result }
+{
+    match Source::from_words(alloc, words) {
+        Ok(source) => tell(&verdict_on(files, alloc, source, input), out),
+        Err(error) => tell_refused_words(&error, out, err),
+    }
+}
+
+/// The verdict on what is read from the source, record by record.
+fn verdict_on<F: Files, R: Read>(
+    files: &F,
+    alloc: Global,
+    source: Source<'_>,
+    input: &mut R,
+) -> Verdict
+    ensures { path_of source.entry ≡ None → IsVerdictOnInput (R.remaining input.old) result }
+{
+    match source {
+        Source::StandardInput => audit_stream(alloc, input),
+        Source::File(path) => match fs::open(files, path) {
+            Ok(file) => audit_stream(alloc, file),
+            Err(error) => verdict_unopened(&error),
+        },
+    }
+}
+
+/// The verdict where the file could not be opened.
+fn verdict_unopened(error: &io::Error) -> Verdict
+    ensures memory { (result ≡ NoMemory 0) ↔ IsRefusedGrowth error.now }
+    ensures either { (result ≡ NoMemory 0) ⊎ (result ≡ Unreadable 0) }
+{
+    if is_refused_growth(error) {
+        Verdict::NoMemory(0)
+    } else {
+        Verdict::Unreadable(0)
+    }
+}
+
+/// Writes the line of `verdict` to `out`, and answers its status; or `NOT_WRITTEN` where `out` fails, and then nothing is
+/// said of what stands there.
+pub fn tell<O: Write>(verdict: &Verdict, out: &mut O) -> u8
+    ensures told { result ≢ NOT_WRITTEN → Tells (O.contents out.old) (O.contents out.new) result verdict.now }
+    ensures status { (result ≡ status_of verdict.now) ⊎ (result ≡ NOT_WRITTEN) }
+{
+    tell_line(verdict, verdict.status(), out)
+}

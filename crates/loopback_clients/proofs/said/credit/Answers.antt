@@ -1,5 +1,0 @@
-use Rattle.loopback_clients.proofs.Small.{credit_small}
-use Rattle.loopback_clients.proofs.said.credit.Goals as goal
-
-pub returns-clause-small : goal.returns-clause-small
-returns-clause-small c = credit_small c.args.count

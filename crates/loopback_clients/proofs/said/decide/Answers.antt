@@ -1,5 +1,0 @@
-use Rattle.loopback_clients.proofs.Small.{decide_small}
-use Rattle.loopback_clients.proofs.said.decide.Goals as goal
-
-pub returns-clause-small : goal.returns-clause-small
-returns-clause-small c = decide_small c.args.id c.args.outcome

@@ -1,0 +1,105 @@
+-- What a run leaves.
+use Rattle.std.proofs.Common.{◌≡◌, ◌≢◌, ◌<◌, ◌≤◌, ◌⊎◌, ◌++◌, ◌∷◌, ℕ, refl, true, false, List, [], Option, None, Some, Ok, Err, ap, arith, inl, inr, subst, sym}
+use Rattle.std.specs.Prelude.{IfSome, if◌then◌else◌}
+use Rattle.std.specs.Io.KnownBytes.{Appends}
+use Rattle.clap.specs.Words.{kind_of}
+use Rattle.clap.specs.declared.error.Error.{Error}
+use Rattle.clap.specs.declared.error.kind.ErrorKind.TheVariants.{OutOfMemory}
+use Rattle.program_ends.specs.Telling.{TellsNoMemory, is_mistake}
+use Rattle.program_ends.proofs.Statuses.{low_is_memory, or_not_written, status_so}
+use Rattle.capture_words.specs.declared.ending.Ending.{Ending}
+use Rattle.capture_words.specs.declared.ending.Ending.TheVariants.{NoMemory}
+use Rattle.capture_words.specs.Ending.{line_of, status_of}
+use Rattle.capture_words.specs.Shown.{AppendsSome, EndsText}
+use Rattle.capture_words.proofs.Known.{appends_nothing, appends_then}
+use Rattle.show_program.specs.declared.words.Words.{Words}
+use Rattle.show_program.specs.Run.{ExplainsInput, IsRunOn, ShowsInput, Tells, TellsEnd, TellsSome, is_whole, tail_of}
+use Rattle.show_program.specs.Words.{AnswersWords, AsksWhy, is_why, packets_of, path_of}
+use Rattle.audit_core.specs.declared.verdict.Verdict.TheVariants as verdicts
+use Rattle.audit_core.specs.Verdict.{AnswersRead}
+
+-- of a whole capture no line is told
+pub nothing_told : (known : Option (List ℕ)) (ending : Ending) → is_whole ending ≡ true → TellsEnd known known ending
+nothing_told known ending whole =
+    let none : tail_of ending ≡ [] = ap (λ b. if b then [] else line_of ending ++ 10 ∷ []) whole in
+    subst (Appends known known) (sym none) (appends_nothing known)
+
+-- the line of a fault alone
+pub tells_alone : (before after : Option (List ℕ)) (status : ℕ) (ending : Ending) → (status ≢ 74 → TellsEnd before after ending)
+    → (status ≡ status_of ending) ⊎ (status ≡ 74) → status ≢ 74 → Tells before after status ending
+tells_alone before after status ending told is written = record {
+  shown = [];
+  text = told written;
+  same_status = status_so status (status_of ending) is written;
+}
+
+-- the line of a fault behind what was shown
+pub tells_behind : (before between after : Option (List ℕ)) (status : ℕ) (ending : Ending) → AppendsSome before between
+    → (status ≢ 74 → TellsEnd between after ending) → (status ≡ status_of ending) ⊎ (status ≡ 74) → status ≢ 74 → Tells before after status ending
+tells_behind before between after status ending shown told is written = record {
+  shown = shown.0;
+  text = appends_then before between after shown.0 (tail_of ending) shown.1 (told written);
+  same_status = status_so status (status_of ending) is written;
+}
+
+-- want of memory says nothing of the input
+on_nothing : (held : Option (List ℕ)) → IfSome held (λ octets. EndsText octets NoMemory)
+on_nothing None = tt
+on_nothing (Some octets) = tt
+
+-- the line of refused memory is that of its ending, behind nothing
+memory_told : (before after : Option (List ℕ)) (status : ℕ) → TellsNoMemory before after status → Tells before after status NoMemory
+memory_told before after status told = record { shown = []; text = told.text; same_status = told.same_status }
+
+-- refused memory is told as its ending, and an unknown argument by its status
+pub refused_run : (words : List (List ℕ)) (error : Error) (held before after : Option (List ℕ)) (status : ℕ)
+    → AnswersWords words (Err error)
+    → (kind_of error ≡ OutOfMemory → status ≢ 74 → TellsNoMemory before after status)
+    → (is_mistake (kind_of error) ≡ true → status ≡ 64)
+    → IsRunOn words held before after status
+refused_run [] error held before after status answer told wrong =
+    λ written. record { ending = NoMemory; told = memory_told before after status (told answer written); ends = on_nothing held }
+refused_run (word ∷ []) error held before after status answer told wrong =
+    λ plain written. (NoMemory, memory_told before after status (told (answer plain) written))
+refused_run (first ∷ second ∷ more) error held before after status answer told wrong =
+    λ plain plain'. elim (answer plain plain') [
+      | inl refused ↦ inr (or_not_written status 3 (λ written. (told refused written).same_status))
+      | inr mistaken ↦ inl (wrong (ap is_mistake mistaken))
+    ]
+
+-- statuses 1 to 4 come only with the line of refused memory
+pub refused_told : (before after : Option (List ℕ)) (status : ℕ) → (status ≡ 0) ⊎ ((status ≡ 3) ⊎ ((status ≡ 64) ⊎ (status ≡ 74)))
+    → (status ≡ 3 → TellsNoMemory before after status) → 0 < status → status ≤ 4 → TellsSome before after status
+refused_told before after status is told some low =
+    (NoMemory, memory_told before after status (told (low_is_memory status is some (omega arith))))
+
+-- the parser took the words, and the source that they ask for was shown
+pub shown_run : (words : List (List ℕ)) (asked : Words) (held before after : Option (List ℕ)) (status : ℕ)
+    → AnswersWords words (Ok asked)
+    → (path_of asked.source ≡ None → is_why asked.mode ≡ false → status ≢ 74 → status ≢ 5 → ShowsInput held before after status)
+    → (is_why asked.mode ≡ false → status ≢ 74 → status ≢ 5 → TellsSome before after status)
+    → (packets_of asked.mode ≡ None → status ≢ 5)
+    → IsRunOn words held before after status
+shown_run [] asked held before after status answer input told unasked = λ written. input answer.0 answer.2 written (unasked answer.1)
+shown_run (word ∷ []) asked held before after status answer input told unasked = λ plain written.
+    told (answer plain).2 written (unasked (answer plain).1)
+shown_run (first ∷ second ∷ more) asked held before after status answer input told unasked = λ plain plain'. absurd (answer plain plain')
+
+-- ---- an audit that is asked for
+
+-- of any octets memory may be refused from the start on
+unaudited : (held : Option (List ℕ)) → IfSome held (λ octets. AnswersRead octets (verdicts.NoMemory 0))
+unaudited None = tt
+unaudited (Some octets) = inl refl
+
+-- refused memory is told as the verdict's line is
+pub refused_why : (error : Error) (held before after : Option (List ℕ)) (status : ℕ) → AsksWhy (Err error)
+    → (kind_of error ≡ OutOfMemory → status ≢ 74 → TellsNoMemory before after status) → status ≢ 74 → ExplainsInput held before after status
+refused_why error held before after status answer told written =
+    let line = told answer written in
+    record { verdict = verdicts.NoMemory 0; told = ([], line.text); same_status = line.same_status; answers = unaudited held }
+
+-- the source that is asked for was audited
+pub shown_why : (asked : Words) (held before after : Option (List ℕ)) (status : ℕ) → AsksWhy (Ok asked)
+    → (path_of asked.source ≡ None → is_why asked.mode ≡ true → status ≢ 74 → ExplainsInput held before after status) → status ≢ 74 → ExplainsInput held before after status
+shown_why asked held before after status answer explained = explained answer.0 answer.1

@@ -1,0 +1,107 @@
+-- What the words of the command line ask for.
+use Rattle.std.specs.Prelude.{◌≡◌, ◌⊎◌, ℕ, Bool, false, true, List, [], ◌∷◌, Option, Some, None, Result, MatchResult, codes, pos, if◌then◌else◌}
+use Rattle.std.specs.Str.{bytes_eq}
+use Rattle.clap.specs.Words.{App, Rule, kind_of, new_app, new_rule, with_rule}
+use Rattle.clap.specs.declared.builder.ArgAction.TheVariants.{Set, SetTrue}
+use Rattle.clap.specs.declared.builder.value_parser.ValueParser.{ValueParser}
+use Rattle.clap.specs.declared.builder.value_parser.ValueParser.TheVariants.{Signed, String, Unsigned}
+use Rattle.clap.specs.declared.error.Error.{Error}
+use Rattle.clap.specs.declared.error.kind.ErrorKind.TheVariants.{OutOfMemory, UnknownArgument}
+use Rattle.program_ends.specs.Words.{is_option}
+use Rattle.show_program.specs.declared.words.Source.{Source}
+use Rattle.show_program.specs.declared.words.Source.TheVariants.{StandardInput, File}
+use Rattle.show_program.specs.declared.words.Mode.{Mode}
+use Rattle.show_program.specs.declared.words.Mode.TheVariants.{Lines, Summary, Why, Packets}
+use Rattle.show_program.specs.declared.words.Words.{Words}
+
+-- the file that is asked for; none is standard input (own format)
+abbrev pub path_of : Source → Option (List ℕ)
+path_of StandardInput = None
+path_of (File path) = Some path.now
+
+-- the file that packets are asked for in (own format)
+abbrev pub packets_of : Mode → Option (List ℕ)
+packets_of Lines = None
+packets_of Summary = None
+packets_of Why = None
+packets_of (Packets path) = Some path.now
+
+-- whether the capture is to be audited (own format)
+abbrev pub is_why : Mode → Bool
+is_why Lines = false
+is_why Summary = false
+is_why Why = true
+is_why (Packets path) = false
+
+-- the file that a word names; a hyphen (45) alone names standard input
+abbrev pub path_asked : Option (List ℕ) → Option (List ℕ)
+path_asked None = None
+path_asked (Some word) = if bytes_eq word (45 ∷ []) then None else Some word
+
+-- the words ask for this source, for packets in this file or none, and for no audit, want of memory aside (own format)
+abbrev pub AsksFor : Option (List ℕ) → Option (List ℕ) → Result Words Error → Type 0
+AsksFor path packets result = MatchResult result
+    (λ words. (path_of words.source ≡ path) × (packets_of words.mode ≡ packets) × (is_why words.mode ≡ false))
+    (λ error. kind_of error ≡ OutOfMemory)
+
+-- the words ask for an audit of standard input, want of memory aside (own format)
+abbrev pub AsksWhy : Result Words Error → Type 0
+AsksWhy result = MatchResult result
+    (λ words. (path_of words.source ≡ None) × (is_why words.mode ≡ true))
+    (λ error. kind_of error ≡ OutOfMemory)
+
+-- the words are a mistake, or memory was refused (own format)
+abbrev pub IsMistake : Result Words Error → Type 0
+IsMistake result = MatchResult result (λ words. ⊥)
+    (λ error. (kind_of error ≡ OutOfMemory) ⊎ (kind_of error ≡ UnknownArgument))
+
+-- no word asks for standard input and one word that is no option for the file that it names, and neither for packets or an
+-- audit; two such are a mistake
+abbrev pub AnswersWords : List (List ℕ) → Result Words Error → Type 0
+AnswersWords [] result = AsksFor None None result
+AnswersWords (word ∷ []) result = is_option word ≡ false → AsksFor (Some word) None result
+AnswersWords (first ∷ second ∷ more) result =
+    is_option first ≡ false → is_option second ≡ false → IsMistake result
+
+-- the file
+abbrev pub file_argument : Rule
+file_argument = record (new_rule (codes "FILE")) { action = Some Set }
+
+-- an option with a value, which this parser checks
+abbrev pub asking_argument : List ℕ → ValueParser → Rule
+asking_argument name parser = record (new_rule name) { long = Some name; action = Some Set; parser = Some parser; value_names = 1 }
+
+-- an option without one
+abbrev pub flag_argument : List ℕ → Rule
+flag_argument name = record (new_rule name) { long = Some name; action = Some SetTrue }
+
+-- the name alone, and no word for the program's name
+abbrev pub bare_command : App
+bare_command =
+    let named = new_app (codes "amqp_show") in
+    record named { top = record named.top { no_binary_name = true } }
+
+-- the numbers that are asked for have 64 bits, a connection 32
+abbrev pub number_argument : List ℕ → Rule
+number_argument name = asking_argument name (Unsigned 0 18446744073709551615)
+
+abbrev pub connection_argument : Rule
+connection_argument = asking_argument (codes "connection") (Signed (pos 0) (pos 4294967295))
+
+abbrev pub link_argument : Rule
+link_argument = asking_argument (codes "link") String
+
+-- which records are asked for
+abbrev pub choosing_command : App
+choosing_command =
+    let numbered = with_rule (with_rule (with_rule bare_command file_argument) (number_argument (codes "from"))) (number_argument (codes "to")) in
+    with_rule (with_rule (with_rule numbered connection_argument) link_argument) (number_argument (codes "delivery"))
+
+abbrev pub packets_argument : Rule
+packets_argument = asking_argument (codes "pcapng") String
+
+-- the command line, as the parser reads it (own format)
+abbrev pub command_line : App
+command_line =
+    let shown = with_rule (with_rule choosing_command (flag_argument (codes "wide"))) (flag_argument (codes "summary")) in
+    with_rule (with_rule shown (flag_argument (codes "why"))) packets_argument

@@ -1,0 +1,159 @@
+//! A run over any words, reader and writers.
+
+ghost use Rattle.std.specs.Prelude.{◌≡◌, ◌≢◌, ◌<◌, ◌≤◌, ◌⊎◌, ◌↔◌, ◌∷◌, [], codes, false, true, map, None};
+ghost use Rattle.capture_words.specs.declared.ending.Ending.TheVariants.{NoMemory, Unreadable};
+ghost use Rattle.std.specs.Io.KnownBytes.{Appends};
+ghost use Rattle.program_ends.specs.Growth.{IsRefusedGrowth};
+ghost use Rattle.show_program.specs.Run.{ExplainsInput, ExplainsSome, IsRunOn, IsStatus, ShowsInput, TellsSome, no_packets};
+ghost use Rattle.show_program.specs.Words.{is_why, packets_of, path_of};
+
+use crate::lines::Lines;
+use crate::packets::write_packets;
+use crate::table::Table;
+use crate::telling::{NO_PACKETS, tell};
+use crate::why::show_why;
+use crate::words::{Mode, Source, Words};
+use capture_words::{Ending, NotWritten, Page, View, show_capture};
+use program_ends::{NOT_WRITTEN, WORDS_FAULT, is_refused_growth, tell_refused_words};
+use std::alloc::Global;
+use std::convert::AsStr;
+use std::io::{Read, Write};
+use std::rt::Files;
+use std::{fs, io};
+
+/// Shows the capture that `words`, those behind the program's name, ask for: the file that they name, or `input`. Writes
+/// it to `out`, behind it the line of a fault, and answers the exit status. Where packets are asked for they go to the file
+/// that is named, and the line of a fault alone to `out`; `NO_PACKETS` tells that they could not be written. Where it is asked
+/// why the capture is not accepted, the line of the auditor's verdict goes to `out`, and behind it the explanation.
+///
+/// A fault of the words is told on `err` alone, with `WORDS_FAULT`; the help goes to `out`, with status 0. Where `out`
+/// fails the status is `NOT_WRITTEN`, and nothing is said of what stands there. Where it is watched, `err` has a line of
+/// progress over a large capture.
+pub fn run_words<F: Files, S: AsStr, R: Read, O: Write, E: Write>(
+    files: &F,
+    alloc: Global,
+    words: &[S],
+    is_watched: bool,
+    input: &mut R,
+    out: &mut O,
+    err: &mut E,
+) -> u8
+    ensures run { IsRunOn (map S.text words.now) (R.remaining input.old) (O.contents out.old) (O.contents out.new) result }
+
+    // The word --why alone has standard input audited.
+    ensures explained { map S.text words.now ≡ codes "--why" ∷ [] → result ≢ NOT_WRITTEN
+        → ExplainsInput (R.remaining input.old) (O.contents out.old) (O.contents out.new) result }
+
+    // Statuses 1 to 4 come only with a line that has that status: of a fault, behind what was shown, or of a verdict, and then
+    // the explanation stands behind it.
+    ensures told { 0 < result → result ≤ 4 → TellsSome (O.contents out.old) (O.contents out.new) result ⊎ ExplainsSome (O.contents out.old) (O.contents out.new) result }
+    ensures packets { result ≡ NO_PACKETS → Appends (O.contents out.old) (O.contents out.new) no_packets }
+    ensures mistake { result ≡ WORDS_FAULT → out.new ≡ out.old }
+    ensures quiet { is_watched ≡ false → result ≢ WORDS_FAULT → err.new ≡ err.old }
+    ensures status { IsStatus result }
+{
+    match Words::read(alloc, words) {
+        Ok(words) => show_source(files, alloc, words, is_watched, input, out, err),
+        Err(error) => tell_refused_words(&error, out, err),
+    }
+}
+
+/// Shows the capture that is asked for.
+fn show_source<F: Files, R: Read, O: Write, E: Write>(
+    files: &F,
+    alloc: Global,
+    words: Words<'_>,
+    is_watched: bool,
+    input: &mut R,
+    out: &mut O,
+    err: &mut E,
+) -> u8
+    ensures input { path_of words.entry.source ≡ None → is_why words.entry.mode ≡ false → result ≢ NOT_WRITTEN → result ≢ NO_PACKETS
+        → ShowsInput (R.remaining input.old) (O.contents out.old) (O.contents out.new) result }
+    ensures explained { path_of words.entry.source ≡ None → is_why words.entry.mode ≡ true → result ≢ NOT_WRITTEN
+        → ExplainsInput (R.remaining input.old) (O.contents out.old) (O.contents out.new) result }
+    ensures told { is_why words.entry.mode ≡ false → result ≢ NOT_WRITTEN → result ≢ NO_PACKETS → TellsSome (O.contents out.old) (O.contents out.new) result }
+    ensures either { result ≢ NOT_WRITTEN → result ≢ NO_PACKETS
+        → TellsSome (O.contents out.old) (O.contents out.new) result ⊎ ExplainsSome (O.contents out.old) (O.contents out.new) result }
+    ensures unasked { packets_of words.entry.mode ≡ None → result ≢ NO_PACKETS }
+    ensures packets { result ≡ NO_PACKETS → Appends (O.contents out.old) (O.contents out.new) no_packets }
+    ensures quiet { is_watched ≡ false → err.new ≡ err.old }
+    ensures status { (result ≤ NO_PACKETS) ⊎ (result ≡ NOT_WRITTEN) }
+{
+    match words.source {
+        Source::StandardInput => show_input(files, alloc, words, is_watched, input, out, err),
+        Source::File(path) => match fs::open(files, path) {
+            Ok(file) => show_input(files, alloc, words, is_watched, file, out, err),
+            Err(error) => tell(&ending_unopened(&error), out),
+        },
+    }
+}
+
+/// How it ended where the file could not be opened.
+fn ending_unopened(error: &io::Error) -> Ending
+    ensures memory { (result ≡ NoMemory) ↔ IsRefusedGrowth error.now }
+    ensures either { (result ≡ NoMemory) ⊎ (result ≡ Unreadable 0) }
+{
+    if is_refused_growth(error) {
+        Ending::NoMemory
+    } else {
+        Ending::Unreadable(0)
+    }
+}
+
+/// Shows the capture that is read in the mode that is asked for, and tells how its reading ended.
+fn show_input<F: Files, R: Read, O: Write, E: Write>(
+    files: &F,
+    alloc: Global,
+    words: Words<'_>,
+    is_watched: bool,
+    input: R,
+    out: &mut O,
+    err: &mut E,
+) -> u8
+where
+    R: Drop,
+    ensures shown { is_why words.entry.mode ≡ false → result ≢ NOT_WRITTEN → result ≢ NO_PACKETS
+        → ShowsInput (R.remaining input) (O.contents out.old) (O.contents out.new) result }
+    ensures explained { is_why words.entry.mode ≡ true → result ≢ NOT_WRITTEN → ExplainsInput (R.remaining input) (O.contents out.old) (O.contents out.new) result }
+    ensures unasked { packets_of words.entry.mode ≡ None → result ≢ NO_PACKETS }
+    ensures packets { result ≡ NO_PACKETS → Appends (O.contents out.old) (O.contents out.new) no_packets }
+    ensures quiet { is_watched ≡ false → err.new ≡ err.old }
+    ensures status { (result ≤ NO_PACKETS) ⊎ (result ≡ NOT_WRITTEN) }
+{
+    let mut page = Page::new(alloc, words.width);
+    match words.mode {
+        Mode::Lines => {
+            let mut lines = Lines::new(alloc, words.choice);
+            show_by(alloc, &mut lines, &mut page, is_watched, input, out, err)
+        }
+        Mode::Summary => {
+            let mut table = Table::new(alloc);
+            show_by(alloc, &mut table, &mut page, is_watched, input, out, err)
+        }
+        Mode::Why => show_why(alloc, input, out),
+        Mode::Packets(path) => write_packets(files, alloc, path, input, out),
+    }
+}
+
+/// Shows the capture that is read by a view, and tells how its reading ended.
+fn show_by<V: View, R: Read, O: Write, E: Write>(
+    alloc: Global,
+    view: &mut V,
+    page: &mut Page,
+    is_watched: bool,
+    input: R,
+    out: &mut O,
+    err: &mut E,
+) -> u8
+where
+    R: Drop,
+    ensures shown { result ≢ NOT_WRITTEN → ShowsInput (R.remaining input) (O.contents out.old) (O.contents out.new) result }
+    ensures quiet { is_watched ≡ false → err.new ≡ err.old }
+    ensures status { (result ≤ 4) ⊎ (result ≡ NOT_WRITTEN) }
+{
+    match show_capture(alloc, input, view, page, out, is_watched, err) {
+        Ok(ending) => tell(&ending, out),
+        Err(NotWritten) => NOT_WRITTEN,
+    }
+}

@@ -1,0 +1,48 @@
+//! What is told behind what was shown, and the exit status.
+
+ghost use Rattle.std.specs.Prelude.{◌≡◌, ◌≢◌, ◌⊎◌};
+ghost use Rattle.capture_words.specs.Ending.{status_of};
+ghost use Rattle.std.specs.Io.KnownBytes.{Appends};
+ghost use Rattle.show_program.specs.Run.{Tells, TellsEnd, is_whole, no_packets};
+
+use capture_words::Ending;
+use program_ends::{NOT_WRITTEN, tell_line};
+use std::io::Write;
+
+/// The exit status where packets could not be written.
+pub const NO_PACKETS: u8 = 5;
+
+/// Writes the line of a fault to `out`, and answers the status; or `NOT_WRITTEN` where `out` fails, and then nothing is said
+/// of what stands there. A whole capture has no line.
+pub fn tell<O: Write>(ending: &Ending, out: &mut O) -> u8
+    ensures told { result ≢ NOT_WRITTEN → Tells (O.contents out.old) (O.contents out.new) result ending.now }
+    ensures alone { result ≢ NOT_WRITTEN → TellsEnd (O.contents out.old) (O.contents out.new) ending.now }
+    ensures status { (result ≡ status_of ending.now) ⊎ (result ≡ NOT_WRITTEN) }
+{
+    tell_end(ending, out)
+}
+
+#[tactic(auto, using(crate::proofs::RunLemmas::nothing_told))]
+fn tell_end<O: Write>(ending: &Ending, out: &mut O) -> u8
+    ensures alone { result ≢ NOT_WRITTEN → TellsEnd (O.contents out.old) (O.contents out.new) ending.now }
+    ensures status { (result ≡ status_of ending.now) ⊎ (result ≡ NOT_WRITTEN) }
+{
+    if is_whole(ending) {
+        return ending.status();
+    }
+    tell_line(ending, ending.status(), out)
+}
+
+fn is_whole(ending: &Ending) -> bool
+    ensures { result ≡ is_whole ending.now }
+{
+    matches!(ending, Ending::Whole)
+}
+
+/// Writes to `out` that packets could not be written, and answers `NO_PACKETS`; or `NOT_WRITTEN` where `out` fails.
+pub fn tell_no_packets<O: Write>(out: &mut O) -> u8
+    ensures told { result ≢ NOT_WRITTEN → Appends (O.contents out.old) (O.contents out.new) no_packets }
+    ensures status { (result ≡ NO_PACKETS) ⊎ (result ≡ NOT_WRITTEN) }
+{
+    tell_line(&"packets not written", NO_PACKETS, out)
+}

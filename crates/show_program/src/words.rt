@@ -1,0 +1,200 @@
+//! What the words of the command line ask for.
+
+ghost use Rattle.std.specs.Prelude.{◌≡◌, false, IfOk};
+ghost use Rattle.clap.specs.Words.{app_of, rule_of};
+ghost use Rattle.show_program.specs.Words.{asking_argument, bare_command, command_line, flag_argument};
+
+use capture_view::Choice;
+use clap::builder::ValueParser;
+use clap::{Arg, ArgAction, Command, Error, value_parser};
+use std::alloc::{AllocError, Global};
+use std::convert::AsStr;
+
+/// Where the capture is read from.
+#[derive(Clone, Copy, Debug, PartialEq, Eq)]
+pub enum Source<'a> {
+    StandardInput,
+    File(&'a str),
+}
+
+/// How the capture is shown.
+#[derive(Clone, Copy, Debug, PartialEq, Eq)]
+pub enum Mode<'a> {
+    /// A line for each record that is asked for.
+    Lines,
+    /// One table.
+    Summary,
+    /// Audited: why the capture is not accepted.
+    Why,
+    /// As packets, in a new file of this path.
+    Packets(&'a str),
+}
+
+/// What is asked for.
+#[derive(Clone, Copy, Debug)]
+pub struct Words<'a> {
+    pub source: Source<'a>,
+    pub mode: Mode<'a>,
+    pub choice: Choice<'a>,
+    /// At how many characters texts and octets are cut.
+    pub width: Option<usize>,
+}
+
+/// At how many characters texts and octets are cut, unless all are asked for.
+const WIDTH: usize = 32;
+
+impl<'a> Source<'a> {
+    ghost use Rattle.std.specs.Prelude.{◌≡◌, option_map};
+    ghost use Rattle.show_program.specs.Words.{path_asked, path_of};
+
+    /// The source that a word names, or that there is without one.
+    fn of_word(word: Option<&'a str>) -> Source<'a>
+        ensures { path_of result ≡ path_asked (option_map (λ w. w.now) word.entry) }
+    {
+        match word {
+            Some(path) if path != "-" => Source::File(path),
+            _ => Source::StandardInput,
+        }
+    }
+}
+
+impl<'a> Mode<'a> {
+    ghost use Rattle.std.specs.Prelude.{◌≡◌, false, true, None, option_map};
+    ghost use Rattle.show_program.specs.Words.{is_why, packets_of};
+
+    /// The mode that the path of packets, and the flags of an audit and of a summary ask for.
+    fn of_words(packets: Option<&'a str>, is_audited: bool, is_summary: bool) -> Mode<'a>
+        ensures packets { packets_of result ≡ option_map (λ path. path.now) packets.entry }
+        ensures unaudited { is_audited ≡ false → is_why result ≡ false }
+        ensures audited { option_map (λ path. path.now) packets.entry ≡ None → is_audited ≡ true → is_why result ≡ true }
+    {
+        match packets {
+            Some(path) => Mode::Packets(path),
+            None if is_audited => Mode::Why,
+            None if is_summary => Mode::Summary,
+            None => Mode::Lines,
+        }
+    }
+}
+
+impl<'a> Words<'a> {
+    ghost use Rattle.std.specs.Prelude.{◌≡◌, ◌∷◌, [], codes, map};
+    ghost use Rattle.show_program.specs.Words.{AnswersWords, AsksWhy};
+
+    /// Reads the words behind the program's name. An error is a mistake in the words, a request for help or, as
+    /// `OutOfMemory`, refused memory.
+    pub fn read<S: AsStr>(alloc: Global, words: &'a [S]) -> Result<Words<'a>, Error>
+        ensures plain { AnswersWords (map S.text words.entry.now) result }
+        ensures why { map S.text words.entry.now ≡ codes "--why" ∷ [] → AsksWhy result }
+    {
+        let matches = command_line(alloc)?.try_get_matches_from(words)?;
+        let source = Source::of_word(matches.get_str("FILE"));
+        let is_audited = matches.get_flag("why");
+        let is_summary = matches.get_flag("summary");
+        let mode = Mode::of_words(matches.get_str("pcapng"), is_audited, is_summary);
+        let choice = Choice {
+            from: matches.get_one("from"),
+            to: matches.get_one("to"),
+            connection: matches.get_one("connection"),
+            link: matches.get_str("link"),
+            delivery: matches.get_one("delivery"),
+        };
+        Ok(Words {
+            source,
+            mode,
+            choice,
+            width: (!matches.get_flag("wide")).then_some(WIDTH),
+        })
+    }
+}
+
+/// What stands below the options in the help.
+const BEHIND_HELP: &str = "\
+A line has the number of the record, its connection, and what happened: opened, in, out, lost or broken. Of a frame there \
+follow the channel, the performative with those of its fields that are read and there, the octets of a transfer's payload, \
+the link or the session that it names, and what the record notes: which delivery a transfer carries, or why an outcome is told.
+
+Without --why the whole capture is read, whatever is asked for. Status 0: it is whole. 2: malformed. 3: no memory. \
+4: unreadable. 5: the packets could not be written. 64: a mistake in the words. 74: standard output could not be written.
+
+With --why the first line and the status are those of amqp_audit: 0 accepted, 1 refused, or 2, 3 or 4 as above. Behind the \
+line stand the record that is refused, what the clause asks, and each thing that it compares, with the records of the links, \
+deliveries, windows and credits; or what was expected where the capture is malformed. Nothing behind that is read.
+
+Of --pcapng, --why and --summary the first that is given, in this order, counts.
+
+Packets are those of all records, whatever else is asked for. Where the capture has a fault they are those of the whole \
+records in front of it.";
+
+/// The command line: a file, which records, and how they are shown.
+fn command_line<'a>(alloc: Global) -> Result<Command<'a>, AllocError>
+    ensures { IfOk result (λ command. app_of command ≡ command_line) }
+{
+    let file = Arg::new(alloc, "FILE").action(ArgAction::Set).help(
+        "The capture to show; standard input where there is none, or for -",
+    );
+    let from = asking(alloc, "from", value_parser!(u64), "N").help("Records from number N on");
+    let to = asking(alloc, "to", value_parser!(u64), "N").help("Records up to number N");
+    let connection = asking(alloc, "connection", value_parser!(u32), "C").help(
+        "Records of connection C",
+    );
+    let link = asking(alloc, "link", ValueParser::string(), "NAME").help(
+        "Records whose frame names a link of this name",
+    );
+    let delivery = asking(alloc, "delivery", value_parser!(u64), "N").help(
+        "Records about the delivery from a client whose first transfer is record N",
+    );
+    let wide = flag(alloc, "wide").help(
+        "Shows texts and octets whole; else, and with --why, they are cut at 32 characters",
+    );
+    let summary = flag(alloc, "summary").help(
+        "Shows one table of the whole capture instead of its records",
+    );
+    let why = flag(alloc, "why").help(
+        "Audits the capture, and says why it is not accepted instead of its records",
+    );
+    let pcapng = asking(alloc, "pcapng", ValueParser::string(), "OUT").help(
+        "Writes the whole capture as packets to OUT, which must not exist, and shows nothing",
+    );
+    bare_command(alloc)
+        .arg(file)?
+        .arg(from)?
+        .arg(to)?
+        .arg(connection)?
+        .arg(link)?
+        .arg(delivery)?
+        .arg(wide)?
+        .arg(summary)?
+        .arg(why)?
+        .arg(pcapng)
+}
+
+/// The command without its arguments.
+fn bare_command<'a>(alloc: Global) -> Command<'a>
+    ensures { app_of result ≡ bare_command }
+{
+    Command::new(alloc, "amqp_show")
+        .about("Shows a capture of an AMQP 1.0 router in words")
+        .after_help(BEHIND_HELP)
+        .no_binary_name(true)
+}
+
+/// An option with a value.
+fn asking<'a>(alloc: Global, name: &'a str, parser: ValueParser<'a>, value: &'a str) -> Arg<'a>
+    ensures rule { rule_of result ≡ asking_argument name.entry.now parser.entry }
+    ensures local { result.global ≡ false }
+{
+    Arg::new(alloc, name)
+        .long(name)
+        .action(ArgAction::Set)
+        .value_parser(parser)
+        .value_name(value)
+}
+
+/// An option without one.
+fn flag<'a>(alloc: Global, name: &'a str) -> Arg<'a>
+    ensures rule { rule_of result ≡ flag_argument name.entry.now }
+    ensures local { result.global ≡ false }
+{
+    Arg::new(alloc, name).long(name).action(ArgAction::SetTrue)
+}

@@ -1,0 +1,85 @@
+//! Which inputs may come, and where the frames that were written stand.
+
+use crate::step::Step;
+use capture_form::{Frame, Record, What};
+use pairing_cert::Note;
+use route_items::{Item, Lives, Outs};
+use std::alloc::{AllocError, AllocGlobal, Global};
+use std::io;
+
+/// Has the item of each step come, and prints whether an opening, a frame, octets that are none and a loss may come then on its
+/// connection. A step `asked` has none come.
+pub fn play_lives<R: Print + AllocGlobal>(rt: &R, steps: &[&str]) -> io::Result<()> {
+    let mut lives = Lives::new(rt.alloc());
+    for line in steps {
+        let step = Step::of(line);
+        let octets = step.octets(rt.alloc());
+        if let Some(item) = item_of(&step, octets.as_slice()) {
+            lives.come(item)?;
+        }
+        println!(rt; "{line}: {:?}", answers(&lives, step.number()))?;
+    }
+    Ok(())
+}
+
+/// The item of a step.
+fn item_of<'a>(step: &Step<'_>, octets: &'a [u8]) -> Option<Item<'a>> {
+    match step.verb {
+        "opened" => Some(Item::Opened(step.number())),
+        "in" => Some(Item::In(step.number(), octets)),
+        "broken" => Some(Item::Broken(step.number())),
+        "lost" => Some(Item::Lost(step.number())),
+        _ => None,
+    }
+}
+
+/// Whether an opening, a frame, octets that are none and a loss may come on the connection.
+fn answers(lives: &Lives, connection: u32) -> [bool; 4] {
+    [
+        lives.may_come(Item::Opened(connection)),
+        lives.may_come(Item::In(connection, &[])),
+        lives.may_come(Item::Broken(connection)),
+        lives.may_come(Item::Lost(connection)),
+    ]
+}
+
+/// Records come one by one; with a step `known` it is known where their frames stand, and with a step `there` they stand with the
+/// others. Prints for each step `next CONNECTION NUMBER` the first frame of the connection from that record on.
+pub fn play_outs<R: Print + AllocGlobal>(rt: &R, steps: &[&str]) -> io::Result<()> {
+    let alloc = rt.alloc();
+    let mut outs = Outs::new(alloc);
+    let mut records = Vec::new(alloc);
+    let mut more = Vec::new(alloc);
+    for line in steps {
+        let step = Step::of(line);
+        match step.verb {
+            "opened" | "out" => more.push(record_of(alloc, &step)?)?,
+            "known" => outs.extend(records.len() as u64, &more)?,
+            "there" => records.append(&mut more)?,
+            _ => {
+                let next = outs.next(&records, step.number(), u64::from(step.count()));
+                println!(rt; "{line}: {next:?}")?;
+            }
+        }
+    }
+    Ok(())
+}
+
+/// The most octets of a frame here.
+const LARGEST: usize = 64;
+
+/// The record of a step: a frame of these octets, or, where there are none, an opening.
+fn record_of(alloc: Global, step: &Step<'_>) -> Result<Record, AllocError> {
+    let octets = step.octets(alloc);
+    let what = if octets.is_empty() {
+        What::Opened
+    } else {
+        let count = octets.len().min(LARGEST);
+        What::Out(Frame::new(alloc, &octets[..count])?)
+    };
+    Ok(Record {
+        connection: step.number(),
+        what,
+        note: Note::None,
+    })
+}

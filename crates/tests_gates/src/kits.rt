@@ -1,0 +1,101 @@
+//! Choices by chance, the frames of clients, and their streams read at once.
+
+use crate::step::{Step, octets_of, tell};
+use kit_clients::{Chance, Fields, framed, read};
+use std::alloc::{AllocError, AllocGlobal, Global};
+use std::io;
+
+/// Prints the choice of each step, by a generator of this seed.
+pub fn play_chance<R: Print + AllocGlobal>(rt: &R, seed: u64, steps: &[&str]) -> io::Result<()> {
+    let mut chance = Chance::new(seed);
+    for line in steps {
+        let told = chosen(rt.alloc(), &mut chance, &Step::of(line))?;
+        tell(rt, line, told.as_str())?;
+    }
+    Ok(())
+}
+
+/// The choice that a step asks for.
+fn chosen(alloc: Global, chance: &mut Chance, step: &Step<'_>) -> Result<String, AllocError> {
+    let number = step.number();
+    match step.verb {
+        "number" => chance.number(number).to_string(alloc),
+        "below" => chance.below(number.max(1) as usize).to_string(alloc),
+        "place" => chance.place(number as usize).to_string(alloc),
+        "once-in" => chance.once_in(number).to_string(alloc),
+        "octet" => chance.octet().to_string(alloc),
+        _ => {
+            let words = step.rest.split_whitespace();
+            let choices: Vec<u32> = words
+                .map(|word| word.parse::<u32>().unwrap_or(0))
+                .collect(alloc)?;
+            chance.one_of(choices.as_slice(), number).to_string(alloc)
+        }
+    }
+}
+
+/// Puts the field of each step. Prints for each step `described CODE` the octets of all so far, and for each step `framed CHANNEL
+/// BODY` those of a frame.
+pub fn play_fields<R: Print + AllocGlobal>(rt: &R, steps: &[&str]) -> io::Result<()> {
+    let mut fields = Fields::new(rt.alloc());
+    for line in steps {
+        let step = Step::of(line);
+        let octets = match step.verb {
+            "described" => fields.described(octet_of(step.first))?,
+            "framed" => {
+                let channel = step.first.parse::<u16>().unwrap_or(0);
+                framed(rt.alloc(), channel, step.octets(rt.alloc()).as_slice())?
+            }
+            _ => {
+                put(rt.alloc(), &mut fields, &step)?;
+                continue;
+            }
+        };
+        tell(
+            rt,
+            line,
+            hex::encode(rt.alloc(), octets.as_slice())?.as_str(),
+        )?;
+    }
+    Ok(())
+}
+
+/// Puts the field of a step.
+fn put(alloc: Global, fields: &mut Fields, step: &Step<'_>) -> Result<(), AllocError> {
+    match step.verb {
+        "sized" => fields.sized(octet_of(step.first), step.octets(alloc).as_slice()),
+        "skip" => fields.skip(step.number()),
+        "number" => fields.number(step.number()),
+        "maybe" => fields.maybe(step.first.parse::<u32>().ok()),
+        "flag" => fields.flag(step.first == "yes"),
+        "mark" => fields.mark(step.first == "yes"),
+        _ => fields.octet(step.first.parse::<u8>().ok()),
+    }
+}
+
+/// The octet that two hexadecimal digits are.
+fn octet_of(digits: &str) -> u8 {
+    u8::from_str_radix(digits, 16).unwrap_or(0)
+}
+
+/// Prints what the octets of each step are as a client's stream, read at once.
+pub fn play_streams<R: Print + AllocGlobal>(rt: &R, steps: &[&str]) -> io::Result<()> {
+    let alloc = rt.alloc();
+    for line in steps {
+        let stream = octets_of(alloc, line);
+        let reading = read(alloc, stream.as_slice())?;
+        println!(rt; "open {}, fault {:?}", reading.is_open, reading.fault)?;
+        let answers = hex::encode(alloc, reading.answers.as_slice())?;
+        println!(rt; "answers {answers}")?;
+        tell_frames(rt, reading.frames.as_slice())?;
+    }
+    Ok(())
+}
+
+/// Prints the octets of each frame.
+fn tell_frames<R: Print + AllocGlobal>(rt: &R, frames: &[&[u8]]) -> io::Result<()> {
+    for frame in frames {
+        println!(rt; "frame {}", hex::encode(rt.alloc(), *frame)?)?;
+    }
+    Ok(())
+}

@@ -1,0 +1,58 @@
+//! Plays scripts at sockets, at the core that threads share, and at what stands around them, and prints what each step came to.
+//!
+//! Standard input has the scripts, with an empty line between them. The first line of each names its subject, and the others
+//! are its steps; a line that begins with `#` is none. What is printed does not depend on which thread is first. The modules, in
+//! reading order:
+//!
+//! - `step`: a line in its parts
+//! - `inputs`: which inputs may come, and where the frames that were written stand
+//! - `kits`: choices by chance, the frames of clients, and their streams read at once
+//! - `seats`: two ports of one exchange on one thread, and seats that are not what the capture has
+//! - `gates`: slots at a listener, and clients beside them
+//! - `serving`: two clients over loopback
+#![tactic(auto)]
+
+mod gates;
+mod inputs;
+mod kits;
+mod seats;
+mod serving;
+mod step;
+
+use std::alloc::AllocGlobal;
+use std::io;
+use std::net::{Net, TcpStream};
+use std::sync::Wait;
+use std::thread::Threads;
+use step::Step;
+
+fn main(rt: HostRuntime) -> io::Result<()> {
+    let text = io::read_to_string(rt.alloc(), rt.stdin())?;
+    for script in text.as_str().split("\n\n") {
+        let lines = script.lines().filter(|line| !line.starts_with('#'));
+        let lines: Vec<&str> = lines.collect(rt.alloc())?;
+        if let Some((heading, steps)) = lines.split_first() {
+            println!(rt; "== {heading}")?;
+            play(&rt, &Step::of(heading), steps)?;
+        }
+    }
+    Ok(())
+}
+
+/// Plays a script of this subject.
+fn play<R>(rt: &R, subject: &Step<'_>, steps: &[&str]) -> io::Result<()>
+where
+    R: Threads + Wait + Net<Stream = TcpStream> + Sync + Print + AllocGlobal,
+{
+    match subject.verb {
+        "lives" => inputs::play_lives(rt, steps),
+        "outs" => inputs::play_outs(rt, steps),
+        "chance" => kits::play_chance(rt, u64::from(subject.number()), steps),
+        "fields" => kits::play_fields(rt, steps),
+        "streams" => kits::play_streams(rt, steps),
+        "exchange" => seats::play(rt, steps),
+        "gates" => gates::play(rt, subject, steps),
+        "serve" => serving::play(rt, subject.number()),
+        _ => println!(rt; "there is no such subject"),
+    }
+}
