@@ -1,7 +1,7 @@
 use Rattle.std.proofs.Common.{◌≡◌, length}
 use Rattle.amqp_types.specs.Grammar.{IsValue, AreItems}
 use Rattle.amqp_types.specs.Writing.{levels_in_list, levels_in_described}
-use Rattle.wire_tests.proofs.types.writing.truths.Given as goal
+use Rattle.tests_wire.proofs.puts.truths.Given as goal
 
 abbrev pub invariant-loop : goal.invariant-loop
 invariant-loop l =

@@ -3,7 +3,7 @@ use Rattle.std.proofs.lemmas.List.{length-append}
 use Rattle.amqp_types.specs.Part.{Boolean}
 use Rattle.amqp_types.specs.Writing.{boolean_octets}
 use Rattle.amqp_types.proofs.Written.{one_more}
-use Rattle.wire_tests.proofs.types.writing.truths.Goals as goal
+use Rattle.tests_wire.proofs.puts.truths.Goals as goal
 
 pub loop-preserved : goal.loop-preserved
 unfolding boolean_octets

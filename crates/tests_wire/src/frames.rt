@@ -1,0 +1,81 @@
+//! Frames, protocol headers and the frames of a SASL exchange.
+
+use crate::words::{Hex, lent, no_case, number, octets, octets_of_each};
+use crate::{performatives, pieces, written};
+use amqp_frames::{FrameFault, FrameView, ProtocolHeader, cut_stream, sasl_read};
+use std::alloc::{AllocError, Global};
+use std::io;
+
+/// What comes of a case about frames.
+pub(crate) fn answer(alloc: Global, words: &[&str]) -> io::Result<String> {
+    match words {
+        ["read", limit, word] => Ok(read(alloc, number(limit)?, &octets(alloc, word)?)?),
+        ["cut", pieces @ ..] => cut(alloc, pieces),
+        ["write", frames @ ..] => written::in_frames(alloc, frames),
+        _ => pieces::answer(alloc, words),
+    }
+}
+
+/// A fault, behind its number.
+pub(crate) fn fault_told(alloc: Global, fault: FrameFault) -> Result<String, AllocError> {
+    format!(in alloc; "fault {} {fault:?}: {fault}", fault.number())
+}
+
+/// The frame at the front of the octets, and whether it is all of them.
+fn read(alloc: Global, limit: u32, octets: &[u8]) -> Result<String, AllocError> {
+    let mut out = String::new(alloc);
+    if FrameView::whole(octets, limit).is_some() {
+        out.push_str("whole ")?;
+    }
+    match FrameView::read(octets, limit) {
+        Ok(Some((frame, length))) => {
+            write!(
+                out,
+                "{:?} frame of {length} octets on channel {}",
+                frame.kind(),
+                frame.channel()
+            )?;
+            write!(
+                out,
+                "\n  {:?}\n  body {:?}",
+                Hex(frame.octets()),
+                Hex(frame.body())
+            )?;
+        }
+        Ok(None) => out.push_str("no whole frame yet")?,
+        Err(fault) => out.push_str(&fault_told(alloc, fault)?)?,
+    }
+    Ok(out)
+}
+
+/// The frames of a stream that comes in these pieces, and the fault behind them.
+fn cut(alloc: Global, words: &[&str]) -> io::Result<String> {
+    let pieces = octets_of_each(alloc, words)?;
+    let cut = cut_stream(alloc, &lent(alloc, &pieces)?)?;
+    let mut out = String::new(alloc);
+    for frame in &cut.frames {
+        write!(out, "{:?} ", Hex(frame))?;
+    }
+    write!(out, "{:?}", cut.fault)?;
+    Ok(out)
+}
+
+/// The protocol header that the octets are, and its octets.
+pub(crate) fn header(alloc: Global, word: &str) -> io::Result<String> {
+    match ProtocolHeader::of(&octets(alloc, word)?) {
+        Some(header) => Ok(format!(in alloc; "{header:?} {:?}", Hex(&header.octets()))?),
+        None => Ok("no header".to_string(alloc)?),
+    }
+}
+
+/// What comes of a case about frames of a SASL exchange.
+pub(crate) fn sasl(alloc: Global, words: &[&str]) -> io::Result<String> {
+    match words {
+        ["read", word] => match sasl_read(&octets(alloc, word)?) {
+            Ok(frame) => Ok(format!(in alloc; "{frame:?}")?),
+            Err(fault) => Ok(performatives::fault_told(alloc, fault)?),
+        },
+        ["write", frame] => written::sasl(alloc, frame),
+        _ => Err(no_case()),
+    }
+}

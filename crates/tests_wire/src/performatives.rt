@@ -1,0 +1,98 @@
+//! Performatives that are read.
+
+use crate::words::{Hex, hex_if, no_case, octets, tell, tell_if};
+use crate::written;
+use amqp_perf::{Attach, Disposition, PerfFault, Performative};
+use std::alloc::{AllocError, Global};
+use std::io;
+
+/// What comes of a case about performatives.
+pub(crate) fn answer(alloc: Global, words: &[&str]) -> io::Result<String> {
+    match words {
+        ["read", word] => Ok(read(alloc, &octets(alloc, word)?)?),
+        ["fits", code, fields @ ..] => fits(alloc, code, fields),
+        ["write", performatives @ ..] => written::answer(alloc, performatives),
+        _ => Err(no_case()),
+    }
+}
+
+/// A fault, behind its number.
+pub(crate) fn fault_told(alloc: Global, fault: PerfFault) -> Result<String, AllocError> {
+    format!(in alloc; "fault {} {fault:?}", fault.number())
+}
+
+/// The performative at the front of the octets, what its methods say, and the octets behind it.
+fn read(alloc: Global, octets: &[u8]) -> Result<String, AllocError> {
+    match Performative::read(octets) {
+        Ok((performative, payload)) => {
+            let mut out = format!(in alloc; "{performative:?}\n ")?;
+            tell_meaning(&mut out, &performative)?;
+            tell(&mut out, "payload", Hex(payload))?;
+            Ok(out)
+        }
+        Err(fault) => fault_told(alloc, fault),
+    }
+}
+
+/// What a performative's methods say.
+fn tell_meaning(out: &mut String, performative: &Performative<'_>) -> Result<(), AllocError> {
+    tell_if(out, "state", hex_if(performative.state_raw()))?;
+    match performative {
+        Performative::Open(open) => tell(out, "limit", open.frame_limit()),
+        Performative::Attach(attach) => tell_attach(out, attach),
+        Performative::Flow(flow) => {
+            tell(out, "drains", flow.drains())?;
+            tell(out, "wants echo", flow.wants_echo())
+        }
+        Performative::Transfer(transfer) => {
+            tell(out, "has more", transfer.has_more())?;
+            tell(out, "is resumed", transfer.is_resumed())?;
+            tell(out, "is aborted", transfer.is_aborted())
+        }
+        Performative::Disposition(disposition) => tell_disposition(out, disposition),
+        Performative::Detach(detach) => tell(out, "is closed", detach.is_closed()),
+        _ => Ok(()),
+    }
+}
+
+fn tell_attach(out: &mut String, attach: &Attach<'_>) -> Result<(), AllocError> {
+    tell(out, "sender", attach.sender_mode())?;
+    tell(out, "receiver", attach.receiver_mode())?;
+    if let Some(source) = attach.source {
+        tell(out, "source is dynamic", source.is_dynamic())?;
+    }
+    Ok(())
+}
+
+fn tell_disposition(out: &mut String, disposition: &Disposition<'_>) -> Result<(), AllocError> {
+    tell(out, "last", disposition.last_id())?;
+    tell(out, "is settled", disposition.is_settled())?;
+    if let Some(state) = disposition.state {
+        tell(out, "told", Hex(state.raw()))?;
+        tell(out, "outcome", state.outcome())?;
+    }
+    Ok(())
+}
+
+/// Whether fields are those of the performative that has this code, or which fault there is. The list is of the short
+/// form.
+fn fits(alloc: Global, code: &str, fields: &[&str]) -> io::Result<String> {
+    let mut items = Vec::new(alloc);
+    for field in fields {
+        items.extend_from_slice(&octets(alloc, field)?)?;
+    }
+    let sizes = (
+        u8::try_from(items.len().saturating_add(1)),
+        u8::try_from(fields.len()),
+    );
+    let (Ok(size), Ok(count)) = sizes else {
+        return Err(no_case());
+    };
+    let mut list = octets(alloc, code)?;
+    list.extend_from_slice(&[0xC0, size, count])?;
+    list.extend_from_slice(&items)?;
+    match Performative::read(&list) {
+        Ok(_) => Ok("fits".to_string(alloc)?),
+        Err(fault) => Ok(fault_told(alloc, fault)?),
+    }
+}

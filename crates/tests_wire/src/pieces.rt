@@ -1,0 +1,158 @@
+//! Streams of many frames that come in pieces, and what a splitter gives of them and keeps.
+
+use crate::frames::fault_told;
+use crate::words::{Hex, no_case, number, octets};
+use amqp_frames::{Splitter, cut_stream};
+use std::alloc::{AllocError, Global};
+use std::io;
+
+/// What comes of a case about streams of frames.
+pub(crate) fn answer(alloc: Global, words: &[&str]) -> io::Result<String> {
+    match words {
+        ["pieces", lengths @ ..] => in_pieces(alloc, lengths),
+        ["batch", count, frame] => batch(alloc, number(count)?, &octets(alloc, frame)?),
+        ["rounds", count, frame, pieces @ ..] => rounds(
+            alloc,
+            number(count)?,
+            &octets(alloc, frame)?,
+            pieces,
+        ),
+        _ => Err(no_case()),
+    }
+}
+
+/// A frame of this size, whose octets behind its header are `filling`.
+fn frame_of_size(alloc: Global, size: u32, filling: u8) -> Result<Vec<u8>, AllocError> {
+    let mut octets = Vec::new(alloc);
+    octets.extend_from_slice(&size.to_be_bytes())?;
+    octets.extend_from_slice(&[2, 0, 0, filling])?;
+    octets.resize(size as usize, filling)?;
+    Ok(octets)
+}
+
+/// 200 frames of sizes from 8 to 16384.
+fn many_frames(alloc: Global) -> Result<Vec<Vec<u8>>, AllocError> {
+    let mut frames = Vec::new(alloc);
+    for number in 0..199u8 {
+        let size = 8 + u32::from(number) * 82 + u32::from(number % 3);
+        frames.push(frame_of_size(alloc, size, number)?)?;
+    }
+    frames.push(frame_of_size(alloc, 16384, 199)?)?;
+    Ok(frames)
+}
+
+fn joined(alloc: Global, frames: &[Vec<u8>]) -> Result<Vec<u8>, AllocError> {
+    let mut stream = Vec::new(alloc);
+    for frame in frames {
+        stream.extend_from_slice(frame)?;
+    }
+    Ok(stream)
+}
+
+/// The stream in pieces of these lengths, in turn.
+fn pieces_of<'a>(
+    alloc: Global,
+    stream: &'a [u8],
+    lengths: &[usize],
+) -> Result<Vec<&'a [u8]>, AllocError> {
+    let mut pieces = Vec::new(alloc);
+    let mut rest = stream;
+    for length in lengths.iter().cycle().take(stream.len()) {
+        if rest.is_empty() {
+            break;
+        }
+        let (piece, behind) = rest.split_at((*length).min(rest.len()));
+        pieces.push(piece)?;
+        rest = behind;
+    }
+    Ok(pieces)
+}
+
+/// How many frames a stream of many is cut into that comes in pieces of these lengths, and whether they are those that
+/// were joined.
+fn in_pieces(alloc: Global, words: &[&str]) -> io::Result<String> {
+    let mut lengths = Vec::new(alloc);
+    for word in words {
+        lengths.push(number::<usize>(word)?)?;
+    }
+    let frames = many_frames(alloc)?;
+    let stream = joined(alloc, &frames)?;
+    let pieces = pieces_of(alloc, &stream, &lengths)?;
+    let cut = cut_stream(alloc, pieces.as_slice())?;
+    let same = cut.frames == frames;
+    Ok(format!(in alloc;
+        "{} frames, as they were {same}, {:?}",
+        cut.frames.len(),
+        cut.fault
+    )?)
+}
+
+/// How many of so many frames are given back that come in one piece, and what is given behind them. Where a long stream
+/// were moved for each of its small frames, this would not end in time.
+fn batch(alloc: Global, count: u32, frame: &[u8]) -> io::Result<String> {
+    let mut splitter = Splitter::new(alloc);
+    splitter.feed(&repeated(alloc, count, frame)?)?;
+    let mut given = 0u32;
+    for _ in 0..count {
+        given = given.saturating_add(u32::from(splitter.next() == Ok(Some(frame))));
+        splitter.feed(&[])?;
+    }
+    let behind = next_told(alloc, &mut splitter)?;
+    Ok(format!(in alloc; "{given} given back, then {behind}")?)
+}
+
+fn repeated(alloc: Global, count: u32, octets: &[u8]) -> Result<Vec<u8>, AllocError> {
+    let mut all = Vec::new(alloc);
+    for _ in 0..count {
+        all.extend_from_slice(octets)?;
+    }
+    Ok(all)
+}
+
+/// How many of so many frames are given back that come one by one, and how many octets are kept then; and the same of
+/// further pieces.
+fn rounds(alloc: Global, count: u32, frame: &[u8], words: &[&str]) -> io::Result<String> {
+    let mut splitter = Splitter::new(alloc);
+    let given = one_by_one(&mut splitter, count, frame)?;
+    let mut out = format!(in alloc; "{given} given back, {:?} kept", kept(alloc, &splitter)?)?;
+    for word in words {
+        splitter.feed(&octets(alloc, word)?)?;
+        let next = next_told(alloc, &mut splitter)?;
+        write!(out, "\n  {next}, {:?} kept", kept(alloc, &splitter)?)?;
+    }
+    Ok(out)
+}
+
+/// How many of so many frames are given back that come one by one.
+fn one_by_one(splitter: &mut Splitter, count: u32, frame: &[u8]) -> Result<u32, AllocError> {
+    let mut given = 0u32;
+    for _ in 0..count {
+        splitter.feed(frame)?;
+        given = given.saturating_add(u32::from(splitter.next() == Ok(Some(frame))));
+    }
+    Ok(given)
+}
+
+/// What a splitter gives next.
+fn next_told(alloc: Global, splitter: &mut Splitter) -> Result<String, AllocError> {
+    match splitter.next() {
+        Ok(Some(frame)) => format!(in alloc; "{:?}", Hex(frame)),
+        Ok(None) => "none".to_string(alloc),
+        Err(fault) => fault_told(alloc, fault),
+    }
+}
+
+/// How many octets a splitter keeps: they stand in its debug text, between brackets.
+fn kept(alloc: Global, splitter: &Splitter) -> Result<Option<usize>, AllocError> {
+    let text = format!(in alloc; "{splitter:?}")?;
+    let Some((_, behind)) = text.split_once("[") else {
+        return Ok(None);
+    };
+    let Some((octets, _)) = behind.split_once("]") else {
+        return Ok(None);
+    };
+    if octets.is_empty() {
+        return Ok(Some(0));
+    }
+    Ok(Some(octets.split(",").count()))
+}

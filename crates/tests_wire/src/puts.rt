@@ -1,0 +1,102 @@
+//! Values that are written.
+
+ghost use Rattle.std.specs.Prelude.{◌≡◌, IfOk, length};
+ghost use Rattle.amqp_types.specs.Grammar.{IsValue, AreItems};
+ghost use Rattle.amqp_types.specs.Writing.{levels_in_list, levels_in_described};
+
+use crate::words::{between_commas, hexed, lent, no_case, number, octets, octets_of_each};
+use amqp_types::{
+    put_binary, put_bool, put_described_list, put_list, put_null, put_parts, put_str, put_symbol,
+    put_ubyte, put_uint, put_ulong, put_ushort,
+};
+use std::alloc::{AllocError, Global};
+use std::io;
+
+/// The most octets of a text.
+const LONGEST: usize = 1000;
+
+/// The octets of values, which are written one behind the other; a comma stands between them.
+pub(crate) fn answer(alloc: Global, words: &[&str]) -> io::Result<String> {
+    let mut out = Vec::new(alloc);
+    for value in &between_commas(alloc, words)? {
+        put(&mut out, *value)?;
+    }
+    Ok(hexed(alloc, &out)?)
+}
+
+fn put(out: &mut Vec<u8>, value: &[&str]) -> io::Result<()> {
+    match value {
+        ["null"] => put_null(out)?,
+        ["parts", words @ ..] => put_pieces(out, words)?,
+        ["list", count] => put_truths(out, None, number(count)?)?,
+        ["described", code, count] => put_truths(out, Some(number(code)?), number(count)?)?,
+        [kind, word] => put_one(out, kind, word)?,
+        _ => return Err(no_case()),
+    }
+    Ok(())
+}
+
+/// A value of this type.
+fn put_one(out: &mut Vec<u8>, kind: &str, word: &str) -> io::Result<()> {
+    match kind {
+        "boolean" => put_bool(out, number(word)?)?,
+        "ubyte" => put_ubyte(out, number(word)?)?,
+        "ushort" => put_ushort(out, number(word)?)?,
+        "uint" => put_uint(out, number(word)?)?,
+        "ulong" => put_ulong(out, number(word)?)?,
+        "binary" => put_octets(out, word)?,
+        _ => put_text(out, kind, word)?,
+    }
+    Ok(())
+}
+
+fn put_octets(out: &mut Vec<u8>, word: &str) -> io::Result<()> {
+    let octets = octets(*out.allocator(), word)?;
+    if octets.len() > LONGEST {
+        return Err(no_case());
+    }
+    put_binary(out, &octets)?;
+    Ok(())
+}
+
+fn put_text(out: &mut Vec<u8>, kind: &str, word: &str) -> io::Result<()> {
+    if word.len() > LONGEST {
+        return Err(no_case());
+    }
+    match kind {
+        "string" => put_str(out, word)?,
+        "symbol" if word.is_ascii() => put_symbol(out, word)?,
+        _ => return Err(no_case()),
+    }
+    Ok(())
+}
+
+/// Parts of octets, all at once.
+fn put_pieces(out: &mut Vec<u8>, words: &[&str]) -> io::Result<()> {
+    let alloc = *out.allocator();
+    let parts = octets_of_each(alloc, words)?;
+    put_parts(out, &lent(alloc, &parts)?)?;
+    Ok(())
+}
+
+/// A list of so many times true, described by a code or by nothing.
+fn put_truths(out: &mut Vec<u8>, code: Option<u8>, count: u8) -> Result<(), AllocError> {
+    let items = truths(*out.allocator(), count)?;
+    match code {
+        Some(code) => put_described_list(out, code, u32::from(count), items.as_slice()),
+        None => put_list(out, u32::from(count), items.as_slice()),
+    }
+}
+
+/// So many times true, each of one octet.
+fn truths(alloc: Global, count: u8) -> Result<Vec<u8>, AllocError>
+    ensures items { IfOk result (λ octets. AreItems (IsValue levels_in_list) count octets.items) }
+    ensures fields { IfOk result (λ octets. AreItems (IsValue levels_in_described) count octets.items) }
+    ensures few { IfOk result (λ octets. length octets.items ≡ count) }
+{
+    let mut octets = Vec::new(alloc);
+    for _ in 0..count {
+        put_bool(&mut octets, true)?;
+    }
+    Ok(octets)
+}

@@ -1,0 +1,75 @@
+//! The steps of a client's stream.
+
+use crate::words::{Hex, no_case, number, octets};
+use std::alloc::{AllocError, Global};
+use std::io;
+use stream_reading::{Phase, StreamReader, answer_to, answer_to_fault, front};
+
+/// What comes of a case about streams.
+pub(crate) fn answer(alloc: Global, words: &[&str]) -> io::Result<String> {
+    match words {
+        ["front", name, word] => Ok(at_front(alloc, phase(name)?, &octets(alloc, word)?)?),
+        ["steps", most, word] => steps(alloc, number(most)?, &octets(alloc, word)?),
+        _ => Err(no_case()),
+    }
+}
+
+fn phase(name: &str) -> io::Result<Phase> {
+    match name {
+        "FirstHeader" => Ok(Phase::FirstHeader),
+        "Exchange" => Ok(Phase::Exchange),
+        "SecondHeader" => Ok(Phase::SecondHeader),
+        "Open" => Ok(Phase::Open),
+        _ => Err(no_case()),
+    }
+}
+
+/// What stands at the front of a stream, and what is answered to it.
+fn at_front(alloc: Global, phase: Phase, octets: &[u8]) -> Result<String, AllocError> {
+    match front(phase, octets) {
+        Ok(Some(step)) => {
+            let answer = Hex(answer_to(step.event));
+            format!(in alloc;
+                "{:?} {:?}\n  answer {answer:?}",
+                step.event,
+                Hex(step.octets)
+            )
+        }
+        Ok(None) => "no step yet".to_string(alloc),
+        Err(fault) => {
+            let answer = Hex(answer_to_fault(fault));
+            format!(in alloc; "{fault:?}\n  answer {answer:?}")
+        }
+    }
+}
+
+/// The steps of a stream that comes in pieces of this length, and what comes next behind them.
+fn steps(alloc: Global, most: usize, octets: &[u8]) -> io::Result<String> {
+    if most == 0 {
+        return Err(no_case());
+    }
+    let mut out = String::new(alloc);
+    let mut reader = StreamReader::new(alloc);
+    for piece in octets.chunks(most) {
+        reader.feed(piece)?;
+        take_steps(&mut out, &mut reader)?;
+    }
+    write!(out, "then {:?}", reader.phase())?;
+    Ok(out)
+}
+
+/// Takes the steps that are whole by now.
+fn take_steps(out: &mut String, reader: &mut StreamReader) -> Result<(), AllocError> {
+    for _ in 0..6 {
+        let (event, len) = match reader.peek() {
+            Ok(Some(step)) => {
+                write!(out, "{:?} {:?}\n  ", step.event, Hex(step.octets))?;
+                (step.event, step.octets.len())
+            }
+            Ok(None) => break,
+            Err(fault) => return write!(out, "{fault:?}\n  "),
+        };
+        reader.took(event, len);
+    }
+    Ok(())
+}
