@@ -9,14 +9,12 @@
 //! - `kits`: choices by chance, the frames of clients, and their streams read at once
 //! - `seats`: two ports of one exchange on one thread, and seats that are not what the capture has
 //! - `gates`: slots at a listener, and clients beside them
-//! - `serving`: two clients over loopback
 #![tactic(auto)]
 
 mod gates;
 mod inputs;
 mod kits;
 mod seats;
-mod serving;
 mod step;
 
 use std::alloc::AllocGlobal;
@@ -52,7 +50,6 @@ where
         "streams" => kits::play_streams(rt, steps),
         "exchange" => seats::play(rt, steps),
         "gates" => gates::play(rt, subject, steps),
-        "serve" => serving::play(rt, subject.number()),
         _ => println!(rt; "there is no such subject"),
     }
 }

@@ -39,7 +39,8 @@ impl<'a> Case<'a> {
 
     /// The words from this place on.
     pub fn words_from(&self, place: usize) -> &[&'a str] {
-        self.words.get(place..).unwrap_or(&[])
+        let words = self.words.as_slice();
+        &words[place.min(words.len())..]
     }
 }
 

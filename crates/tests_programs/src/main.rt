@@ -21,7 +21,7 @@ use case::Case;
 use fakes::Left;
 use program_ends::words_of;
 use std::alloc::AllocGlobal;
-use std::net::{Net, TcpStream};
+use std::net::Net;
 use std::rt::Files;
 use std::sync::Wait;
 use std::thread::Threads;
@@ -38,7 +38,7 @@ fn main(rt: HostRuntime) -> io::Result<()> {
 /// Plays the cases of a file.
 fn play_all<R>(rt: &R, text: &str) -> io::Result<()>
 where
-    R: Files + Print + AllocGlobal + Threads + Wait + Net<Stream = TcpStream> + Sync,
+    R: Files + Print + AllocGlobal + Threads + Wait + Net + Sync,
 {
     for line in text.lines() {
         if line.is_empty() || line.starts_with('#') {

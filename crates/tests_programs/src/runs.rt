@@ -3,26 +3,24 @@
 use crate::case::Case;
 use crate::fakes::{Input, Left};
 use crate::{ends, exchanges};
-use kit_clients::{CONSUMER, PRODUCER, talks};
 use std::alloc::AllocGlobal;
 use std::io::Write;
-use std::net::{Net, TcpStream};
+use std::net::Net;
 use std::rt::Files;
 use std::sync::Wait;
 use std::thread::Threads;
-use std::{fs, io, thread};
+use std::{fs, io};
 
 /// What the run leaves that the case asks for.
 pub fn left_by<R>(rt: &R, case: &Case<'_>) -> io::Result<Left>
 where
-    R: Files + AllocGlobal + Threads + Wait + Net<Stream = TcpStream> + Sync,
+    R: Files + AllocGlobal + Threads + Wait + Net + Sync,
 {
     let mut left = Left::new(rt.alloc(), case);
     match case.kind {
         "audit" => audit(rt, case, &mut left)?,
         "show" => show(rt, case, &mut left)?,
         "router" => route(rt, case.words_from(0), &mut left),
-        "served" => return served(rt, case, left),
         "octets" => write_octets(rt, case, &mut left)?,
         "remove" => {
             // Nothing is to be said where it is not there.
@@ -73,32 +71,6 @@ fn route<R: Files + AllocGlobal + Threads + Wait + Net + Sync>(
 ) {
     let (out, err) = (&mut left.out, &mut left.err);
     left.status = router_program::run_words(rt, rt.alloc(), words, out, err);
-}
-
-/// The router, with a producer and a consumer that connect to the port that the first word names.
-fn served<R>(rt: &R, case: &Case<'_>, left: Left) -> io::Result<Left>
-where
-    R: Files + AllocGlobal + Threads + Wait + Net<Stream = TcpStream> + Sync,
-{
-    let port = case.word(0).parse::<u16>().unwrap_or(0);
-    let words = case.words_from(1);
-    let (mut left, (producer, consumer)) = thread::join(
-        rt,
-        || {
-            let mut left = left;
-            route(rt, words, &mut left);
-            left
-        },
-        || {
-            thread::join(
-                rt,
-                || talks(rt, port, PRODUCER),
-                || talks(rt, port, CONSUMER),
-            )
-        },
-    );
-    writeln!(left.out, "done: producer {producer}, consumer {consumer}")?;
-    Ok(left)
 }
 
 /// How many octets a file has, and where no number of them is asked for, which.
