@@ -12,3 +12,6 @@ pub mod Writable
 pub mod Within
 pub mod Opened
 pub mod NumberedStates
+pub mod UsualItems
+pub mod UsualFields
+pub mod UsualTables

@@ -15,3 +15,4 @@ pub mod Writing
 pub mod SlotViews
 pub mod Conditions
 pub mod Router
+pub mod Usual

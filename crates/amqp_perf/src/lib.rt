@@ -13,6 +13,7 @@
 //! - `state`, `terminus`: what is nested in a disposition and in an attach;
 //! - `opening`, `begin`, `attach`, `flow`, `transfer`, `disposition`, `detach`: what each says; an end and a close
 //!   say their error alone;
+//! - `usual`: transfers, dispositions and flows in the form that most have, read in one go;
 //! - `performative`: reading;
 //! - `slot`: a field as it is written;
 //! - `writing`: writing a performative;
@@ -37,6 +38,7 @@ mod state;
 mod table;
 mod terminus;
 mod transfer;
+mod usual;
 mod writing;
 
 pub use attach::{Attach, ReceiverSettleMode, Role, SenderSettleMode};

@@ -12,6 +12,7 @@ use crate::flow::Flow;
 use crate::opening::Open;
 use crate::table::table;
 use crate::transfer::Transfer;
+use crate::usual::read_usual;
 use amqp_types::{Items, Value, read_described_list};
 
 /// What a frame's body says.
@@ -68,6 +69,9 @@ impl<'a> Performative<'a> {
     fn read_front(octets: &'a [u8]) -> Result<(Performative<'a>, &'a [u8]), PerfFault>
         ensures { Gives (λ x. (view x.0, x.1.now)) result (performative_at octets.now) }
     {
+        if let Some((performative, rest)) = read_usual(octets) {
+            return Ok((performative, rest));
+        }
         match read_described_list(octets) {
             Ok((value, rest)) => Performative::of_value(value, rest),
             Err(fault) => Err(PerfFault::Value(fault)),
