@@ -1,5 +1,5 @@
 -- What the parser makes of words that are no options.
-use Rattle.std.proofs.Common.{◌≡◌, ◌∙◌, sym, subst, Ok, Err, ℕ, List, [], ◌∷◌, Some, None, false, true, refl, codes}
+use Rattle.std.proofs.Common.{◌≡◌, ◌∙◌, ap, sym, subst, Ok, Err, ℕ, List, [], ◌∷◌, Some, None, false, true, refl, codes}
 use Rattle.clap.specs.Words.{HasKind, fault_of, first_of, is_simple_and_free, matches_of}
 use Rattle.clap.specs.declared.error.kind.ErrorKind.TheVariants.{UnknownArgument}
 use Rattle.clap.specs.declared.error.Error.{Error}
@@ -7,8 +7,10 @@ use Rattle.clap.proofs.OnLiterals.{clap_on_literals}
 use Rattle.program_ends.specs.Words.{is_option}
 use Rattle.program_ends.proofs.Parsing.{no_kind, only_kind}
 use Rattle.program_ends.proofs.PlainWords.{dashes-plain, strip_byte-plain}
-use Rattle.audit_program.specs.Words.{AnswersWords, command_line, path_of}
-use Rattle.audit_program.specs.declared.words.Source.{Source}
+use Rattle.program_ends.proofs.Sources.{asked-plain}
+use Rattle.program_ends.specs.Source.{path_asked, path_of}
+use Rattle.program_ends.specs.declared.source.Source.{Source}
+use Rattle.audit_program.specs.Words.{AnswersWords, command_line}
 
 pub command_line-is_free : is_simple_and_free command_line ≡ true
 unfolding clap_on_literals
@@ -48,9 +50,9 @@ fault_of-more first second more plain plain' =
 
 -- the parser took the words, and this is the source with the file that it met
 pub answers_taken : (words : List (List ℕ)) (source : Source) → fault_of command_line words ≡ []
-    → path_of source ≡ first_of (codes "FILE") (matches_of command_line words) → AnswersWords words (Ok source)
-answers_taken [] source taken met = met ∙ file-none
-answers_taken (word ∷ []) source taken met = λ plain. met ∙ file-one word plain
+    → path_of source ≡ path_asked (first_of (codes "FILE") (matches_of command_line words)) → AnswersWords words (Ok source)
+answers_taken [] source taken met = met ∙ ap path_asked file-none
+answers_taken (word ∷ []) source taken met = λ plain. met ∙ ap path_asked (file-one word plain) ∙ asked-plain word plain
 answers_taken (first ∷ second ∷ more) source taken met = λ plain plain'.
     let clash : [] ≡ UnknownArgument ∷ [] = sym taken ∙ fault_of-more first second more plain plain' in cc
 

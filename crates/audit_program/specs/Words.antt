@@ -4,13 +4,8 @@ use Rattle.clap.specs.declared.builder.ArgAction.TheVariants.{Set}
 use Rattle.clap.specs.declared.error.Error.{Error}
 use Rattle.clap.specs.declared.error.kind.ErrorKind.TheVariants.{OutOfMemory, UnknownArgument}
 use Rattle.program_ends.specs.Words.{is_option}
-use Rattle.audit_program.specs.declared.words.Source.{Source}
-use Rattle.audit_program.specs.declared.words.Source.TheVariants.{StandardInput, File}
-
--- the file that is asked for; none is standard input (own format)
-abbrev pub path_of : Source → Option (List ℕ)
-path_of StandardInput = None
-path_of (File path) = Some path.now
+use Rattle.program_ends.specs.Source.{path_of}
+use Rattle.program_ends.specs.declared.source.Source.{Source}
 
 -- the words ask for this source, want of memory aside (own format)
 abbrev pub AsksFor : Option (List ℕ) → Result Source Error → Type 0
@@ -21,7 +16,7 @@ abbrev pub IsMistake : Result Source Error → Type 0
 IsMistake result = MatchResult result (λ source. ⊥)
     (λ error. (kind_of error ≡ OutOfMemory) ⊎ (kind_of error ≡ UnknownArgument))
 
--- no word asks for standard input and one word for the file that it names; two are a mistake (own format)
+-- no word asks for standard input and one word that is no option for the file that it names; two are a mistake (own format)
 abbrev pub AnswersWords : List (List ℕ) → Result Source Error → Type 0
 AnswersWords [] result = AsksFor None result
 AnswersWords (word ∷ []) result = is_option word ≡ false → AsksFor (Some word) result

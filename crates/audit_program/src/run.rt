@@ -4,11 +4,13 @@ ghost use Rattle.program_ends.specs.Growth.{IsRefusedGrowth};
 ghost use Rattle.audit_core.specs.declared.verdict.Verdict.TheVariants.{NoMemory, Unreadable};
 ghost use Rattle.audit_core.specs.Report.{status_of};
 ghost use Rattle.audit_program.specs.Run.{IsRunOn, IsStatus, IsVerdictOnInput, Tells, TellsSome};
-ghost use Rattle.audit_program.specs.Words.{path_of};
+ghost use Rattle.program_ends.specs.Source.{path_of};
 
-use crate::words::Source;
+use crate::words::source_of;
 use audit_core::{Verdict, audit_stream};
-use program_ends::{NOT_WRITTEN, WORDS_FAULT, is_refused_growth, tell_line, tell_refused_words};
+use program_ends::{
+    NOT_WRITTEN, Source, WORDS_FAULT, is_refused_growth, tell_line, tell_refused_words,
+};
 use std::alloc::Global;
 use std::convert::AsStr;
 use std::io::{Read, Write};
@@ -36,7 +38,7 @@ pub fn run_words<F: Files, S: AsStr, R: Read, O: Write, E: Write>(
     ensures quiet { result ≢ WORDS_FAULT → err.new ≡ err.old }
     ensures status { IsStatus result }
 {
-    match Source::from_words(alloc, words) {
+    match source_of(alloc, words) {
         Ok(source) => tell(&verdict_on(files, alloc, source, input), out),
         Err(error) => tell_refused_words(&error, out, err),
     }

@@ -8,7 +8,8 @@ use Rattle.capture_form.specs.declared.records.Record.{Record}
 use Rattle.core_exchange.specs.declared.seat.Seat.{Seat}
 use Rattle.core_exchange.specs.Seats.{Begins, SeatAgrees, SeatsAgree, frames_of, inputs_on, outs_on}
 use Rattle.conn_workers.specs.declared.report.ConnReport.{ConnReport}
-use Rattle.conn_workers.specs.Lines.{IsDone, IsFrom, IsServed}
+use Rattle.conn_serving.specs.Served.{IsServed}
+use Rattle.conn_workers.specs.Lines.{IsDone, IsFrom}
 use Rattle.conn_workers.specs.Reports.{AreReported, IsReported}
 
 -- frames that begin others, in octets

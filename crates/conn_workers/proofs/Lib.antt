@@ -1,5 +1,2 @@
-mod Closes
-mod Serves
-mod ServedOn
 mod Opens
 mod Gathered

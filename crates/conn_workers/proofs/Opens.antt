@@ -1,8 +1,8 @@
 -- Lists of lines that are all open.
 use Rattle.std.proofs.Common.{◌≡◌, List, [], ◌∷◌, ◌++◌, All, sym, subst}
 use Rattle.std.proofs.lemmas.List.Elements.{All-push, All-head, All-tail, All-cons}
-use Rattle.conn_workers.specs.declared.line.Status.{Status}
-use Rattle.conn_workers.specs.declared.line.Status.TheVariants.{Open}
+use Rattle.conn_serving.specs.declared.serving.Status.{Status}
+use Rattle.conn_serving.specs.declared.serving.Status.TheVariants.{Open}
 
 pub open_push : (xs ys : List Status) (x : Status) → ys ≡ xs ++ x ∷ [] → x ≡ Open → All (λ s. s ≡ Open) xs → All (λ s. s ≡ Open) ys
 open_push xs ys x e is all = subst (All (λ s. s ≡ Open)) (sym e) (All-push (λ s. s ≡ Open) xs x all is)

@@ -1,60 +1,8 @@
 -- What a worker keeps of one connection.
-use Rattle.std.specs.Prelude.{◌≡◌, ℕ, ◌⊎◌, Bool, true, List, [], ◌∷◌, ◌++◌, Option, Some, None, Result, Ok, Err, slice_get}
-use Rattle.std.specs.List.{concat, list_any}
-use Rattle.capture_form.specs.declared.records.What.{What}
-use Rattle.stream_reading.specs.declared.step.Phase.TheVariants as phases
-use Rattle.stream_reading.specs.Steps.{Ahead}
-use Rattle.conn_engine.specs.declared.fault.EngineFault.{EngineFault}
-use Rattle.conn_engine.specs.declared.fault.EngineFault.TheVariants as faults
-use Rattle.conn_engine.specs.declared.place.Loss.TheVariants.{Untold, Told, Refused}
-use Rattle.conn_engine.specs.declared.place.Place.{Place}
-use Rattle.conn_engine.specs.declared.place.Place.TheVariants.{Reading, Closing, Over}
-use Rattle.conn_engine.specs.Closing.{is_close}
-use Rattle.conn_engine.specs.Serving.{Connection}
+use Rattle.std.specs.Prelude.{◌≡◌, ℕ, Bool, List, Some, slice_get}
 use Rattle.core_exchange.specs.declared.seat.Seat.{Seat}
 use Rattle.core_exchange.specs.Seats.{frames_of}
-use Rattle.conn_workers.specs.declared.line.Status.{Status}
-use Rattle.conn_workers.specs.declared.line.Status.TheVariants.{Open, Ended, Failed}
-use Rattle.conn_workers.specs.declared.serving.Stop.{Stop}
-use Rattle.conn_workers.specs.declared.serving.Stop.TheVariants as stops
-use Rattle.conn_workers.specs.declared.serving.Turn.{Turn}
-use Rattle.conn_workers.specs.declared.serving.Turn.TheVariants as turns
-use Rattle.conn_workers.specs.declared.serving.Motion.{Motion}
-use Rattle.conn_workers.specs.declared.serving.Motion.TheVariants.{Moved, Still, Gone}
-use Rattle.conn_workers.specs.Streams.{IsStopped, IsStream, IsTurnedAway, IsUnfinished, loss_at}
-
--- ---- an engine that serves
-
--- a close is among the frames
-abbrev pub HasClose : List (List ℕ) → Type 0
-HasClose frames = list_any is_close frames ≡ true
-
--- where the end of a close is marked, there is one
-abbrev pub MarksClose : Option ℕ → List (List ℕ) → Type 0
-MarksClose None frames = Unit {0}
-MarksClose (Some end) frames = HasClose frames
-
--- why an engine is over, if it is: the client was turned away, or a close was given
-abbrev pub IsOverFor : Place → Ahead → List (List ℕ) → Type 0
-IsOverFor Reading ahead frames = Unit {0}
-IsOverFor Closing ahead frames = Unit {0}
-IsOverFor (Over Untold) ahead frames = IsTurnedAway ahead ⊎ HasClose frames
-IsOverFor (Over Told) ahead frames = ⊥
-IsOverFor (Over Refused) ahead frames = ⊥
-
--- these octets were fed to an engine, and a device took these: its items are those of all octets fed, and the octets that
--- were taken and those that wait are the answers to these and then its frames
-pub record IsServing (e : Connection) (octets taken : List ℕ) : Type 0 where
-  pub answers : List ℕ
-  pub stream : IsStream octets e.ahead e.items answers
-  pub reads : e.place ≡ Reading → IsUnfinished e.ahead stream.behind stream.told stream.said
-  pub closes : e.place ≡ Closing → IsStopped e.ahead stream.told stream.said
-  pub given : taken ++ e.waiting ≡ answers ++ concat e.frames
-  pub behind : (e.ahead.phase ≡ phases.Open) ⊎ (e.frames ≡ [])
-  pub marked : MarksClose e.close e.frames
-  pub over : IsOverFor e.place e.ahead e.frames
-
--- ---- a gate and its engine
+use Rattle.conn_serving.specs.Served.{IsServed}
 
 -- the gate is that of its number, after some calls
 pub record IsFrom {G : Type 0} (gates : List G) (Follows : G → G → Type 0) (number : ℕ) (gate : G) : Type 0 where
@@ -62,64 +10,7 @@ pub record IsFrom {G : Type 0} (gates : List G) (Follows : G → G → Type 0) (
   pub given : slice_get gates number ≡ Some start
   pub follows : Follows start gate
 
--- the engine was fed what the gate delivered, and the gate took these octets of it
-pub record IsOpen {G : Type 0} (Delivered Took : G → List ℕ → Type 0) (gate : G) (e : Connection) (taken : List ℕ) : Type 0 where
-  pub octets : List ℕ
-  pub delivered : Delivered gate octets
-  pub took : Took gate taken
-  pub serving : IsServing e octets taken
-
--- why a connection has ended: its gate answered End or Fault; or its engine was over, since the client was turned away, or
--- since a close is among the frames and the gate took them all
-abbrev pub HasCause : Bool → Ahead → List (List ℕ) → List ℕ → Type 0
-HasCause has_ended ahead frames waiting = (has_ended ≡ true) ⊎ IsTurnedAway ahead ⊎ (HasClose frames × (waiting ≡ []))
-
--- What came of a connection: the items are those of all that its gate delivered, and the loss, where it was opened; what the
--- gate took, and what waits, is the answers and then the frames that it was given
-pub record IsServed {G : Type 0} (Delivered Took : G → List ℕ → Type 0) (ended : G → Bool) (gate : G) (items : List What) (frames : List (List ℕ)) (taken : List ℕ) : Type 0 where
-  pub octets : List ℕ
-  pub delivered : Delivered gate octets
-  pub ahead : Ahead
-  pub told : List What
-  pub answers : List ℕ
-  pub stream : IsStream octets ahead told answers
-  pub items_are : items ≡ told ++ loss_at ahead.phase
-  pub took : Took gate taken
-  pub waiting : List ℕ
-  pub given : taken ++ waiting ≡ answers ++ concat frames
-  pub cause : HasCause (ended gate) ahead frames waiting
-
--- what holds of a line, by how far it is
-abbrev pub LineHolds : {G : Type 0} → (G → List ℕ → Type 0) → (G → List ℕ → Type 0) → (G → Bool) → Status → G → Connection → List ℕ → Type 0
-LineHolds Delivered Took ended Open gate e taken = IsOpen Delivered Took gate e taken
-LineHolds Delivered Took ended Ended gate e taken = IsServed Delivered Took ended gate e.items e.frames taken
-LineHolds Delivered Took ended Failed gate e taken = Unit {0}
-
--- how far it is behind a turn
-abbrev pub status_after : Turn → Status
-status_after turns.Moved = Open
-status_after turns.Still = Open
-status_after turns.Ended = Ended
-
 -- a gate that was shut, what it took, and the seat of its connection
 pub record IsDone {G : Type 0} (gates : List G) (Follows : G → G → Type 0) (Delivered Took : G → List ℕ → Type 0) (ended : G → Bool) (gate : G) (taken : List ℕ) (seat : Seat) : Type 0 where
   pub from : IsFrom gates Follows seat.conn gate
   pub served : IsServed Delivered Took ended gate seat.items.items (frames_of seat) taken
-
--- ---- turns
-
--- what two parts of a turn did
-abbrev pub either_motion : Motion → Motion → Motion
-either_motion wrote Moved = Moved
-either_motion wrote Still = wrote
-either_motion wrote Gone = Gone
-
--- why a worker does not go on behind an engine's answer
-abbrev pub stop_of : Result Unit EngineFault → Option Stop
-stop_of (Ok done) = None
-stop_of (Err faults.HeaderRefused) = None
-stop_of (Err faults.Frame) = None
-stop_of (Err (faults.Port fault)) = Some stops.Core
-stop_of (Err faults.Over) = None
-stop_of (Err faults.SaslRefused) = None
-stop_of (Err faults.Memory) = Some stops.Memory

@@ -7,7 +7,8 @@ use Rattle.capture_form.specs.Text.{Trace}
 use Rattle.core_exchange.specs.Captures.{IsOfCore}
 use Rattle.core_exchange.specs.Seats.{Begins, inputs_on, outs_on, owned_below}
 use Rattle.conn_workers.specs.declared.report.ConnReport.{ConnReport}
-use Rattle.conn_workers.specs.Lines.{IsFrom, IsServed}
+use Rattle.conn_serving.specs.Served.{IsServed}
+use Rattle.conn_workers.specs.Lines.{IsFrom}
 
 module _ {G : Type 0} (gates : List G) (Follows : G → G → Type 0) (Delivered Took : G → List ℕ → Type 0) (ended : G → Bool) where
   -- Connection k of a capture: its gate was given at that place and has ended, or its engine was over. Its inputs are the

@@ -1,41 +1,29 @@
 //! What workers tell each other.
 
-use crate::serving::Stop;
-use std::sync::atomic::{AtomicU8, Ordering};
+use std::sync::atomic::{AtomicBool, Ordering};
 
-/// Whether a worker has stopped, and why, so that the others need not serve on: the run has no report then.
+/// Whether a worker has stopped, so that the others need not serve on: the run has no report then. Why it has stopped it tells
+/// itself.
 #[derive(Drop)]
 pub(crate) struct Alarm {
-    reason: AtomicU8,
+    is_raised: AtomicBool,
 }
 
 impl Alarm {
     /// No worker has stopped.
     pub(crate) fn new() -> Alarm {
         Alarm {
-            reason: AtomicU8::new(0),
+            is_raised: AtomicBool::new(false),
         }
     }
 
     /// Tells all workers that one has stopped.
-    pub(crate) fn raise(&self, stop: Stop) {
-        self.reason.store(number_of(stop), Ordering::SeqCst);
+    pub(crate) fn raise(&self) {
+        self.is_raised.store(true, Ordering::SeqCst);
     }
 
-    /// Why a worker has stopped, if one has.
-    pub(crate) fn reason(&self) -> Option<Stop> {
-        let reason = self.reason.load(Ordering::SeqCst);
-        [Stop::Memory, Stop::Device, Stop::Core]
-            .into_iter()
-            .find(|stop| number_of(*stop) == reason)
-    }
-}
-
-/// A number for each reason; 0 is none.
-fn number_of(stop: Stop) -> u8 {
-    match stop {
-        Stop::Memory => 1,
-        Stop::Device => 2,
-        Stop::Core => 3,
+    /// Whether a worker has stopped.
+    pub(crate) fn is_raised(&self) -> bool {
+        self.is_raised.load(Ordering::SeqCst)
     }
 }

@@ -1,7 +1,7 @@
 //! A line that has ended, and its two halves.
 
 ghost use Rattle.std.specs.Prelude.{◌≡◌};
-ghost use Rattle.conn_workers.specs.declared.line.Status.TheVariants.{Ended};
+ghost use Rattle.conn_serving.specs.declared.serving.Status.TheVariants.{Ended};
 
 use crate::line::{Line, Origin};
 use conn_engine::Gate;

@@ -5,7 +5,7 @@
 //! connection ends where its gate ends or fails, or its engine is over and all is given. When all have ended, what the
 //! ports took and gave is compared with the one capture, and each gate is handed back beside what came of it.
 //!
-//! In reading order: `report` is what a run comes to; `line` keeps a gate and its engine, and `serving` moves their octets;
+//! In reading order: `report` is what a run comes to; `line` keeps a gate and its engine, whose octets `conn_serving` moves;
 //! `done` is what is left of a line that has ended; `alarm` tells workers that one has stopped; `work` is what one thread
 //! does; `run` starts them, joins them and makes the report.
 #![tactic(auto)]
@@ -15,7 +15,6 @@ mod done;
 mod line;
 mod report;
 mod run;
-mod serving;
 mod work;
 
 pub use core_exchange::{Exchange, ExchangePort, Seat};

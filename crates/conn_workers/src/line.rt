@@ -1,26 +1,16 @@
 //! A gate with its engine.
 
 ghost use Rattle.std.specs.Prelude.{◌≡◌, ◌<◌, [], List, ℕ, length, map, IfOk, OnOk};
-ghost use Rattle.conn_workers.specs.declared.line.Status.TheVariants.{Open, Ended};
-ghost use Rattle.conn_workers.specs.Lines.{IsDone, status_after};
+ghost use Rattle.conn_serving.specs.declared.serving.Status.TheVariants.{Open, Ended};
+ghost use Rattle.conn_serving.specs.Served.{status_after};
+ghost use Rattle.conn_workers.specs.Lines.{IsDone};
 
-use crate::serving::{Stop, Turn, serve};
 use conn_engine::{Engine, Gate, Port, Ready};
+use conn_serving::{Status, Stop, Turn, serve};
 use core_exchange::{ExchangePort, Seat};
 use std::alloc::Global;
 use std::marker::{Model, PhantomData};
 use std::sync::Wait;
-
-/// How far a line is.
-#[derive(Clone, Copy, Debug, PartialEq, Eq)]
-pub(crate) enum Status {
-    /// Its octets are moved.
-    Open,
-    /// The gate was shut, and the router knows of it.
-    Ended,
-    /// It stopped in between, and is good for nothing.
-    Failed,
-}
 
 /// The gates of a run, by their numbers. Each run picks them.
 pub(crate) trait Origin<G> {
@@ -58,8 +48,9 @@ pub(crate) struct Line<G: Gate, P: Port, J: Origin<G>> {
 
 impl<G: Gate, P: Port, J: Origin<G>> Model for Line<G, P, J> {
     ghost use Rattle.std.specs.Prelude.{◌≡◌};
-    ghost use Rattle.conn_workers.specs.declared.line.Status.{Status};
-    ghost use Rattle.conn_workers.specs.Lines.{IsFrom, LineHolds};
+    ghost use Rattle.conn_serving.specs.declared.serving.Status.{Status};
+    ghost use Rattle.conn_serving.specs.Served.{LineHolds};
+    ghost use Rattle.conn_workers.specs.Lines.{IsFrom};
 
     ghost Value = { Status };
 

@@ -22,8 +22,8 @@ pub struct RunReport<G> {
     pub conns: Vec<ConnReport<G>>,
 }
 
-/// Why a run came to no report. Where a worker stops, the others do too, for its reason or their own; it is why the first of
-/// them does, in the order of their numbers.
+/// Why a run came to no report. Where a worker stops, the others are called off. It is why the first of those that stopped for
+/// a reason of their own did, in the order of the workers' numbers.
 #[derive(Debug, Drop)]
 pub enum RunFault {
     /// Memory was refused outside the core.

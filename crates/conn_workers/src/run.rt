@@ -1,17 +1,18 @@
 //! A whole run.
 
-ghost use Rattle.std.specs.Prelude.{◌≡◌, ◌<◌, ◌≤◌, ◌+◌, ◌^◌, [], length, IfOk, IfErr, OnOk, vec_len, All};
-ghost use Rattle.conn_workers.specs.Faults.{Brings};
+ghost use Rattle.std.specs.Prelude.{◌≡◌, ◌<◌, ◌≤◌, ◌+◌, ◌^◌, [], length, IfOk, IfErr, Err, MatchOption, OnOk, vec_len, All};
+ghost use Rattle.conn_serving.specs.declared.serving.Stop.TheVariants as stops;
+ghost use Rattle.conn_workers.specs.Faults.{Brings, first_stop};
 ghost use Rattle.conn_workers.specs.Reports.{IsRun};
 
 use crate::alarm::Alarm;
 use crate::done::Done;
 use crate::line::{Origin, Start};
 use crate::report::{RunFault, RunReport};
-use crate::serving::Stop;
 use crate::work::work;
 use address_table::Rules;
 use conn_engine::Gate;
+use conn_serving::Stop;
 use core_exchange::Exchange;
 use std::alloc::{AllocError, Global};
 use std::marker::Brand;
@@ -124,17 +125,39 @@ fn no_jobs<G: Gate + Drop, J: Origin<G>>(
     Ok(jobs)
 }
 
-/// All that the workers have done, in the order of the connections; or why the first of those that stopped did.
+/// All that the workers have done, in the order of the connections. One that was called off has done nothing.
+///
+/// # Errors
+///
+/// Why the first of the workers that stopped for a reason of their own did; or `Memory`, where none did.
 fn gather<G: Gate + Drop, J: Origin<G>>(
     alloc: Global,
-    results: Vec<Result<Vec<Done<G, J>>, Stop>>,
-) -> Result<Vec<Done<G, J>>, Stop> {
-    if let Some(stop) = first_stop(&results) {
-        return Err(stop);
+    results: Vec<Result<Option<Vec<Done<G, J>>>, Stop>>,
+) -> Result<Vec<Done<G, J>>, Stop>
+    ensures { MatchOption (first_stop results.items) (IfErr result (λ stop. stop ≡ stops.Memory)) (λ stop. result ≡ Err stop) }
+{
+    match first_stop(&results) {
+        Some(stop) => Err(stop),
+        None => in_order(alloc, results),
     }
+}
+
+/// All that the workers have done, of whom none stopped for a reason of its own, in the order of the connections.
+///
+/// # Errors
+///
+/// `Memory`.
+fn in_order<G: Gate + Drop, J: Origin<G>>(
+    alloc: Global,
+    results: Vec<Result<Option<Vec<Done<G, J>>>, Stop>>,
+) -> Result<Vec<Done<G, J>>, Stop>
+    ensures { IfErr result (λ stop. stop ≡ stops.Memory) }
+{
     let mut all = Vec::new(alloc);
-    for result in results {
-        let mut some = result?;
+    for served in results {
+        let Ok(Some(mut some)) = served else {
+            continue;
+        };
         let Ok(()) = all.append(&mut some) else {
             return Err(Stop::Memory);
         };
@@ -145,8 +168,10 @@ fn gather<G: Gate + Drop, J: Origin<G>>(
     }
 }
 
-/// Why the first worker that stopped did, if one did.
-fn first_stop<T>(results: &[Result<T, Stop>]) -> Option<Stop> {
+/// Why the first worker that stopped for a reason of its own did, if one did.
+fn first_stop<T>(results: &[Result<T, Stop>]) -> Option<Stop>
+    ensures { result ≡ first_stop results.now }
+{
     for result in results {
         if let Err(stop) = result {
             return Some(*stop);

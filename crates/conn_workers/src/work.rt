@@ -1,14 +1,14 @@
 //! What one worker does.
 
-ghost use Rattle.std.specs.Prelude.{◌≡◌, ◌<◌, ◌+◌, length, IfOk, OnOk, vec_len, All};
+ghost use Rattle.std.specs.Prelude.{◌≡◌, ◌<◌, ◌+◌, length, IfOk, IfSome, OnOk, vec_len, All};
 ghost use Rattle.std.specs.VecDeque.{deque_len};
-ghost use Rattle.conn_workers.specs.declared.line.Status.TheVariants.{Open};
+ghost use Rattle.conn_serving.specs.declared.serving.Status.TheVariants.{Open};
 
 use crate::alarm::Alarm;
 use crate::done::Done;
 use crate::line::{Line, Origin, Start};
-use crate::serving::{Stop, Turn};
 use conn_engine::Gate;
+use conn_serving::{Stop, Turn};
 use core_exchange::{Exchange, ExchangePort};
 use std::alloc::Global;
 use std::collections::VecDeque;
@@ -19,48 +19,49 @@ use std::sync::Wait;
 const BUFFER: usize = 16384;
 
 /// Serves these gates to their ends, one after the other in each round. Where a round moves nothing, it waits a little at
-/// one gate, the next in turn. It tells the other workers where it stops, and stops where one of these has.
+/// one gate, the next in turn. It tells the other workers where it stops. Where one of these has, it is called off: it drops
+/// its gates, and answers `None`.
 ///
 /// # Errors
 ///
-/// As `Stop` says, its own reason or theirs; the gates are dropped then.
+/// As `Stop` says, for a reason of its own; the gates are dropped then.
 pub(crate) fn work<G: Gate + Drop, R: Wait, W: Wait, J: Origin<G>>(
     rt: &W,
     alloc: Global,
     exchange: &Exchange<R>,
     alarm: &Alarm,
     starts: Vec<Start<G, J>>,
-) -> Result<Vec<Done<G, J>>, Stop>
-    ensures { IfOk result (λ all. vec_len all ≡ vec_len starts) }
+) -> Result<Option<Vec<Done<G, J>>>, Stop>
+    ensures { IfOk result (λ served. IfSome served (λ all. vec_len all ≡ vec_len starts)) }
 {
     match serve_all(rt, alloc, exchange, alarm, starts) {
-        Ok(done) => Ok(done),
+        Ok(served) => Ok(served),
         Err(stop) => {
-            alarm.raise(stop);
+            alarm.raise();
             Err(stop)
         }
     }
 }
 
-/// Serves these gates to their ends, unless another worker has stopped.
+/// Serves these gates to their ends, or until another worker has stopped.
 fn serve_all<G: Gate + Drop, R: Wait, W: Wait, J: Origin<G>>(
     rt: &W,
     alloc: Global,
     exchange: &Exchange<R>,
     alarm: &Alarm,
     starts: Vec<Start<G, J>>,
-) -> Result<Vec<Done<G, J>>, Stop>
-    ensures { IfOk result (λ all. vec_len all ≡ vec_len starts) }
+) -> Result<Option<Vec<Done<G, J>>>, Stop>
+    ensures { IfOk result (λ served. IfSome served (λ all. vec_len all ≡ vec_len starts)) }
 {
     let mut lines = open_lines(alloc, exchange, starts)?;
     let mut done = Vec::new(alloc);
     let mut buffer = [0u8; BUFFER];
     for _ in rt.forever() {
         if lines.is_empty() {
-            return Ok(done);
+            return Ok(Some(done));
         }
-        if let Some(stop) = alarm.reason() {
-            return Err(stop);
+        if alarm.is_raised() {
+            return Ok(None);
         }
         if !serve_each(&mut lines, &mut done, &mut buffer)? {
             wait_for_next(&mut lines)?;

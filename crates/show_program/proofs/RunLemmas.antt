@@ -14,7 +14,9 @@ use Rattle.capture_words.specs.Shown.{AppendsSome, EndsText}
 use Rattle.capture_words.proofs.Known.{appends_nothing, appends_then}
 use Rattle.show_program.specs.declared.words.Words.{Words}
 use Rattle.show_program.specs.Run.{ExplainsInput, IsRunOn, ShowsInput, Tells, TellsEnd, TellsSome, is_whole, tail_of}
-use Rattle.show_program.specs.Words.{AnswersWords, AsksWhy, is_why, packets_of, path_of}
+use Rattle.program_ends.specs.Source.{path_of}
+use Rattle.show_program.specs.declared.words.Mode.{Mode}
+use Rattle.show_program.specs.Words.{AnswersWords, AsksWhy, IsAudit, IsPlain, is_why, packets_of}
 use Rattle.audit_core.specs.declared.verdict.Verdict.TheVariants as verdicts
 use Rattle.audit_core.specs.Verdict.{AnswersRead}
 
@@ -74,16 +76,26 @@ refused_told before after status is told some low =
     (NoMemory, memory_told before after status (told (low_is_memory status is some (omega arith))))
 
 -- the parser took the words, and the source that they ask for was shown
-pub shown_run : (words : List (List ℕ)) (asked : Words) (held before after : Option (List ℕ)) (status : ℕ)
-    → AnswersWords words (Ok asked)
-    → (path_of asked.source ≡ None → is_why asked.mode ≡ false → status ≢ 74 → status ≢ 5 → ShowsInput held before after status)
-    → (is_why asked.mode ≡ false → status ≢ 74 → status ≢ 5 → TellsSome before after status)
-    → (packets_of asked.mode ≡ None → status ≢ 5)
+pub shown_run : (words : List (List ℕ)) (asked : Words) (mode : Mode) (held before after : Option (List ℕ)) (status : ℕ)
+    → AnswersWords words (Ok asked) → asked.mode ≡ Some mode
+    → (path_of asked.source ≡ None → is_why mode ≡ false → status ≢ 74 → status ≢ 5 → ShowsInput held before after status)
+    → (is_why mode ≡ false → status ≢ 74 → status ≢ 5 → TellsSome before after status)
+    → (packets_of mode ≡ None → status ≢ 5)
     → IsRunOn words held before after status
-shown_run [] asked held before after status answer input told unasked = λ written. input answer.0 answer.2 written (unasked answer.1)
-shown_run (word ∷ []) asked held before after status answer input told unasked = λ plain written.
-    told (answer plain).2 written (unasked (answer plain).1)
-shown_run (first ∷ second ∷ more) asked held before after status answer input told unasked = λ plain plain'. absurd (answer plain plain')
+shown_run [] asked mode held before after status answer is input told unasked =
+    let plain : IsPlain (Some mode) = subst IsPlain is answer.1 in
+    λ written. input answer.0 plain.1 written (unasked plain.0)
+shown_run (word ∷ []) asked mode held before after status answer is input told unasked = λ plain written.
+    let one : IsPlain (Some mode) = subst IsPlain is (answer plain).1 in
+    told one.1 written (unasked one.0)
+shown_run (first ∷ second ∷ more) asked mode held before after status answer is input told unasked = λ plain plain'. absurd (answer plain plain')
+
+-- the parser took words that ask for several modes: they are no plain ones
+pub several_run : (words : List (List ℕ)) (asked : Words) (held before after : Option (List ℕ)) (status : ℕ)
+    → AnswersWords words (Ok asked) → asked.mode ≡ None → IsRunOn words held before after status
+several_run [] asked held before after status answer none = λ written. absurd (subst IsPlain none answer.1)
+several_run (word ∷ []) asked held before after status answer none = λ plain written. absurd (subst IsPlain none (answer plain).1)
+several_run (first ∷ second ∷ more) asked held before after status answer none = λ plain plain'. absurd (answer plain plain')
 
 -- ---- an audit that is asked for
 
@@ -100,6 +112,10 @@ refused_why error held before after status answer told written =
     record { verdict = verdicts.NoMemory 0; told = ([], line.text); same_status = line.same_status; answers = unaudited held }
 
 -- the source that is asked for was audited
-pub shown_why : (asked : Words) (held before after : Option (List ℕ)) (status : ℕ) → AsksWhy (Ok asked)
-    → (path_of asked.source ≡ None → is_why asked.mode ≡ true → status ≢ 74 → ExplainsInput held before after status) → status ≢ 74 → ExplainsInput held before after status
-shown_why asked held before after status answer explained = explained answer.0 answer.1
+pub shown_why : (asked : Words) (mode : Mode) (held before after : Option (List ℕ)) (status : ℕ) → AsksWhy (Ok asked) → asked.mode ≡ Some mode
+    → (path_of asked.source ≡ None → is_why mode ≡ true → status ≢ 74 → ExplainsInput held before after status) → status ≢ 74 → ExplainsInput held before after status
+shown_why asked mode held before after status answer is explained = explained answer.0 (subst IsAudit is answer.1)
+
+-- it asks for one mode
+pub why_is_one : (asked : Words) (held before after : Option (List ℕ)) (status : ℕ) → AsksWhy (Ok asked) → asked.mode ≡ None → status ≢ 74 → ExplainsInput held before after status
+why_is_one asked held before after status answer none = λ written. absurd (subst IsAudit none answer.1)

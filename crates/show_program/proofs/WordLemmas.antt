@@ -1,15 +1,17 @@
 -- What the parser makes of words that are no options.
-use Rattle.std.proofs.Common.{◌≡◌, ◌∙◌, ap, sym, subst, Ok, Err, ℕ, List, [], ◌∷◌, Some, None, false, true, refl, codes}
+use Rattle.std.proofs.Common.{◌≡◌, ◌∙◌, ap, sym, subst, Ok, Err, ℕ, List, [], ◌∷◌, Option, Some, None, false, true, refl, codes}
 use Rattle.clap.specs.Words.{HasKind, fault_of, first_of, is_simple_and_free, matches_of, one_of}
 use Rattle.clap.specs.declared.error.kind.ErrorKind.TheVariants.{UnknownArgument}
 use Rattle.clap.specs.declared.error.Error.{Error}
 use Rattle.clap.proofs.OnLiterals.{clap_on_literals}
+use Rattle.program_ends.specs.Source.{path_asked, path_of}
 use Rattle.program_ends.specs.Words.{is_option}
+use Rattle.program_ends.specs.declared.source.Source.{Source}
+use Rattle.program_ends.proofs.Sources.{asked-plain}
 use Rattle.program_ends.proofs.Parsing.{no_kind, only_kind}
 use Rattle.program_ends.proofs.PlainWords.{dashes-plain, strip_byte-plain}
-use Rattle.show_program.specs.Words.{AnswersWords, AsksWhy, command_line, is_why, packets_of, path_asked, path_of}
+use Rattle.show_program.specs.Words.{AnswersWords, AsksWhy, IsAudit, IsPlain, command_line}
 use Rattle.show_program.specs.declared.words.Mode.{Mode}
-use Rattle.show_program.specs.declared.words.Source.{Source}
 use Rattle.show_program.specs.declared.words.Words.{Words}
 
 pub command_line-is_free : is_simple_and_free command_line ≡ true
@@ -50,6 +52,10 @@ audit-why : one_of (codes "why") (matches_of command_line (codes "--why" ∷ [])
 unfolding clap_on_literals
 audit-why = refl
 
+summary-why : one_of (codes "summary") (matches_of command_line (codes "--why" ∷ [])) ≡ Some (codes "false")
+unfolding clap_on_literals
+summary-why = refl
+
 -- one word: no fault, and the file that it names
 fault_of-one : (word : List ℕ) → is_option word ≡ false → fault_of command_line (word ∷ []) ≡ []
 unfolding clap_on_literals
@@ -81,20 +87,15 @@ fault_of-more first second more plain plain' =
       strip_byte-plain second plain',
     ) refl
 
--- a word that is no option is no hyphen alone
-asked-plain : (word : List ℕ) → is_option word ≡ false → path_asked (Some word) ≡ Some word
-asked-plain [] plain = refl
-asked-plain (octet ∷ octets) plain = rw plain refl
-
 -- the parser took the words, and this was read with the file that it met
 pub answers_taken : (words : List (List ℕ)) (asked : Words) → fault_of command_line words ≡ []
     → path_of asked.source ≡ path_asked (first_of (codes "FILE") (matches_of command_line words))
-    → packets_of asked.mode ≡ first_of (codes "pcapng") (matches_of command_line words)
-    → (one_of (codes "why") (matches_of command_line words) ≡ Some (codes "false") → is_why asked.mode ≡ false) → AnswersWords words (Ok asked)
-answers_taken [] asked taken met packets unaudited = (met ∙ ap path_asked file-none, packets ∙ packets-none, unaudited audit-none)
-answers_taken (word ∷ []) asked taken met packets unaudited = λ plain.
-    (met ∙ ap path_asked (file-one word plain) ∙ asked-plain word plain, packets ∙ packets-one word plain, unaudited (audit-one word plain))
-answers_taken (first ∷ second ∷ more) asked taken met packets unaudited = λ plain plain'.
+    → (first_of (codes "pcapng") (matches_of command_line words) ≡ None → one_of (codes "why") (matches_of command_line words) ≡ Some (codes "false") → IsPlain asked.mode)
+    → AnswersWords words (Ok asked)
+answers_taken [] asked taken met is = (met ∙ ap path_asked file-none, is packets-none audit-none)
+answers_taken (word ∷ []) asked taken met is = λ plain.
+    (met ∙ ap path_asked (file-one word plain) ∙ asked-plain word plain, is (packets-one word plain) (audit-one word plain))
+answers_taken (first ∷ second ∷ more) asked taken met is = λ plain plain'.
     let clash : [] ≡ UnknownArgument ∷ [] = sym taken ∙ fault_of-more first second more plain plain' in cc
 
 -- the parser refused the words with this error
@@ -107,16 +108,18 @@ answers_refused (first ∷ second ∷ more) error kind = λ plain plain'.
     only_kind UnknownArgument error (subst (λ kinds. HasKind kinds error) (fault_of-more first second more plain plain') kind)
 
 -- the parser took the word that asks for an audit, and this was read
-pub why_taken : (words : List (List ℕ)) (source : Source) (mode : Mode) → words ≡ codes "--why" ∷ []
+pub why_taken : (words : List (List ℕ)) (source : Source) (mode : Option Mode) → words ≡ codes "--why" ∷ []
     → path_of source ≡ path_asked (first_of (codes "FILE") (matches_of command_line words))
-    → packets_of mode ≡ first_of (codes "pcapng") (matches_of command_line words)
-    → (packets_of mode ≡ None → one_of (codes "why") (matches_of command_line words) ≡ Some (codes "true") → is_why mode ≡ true)
-    → (path_of source ≡ None) × (is_why mode ≡ true)
-why_taken words source mode are met packets audited =
-    let no_packets : packets_of mode ≡ None = packets ∙ ap (λ ws. first_of (codes "pcapng") (matches_of command_line ws)) are ∙ packets-why in (
-      met ∙ ap (λ ws. path_asked (first_of (codes "FILE") (matches_of command_line ws))) are ∙ ap path_asked file-why,
-      audited no_packets (ap (λ ws. one_of (codes "why") (matches_of command_line ws)) are ∙ audit-why),
-    )
+    → (first_of (codes "pcapng") (matches_of command_line words) ≡ None → one_of (codes "why") (matches_of command_line words) ≡ Some (codes "true")
+    → one_of (codes "summary") (matches_of command_line words) ≡ Some (codes "false") → IsAudit mode)
+    → (path_of source ≡ None) × IsAudit mode
+why_taken words source mode are met audited = (
+  met ∙ ap (λ ws. path_asked (first_of (codes "FILE") (matches_of command_line ws))) are ∙ ap path_asked file-why,
+  audited
+    (ap (λ ws. first_of (codes "pcapng") (matches_of command_line ws)) are ∙ packets-why)
+    (ap (λ ws. one_of (codes "why") (matches_of command_line ws)) are ∙ audit-why)
+    (ap (λ ws. one_of (codes "summary") (matches_of command_line ws)) are ∙ summary-why),
+)
 
 -- the parser refused it with this error
 pub why_refused : (words : List (List ℕ)) (error : Error) → words ≡ codes "--why" ∷ [] → HasKind (fault_of command_line words) error → AsksWhy (Err error)

@@ -1,6 +1,5 @@
 -- What the words of the command line ask for.
-use Rattle.std.specs.Prelude.{◌≡◌, ◌⊎◌, ℕ, Bool, false, true, List, [], ◌∷◌, Option, Some, None, Result, MatchResult, codes, pos, if◌then◌else◌}
-use Rattle.std.specs.Str.{bytes_eq}
+use Rattle.std.specs.Prelude.{◌≡◌, ◌⊎◌, ℕ, Bool, false, true, ◌&&◌, ◌||◌, List, [], ◌∷◌, Option, Some, None, Result, MatchResult, codes, pos}
 use Rattle.clap.specs.Words.{App, Rule, kind_of, new_app, new_rule, with_rule}
 use Rattle.clap.specs.declared.builder.ArgAction.TheVariants.{Set, SetTrue}
 use Rattle.clap.specs.declared.builder.value_parser.ValueParser.{ValueParser}
@@ -8,16 +7,10 @@ use Rattle.clap.specs.declared.builder.value_parser.ValueParser.TheVariants.{Sig
 use Rattle.clap.specs.declared.error.Error.{Error}
 use Rattle.clap.specs.declared.error.kind.ErrorKind.TheVariants.{OutOfMemory, UnknownArgument}
 use Rattle.program_ends.specs.Words.{is_option}
-use Rattle.show_program.specs.declared.words.Source.{Source}
-use Rattle.show_program.specs.declared.words.Source.TheVariants.{StandardInput, File}
+use Rattle.program_ends.specs.Source.{path_of}
 use Rattle.show_program.specs.declared.words.Mode.{Mode}
 use Rattle.show_program.specs.declared.words.Mode.TheVariants.{Lines, Summary, Why, Packets}
 use Rattle.show_program.specs.declared.words.Words.{Words}
-
--- the file that is asked for; none is standard input (own format)
-abbrev pub path_of : Source → Option (List ℕ)
-path_of StandardInput = None
-path_of (File path) = Some path.now
 
 -- the file that packets are asked for in (own format)
 abbrev pub packets_of : Mode → Option (List ℕ)
@@ -33,21 +26,35 @@ is_why Summary = false
 is_why Why = true
 is_why (Packets path) = false
 
--- the file that a word names; a hyphen (45) alone names standard input
-abbrev pub path_asked : Option (List ℕ) → Option (List ℕ)
-path_asked None = None
-path_asked (Some word) = if bytes_eq word (45 ∷ []) then None else Some word
+-- one mode is asked for, and neither packets nor an audit (own format)
+abbrev pub IsPlain : Option Mode → Type 0
+IsPlain None = ⊥
+IsPlain (Some mode) = (packets_of mode ≡ None) × (is_why mode ≡ false)
 
--- the words ask for this source, for packets in this file or none, and for no audit, want of memory aside (own format)
-abbrev pub AsksFor : Option (List ℕ) → Option (List ℕ) → Result Words Error → Type 0
-AsksFor path packets result = MatchResult result
-    (λ words. (path_of words.source ≡ path) × (packets_of words.mode ≡ packets) × (is_why words.mode ≡ false))
+-- an audit is asked for, and no other mode (own format)
+abbrev pub IsAudit : Option Mode → Type 0
+IsAudit None = ⊥
+IsAudit (Some mode) = is_why mode ≡ true
+
+-- of packets, an audit and a summary more than one is asked for (own format)
+abbrev pub are_several : Bool → Bool → Bool → Bool
+are_several packets audited summary = packets && (audited || summary) || audited && summary
+
+-- there is a mode just where not more than one is asked for (own format)
+abbrev pub IsOne : Bool → Option Mode → Type 0
+IsOne several None = several ≡ true
+IsOne several (Some mode) = several ≡ false
+
+-- the words ask for this source, and neither for packets nor for an audit, want of memory aside (own format)
+abbrev pub AsksFor : Option (List ℕ) → Result Words Error → Type 0
+AsksFor path result = MatchResult result
+    (λ words. (path_of words.source ≡ path) × IsPlain words.mode)
     (λ error. kind_of error ≡ OutOfMemory)
 
 -- the words ask for an audit of standard input, want of memory aside (own format)
 abbrev pub AsksWhy : Result Words Error → Type 0
 AsksWhy result = MatchResult result
-    (λ words. (path_of words.source ≡ None) × (is_why words.mode ≡ true))
+    (λ words. (path_of words.source ≡ None) × IsAudit words.mode)
     (λ error. kind_of error ≡ OutOfMemory)
 
 -- the words are a mistake, or memory was refused (own format)
@@ -58,8 +65,8 @@ IsMistake result = MatchResult result (λ words. ⊥)
 -- no word asks for standard input and one word that is no option for the file that it names, and neither for packets or an
 -- audit; two such are a mistake
 abbrev pub AnswersWords : List (List ℕ) → Result Words Error → Type 0
-AnswersWords [] result = AsksFor None None result
-AnswersWords (word ∷ []) result = is_option word ≡ false → AsksFor (Some word) None result
+AnswersWords [] result = AsksFor None result
+AnswersWords (word ∷ []) result = is_option word ≡ false → AsksFor (Some word) result
 AnswersWords (first ∷ second ∷ more) result =
     is_option first ≡ false → is_option second ≡ false → IsMistake result
 

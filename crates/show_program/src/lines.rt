@@ -4,12 +4,23 @@ use capture_view::{Choice, Names, RecordView, Trail, Traits};
 use capture_words::{Page, View};
 use std::alloc::{AllocError, Global};
 
+/// How many records there are lines of.
+#[derive(Clone, Copy, Debug, PartialEq, Eq)]
+enum Shown {
+    /// No record was read.
+    NoRecord,
+    /// Records were read, of which none was asked for.
+    NoLine,
+    Some,
+}
+
 /// The records that are asked for, and what has to be known of those before for their lines.
 #[derive(Drop)]
 pub struct Lines<'a> {
     choice: Choice<'a>,
     names: Names,
     trail: Option<Trail>,
+    shown: Shown,
 }
 
 impl<'a> Lines<'a> {
@@ -19,16 +30,17 @@ impl<'a> Lines<'a> {
             choice,
             names: Names::new(alloc),
             trail: choice.delivery.map(|delivery| Trail::new(alloc, delivery)),
+            shown: Shown::NoRecord,
         }
     }
 
-    /// Appends the line of a record, if it is asked for.
+    /// Appends the line of a record, if it is asked for, and says whether it is.
     fn put(
         &self,
         view: &RecordView<'_>,
         is_of_delivery: bool,
         page: &mut Page,
-    ) -> Result<(), AllocError> {
+    ) -> Result<bool, AllocError> {
         let link = self.names.named_by(view);
         let traits = Traits {
             number: view.number,
@@ -37,9 +49,10 @@ impl<'a> Lines<'a> {
             is_of_delivery,
         };
         if !self.choice.shows(&traits) {
-            return Ok(());
+            return Ok(false);
         }
-        page.put_record(view, link, self.names.has_session_of(view))
+        page.put_record(view, link, self.names.has_session_of(view))?;
+        Ok(true)
     }
 }
 
@@ -51,11 +64,21 @@ impl View for Lines<'_> {
     fn take(&mut self, view: &RecordView<'_>, page: &mut Page) -> Result<(), AllocError> {
         let is_of_delivery = follow(&mut self.trail, view)?;
         self.names.take(view)?;
-        self.put(view, is_of_delivery, page)
+        self.shown = match (self.put(view, is_of_delivery, page)?, self.shown) {
+            (true, _) => Shown::Some,
+            (false, Shown::NoRecord) => Shown::NoLine,
+            (false, shown) => shown,
+        };
+        Ok(())
     }
 
-    fn end(&self, _page: &mut Page) -> Result<(), AllocError> {
-        Ok(())
+    /// Says so where there was no record, or none that is asked for.
+    fn end(&self, page: &mut Page) -> Result<(), AllocError> {
+        match self.shown {
+            Shown::NoRecord => page.put("no records\n"),
+            Shown::NoLine => page.put("no such records\n"),
+            Shown::Some => Ok(()),
+        }
     }
 }
 

@@ -5,16 +5,17 @@ ghost use Rattle.capture_words.specs.declared.ending.Ending.TheVariants.{NoMemor
 ghost use Rattle.std.specs.Io.KnownBytes.{Appends};
 ghost use Rattle.program_ends.specs.Growth.{IsRefusedGrowth};
 ghost use Rattle.show_program.specs.Run.{ExplainsInput, ExplainsSome, IsRunOn, IsStatus, ShowsInput, TellsSome, no_packets};
-ghost use Rattle.show_program.specs.Words.{is_why, packets_of, path_of};
+ghost use Rattle.program_ends.specs.Source.{path_of};
+ghost use Rattle.show_program.specs.Words.{is_why, packets_of};
 
 use crate::lines::Lines;
 use crate::packets::write_packets;
 use crate::table::Table;
 use crate::telling::{NO_PACKETS, tell};
 use crate::why::show_why;
-use crate::words::{Mode, Source, Words};
+use crate::words::{Mode, Words};
 use capture_words::{Ending, NotWritten, Page, View, show_capture};
-use program_ends::{NOT_WRITTEN, WORDS_FAULT, is_refused_growth, tell_refused_words};
+use program_ends::{NOT_WRITTEN, Source, WORDS_FAULT, is_refused_growth, tell_refused_words};
 use std::alloc::Global;
 use std::convert::AsStr;
 use std::io::{Read, Write};
@@ -53,9 +54,21 @@ pub fn run_words<F: Files, S: AsStr, R: Read, O: Write, E: Write>(
     ensures status { IsStatus result }
 {
     match Words::read(alloc, words) {
-        Ok(words) => show_source(files, alloc, words, is_watched, input, out, err),
+        Ok(words) => match words.mode {
+            Some(mode) => show_source(files, alloc, words, mode, is_watched, input, out, err),
+            None => tell_modes(err),
+        },
         Err(error) => tell_refused_words(&error, out, err),
     }
+}
+
+/// Tells that more than one mode is asked for.
+fn tell_modes<E: Write>(err: &mut E) -> u8
+    ensures { result ≡ WORDS_FAULT }
+{
+    // The status tells the fault, whether or not its text could be written.
+    let _ = writeln!(err, "error: one of --pcapng, --why and --summary may be given");
+    WORDS_FAULT
 }
 
 /// Shows the capture that is asked for.
@@ -63,27 +76,28 @@ fn show_source<F: Files, R: Read, O: Write, E: Write>(
     files: &F,
     alloc: Global,
     words: Words<'_>,
+    mode: Mode<'_>,
     is_watched: bool,
     input: &mut R,
     out: &mut O,
     err: &mut E,
 ) -> u8
-    ensures input { path_of words.entry.source ≡ None → is_why words.entry.mode ≡ false → result ≢ NOT_WRITTEN → result ≢ NO_PACKETS
+    ensures input { path_of words.entry.source ≡ None → is_why mode.entry ≡ false → result ≢ NOT_WRITTEN → result ≢ NO_PACKETS
         → ShowsInput (R.remaining input.old) (O.contents out.old) (O.contents out.new) result }
-    ensures explained { path_of words.entry.source ≡ None → is_why words.entry.mode ≡ true → result ≢ NOT_WRITTEN
+    ensures explained { path_of words.entry.source ≡ None → is_why mode.entry ≡ true → result ≢ NOT_WRITTEN
         → ExplainsInput (R.remaining input.old) (O.contents out.old) (O.contents out.new) result }
-    ensures told { is_why words.entry.mode ≡ false → result ≢ NOT_WRITTEN → result ≢ NO_PACKETS → TellsSome (O.contents out.old) (O.contents out.new) result }
+    ensures told { is_why mode.entry ≡ false → result ≢ NOT_WRITTEN → result ≢ NO_PACKETS → TellsSome (O.contents out.old) (O.contents out.new) result }
     ensures either { result ≢ NOT_WRITTEN → result ≢ NO_PACKETS
         → TellsSome (O.contents out.old) (O.contents out.new) result ⊎ ExplainsSome (O.contents out.old) (O.contents out.new) result }
-    ensures unasked { packets_of words.entry.mode ≡ None → result ≢ NO_PACKETS }
+    ensures unasked { packets_of mode.entry ≡ None → result ≢ NO_PACKETS }
     ensures packets { result ≡ NO_PACKETS → Appends (O.contents out.old) (O.contents out.new) no_packets }
     ensures quiet { is_watched ≡ false → err.new ≡ err.old }
     ensures status { (result ≤ NO_PACKETS) ⊎ (result ≡ NOT_WRITTEN) }
 {
     match words.source {
-        Source::StandardInput => show_input(files, alloc, words, is_watched, input, out, err),
+        Source::StandardInput => show_input(files, alloc, words, mode, is_watched, input, out, err),
         Source::File(path) => match fs::open(files, path) {
-            Ok(file) => show_input(files, alloc, words, is_watched, file, out, err),
+            Ok(file) => show_input(files, alloc, words, mode, is_watched, file, out, err),
             Err(error) => tell(&ending_unopened(&error), out),
         },
     }
@@ -106,6 +120,7 @@ fn show_input<F: Files, R: Read, O: Write, E: Write>(
     files: &F,
     alloc: Global,
     words: Words<'_>,
+    mode: Mode<'_>,
     is_watched: bool,
     input: R,
     out: &mut O,
@@ -113,16 +128,16 @@ fn show_input<F: Files, R: Read, O: Write, E: Write>(
 ) -> u8
 where
     R: Drop,
-    ensures shown { is_why words.entry.mode ≡ false → result ≢ NOT_WRITTEN → result ≢ NO_PACKETS
+    ensures shown { is_why mode.entry ≡ false → result ≢ NOT_WRITTEN → result ≢ NO_PACKETS
         → ShowsInput (R.remaining input) (O.contents out.old) (O.contents out.new) result }
-    ensures explained { is_why words.entry.mode ≡ true → result ≢ NOT_WRITTEN → ExplainsInput (R.remaining input) (O.contents out.old) (O.contents out.new) result }
-    ensures unasked { packets_of words.entry.mode ≡ None → result ≢ NO_PACKETS }
+    ensures explained { is_why mode.entry ≡ true → result ≢ NOT_WRITTEN → ExplainsInput (R.remaining input) (O.contents out.old) (O.contents out.new) result }
+    ensures unasked { packets_of mode.entry ≡ None → result ≢ NO_PACKETS }
     ensures packets { result ≡ NO_PACKETS → Appends (O.contents out.old) (O.contents out.new) no_packets }
     ensures quiet { is_watched ≡ false → err.new ≡ err.old }
     ensures status { (result ≤ NO_PACKETS) ⊎ (result ≡ NOT_WRITTEN) }
 {
     let mut page = Page::new(alloc, words.width);
-    match words.mode {
+    match mode {
         Mode::Lines => {
             let mut lines = Lines::new(alloc, words.choice);
             show_by(alloc, &mut lines, &mut page, is_watched, input, out, err)

@@ -7,15 +7,9 @@ ghost use Rattle.show_program.specs.Words.{asking_argument, bare_command, comman
 use capture_view::Choice;
 use clap::builder::ValueParser;
 use clap::{Arg, ArgAction, Command, Error, value_parser};
+use program_ends::Source;
 use std::alloc::{AllocError, Global};
 use std::convert::AsStr;
-
-/// Where the capture is read from.
-#[derive(Clone, Copy, Debug, PartialEq, Eq)]
-pub enum Source<'a> {
-    StandardInput,
-    File(&'a str),
-}
 
 /// How the capture is shown.
 #[derive(Clone, Copy, Debug, PartialEq, Eq)]
@@ -34,7 +28,8 @@ pub enum Mode<'a> {
 #[derive(Clone, Copy, Debug)]
 pub struct Words<'a> {
     pub source: Source<'a>,
-    pub mode: Mode<'a>,
+    /// None where more than one is asked for.
+    pub mode: Option<Mode<'a>>,
     pub choice: Choice<'a>,
     /// At how many characters texts and octets are cut.
     pub width: Option<usize>,
@@ -43,36 +38,22 @@ pub struct Words<'a> {
 /// At how many characters texts and octets are cut, unless all are asked for.
 const WIDTH: usize = 32;
 
-impl<'a> Source<'a> {
-    ghost use Rattle.std.specs.Prelude.{◌≡◌, option_map};
-    ghost use Rattle.show_program.specs.Words.{path_asked, path_of};
-
-    /// The source that a word names, or that there is without one.
-    fn of_word(word: Option<&'a str>) -> Source<'a>
-        ensures { path_of result ≡ path_asked (option_map (λ w. w.now) word.entry) }
-    {
-        match word {
-            Some(path) if path != "-" => Source::File(path),
-            _ => Source::StandardInput,
-        }
-    }
-}
-
 impl<'a> Mode<'a> {
-    ghost use Rattle.std.specs.Prelude.{◌≡◌, false, true, None, option_map};
-    ghost use Rattle.show_program.specs.Words.{is_why, packets_of};
+    ghost use Rattle.std.specs.Prelude.{◌≡◌, false, true, None, is_some, option_map};
+    ghost use Rattle.show_program.specs.Words.{IsAudit, IsOne, IsPlain, are_several};
 
-    /// The mode that the path of packets, and the flags of an audit and of a summary ask for.
-    fn of_words(packets: Option<&'a str>, is_audited: bool, is_summary: bool) -> Mode<'a>
-        ensures packets { packets_of result ≡ option_map (λ path. path.now) packets.entry }
-        ensures unaudited { is_audited ≡ false → is_why result ≡ false }
-        ensures audited { option_map (λ path. path.now) packets.entry ≡ None → is_audited ≡ true → is_why result ≡ true }
+    /// The mode that the path of packets, and the flags of an audit and of a summary ask for; none where these are several.
+    fn of_words(packets: Option<&'a str>, is_audited: bool, is_summary: bool) -> Option<Mode<'a>>
+        ensures one { IsOne (are_several (is_some packets.entry) is_audited is_summary) result }
+        ensures plain { option_map (λ path. path.now) packets.entry ≡ None → is_audited ≡ false → IsPlain result }
+        ensures audited { option_map (λ path. path.now) packets.entry ≡ None → is_audited ≡ true → is_summary ≡ false → IsAudit result }
     {
-        match packets {
-            Some(path) => Mode::Packets(path),
-            None if is_audited => Mode::Why,
-            None if is_summary => Mode::Summary,
-            None => Mode::Lines,
+        match (packets, is_audited, is_summary) {
+            (Some(path), false, false) => Some(Mode::Packets(path)),
+            (None, true, false) => Some(Mode::Why),
+            (None, false, true) => Some(Mode::Summary),
+            (None, false, false) => Some(Mode::Lines),
+            _ => None,
         }
     }
 }
@@ -121,7 +102,7 @@ With --why the first line and the status are those of amqp_audit: 0 accepted, 1 
 line stand the record that is refused, what the clause asks, and each thing that it compares, with the records of the links, \
 deliveries, windows and credits; or what was expected where the capture is malformed. Nothing behind that is read.
 
-Of --pcapng, --why and --summary the first that is given, in this order, counts.
+Of --pcapng, --why and --summary one may be given. Which records are shown they do not change: each is of the whole capture.
 
 Packets are those of all records, whatever else is asked for. Where the capture has a fault they are those of the whole \
 records in front of it.";

@@ -18,6 +18,8 @@ enum Place {
     /// It has had no connection.
     Vacant,
     Taken(Connection),
+    /// Its connection could not be taken in.
+    Unfit,
     /// Its connection is over.
     Shut,
 }
@@ -81,7 +83,7 @@ impl<R: Wait> Slot<R> {
     }
 
     /// Notes why no connection was accepted. What befell a client that is gone already, or the network between, is no fault of
-    /// the listener. Where no descriptor was left, the connection goes on waiting.
+    /// the listener. Where no descriptor or no memory was left, the connection goes on waiting.
     fn note_refusal(&mut self, error: &io::Error)
         ensures ended { self.new.ended ≡ self.old.ended }
         ensures failed { self.new.failed ≡ self.old.failed }
@@ -95,7 +97,7 @@ impl<R: Wait> Slot<R> {
             | ErrorKind::NetworkUnreachable
             | ErrorKind::NetworkDown => {}
             ErrorKind::WouldBlock => self.station.none_is_there(),
-            _ if lacks_descriptors(error) => self.station.none_is_there(),
+            _ if lacks_means(error) => self.station.none_is_there(),
             _ => self.is_broken = true,
         }
     }
@@ -106,7 +108,7 @@ impl<R: Wait> Slot<R> {
         self.stations.pass_on(&self.station);
     }
 
-    /// Makes a stream the connection of the slot.
+    /// Makes a stream the connection of the slot. That the poll does not take it, or memory is refused, is its own fault alone.
     fn take_in(&mut self, mut stream: TcpStream)
         ensures ended { self.new.ended ≡ self.old.ended }
         ensures failed { self.new.failed ≡ self.old.failed }
@@ -115,10 +117,7 @@ impl<R: Wait> Slot<R> {
         let _ = stream.set_nodelay(true);
         match self.station.admit(&self.rt, self.alloc, &mut stream) {
             Ok((key, signs)) => self.place = Place::Taken(Connection::new(stream, key, signs)),
-            Err(_) => {
-                self.place = Place::Shut;
-                self.is_broken = true;
-            }
+            Err(_) => self.place = Place::Unfit,
         }
     }
 
@@ -158,7 +157,8 @@ impl<R: Wait> Gate for Slot<R> {
         }
         let moved = match &mut self.place {
             Place::Taken(connection) => connection.read(buffer),
-            _ => Moved::Nothing,
+            Place::Unfit => Moved::Fault,
+            Place::Vacant | Place::Shut => Moved::Nothing,
         };
         match moved {
             Moved::Octets(n) => {
@@ -185,7 +185,8 @@ impl<R: Wait> Gate for Slot<R> {
         self.pass_on();
         let moved = match &mut self.place {
             Place::Taken(connection) => connection.write(octets),
-            _ => Moved::Nothing,
+            Place::Unfit => Moved::Fault,
+            Place::Vacant | Place::Shut => Moved::Nothing,
         };
         match moved {
             Moved::Octets(n) => Taken::Took(n),
@@ -220,12 +221,17 @@ impl<R: Wait> Gate for Slot<R> {
         // The router was told of the loss before, which may bring about frames as well.
         self.station.note_delivery();
         self.pass_on();
-        if let Place::Taken(mut connection) = mem::replace(&mut self.place, Place::Shut) {
-            connection.shut();
-            self.station.dismiss(&self.rt, connection.key());
-            // Here its descriptor is let go.
-            drop(connection);
-            self.stations.one_may_be_there();
+        match mem::replace(&mut self.place, Place::Shut) {
+            Place::Taken(mut connection) => {
+                connection.shut();
+                self.station.dismiss(&self.rt, connection.key());
+                // Here its descriptor is let go.
+                drop(connection);
+                self.stations.one_may_be_there();
+            }
+            // That of one that could not be taken in was let go at once.
+            Place::Unfit => self.stations.one_may_be_there(),
+            Place::Vacant | Place::Shut => {}
         }
     }
 
@@ -238,12 +244,19 @@ impl<R: Wait> Gate for Slot<R> {
     ghost follows_on = { λ first second third before then. tt };
 }
 
-/// The system's numbers for no descriptors left, in all and in this process.
+/// The system's numbers for no memory left, for no descriptors left, in all and in this process, and for no room for sockets.
+const NO_MEMORY: i32 = 12;
+
 const TOO_MANY_IN_ALL: i32 = 23;
 
 const TOO_MANY_HERE: i32 = 24;
 
-/// Whether no descriptor was left for a connection.
-fn lacks_descriptors(error: &io::Error) -> bool {
-    matches!(error.raw_os_error(), Some(TOO_MANY_IN_ALL | TOO_MANY_HERE))
+const NO_BUFFERS: i32 = 105;
+
+/// Whether the system had not what a connection takes.
+fn lacks_means(error: &io::Error) -> bool {
+    matches!(
+        error.raw_os_error(),
+        Some(NO_MEMORY | TOO_MANY_IN_ALL | TOO_MANY_HERE | NO_BUFFERS)
+    )
 }

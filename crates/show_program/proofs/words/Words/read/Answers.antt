@@ -1,7 +1,8 @@
 use Rattle.std.proofs.Common.{rules, map, subst, sym, [], ap, codes, ◌≡◌, ◌∙◌}
 use Rattle.std.proofs.lemmas.Result.{err_from_is_err_and}
 use Rattle.clap.specs.Words.{HasKind, app_of, fault_of}
-use Rattle.show_program.specs.Words.{AnswersWords, AsksWhy, command_line, path_asked}
+use Rattle.program_ends.specs.Source.{path_asked}
+use Rattle.show_program.specs.Words.{AnswersWords, AsksWhy, command_line}
 use Rattle.program_ends.proofs.Parsing.{faults_of, flag_of, word_of}
 use Rattle.show_program.proofs.WordLemmas.{answers_refused, answers_taken, command_line-is_free, why_refused, why_taken}
 use Rattle.show_program.proofs.words.Words.read.Goals as goal
@@ -30,8 +31,9 @@ returns-clause-plain g c =
     let line_is : app_of c.in_ok-command_line.field-0 ≡ command_line = search rules in
     answers_taken words _ (faults_of _ command_line words (λ kinds. kinds ≡ []) command_line-is_free line_is c.in_ok-matches.ensures.kinds)
     (c.of_word-source.ensures ∙ ap path_asked (c.get_str.ensures ∙ word_of (codes "FILE") _ command_line words c.in_ok-matches.matches command_line-is_free line_is c.in_ok-matches.ensures.matches))
-    (c.of_words-mode.ensures.packets ∙ (c.get_str-2.ensures ∙ word_of (codes "pcapng") _ command_line words c.in_ok-matches.matches command_line-is_free line_is c.in_ok-matches.ensures.matches))
-    (λ absent. c.of_words-mode.ensures.unaudited (c.get_flag-is_audited.ensures.other (flag_of (codes "why") _ command_line words c.in_ok-matches.matches command_line-is_free line_is c.in_ok-matches.ensures.matches ∙ absent)))
+    (λ none absent. c.of_words-mode.ensures.plain
+      (c.get_str-2.ensures ∙ word_of (codes "pcapng") _ command_line words c.in_ok-matches.matches command_line-is_free line_is c.in_ok-matches.ensures.matches ∙ none)
+      (c.get_flag-is_audited.ensures.other (flag_of (codes "why") _ command_line words c.in_ok-matches.matches command_line-is_free line_is c.in_ok-matches.ensures.matches ∙ absent)))
 
 pub returns-clause-why : goal.returns-clause-why
 returns-clause-why g c = λ are.
@@ -39,5 +41,7 @@ returns-clause-why g c = λ are.
     let line_is : app_of c.in_ok-command_line.field-0 ≡ command_line = search rules in
     why_taken words _ _ are
     (c.of_word-source.ensures ∙ ap path_asked (c.get_str.ensures ∙ word_of (codes "FILE") _ command_line words c.in_ok-matches.matches command_line-is_free line_is c.in_ok-matches.ensures.matches))
-    (c.of_words-mode.ensures.packets ∙ (c.get_str-2.ensures ∙ word_of (codes "pcapng") _ command_line words c.in_ok-matches.matches command_line-is_free line_is c.in_ok-matches.ensures.matches))
-    (λ none asked. c.of_words-mode.ensures.audited (sym c.of_words-mode.ensures.packets ∙ none) (c.get_flag-is_audited.ensures.value (flag_of (codes "why") _ command_line words c.in_ok-matches.matches command_line-is_free line_is c.in_ok-matches.ensures.matches ∙ asked)))
+    (λ none asked absent. c.of_words-mode.ensures.audited
+      (c.get_str-2.ensures ∙ word_of (codes "pcapng") _ command_line words c.in_ok-matches.matches command_line-is_free line_is c.in_ok-matches.ensures.matches ∙ none)
+      (c.get_flag-is_audited.ensures.value (flag_of (codes "why") _ command_line words c.in_ok-matches.matches command_line-is_free line_is c.in_ok-matches.ensures.matches ∙ asked))
+      (c.get_flag-is_summary.ensures.other (flag_of (codes "summary") _ command_line words c.in_ok-matches.matches command_line-is_free line_is c.in_ok-matches.ensures.matches ∙ absent)))

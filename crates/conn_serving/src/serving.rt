@@ -2,15 +2,26 @@
 
 ghost use Rattle.std.specs.Prelude.{◌≡◌, ◌≤◌, ◌<◌, ◌++◌, ◌⊎◌, ◌↔◌, IsTrue, [], List, ℕ, length, take, true, false, IfOk, OnOk, Ok, MatchOption};
 ghost use Rattle.conn_engine.specs.Closing.{is_over};
-ghost use Rattle.conn_workers.specs.declared.line.Status.TheVariants.{Open};
-ghost use Rattle.conn_workers.specs.declared.serving.Motion.TheVariants as motions;
-ghost use Rattle.conn_workers.specs.Lines.{IsOpen, IsServed, LineHolds, either_motion, status_after, stop_of};
+ghost use Rattle.conn_serving.specs.declared.serving.Status.TheVariants.{Open};
+ghost use Rattle.conn_serving.specs.declared.serving.Motion.TheVariants as motions;
+ghost use Rattle.conn_serving.specs.Served.{IsOpen, IsServed, LineHolds, either_motion, status_after, stop_of};
 
 use conn_engine::{Delivered, Engine, EngineFault, Gate, Port, Taken};
 
-/// Why a worker stops.
+/// How far a connection is.
 #[derive(Clone, Copy, Debug, PartialEq, Eq)]
-pub(crate) enum Stop {
+pub enum Status {
+    /// Its octets are moved.
+    Open,
+    /// Its gate was shut, and the router knows of it.
+    Ended,
+    /// It stopped in between, and is good for nothing.
+    Failed,
+}
+
+/// Why a connection is not served on.
+#[derive(Clone, Copy, Debug, PartialEq, Eq)]
+pub enum Stop {
     /// Memory was refused outside the core.
     Memory,
     /// A poll or a listener failed, or a connection could not be taken in.
@@ -21,7 +32,7 @@ pub(crate) enum Stop {
 
 /// What one turn of a line did.
 #[derive(Clone, Copy, Debug, PartialEq, Eq)]
-pub(crate) enum Turn {
+pub enum Turn {
     /// Octets were moved.
     Moved,
     /// None.
@@ -48,7 +59,7 @@ pub(crate) enum Motion {
 ///
 /// `Memory` or `Core`. Then no more can be said of the connection.
 #[tactic(auto, using(crate::proofs::ServedOn::line_open, crate::proofs::ServedOn::why_ended))]
-pub(crate) fn serve<G: Gate, P: Port>(
+pub fn serve<G: Gate, P: Port>(
     gate: &mut G,
     engine: &mut Engine<P>,
     taken: &mut Vec<u8>,

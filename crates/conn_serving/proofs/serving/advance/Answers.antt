@@ -1,6 +1,6 @@
-use Rattle.conn_workers.specs.Lines.{IsOpen}
-use Rattle.conn_workers.proofs.ServedOn.{on_ok_behind, open_refilled}
-use Rattle.conn_workers.proofs.serving.advance.Goals as goal
+use Rattle.conn_serving.specs.Served.{IsOpen}
+use Rattle.conn_serving.proofs.ServedOn.{on_ok_behind, open_refilled}
+use Rattle.conn_serving.proofs.serving.advance.Goals as goal
 
 pub returns-in-Ok-clause-holds : goal.returns-in-Ok-clause-holds
 returns-in-Ok-clause-holds g c =

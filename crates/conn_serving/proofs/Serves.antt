@@ -21,10 +21,10 @@ use Rattle.conn_engine.specs.Feeding.{AfterPiece, AfterSteps, FedAt, StopsFor, W
 use Rattle.conn_engine.specs.Taking.{AfterLoss, Refilled, is_loss_due}
 use Rattle.conn_engine.proofs.FedOn.{items_on, piece_unkept, steps_on}
 use Rattle.conn_engine.proofs.GivenOn.{behind_on, is_open, octets_on, open_stays, refilled_behind, stop_unsaid}
-use Rattle.conn_workers.specs.declared.serving.Stop.{Stop}
-use Rattle.conn_workers.specs.Streams.{IsStopped, IsStream, IsTurnedAway, IsUnfinished, loss_at}
-use Rattle.conn_workers.specs.Lines.{IsOverFor, IsServing, MarksClose, stop_of}
-use Rattle.conn_workers.proofs.Closes.{closing_given, marks_after, marks_left, over_given, over_on, reading_given}
+use Rattle.conn_serving.specs.declared.serving.Stop.{Stop}
+use Rattle.conn_serving.specs.Streams.{IsStopped, IsStream, IsTurnedAway, IsUnfinished, loss_at}
+use Rattle.conn_serving.specs.Served.{IsOverFor, IsServing, MarksClose, stop_of}
+use Rattle.conn_serving.proofs.Closes.{closing_given, marks_after, marks_left, over_given, over_on, reading_given}
 
 -- ---- a new one
 

@@ -13,13 +13,13 @@ use Rattle.conn_engine.specs.Device.{KeepsTold, TellsMore}
 use Rattle.conn_engine.specs.Feeding.{FedAt}
 use Rattle.conn_engine.specs.Serving.{Connection}
 use Rattle.conn_engine.specs.Taking.{AfterLoss, Refilled, is_loss_due}
-use Rattle.conn_workers.specs.declared.line.Status.{Status}
-use Rattle.conn_workers.specs.declared.line.Status.TheVariants.{Open}
-use Rattle.conn_workers.specs.declared.serving.Turn.{Turn}
-use Rattle.conn_workers.specs.declared.serving.Motion.{Motion}
-use Rattle.conn_workers.specs.declared.serving.Motion.TheVariants as motions
-use Rattle.conn_workers.specs.Lines.{HasCause, IsOpen, IsOverFor, IsServed, LineHolds, status_after, stop_of}
-use Rattle.conn_workers.proofs.Serves.{serving_fed, serving_given, serving_gone, serving_new, serving_refilled}
+use Rattle.conn_serving.specs.declared.serving.Status.{Status}
+use Rattle.conn_serving.specs.declared.serving.Status.TheVariants.{Open}
+use Rattle.conn_serving.specs.declared.serving.Turn.{Turn}
+use Rattle.conn_serving.specs.declared.serving.Motion.{Motion}
+use Rattle.conn_serving.specs.declared.serving.Motion.TheVariants as motions
+use Rattle.conn_serving.specs.Served.{HasCause, IsOpen, IsOverFor, IsServed, LineHolds, status_after, stop_of}
+use Rattle.conn_serving.proofs.Serves.{serving_fed, serving_given, serving_gone, serving_new, serving_refilled}
 
 pub open_new : {G : Type 0} (Delivered Took : G → List ℕ → Type 0) (gate : G) (number : ℕ) (idle : Bool) (items : List What) (frames : List (List ℕ)) (e : Connection) (taken : List ℕ)
     → e ≡ record { number = number; items = items; frames = frames; ahead = record { phase = FirstHeader; octets = [] }; waiting = []; is_idle = idle; close = None; place = Reading }

@@ -7,7 +7,7 @@ use Rattle.conn_engine.specs.declared.place.Loss.TheVariants.{Untold, Told, Refu
 use Rattle.conn_engine.specs.declared.place.Place.{Place}
 use Rattle.conn_engine.specs.declared.place.Place.TheVariants.{Reading, Closing, Over}
 use Rattle.conn_engine.specs.Closing.{close_after, close_at, close_left, is_close, over_of, place_given}
-use Rattle.conn_workers.specs.Lines.{HasClose, IsOverFor, MarksClose}
+use Rattle.conn_serving.specs.Served.{HasClose, IsOverFor, MarksClose}
 
 or_true : (b : Bool) → (b || true) ≡ true
 or_true true = refl

@@ -1,0 +1,3 @@
+mod Closes
+mod Serves
+pub mod ServedOn
