@@ -5,7 +5,7 @@ use Rattle.std.proofs.lemmas.List.{length-take-le}
 use Rattle.capture_form.specs.declared.fault.FormFault.{FormFault}
 use Rattle.capture_form.specs.declared.records.Record.{Record}
 use Rattle.capture_form.specs.Frame.{AreOctets}
-use Rattle.capture_form.specs.Text.{Trace}
+use Rattle.capture_form.specs.Text.{IsCapture, Trace, text}
 use Rattle.capture_form.specs.Reading.{Reads, reading, head_at}
 use Rattle.capture_form.specs.Laws.{whole_reads, first_records, trace_of}
 use Rattle.capture_form.proofs.ReadingLaws.{reads_on, reads_whole, stands_in_front, spells_whole, headless}
@@ -16,7 +16,8 @@ use Rattle.trace_clauses.proofs.Lawful.{broken-stays}
 use Rattle.trace_clauses.proofs.Broken.{broken_at}
 use Rattle.audit_core.specs.declared.verdict.Verdict.{Verdict}
 use Rattle.audit_core.specs.declared.verdict.Verdict.TheVariants.{Accepted, Refused, Malformed, NoMemory, Unreadable}
-use Rattle.audit_core.specs.Verdict.{broken_in, tally_in, Accepts, Refuses, Holds}
+use Rattle.trace_clauses.specs.declared.tally.Tally.{Tally}
+use Rattle.audit_core.specs.Verdict.{broken_in, tally_in, Accepts, AcceptsUnlessRefused, Answers, Refuses, Holds}
 
 abbrev verdict_by : Trace → Option (ℕ × Clause) → Option FormFault → Verdict
 verdict_by trace (Some broken) fault = Refused broken.0 broken.1
@@ -86,3 +87,28 @@ is_verdict octets (Unreadable offset) h = absurd h
 -- and no other one
 pub only_verdict : (octets : List ℕ) (one other : Verdict) → Holds octets one → Holds octets other → one ≡ other
 only_verdict octets one other h k = is_verdict octets one h ∙ sym (is_verdict octets other k)
+
+-- the text of a lawful capture is accepted
+accepts_lawful : (trace : Trace) → IsCapture trace → broken_in trace ≡ None → Accepts (text trace) (tally_in trace)
+accepts_lawful trace bounds lawful = record { trace = trace; bounds = bounds; whole = refl; lawful = lawful; counted = refl }
+
+tally_told : Verdict → Tally → Tally
+tally_told (Accepted tally) other = tally
+tally_told (Refused number clause) other = other
+tally_told (Malformed offset form_kind) other = other
+tally_told (NoMemory offset) other = other
+tally_told (Unreadable offset) other = other
+
+-- so any answer on it is acceptance, unless memory was refused
+pub accepted_text : (trace : Trace) (verdict : Verdict) → IsCapture trace → broken_in trace ≡ None → Answers (text trace) verdict → AcceptsUnlessRefused (tally_in trace) verdict
+unfolding tally_told
+accepted_text trace (Accepted tally) bounds lawful answers =
+    ap (λ v. tally_told v tally) (only_verdict (text trace) (Accepted tally) (Accepted (tally_in trace)) answers (accepts_lawful trace bounds lawful))
+accepted_text trace (Refused number clause) bounds lawful answers =
+    let clash : Refused number clause ≡ Accepted (tally_in trace) = only_verdict (text trace) (Refused number clause) (Accepted (tally_in trace)) answers (accepts_lawful trace bounds lawful) in
+    absurd cc
+accepted_text trace (Malformed offset form_kind) bounds lawful answers =
+    let clash : Malformed offset form_kind ≡ Accepted (tally_in trace) = only_verdict (text trace) (Malformed offset form_kind) (Accepted (tally_in trace)) answers (accepts_lawful trace bounds lawful) in
+    absurd cc
+accepted_text trace (NoMemory offset) bounds lawful answers = tt
+accepted_text trace (Unreadable offset) bounds lawful answers = absurd answers

@@ -114,6 +114,14 @@ Answers octets (Malformed offset form_kind) = IsMalformed octets offset form_kin
 Answers octets (NoMemory offset) = IsRefusedAt octets offset
 Answers octets (Unreadable offset) = ⊥
 
+-- a verdict is acceptance with this tally, or memory was refused
+abbrev pub AcceptsUnlessRefused : Tally → Verdict → Type 0
+AcceptsUnlessRefused tally (Accepted other) = other ≡ tally
+AcceptsUnlessRefused tally (Refused number clause) = ⊥
+AcceptsUnlessRefused tally (Malformed offset form_kind) = ⊥
+AcceptsUnlessRefused tally (NoMemory offset) = Unit {0}
+AcceptsUnlessRefused tally (Unreadable offset) = ⊥
+
 -- ---- octets that a reader gives
 
 -- no more was read from the start of a record on, behind those that meet the clauses

@@ -10,7 +10,7 @@
 //! - `auditor`: records, taken one after the other;
 //! - `judging`: a capture, and its text, with `copying` and `lengths`;
 //! - `streaming`: a text that a reader gives, with `watching`: those that are told of it on its way;
-//! - `laws`: that of any octets exactly one verdict holds.
+//! - `laws`: that of any octets exactly one verdict holds, and that the text of a lawful capture is accepted.
 #![tactic(auto)]
 
 mod auditor;
@@ -26,7 +26,7 @@ pub use audit_ledger::Ledger;
 pub use auditor::{Auditor, MOST_RECORDS};
 pub use capture_form::FormKind;
 pub use judging::{audit, audit_bytes};
-pub use laws::one_verdict;
+pub use laws::{lawful_text, one_verdict};
 pub use streaming::{audit_stream, audit_watched};
 pub use trace_clauses::{Clause, Tally};
 pub use verdict::{Refusal, Verdict};
