@@ -120,9 +120,11 @@ impl Splitter {
     fn let_go(&mut self)
         ensures { self.new ≡ self.old }
     {
-        if self.given > 0 {
+        if self.given == self.kept.len() {
+            self.kept.clear();
+        } else if self.given > 0 {
             self.kept.drain(..self.given);
-            self.given = 0;
         }
+        self.given = 0;
     }
 }

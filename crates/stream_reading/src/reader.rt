@@ -100,9 +100,11 @@ impl StreamReader {
     fn let_go(&mut self)
         ensures { self.new ≡ self.old }
     {
-        if self.taken > 0 {
+        if self.taken == self.kept.len() {
+            self.kept.clear();
+        } else if self.taken > 0 {
             self.kept.drain(..self.taken);
-            self.taken = 0;
         }
+        self.taken = 0;
     }
 }
