@@ -34,7 +34,9 @@ pub(crate) fn take_piece<P: Port>(
     let Ok(()) = reader.feed(piece) else {
         return Err(EngineFault::Memory);
     };
-    take_steps(connection, port, reader, output)
+    let taken = take_steps(connection, port, reader, output);
+    port.rest();
+    taken
 }
 
 /// Takes each step that is whole.
@@ -153,8 +155,23 @@ fn tell_broken<P: Port>(connection: u32, port: &mut P, phase: Phase) -> Result<(
     }
 }
 
+/// Hands the router the last item of a connection.
+pub(crate) fn submit_last<P: Port>(port: &mut P, item: Item<'_>) -> Result<(), EngineFault>
+    requires own { connection_of item ≡ P.connection port.old }
+    requires short { IsShort item }
+    ensures ok { OnOk result (P.items port.new ≡ P.items port.old ++ what_of item.entry ∷ []) }
+    ensures err { OnErr result (P.items port.new ≡ P.items port.old) }
+    ensures refused { IfErr result ItemFault }
+    ensures frames { P.frames port.new ≡ P.frames port.old }
+    ensures connection { P.connection port.new ≡ P.connection port.old }
+{
+    let taken = submit(port, item);
+    port.rest();
+    taken
+}
+
 /// Hands an item to the router.
-pub(crate) fn submit<P: Port>(port: &mut P, item: Item<'_>) -> Result<(), EngineFault>
+fn submit<P: Port>(port: &mut P, item: Item<'_>) -> Result<(), EngineFault>
     requires own { connection_of item ≡ P.connection port.old }
     requires short { IsShort item }
     ensures ok { OnOk result (P.items port.new ≡ P.items port.old ++ what_of item.entry ∷ []) }

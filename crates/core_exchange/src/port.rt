@@ -2,18 +2,21 @@
 
 ghost use Rattle.std.specs.Prelude.{◌≡◌, []};
 
-use crate::exchange::Exchange;
+use crate::exchange::{Exchange, frame_from};
 use crate::seat::Seat;
 use conn_engine::{Port, PortFault};
+use route_core::Core;
 use route_items::Item;
 use std::alloc::{AllocError, Global};
-use std::sync::Wait;
+use std::sync::{MutexGuard, Wait};
 
 /// Hands the items of a connection to the core of an exchange, and gives the frames that the core wrote to it. It keeps
 /// copies of the items that the core took and of the frames that were given.
 #[derive(Drop)]
 pub struct ExchangePort<'a, R: Wait> {
     exchange: &'a Exchange<R>,
+    // The core, from the first call until the port rests.
+    core: Option<MutexGuard<'a, Core>>,
     seat: Seat,
     // A record's number and a mark: while the mark stands, nothing was written in that record or a later one.
     unwritten: Option<(u64, u64)>,
@@ -28,6 +31,7 @@ impl<'a, R: Wait> ExchangePort<'a, R> {
     {
         ExchangePort {
             exchange,
+            core: None,
             seat: Seat {
                 conn,
                 items: Vec::new(alloc),
@@ -43,6 +47,7 @@ impl<'a, R: Wait> ExchangePort<'a, R> {
     {
         let ExchangePort {
             exchange: _,
+            core: _,
             seat,
             unwritten: _,
         } = self;
@@ -75,7 +80,9 @@ impl<'a, R: Wait> Port for ExchangePort<'a, R> {
         let Ok(()) = self.seat.items.reserve(1) else {
             return Err(PortFault::Memory);
         };
-        match self.exchange.step(item) {
+        let exchange = self.exchange;
+        let core = self.core.get_or_insert_with(|| exchange.taken());
+        match exchange.step(core, item) {
             Ok(()) => {
                 self.seat.items.push_reserved(entry.what);
                 Ok(())
@@ -90,7 +97,9 @@ impl<'a, R: Wait> Port for ExchangePort<'a, R> {
         if self.has_seen_all(from, mark) {
             return Ok(None);
         }
-        let Some((number, frame)) = self.exchange.copy_out(self.seat.conn, from)? else {
+        let exchange = self.exchange;
+        let core = self.core.get_or_insert_with(|| exchange.taken());
+        let Some((number, frame)) = frame_from(exchange.alloc(), core, self.seat.conn, from)? else {
             self.unwritten = Some((from, mark));
             return Ok(None);
         };
@@ -98,5 +107,9 @@ impl<'a, R: Wait> Port for ExchangePort<'a, R> {
         out.extend_from_slice(&frame)?;
         self.seat.frames.push_reserved(frame);
         Ok(Some(number))
+    }
+
+    fn rest(&mut self) {
+        self.core = None;
     }
 }
