@@ -1,13 +1,13 @@
 //! Two threads of one's own, each with an engine over its port of one exchange.
 
-ghost use Rattle.std.specs.Prelude.{◌≡◌, ◌<◌, length};
+ghost use Rattle.std.specs.Prelude.{◌<◌, length};
 
 use crate::clients::{Part, two_clients};
 use crate::gate::Client;
 use address_table::Rules;
 use capture_form::Capture;
 use conn_engine::{Delivered, Engine, Gate, Port, Taken};
-use core_exchange::{Exchange, ExchangePort, Seat};
+use core_exchange::{Exchange, Seat};
 use std::alloc::{AllocError, Global};
 use std::sync::Wait;
 use std::thread::{Threads, join};
@@ -45,11 +45,10 @@ fn talk<W: Threads + Wait, R: Wait + Sync>(
     first: Client,
     second: Client,
 ) -> Result<Vec<Seat>, AllocError> {
-    let (one, two) = (exchange.port(0), exchange.port(1));
     let (one, two) = join(
         rt,
-        || play(alloc, 0, one, first),
-        || play(alloc, 1, two, second),
+        || play(alloc, exchange, 0, first),
+        || play(alloc, exchange, 1, second),
     );
     let mut seats = Vec::new(alloc);
     seats.push(one)?;
@@ -65,11 +64,14 @@ fn closed<R: Wait + Drop>(exchange: Exchange<R>, seats: Vec<Seat>) -> Option<Cap
     }
 }
 
-/// Moves octets between a client and its engine until either is through, and gives the port's seat.
-fn play<R: Wait>(alloc: Global, connection: u32, port: ExchangePort<'_, R>, client: Client) -> Seat
-    requires { connection ≡ port.seat.conn }
-{
-    let mut engine = Engine::new(alloc, connection, port);
+/// Moves octets between a client and its engine until either is through, and gives the seat of its port.
+fn play<R: Wait>(
+    alloc: Global,
+    exchange: &Exchange<R>,
+    connection: u32,
+    client: Client,
+) -> Seat {
+    let mut engine = Engine::new(alloc, connection, exchange.port(connection));
     let mut client = client;
     let mut buffer = [0u8; 64];
     for _ in 0..TURNS {
