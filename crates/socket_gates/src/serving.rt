@@ -1,6 +1,9 @@
 //! A run over sockets.
 
-ghost use Rattle.std.specs.Prelude.{◌<◌, ◌≤◌, IfOk, IfErr};
+ghost use Rattle.std.specs.Prelude.{◌≡◌, ◌<◌, ◌≤◌, ◌↔◌, None, IfOk, IfErr};
+ghost use Rattle.std.specs.IoError.{error_kind, raw_os_error};
+ghost use Rattle.std.specs.declared.io.ErrorKind.TheVariants.{OutOfMemory};
+ghost use Rattle.conn_workers.specs.declared.report.RunFault.TheVariants.{Memory};
 ghost use Rattle.conn_workers.specs.Faults.{Brings};
 ghost use Rattle.socket_gates.specs.Served.{IsServedRun};
 
@@ -45,6 +48,7 @@ pub fn serve<'a, R: Threads + Wait + Net + Sync>(
 /// Why there are no slots: memory was refused, or a device.
 fn fault_of(error: &io::Error) -> RunFault
     ensures { Brings result }
+    ensures memory { (result ≡ Memory) ↔ ((error_kind error.now ≡ OutOfMemory) × (raw_os_error error.now ≡ None)) }
 {
     // An error with a number of the system's is no refused growth, whatever its kind.
     if error.kind() == ErrorKind::OutOfMemory && error.raw_os_error().is_none() {
