@@ -9,7 +9,7 @@ ghost use Rattle.conn_engine.specs.Feeding.{FedAt, and_fed, extent_after, place_
 ghost use Rattle.conn_engine.specs.Taking.{AfterLoss, IsRefilled, Refilled, is_loss_due, loss_of};
 
 use crate::fault::EngineFault;
-use crate::feeding::{submit_last, take_piece};
+use crate::feeding::{submit, take_piece};
 use crate::output::Output;
 use crate::place::{Loss, Place};
 use crate::port::Port;
@@ -186,7 +186,7 @@ impl<P: Port> Engine<P> {
             self.place = self.place.over();
             return Ok(());
         }
-        let told = submit_last(&mut self.port, Item::Lost(self.connection));
+        let told = submit(&mut self.port, Item::Lost(self.connection));
         self.place = Place::Over(loss_of(told));
         told
     }

@@ -34,6 +34,7 @@ pub(crate) fn take_piece<P: Port>(
     let Ok(()) = reader.feed(piece) else {
         return Err(EngineFault::Memory);
     };
+    port.hold();
     let taken = take_steps(connection, port, reader, output);
     port.rest();
     taken
@@ -155,23 +156,8 @@ fn tell_broken<P: Port>(connection: u32, port: &mut P, phase: Phase) -> Result<(
     }
 }
 
-/// Hands the router the last item of a connection.
-pub(crate) fn submit_last<P: Port>(port: &mut P, item: Item<'_>) -> Result<(), EngineFault>
-    requires own { connection_of item ≡ P.connection port.old }
-    requires short { IsShort item }
-    ensures ok { OnOk result (P.items port.new ≡ P.items port.old ++ what_of item.entry ∷ []) }
-    ensures err { OnErr result (P.items port.new ≡ P.items port.old) }
-    ensures refused { IfErr result ItemFault }
-    ensures frames { P.frames port.new ≡ P.frames port.old }
-    ensures connection { P.connection port.new ≡ P.connection port.old }
-{
-    let taken = submit(port, item);
-    port.rest();
-    taken
-}
-
 /// Hands an item to the router.
-fn submit<P: Port>(port: &mut P, item: Item<'_>) -> Result<(), EngineFault>
+pub(crate) fn submit<P: Port>(port: &mut P, item: Item<'_>) -> Result<(), EngineFault>
     requires own { connection_of item ≡ P.connection port.old }
     requires short { IsShort item }
     ensures ok { OnOk result (P.items port.new ≡ P.items port.old ++ what_of item.entry ∷ []) }

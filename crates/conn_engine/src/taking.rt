@@ -32,6 +32,7 @@ pub(crate) fn take_frames<P: Port>(
     ensures items { P.items port.new ≡ P.items port.old }
     ensures connection { P.connection port.new ≡ P.connection port.old }
 {
+    port.hold();
     let taken = take_all_frames(port, output, next, close);
     port.rest();
     taken

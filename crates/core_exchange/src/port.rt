@@ -15,8 +15,9 @@ use std::sync::{MutexGuard, Wait};
 #[derive(Drop)]
 pub struct ExchangePort<'a, R: Wait> {
     exchange: &'a Exchange<R>,
-    // The core, from the first call until the port rests.
+    // The core, where several calls are made in a row.
     core: Option<MutexGuard<'a, Core>>,
+    is_holding: bool,
     seat: Seat,
     // A record's number and a mark: while the mark stands, nothing was written in that record or a later one.
     unwritten: Option<(u64, u64)>,
@@ -32,6 +33,7 @@ impl<'a, R: Wait> ExchangePort<'a, R> {
         ExchangePort {
             exchange,
             core: None,
+            is_holding: false,
             seat: Seat {
                 conn,
                 items: Vec::new(alloc),
@@ -48,10 +50,20 @@ impl<'a, R: Wait> ExchangePort<'a, R> {
         let ExchangePort {
             exchange: _,
             core: _,
+            is_holding: _,
             seat,
             unwritten: _,
         } = self;
         seat
+    }
+
+    /// Gives the core back, unless more calls follow.
+    fn let_go(&mut self)
+        ensures seat { self.new.seat ≡ self.old.seat }
+    {
+        if !self.is_holding {
+            self.core = None;
+        }
     }
 
     /// Whether nothing was written from a record on since this was found last, so that there is no need for the lock.
@@ -82,7 +94,9 @@ impl<'a, R: Wait> Port for ExchangePort<'a, R> {
         };
         let exchange = self.exchange;
         let core = self.core.get_or_insert_with(|| exchange.taken());
-        match exchange.step(core, item) {
+        let answer = exchange.step(core, item);
+        self.let_go();
+        match answer {
             Ok(()) => {
                 self.seat.items.push_reserved(entry.what);
                 Ok(())
@@ -99,7 +113,9 @@ impl<'a, R: Wait> Port for ExchangePort<'a, R> {
         }
         let exchange = self.exchange;
         let core = self.core.get_or_insert_with(|| exchange.taken());
-        let Some((number, frame)) = frame_from(exchange.alloc(), core, self.seat.conn, from)? else {
+        let found = frame_from(exchange.alloc(), core, self.seat.conn, from);
+        self.let_go();
+        let Some((number, frame)) = found? else {
             self.unwritten = Some((from, mark));
             return Ok(None);
         };
@@ -109,7 +125,12 @@ impl<'a, R: Wait> Port for ExchangePort<'a, R> {
         Ok(Some(number))
     }
 
+    fn hold(&mut self) {
+        self.is_holding = true;
+    }
+
     fn rest(&mut self) {
+        self.is_holding = false;
         self.core = None;
     }
 }
