@@ -1,8 +1,2 @@
-mod Drafts
-mod Entered
-mod Histories
-mod Replied
+mod Kept
 mod Runs
-mod ShortReplies
-mod Heard
-mod Extended

@@ -1,0 +1,3 @@
+mod Extended
+mod Histories
+pub mod Stepped

@@ -1,0 +1,6 @@
+mod Drafts
+mod Entered
+mod Heard
+pub mod Outputs
+pub mod Replied
+mod ShortReplies
