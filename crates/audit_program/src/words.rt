@@ -21,9 +21,9 @@ pub(crate) fn source_of<S: AsStr>(alloc: Global, words: &[S]) -> Result<Source<'
 fn command_line<'a>(alloc: Global) -> Result<Command<'a>, AllocError>
     ensures { IfOk result (λ command. app_of command ≡ command_line) }
 {
-    let file = Arg::new(alloc, "FILE")
-        .action(ArgAction::Set)
-        .help("The capture to audit; standard input where there is none, or for -");
+    let file = Arg::new(alloc, "FILE").action(ArgAction::Set).help(
+        "The capture to audit; standard input where there is none, or for -",
+    );
     Command::new(alloc, "amqp_audit")
         .about("Audits a capture of an AMQP 1.0 router")
         .no_binary_name(true)

@@ -116,9 +116,9 @@ pub why_taken : (words : List (List ℕ)) (source : Source) (mode : Option Mode)
 why_taken words source mode are met audited = (
   met ∙ ap (λ ws. path_asked (first_of (codes "FILE") (matches_of command_line ws))) are ∙ ap path_asked file-why,
   audited
-    (ap (λ ws. first_of (codes "pcapng") (matches_of command_line ws)) are ∙ packets-why)
-    (ap (λ ws. one_of (codes "why") (matches_of command_line ws)) are ∙ audit-why)
-    (ap (λ ws. one_of (codes "summary") (matches_of command_line ws)) are ∙ summary-why),
+      (ap (λ ws. first_of (codes "pcapng") (matches_of command_line ws)) are ∙ packets-why)
+      (ap (λ ws. one_of (codes "why") (matches_of command_line ws)) are ∙ audit-why)
+      (ap (λ ws. one_of (codes "summary") (matches_of command_line ws)) are ∙ summary-why),
 )
 
 -- the parser refused it with this error

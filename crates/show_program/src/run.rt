@@ -67,7 +67,10 @@ fn tell_modes<E: Write>(err: &mut E) -> u8
     ensures { result ≡ WORDS_FAULT }
 {
     // The status tells the fault, whether or not its text could be written.
-    let _ = writeln!(err, "error: one of --pcapng, --why and --summary may be given");
+    let _ = writeln!(
+        err,
+        "error: one of --pcapng, --why and --summary may be given"
+    );
     WORDS_FAULT
 }
 

@@ -65,12 +65,7 @@ fn closed<R: Wait + Drop>(exchange: Exchange<R>, seats: Vec<Seat>) -> Option<Cap
 }
 
 /// Moves octets between a client and its engine until either is through, and gives the seat of its port.
-fn play<R: Wait>(
-    alloc: Global,
-    exchange: &Exchange<R>,
-    connection: u32,
-    client: Client,
-) -> Seat {
+fn play<R: Wait>(alloc: Global, exchange: &Exchange<R>, connection: u32, client: Client) -> Seat {
     let mut engine = Engine::new(alloc, connection, exchange.port(connection));
     let mut client = client;
     let mut buffer = [0u8; 64];
