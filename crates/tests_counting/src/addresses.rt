@@ -1,6 +1,6 @@
 //! The rules of a router, and the links of consumers at addresses.
 
-use crate::words::{Answer, Subject, done, joined, number, parts, told};
+use crate::words::{Answer, Subject, behind, done, joined, number, parted, parts, told, word};
 use address_table::{AddressEvent, Rules, RulesFault, Table, table_after};
 use capture_form::{Distribution, Rule};
 use std::alloc::{AllocError, Global};
@@ -30,19 +30,17 @@ impl Addresses {
 
 impl Subject for Addresses {
     fn answer(&mut self, words: &[&str]) -> Answer {
-        match words {
-            ["rule", distribution, prefix @ ..] => {
-                let prefix = joined(self.alloc, prefix)?;
-                self.write(distribution_of(distribution), prefix)?;
+        let (verb, rest) = parted(words);
+        match verb {
+            "rule" => {
+                let prefix = joined(self.alloc, behind(rest, 1))?;
+                self.write(distribution_of(word(rest, 0)), prefix)?;
             }
-            ["long-rules", count, octets] => self.write_long(number(count), number(octets))?,
-            ["rules"] => return told(self.alloc, self.make_rules()),
-            ["keep"] => match &self.rules {
-                Some(rules) => self.kept = Some(rules.copied(self.alloc)?),
-                None => return Ok(None),
-            },
-            ["links", words @ ..] => return self.table_answer(words),
-            words => return self.rules_answer(words),
+            "long-rules" => self.write_long(number(word(rest, 0)), number(word(rest, 1)))?,
+            "rules" => return told(self.alloc, self.make_rules()),
+            "keep" => return self.keep(),
+            "links" => return self.table_answer(rest),
+            _ => return self.rules_answer(verb, rest),
         }
         done(self.alloc)
     }
@@ -78,21 +76,30 @@ impl Addresses {
         Ok(())
     }
 
-    /// What comes of words about the router's rules.
-    fn rules_answer(&self, words: &[&str]) -> Answer {
+    /// The router's rules are kept beside it.
+    fn keep(&mut self) -> Answer {
         let Some(rules) = &self.rules else {
             return Ok(None);
         };
-        match words {
-            ["distribution", address @ ..] => {
-                let address = joined(self.alloc, address)?;
+        self.kept = Some(rules.copied(self.alloc)?);
+        done(self.alloc)
+    }
+
+    /// What comes of a word about the router's rules, and those behind it.
+    fn rules_answer(&self, verb: &str, rest: &[&str]) -> Answer {
+        let Some(rules) = &self.rules else {
+            return Ok(None);
+        };
+        match verb {
+            "distribution" => {
+                let address = joined(self.alloc, rest)?;
                 told(self.alloc, rules.distribution(address.as_str()))
             }
-            ["empty-capture"] => {
+            "empty-capture" => {
                 let capture = rules.empty_capture(self.alloc)?;
                 told(self.alloc, (capture.rules().len(), capture.records().len()))
             }
-            ["are-those-kept"] => self.are_kept(rules),
+            "are-those-kept" => self.are_kept(rules),
             _ => Ok(None),
         }
     }
@@ -109,26 +116,26 @@ impl Addresses {
 
     /// What comes of words about the links.
     fn table_answer(&mut self, words: &[&str]) -> Answer {
-        match words {
-            ["after", events @ ..] => self.table_after(events),
-            ["consumers", address @ ..] => {
-                let address = joined(self.alloc, address)?;
+        let (verb, rest) = parted(words);
+        match verb {
+            "after" => self.table_after(rest),
+            "consumers" => {
+                let address = joined(self.alloc, rest)?;
                 told(self.alloc, self.table.consumers(address.as_str()))
             }
-            ["pick", address, distribution] => self.pick(address, distribution, None),
-            ["pick", address, distribution, "but", link] => {
-                self.pick(address, distribution, Some(number(link)))
-            }
+            "pick" => self.pick(rest),
             _ => Ok(None),
         }
     }
 
-    /// The link that a delivery goes to, where this one may not be sent it.
-    fn pick(&self, address: &str, distribution: &str, but: Option<u64>) -> Answer {
-        let distribution = distribution_of(distribution);
+    /// The link that a delivery goes to whose address and distribution these words tell, where the link behind `but` may not
+    /// be sent it.
+    fn pick(&self, words: &[&str]) -> Answer {
+        let distribution = distribution_of(word(words, 1));
+        let but = word(words, 3).parse::<u64>().ok();
         let picked = self
             .table
-            .pick(address, distribution, |link| Some(link) != but);
+            .pick(word(words, 0), distribution, |link| Some(link) != but);
         told(self.alloc, picked)
     }
 
@@ -157,24 +164,20 @@ fn distribution_of(word: &str) -> Distribution {
 
 /// What happens to a link, by the parts of its word.
 fn address_event<'a>(parts: &[&'a str]) -> Option<AddressEvent<'a>> {
-    let event = match parts {
-        ["attached", address, link] => AddressEvent::Attached {
-            address,
-            link: number(link),
-            pre_settled: false,
-        },
-        ["attached", address, link, "pre-settled"] => AddressEvent::Attached {
-            address,
-            link: number(link),
-            pre_settled: true,
-        },
-        ["detached", link] => AddressEvent::Detached { link: number(link) },
-        ["begun", link, record] => AddressEvent::Begun {
-            link: number(link),
-            number: number(record),
-        },
-        ["decided", link] => AddressEvent::Decided { link: number(link) },
-        _ => return None,
-    };
-    Some(event)
+    let (verb, rest) = parted(parts);
+    let link = number(word(rest, 0));
+    match verb {
+        "attached" => Some(AddressEvent::Attached {
+            address: word(rest, 0),
+            link: number(word(rest, 1)),
+            pre_settled: word(rest, 2) == "pre-settled",
+        }),
+        "detached" => Some(AddressEvent::Detached { link }),
+        "begun" => Some(AddressEvent::Begun {
+            link,
+            number: number(word(rest, 1)),
+        }),
+        "decided" => Some(AddressEvent::Decided { link }),
+        _ => None,
+    }
 }

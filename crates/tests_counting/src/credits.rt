@@ -1,6 +1,6 @@
 //! The credit of a consumer's link and of a producer's.
 
-use crate::words::{Answer, Subject, done, optional, parts, small, told};
+use crate::words::{Answer, Subject, behind, done, optional, parted, parts, small, told, word};
 use link_credit::{
     ConsumerEvent, GivenCredit, Over, ProducerEvent, SenderCredit, given_credit_after,
     sender_credit_after,
@@ -27,9 +27,10 @@ impl Credits {
 
 impl Subject for Credits {
     fn answer(&mut self, words: &[&str]) -> Answer {
-        match words {
-            ["consumer", words @ ..] => self.consumer_answer(words),
-            ["producer", words @ ..] => self.producer_answer(words),
+        let (side, words) = parted(words);
+        match side {
+            "consumer" => self.consumer_answer(words),
+            "producer" => self.producer_answer(words),
             _ => Ok(None),
         }
     }
@@ -38,22 +39,21 @@ impl Subject for Credits {
 impl Credits {
     /// What comes of words about the consumer's link.
     fn consumer_answer(&mut self, words: &[&str]) -> Answer {
-        match words {
-            ["attach", count] => {
-                self.consumer = SenderCredit::new(small(count));
-                done(self.alloc)
+        let (verb, rest) = parted(words);
+        let first = word(rest, 0);
+        match verb {
+            "attach" => self.consumer = SenderCredit::new(small(first)),
+            "flow" => {
+                let (credit, drain) = (optional(word(rest, 1)), word(rest, 2) == "drain");
+                self.consumer.on_flow(optional(first), credit, drain);
             }
-            ["flow", count, credit, drain] => {
-                self.consumer
-                    .on_flow(optional(count), optional(credit), *drain == "drain");
-                done(self.alloc)
-            }
-            ["begun", times] => told(self.alloc, self.begun(small(times))),
-            ["drain-answer"] => told(self.alloc, self.drain_answer()),
-            ["counts"] => told(self.alloc, sender_counts(&self.consumer)),
-            ["after", count, events @ ..] => self.sender_after(small(count), events),
-            _ => Ok(None),
+            "begun" => return told(self.alloc, self.begun(small(first))),
+            "drain-answer" => return told(self.alloc, self.drain_answer()),
+            "counts" => return told(self.alloc, sender_counts(&self.consumer)),
+            "after" => return self.sender_after(small(first), behind(rest, 1)),
+            _ => return Ok(None),
         }
+        done(self.alloc)
     }
 
     /// So many deliveries begin, if there is credit for them: how many did.
@@ -91,17 +91,17 @@ impl Credits {
 
     /// What comes of words about the producer's link.
     fn producer_answer(&mut self, words: &[&str]) -> Answer {
-        match words {
-            ["attach", count] => {
-                self.producer = GivenCredit::new(small(count));
-                done(self.alloc)
-            }
-            ["begun", times] => told(self.alloc, self.begun_by_client(small(times))),
-            ["top-up", undecided] => told(self.alloc, self.producer.top_up(small(undecided))),
-            ["counts"] => told(self.alloc, given_counts(&self.producer)),
-            ["after", count, events @ ..] => self.given_after(small(count), events),
-            _ => Ok(None),
+        let (verb, rest) = parted(words);
+        let first = small(word(rest, 0));
+        match verb {
+            "attach" => self.producer = GivenCredit::new(first),
+            "begun" => return told(self.alloc, self.begun_by_client(first)),
+            "top-up" => return told(self.alloc, self.producer.top_up(first)),
+            "counts" => return told(self.alloc, given_counts(&self.producer)),
+            "after" => return self.given_after(first, behind(rest, 1)),
+            _ => return Ok(None),
         }
+        done(self.alloc)
     }
 
     /// The client begins so many deliveries.
@@ -138,30 +138,32 @@ fn given_counts(credit: &GivenCredit) -> (u32, u32) {
 
 /// What happens on a consumer's link, by the parts of its word.
 fn consumer_event(parts: &[&str]) -> Option<ConsumerEvent> {
-    match parts {
-        ["flow", count, credit, drain] => Some(ConsumerEvent::TheirFlow {
-            delivery_count: optional(count),
-            link_credit: optional(credit),
-            drain: *drain == "drain",
+    let (verb, rest) = parted(parts);
+    match verb {
+        "flow" => Some(ConsumerEvent::TheirFlow {
+            delivery_count: optional(word(rest, 0)),
+            link_credit: optional(word(rest, 1)),
+            drain: word(rest, 2) == "drain",
         }),
-        ["begun"] => Some(ConsumerEvent::Begun),
-        ["told"] => Some(ConsumerEvent::Told),
-        ["drain-answer"] => Some(ConsumerEvent::DrainAnswer),
+        "begun" => Some(ConsumerEvent::Begun),
+        "told" => Some(ConsumerEvent::Told),
+        "drain-answer" => Some(ConsumerEvent::DrainAnswer),
         _ => None,
     }
 }
 
 /// What happens on a producer's link, by the parts of its word.
 fn producer_event(parts: &[&str]) -> Option<ProducerEvent> {
-    match parts {
-        ["flow", count, credit, drain] => Some(ProducerEvent::TheirFlow {
-            delivery_count: optional(count),
-            link_credit: optional(credit),
-            drain: *drain == "drain",
+    let (verb, rest) = parted(parts);
+    match verb {
+        "flow" => Some(ProducerEvent::TheirFlow {
+            delivery_count: optional(word(rest, 0)),
+            link_credit: optional(word(rest, 1)),
+            drain: word(rest, 2) == "drain",
         }),
-        ["begun"] => Some(ProducerEvent::Begun),
-        ["told"] => Some(ProducerEvent::Told),
-        ["topped-up", undecided] => Some(ProducerEvent::ToppedUp(small(undecided))),
+        "begun" => Some(ProducerEvent::Begun),
+        "told" => Some(ProducerEvent::Told),
+        "topped-up" => Some(ProducerEvent::ToppedUp(small(word(rest, 0)))),
         _ => None,
     }
 }

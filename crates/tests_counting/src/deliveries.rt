@@ -2,7 +2,7 @@
 //!
 //! A payload is the text of its word, and `-` an empty one; `-` is also a transfer without a delivery-id.
 
-use crate::words::{Answer, Subject, done, number, optional, parts, small, told};
+use crate::words::{Answer, Subject, done, number, optional, parted, parts, small, told, word};
 use flow_counts::SentEvent;
 use std::alloc::Global;
 use unsettled::{Inbound, Outstanding, PartEvent, PartFault, inbound_after, outstanding_after};
@@ -27,60 +27,47 @@ impl Deliveries {
 
 impl Subject for Deliveries {
     fn answer(&mut self, words: &[&str]) -> Answer {
-        match words {
-            ["new"] => {
-                *self = Deliveries::new(self.alloc);
-                done(self.alloc)
-            }
-            ["in", words @ ..] => self.inbound_answer(words),
-            ["sent", words @ ..] => self.sent_answer(words),
-            _ => Ok(None),
+        let (side, words) = parted(words);
+        match side {
+            "new" => *self = Deliveries::new(self.alloc),
+            "in" => return self.inbound_answer(words),
+            "sent" => return self.sent_answer(words),
+            _ => return Ok(None),
         }
+        done(self.alloc)
     }
 }
 
 impl Deliveries {
     /// What comes of words about the deliveries that come in.
     fn inbound_answer(&mut self, words: &[&str]) -> Answer {
-        match words {
-            ["part", link, record, id, payload] => {
-                let payload = payload_of(payload);
-                self.part(number(link), number(record), optional(id), payload)
+        let (verb, rest) = parted(words);
+        let link = number(word(rest, 0));
+        match verb {
+            "part" => return self.part(link, rest, payload_of(word(rest, 3))),
+            "large" => {
+                let octets = vec![in self.alloc; 7u8; number(word(rest, 3)) as usize]?;
+                return self.part(link, rest, octets.as_slice());
             }
-            ["large", link, record, id, length] => {
-                let octets = vec![in self.alloc; 7u8; number(length) as usize]?;
-                self.part(
-                    number(link),
-                    number(record),
-                    optional(id),
-                    octets.as_slice(),
-                )
+            "admits" => {
+                let admitted = self.inbound.admits(link, optional(word(rest, 1)));
+                return told(self.alloc, numbered(admitted));
             }
-            ["admits", link, id] => {
-                let admitted = self.inbound.admits(number(link), optional(id));
-                told(self.alloc, admitted.map_err(numbered))
-            }
-            ["is-in-progress", link] => {
-                told(self.alloc, self.inbound.is_in_progress(number(link)))
-            }
-            ["complete", link] => self.complete(number(link)),
-            ["abort", link] => {
-                self.inbound.abort(number(link));
-                done(self.alloc)
-            }
-            ["freed", id] => {
-                self.inbound.freed(small(id));
-                done(self.alloc)
-            }
-            ["after", events @ ..] => self.inbound_after(events),
-            _ => Ok(None),
+            "is-in-progress" => return told(self.alloc, self.inbound.is_in_progress(link)),
+            "complete" => return self.complete(link),
+            "abort" => self.inbound.abort(link),
+            "freed" => self.inbound.freed(small(word(rest, 0))),
+            "after" => return self.inbound_after(rest),
+            _ => return Ok(None),
         }
+        done(self.alloc)
     }
 
-    /// A transfer comes.
-    fn part(&mut self, link: u64, record: u64, id: Option<u32>, payload: &[u8]) -> Answer {
+    /// A transfer comes, whose record and delivery-id are told by the words behind the link.
+    fn part(&mut self, link: u64, words: &[&str], payload: &[u8]) -> Answer {
+        let (record, id) = (number(word(words, 1)), optional(word(words, 2)));
         let taken = self.inbound.part(link, record, id, payload);
-        told(self.alloc, taken.map_err(numbered))
+        told(self.alloc, numbered(taken))
     }
 
     /// A delivery is complete: the record of its first transfer and its payload, or how many octets a long one has.
@@ -110,24 +97,28 @@ impl Deliveries {
                 self.inbound = inbound;
                 done(self.alloc)
             }
-            Err(fault) => told(self.alloc, numbered(fault)),
+            Err(fault) => told(self.alloc, (fault, fault.number())),
         }
     }
 
     /// What comes of words about the deliveries that were sent.
     fn sent_answer(&mut self, words: &[&str]) -> Answer {
-        match words {
-            ["add", record, id] => self.sent.add(number(record), small(id))?,
-            ["remove", record] => self.sent.remove(number(record)),
-            ["cover", first, last] => {
-                let covered = self.sent.cover(small(first), small(last));
-                let covered: Vec<(u64, u32)> = covered.collect(self.alloc)?;
-                return told(self.alloc, covered);
-            }
-            ["after", events @ ..] => return self.sent_after(events),
+        let (verb, rest) = parted(words);
+        let (first, second) = (word(rest, 0), word(rest, 1));
+        match verb {
+            "add" => self.sent.add(number(first), small(second))?,
+            "remove" => self.sent.remove(number(first)),
+            "cover" => return self.cover(small(first), small(second)),
+            "after" => return self.sent_after(rest),
             _ => return Ok(None),
         }
         done(self.alloc)
+    }
+
+    /// The deliveries that a range of ids covers.
+    fn cover(&self, first: u32, last: u32) -> Answer {
+        let covered: Vec<(u64, u32)> = self.sent.cover(first, last).collect(self.alloc)?;
+        told(self.alloc, covered)
     }
 
     /// All of these events happen on a new session.
@@ -144,9 +135,12 @@ impl Deliveries {
     }
 }
 
-/// A fault with its number.
-fn numbered(fault: PartFault) -> (PartFault, u8) {
-    (fault, fault.number())
+/// A fault is told with its number.
+fn numbered(taken: Result<(), PartFault>) -> Result<(), (PartFault, u8)> {
+    match taken {
+        Ok(()) => Ok(()),
+        Err(fault) => Err((fault, fault.number())),
+    }
 }
 
 /// The octets of a payload's word.
@@ -156,31 +150,34 @@ fn payload_of(word: &str) -> &[u8] {
 
 /// What happens to the deliveries that come in, by the parts of its word.
 fn part_event<'a>(parts: &[&'a str]) -> Option<PartEvent<'a>> {
-    let event = match parts {
-        ["part", link, record, id, payload] => PartEvent::Part {
-            link: number(link),
-            number: number(record),
-            id: optional(id),
-            payload: payload_of(payload),
-        },
-        ["aborted", link] => PartEvent::Aborted { link: number(link) },
-        ["completed", link] => PartEvent::Completed { link: number(link) },
-        ["freed", id] => PartEvent::Freed { id: small(id) },
-        _ => return None,
-    };
-    Some(event)
+    let (verb, rest) = parted(parts);
+    let link = number(word(rest, 0));
+    match verb {
+        "part" => Some(PartEvent::Part {
+            link,
+            number: number(word(rest, 1)),
+            id: optional(word(rest, 2)),
+            payload: payload_of(word(rest, 3)),
+        }),
+        "aborted" => Some(PartEvent::Aborted { link }),
+        "completed" => Some(PartEvent::Completed { link }),
+        "freed" => Some(PartEvent::Freed {
+            id: small(word(rest, 0)),
+        }),
+        _ => None,
+    }
 }
 
 /// What happens to the deliveries that were sent, by the parts of its word.
 fn sent_event(parts: &[&str]) -> Option<SentEvent> {
-    match parts {
-        ["added", record, id] => Some(SentEvent::Added {
-            number: number(record),
-            id: small(id),
+    let (verb, rest) = parted(parts);
+    let number = number(word(rest, 0));
+    match verb {
+        "added" => Some(SentEvent::Added {
+            number,
+            id: small(word(rest, 1)),
         }),
-        ["removed", record] => Some(SentEvent::Removed {
-            number: number(record),
-        }),
+        "removed" => Some(SentEvent::Removed { number }),
         _ => None,
     }
 }

@@ -1,6 +1,6 @@
 //! Numbers, alone and under keys of a number, of a pair of numbers and of octets.
 
-use crate::words::{Answer, Subject, done, number, parts, small, told};
+use crate::words::{Answer, Subject, done, number, parted, parts, small, told, word};
 use number_groups::{Ascending, Groups, NumberSet, OctetGroups};
 use std::alloc::Global;
 use std::hash::Hash;
@@ -32,20 +32,18 @@ impl Keyed {
 impl Subject for Keyed {
     fn answer(&mut self, words: &[&str]) -> Answer {
         let alloc = self.alloc;
-        match words {
-            ["number", word, key, rest @ ..] => {
-                group_answer(alloc, &mut self.by_number, number(key), word, rest)
+        let (kind, rest) = parted(words);
+        let (verb, key, value) = (word(rest, 0), word(rest, 1), number(word(rest, 2)));
+        match kind {
+            "number" => group_answer(alloc, &mut self.by_number, number(key), verb, value),
+            "pair" => {
+                let parts = parts(alloc, key)?;
+                let key = (number(word(&parts, 0)), small(word(&parts, 1)));
+                group_answer(alloc, &mut self.by_pair, key, verb, value)
             }
-            ["pair", word, key, rest @ ..] => {
-                let key = match parts(alloc, key)?.as_slice() {
-                    [first, second] => (number(first), small(second)),
-                    _ => return Ok(None),
-                };
-                group_answer(alloc, &mut self.by_pair, key, word, rest)
-            }
-            ["octets", word, key, rest @ ..] => self.octets_answer(octets_of(key), word, rest),
-            ["set", words @ ..] => self.set_answer(words),
-            ["ascending", words @ ..] => self.ascending_answer(words),
+            "octets" => self.octets_answer(octets_of(key), verb, value),
+            "set" => self.set_answer(verb, number(key)),
+            "ascending" => self.ascending_answer(verb, number(key)),
             _ => Ok(None),
         }
     }
@@ -53,36 +51,36 @@ impl Subject for Keyed {
 
 impl Keyed {
     /// What comes of a word about the numbers of a key of octets, with the number or the index behind it.
-    fn octets_answer(&mut self, key: &[u8], word: &str, rest: &[&str]) -> Answer {
+    fn octets_answer(&mut self, key: &[u8], verb: &str, value: u64) -> Answer {
         let groups = &mut self.by_octets;
-        match (word, rest) {
-            ("insert", [value]) => groups.insert(key, number(value))?,
-            ("remove", [value]) => groups.remove(key, number(value)),
-            ("has", [value]) => return told(self.alloc, groups.has(key, number(value))),
-            ("get", [index]) => return told(self.alloc, groups.get(key, number(index) as usize)),
-            ("first", []) => return told(self.alloc, groups.first(key)),
-            ("count", []) => return told(self.alloc, (groups.count(key), groups.is_empty(key))),
+        match verb {
+            "insert" => groups.insert(key, value)?,
+            "remove" => groups.remove(key, value),
+            "has" => return told(self.alloc, groups.has(key, value)),
+            "get" => return told(self.alloc, groups.get(key, value as usize)),
+            "first" => return told(self.alloc, groups.first(key)),
+            "count" => return told(self.alloc, (groups.count(key), groups.is_empty(key))),
             _ => return Ok(None),
         }
         done(self.alloc)
     }
 
-    /// What comes of words about the numbers that come once.
-    fn set_answer(&mut self, words: &[&str]) -> Answer {
-        match words {
-            ["insert", value] => self.set.insert(number(value))?,
-            ["pop"] => return told(self.alloc, self.set.pop()),
+    /// What comes of a word about the numbers that come once.
+    fn set_answer(&mut self, verb: &str, value: u64) -> Answer {
+        match verb {
+            "insert" => self.set.insert(value)?,
+            "pop" => return told(self.alloc, self.set.pop()),
             _ => return Ok(None),
         }
         done(self.alloc)
     }
 
-    /// What comes of words about the numbers of which the lowest comes first.
-    fn ascending_answer(&mut self, words: &[&str]) -> Answer {
-        match words {
-            ["insert", value] => self.ascending.insert(number(value))?,
-            ["remove", value] => self.ascending.remove(number(value)),
-            ["first"] => return told(self.alloc, self.ascending.first()),
+    /// What comes of a word about the numbers of which the lowest comes first.
+    fn ascending_answer(&mut self, verb: &str, value: u64) -> Answer {
+        match verb {
+            "insert" => self.ascending.insert(value)?,
+            "remove" => self.ascending.remove(value),
+            "first" => return told(self.alloc, self.ascending.first()),
             _ => return Ok(None),
         }
         done(self.alloc)
@@ -95,16 +93,16 @@ fn group_answer<K: Copy + Eq + Hash + Drop>(
     alloc: Global,
     groups: &mut Groups<K>,
     key: K,
-    word: &str,
-    rest: &[&str],
+    verb: &str,
+    value: u64,
 ) -> Answer {
-    match (word, rest) {
-        ("insert", [value]) => groups.insert(key, number(value))?,
-        ("remove", [value]) => groups.remove(&key, number(value)),
-        ("has", [value]) => return told(alloc, groups.has(&key, number(value))),
-        ("get", [index]) => return told(alloc, groups.get(&key, number(index) as usize)),
-        ("first", []) => return told(alloc, groups.first(&key)),
-        ("count", []) => return told(alloc, (groups.count(&key), groups.is_empty(&key))),
+    match verb {
+        "insert" => groups.insert(key, value)?,
+        "remove" => groups.remove(&key, value),
+        "has" => return told(alloc, groups.has(&key, value)),
+        "get" => return told(alloc, groups.get(&key, value as usize)),
+        "first" => return told(alloc, groups.first(&key)),
+        "count" => return told(alloc, (groups.count(&key), groups.is_empty(&key))),
         _ => return Ok(None),
     }
     done(alloc)

@@ -1,6 +1,6 @@
 //! The windows of a session.
 
-use crate::words::{Answer, Subject, done, optional, parts, small, told};
+use crate::words::{Answer, Subject, behind, done, optional, parted, parts, small, told, word};
 use flow_counts::WindowEvent;
 use session_window::{Violation, Window, window_after};
 use std::alloc::Global;
@@ -23,20 +23,18 @@ impl Windows {
 
 impl Subject for Windows {
     fn answer(&mut self, words: &[&str]) -> Answer {
-        match words {
-            ["begin", next_out, next_in, remote] => {
-                self.window = Window::begin(small(next_out), small(next_in), small(remote));
-            }
-            ["flow", next_incoming, incoming_window] => {
-                self.window
-                    .on_flow(optional(next_incoming), small(incoming_window));
-            }
-            ["told"] => self.window.told(),
-            ["sent", times] => return told(self.alloc, self.sent(small(times))),
-            ["received", times] => return told(self.alloc, self.received(small(times))),
-            ["counts"] => return told(self.alloc, counts_of(&self.window)),
-            ["after", next_out, next_in, remote, events @ ..] => {
-                return self.after(small(next_out), small(next_in), small(remote), events);
+        let (verb, rest) = parted(words);
+        let (first, second, third) = (word(rest, 0), word(rest, 1), word(rest, 2));
+        match verb {
+            "begin" => self.window = Window::begin(small(first), small(second), small(third)),
+            "flow" => self.window.on_flow(optional(first), small(second)),
+            "told" => self.window.told(),
+            "sent" => return told(self.alloc, self.sent(small(first))),
+            "received" => return told(self.alloc, self.received(small(first))),
+            "counts" => return told(self.alloc, counts_of(&self.window)),
+            "after" => {
+                let events = behind(rest, 3);
+                return self.after(small(first), small(second), small(third), events);
             }
             _ => return Ok(None),
         }
@@ -90,14 +88,15 @@ fn counts_of(window: &Window) -> (u32, u32, u32, u32) {
 
 /// What happens on a session, by the parts of its word.
 fn window_event(parts: &[&str]) -> Option<WindowEvent> {
-    match parts {
-        ["flow", next_incoming, incoming_window] => Some(WindowEvent::TheirFlow {
-            next_incoming: optional(next_incoming),
-            incoming_window: small(incoming_window),
+    let (verb, rest) = parted(parts);
+    match verb {
+        "flow" => Some(WindowEvent::TheirFlow {
+            next_incoming: optional(word(rest, 0)),
+            incoming_window: small(word(rest, 1)),
         }),
-        ["sent"] => Some(WindowEvent::Sent),
-        ["told"] => Some(WindowEvent::OurFlow),
-        ["received"] => Some(WindowEvent::Received),
+        "sent" => Some(WindowEvent::Sent),
+        "told" => Some(WindowEvent::OurFlow),
+        "received" => Some(WindowEvent::Received),
         _ => None,
     }
 }
