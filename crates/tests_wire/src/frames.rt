@@ -1,6 +1,6 @@
 //! Frames, protocol headers and the frames of a SASL exchange.
 
-use crate::words::{Hex, lent, no_case, number, octets, octets_of_each};
+use crate::words::{Hex, lent, no_case, number, octets, octets_of_each, parted, word};
 use crate::{performatives, pieces, written};
 use amqp_frames::{FrameFault, FrameView, ProtocolHeader, cut_stream, sasl_read};
 use std::alloc::{AllocError, Global};
@@ -8,11 +8,15 @@ use std::io;
 
 /// What comes of a case about frames.
 pub(crate) fn answer(alloc: Global, words: &[&str]) -> io::Result<String> {
-    match words {
-        ["read", limit, word] => Ok(read(alloc, number(limit)?, &octets(alloc, word)?)?),
-        ["cut", pieces @ ..] => cut(alloc, pieces),
-        ["write", frames @ ..] => written::in_frames(alloc, frames),
-        _ => pieces::answer(alloc, words),
+    let (verb, rest) = parted(words);
+    match verb {
+        "read" => {
+            let limit = number(word(rest, 0))?;
+            Ok(read(alloc, limit, &octets(alloc, word(rest, 1))?)?)
+        }
+        "cut" => cut(alloc, rest),
+        "write" => written::in_frames(alloc, rest),
+        _ => pieces::answer(alloc, verb, rest),
     }
 }
 
@@ -70,12 +74,18 @@ pub(crate) fn header(alloc: Global, word: &str) -> io::Result<String> {
 
 /// What comes of a case about frames of a SASL exchange.
 pub(crate) fn sasl(alloc: Global, words: &[&str]) -> io::Result<String> {
-    match words {
-        ["read", word] => match sasl_read(&octets(alloc, word)?) {
-            Ok(frame) => Ok(format!(in alloc; "{frame:?}")?),
-            Err(fault) => Ok(performatives::fault_told(alloc, fault)?),
-        },
-        ["write", frame] => written::sasl(alloc, frame),
+    let (verb, rest) = parted(words);
+    match verb {
+        "read" => Ok(sasl_told(alloc, &octets(alloc, word(rest, 0))?)?),
+        "write" => written::sasl(alloc, word(rest, 0)),
         _ => Err(no_case()),
+    }
+}
+
+/// The frame of a SASL exchange that the octets are.
+fn sasl_told(alloc: Global, octets: &[u8]) -> Result<String, AllocError> {
+    match sasl_read(octets) {
+        Ok(frame) => format!(in alloc; "{frame:?}"),
+        Err(fault) => performatives::fault_told(alloc, fault),
     }
 }

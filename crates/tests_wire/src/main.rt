@@ -24,30 +24,32 @@ mod written;
 
 use std::alloc::Global;
 use std::io;
-use words::no_case;
+use words::{no_case, parted, word};
 
 fn main(rt: HostRuntime) -> io::Result<()> {
     let alloc = rt.alloc();
     for line in rt.lines(alloc) {
         let line = line?;
         let words: Vec<&str> = line.split_whitespace().collect(alloc)?;
-        match words.as_slice() {
-            [] | ["#", ..] => println!(rt; "{line}")?,
-            case => println!(rt; "{line}: {}", answer(alloc, case)?)?,
+        let (subject, rest) = parted(&words);
+        if subject.is_empty() || subject == "#" {
+            rt.println(line.as_str())?;
+        } else {
+            println!(rt; "{line}: {}", answer(alloc, subject, rest)?)?;
         }
     }
     Ok(())
 }
 
-/// What comes of a case.
-fn answer(alloc: Global, case: &[&str]) -> io::Result<String> {
-    match case {
-        ["value", words @ ..] => values::answer(alloc, words),
-        ["performative", words @ ..] => performatives::answer(alloc, words),
-        ["frame", words @ ..] => frames::answer(alloc, words),
-        ["header", word] => frames::header(alloc, word),
-        ["sasl", words @ ..] => frames::sasl(alloc, words),
-        ["stream", words @ ..] => streams::answer(alloc, words),
+/// What comes of a case of this subject.
+fn answer(alloc: Global, subject: &str, words: &[&str]) -> io::Result<String> {
+    match subject {
+        "value" => values::answer(alloc, words),
+        "performative" => performatives::answer(alloc, words),
+        "frame" => frames::answer(alloc, words),
+        "header" => frames::header(alloc, word(words, 0)),
+        "sasl" => frames::sasl(alloc, words),
+        "stream" => streams::answer(alloc, words),
         _ => Err(no_case()),
     }
 }

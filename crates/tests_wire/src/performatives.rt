@@ -1,6 +1,6 @@
 //! Performatives that are read.
 
-use crate::words::{Hex, hex_if, no_case, octets, tell, tell_if};
+use crate::words::{Hex, behind, hex_if, no_case, octets, parted, tell, tell_if, word};
 use crate::written;
 use amqp_perf::{Attach, Disposition, PerfFault, Performative};
 use std::alloc::{AllocError, Global};
@@ -8,10 +8,11 @@ use std::io;
 
 /// What comes of a case about performatives.
 pub(crate) fn answer(alloc: Global, words: &[&str]) -> io::Result<String> {
-    match words {
-        ["read", word] => Ok(read(alloc, &octets(alloc, word)?)?),
-        ["fits", code, fields @ ..] => fits(alloc, code, fields),
-        ["write", performatives @ ..] => written::answer(alloc, performatives),
+    let (verb, rest) = parted(words);
+    match verb {
+        "read" => Ok(read(alloc, &octets(alloc, word(rest, 0))?)?),
+        "fits" => fits(alloc, word(rest, 0), behind(rest, 1)),
+        "write" => written::answer(alloc, rest),
         _ => Err(no_case()),
     }
 }

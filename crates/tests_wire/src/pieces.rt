@@ -1,22 +1,20 @@
 //! Streams of many frames that come in pieces, and what a splitter gives of them and keeps.
 
 use crate::frames::fault_told;
-use crate::words::{Hex, no_case, number, octets};
+use crate::words::{Hex, behind, no_case, number, octets, word};
 use amqp_frames::{Splitter, cut_stream};
 use std::alloc::{AllocError, Global};
 use std::io;
 
 /// What comes of a case about streams of frames.
-pub(crate) fn answer(alloc: Global, words: &[&str]) -> io::Result<String> {
-    match words {
-        ["pieces", lengths @ ..] => in_pieces(alloc, lengths),
-        ["batch", count, frame] => batch(alloc, number(count)?, &octets(alloc, frame)?),
-        ["rounds", count, frame, pieces @ ..] => rounds(
-            alloc,
-            number(count)?,
-            &octets(alloc, frame)?,
-            pieces,
-        ),
+pub(crate) fn answer(alloc: Global, verb: &str, words: &[&str]) -> io::Result<String> {
+    if verb == "pieces" {
+        return in_pieces(alloc, words);
+    }
+    let (count, frame) = (number(word(words, 0))?, octets(alloc, word(words, 1))?);
+    match verb {
+        "batch" => batch(alloc, count, &frame),
+        "rounds" => rounds(alloc, count, &frame, behind(words, 2)),
         _ => Err(no_case()),
     }
 }

@@ -4,7 +4,9 @@ ghost use Rattle.std.specs.Prelude.{◌≡◌, IfOk, length};
 ghost use Rattle.amqp_types.specs.Grammar.{IsValue, AreItems};
 ghost use Rattle.amqp_types.specs.Writing.{levels_in_list, levels_in_described};
 
-use crate::words::{between_commas, hexed, lent, no_case, number, octets, octets_of_each};
+use crate::words::{
+    between_commas, hexed, lent, no_case, number, octets, octets_of_each, parted, word,
+};
 use amqp_types::{
     put_binary, put_bool, put_described_list, put_list, put_null, put_parts, put_str, put_symbol,
     put_ubyte, put_uint, put_ulong, put_ushort,
@@ -25,13 +27,14 @@ pub(crate) fn answer(alloc: Global, words: &[&str]) -> io::Result<String> {
 }
 
 fn put(out: &mut Vec<u8>, value: &[&str]) -> io::Result<()> {
-    match value {
-        ["null"] => put_null(out)?,
-        ["parts", words @ ..] => put_pieces(out, words)?,
-        ["list", count] => put_truths(out, None, number(count)?)?,
-        ["described", code, count] => put_truths(out, Some(number(code)?), number(count)?)?,
-        [kind, word] => put_one(out, kind, word)?,
-        _ => return Err(no_case()),
+    let (kind, rest) = parted(value);
+    let first = word(rest, 0);
+    match kind {
+        "null" => put_null(out)?,
+        "parts" => put_pieces(out, rest)?,
+        "list" => put_truths(out, None, number(first)?)?,
+        "described" => put_truths(out, Some(number(first)?), number(word(rest, 1))?)?,
+        _ => put_one(out, kind, first)?,
     }
     Ok(())
 }

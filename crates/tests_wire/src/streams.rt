@@ -1,15 +1,17 @@
 //! The steps of a client's stream.
 
-use crate::words::{Hex, no_case, number, octets};
+use crate::words::{Hex, no_case, number, octets, parted, word};
 use std::alloc::{AllocError, Global};
 use std::io;
 use stream_reading::{Phase, StreamReader, answer_to, answer_to_fault, front};
 
 /// What comes of a case about streams.
 pub(crate) fn answer(alloc: Global, words: &[&str]) -> io::Result<String> {
-    match words {
-        ["front", name, word] => Ok(at_front(alloc, phase(name)?, &octets(alloc, word)?)?),
-        ["steps", most, word] => steps(alloc, number(most)?, &octets(alloc, word)?),
+    let (verb, rest) = parted(words);
+    let octets = octets(alloc, word(rest, 1))?;
+    match verb {
+        "front" => Ok(at_front(alloc, phase(word(rest, 0))?, &octets)?),
+        "steps" => steps(alloc, number(word(rest, 0))?, &octets),
         _ => Err(no_case()),
     }
 }

@@ -1,7 +1,7 @@
 //! Values that are read.
 
 use crate::puts;
-use crate::words::{Hex, hex_if, no_case, octets, tell, tell_if};
+use crate::words::{Hex, behind, hex_if, no_case, octets, parted, tell, tell_if, word};
 use amqp_types::{Items, Value, ValueFault, read_described_list};
 use std::alloc::{AllocError, Global};
 use std::io;
@@ -14,12 +14,16 @@ const MOST: u32 = 1000;
 
 /// What comes of a case about values.
 pub(crate) fn answer(alloc: Global, words: &[&str]) -> io::Result<String> {
-    match words {
-        ["read", word] => Ok(read(alloc, &octets(alloc, word)?)?),
-        ["why", word] => why(alloc, &octets(alloc, word)?),
-        ["take", word, steps @ ..] => take(alloc, &octets(alloc, word)?, steps),
-        ["listed", word] => Ok(listed(alloc, &octets(alloc, word)?)?),
-        ["put", values @ ..] => puts::answer(alloc, values),
+    let (verb, rest) = parted(words);
+    if verb == "put" {
+        return puts::answer(alloc, rest);
+    }
+    let octets = octets(alloc, word(rest, 0))?;
+    match verb {
+        "read" => Ok(read(alloc, &octets)?),
+        "why" => why(alloc, &octets),
+        "take" => take(alloc, &octets, behind(rest, 1)),
+        "listed" => Ok(listed(alloc, &octets)?),
         _ => Err(no_case()),
     }
 }

@@ -5,7 +5,7 @@ ghost use Rattle.flow_counts.specs.declared.profile.TheConstants.{MAX_ADDRESS};
 ghost use Rattle.amqp_perf.specs.View.{view};
 ghost use Rattle.amqp_perf.specs.Writing.{IsWritable};
 
-use crate::words::{between_commas, hexed, no_case, number, octets};
+use crate::words::{behind, between_commas, hexed, no_case, number, octets, parted, word};
 use amqp_frames::{SASL_OK, SaslFrame, put_frame, sasl_write};
 use amqp_perf::{
     Attach, Begin, Detach, Disposition, ErrorCondition, Flow, Open, Outcome, Performative, Role,
@@ -28,36 +28,31 @@ pub(crate) fn answer(alloc: Global, words: &[&str]) -> io::Result<String> {
 }
 
 fn write(out: &mut Vec<u8>, performative: &[&str]) -> io::Result<()> {
-    match performative {
-        ["open"] => Open::of_router().write(out)?,
-        ["begin", channel] => Begin::answering(number(channel)?).write(out)?,
-        ["end"] => Performative::end(None).write(out)?,
-        ["close"] => Performative::close(None).write(out)?,
-        ["close", error] => Performative::close(Some(condition(error)?)).write(out)?,
-        _ => write_of_link(out, performative)?,
+    let (kind, rest) = parted(performative);
+    match kind {
+        "open" => Open::of_router().write(out)?,
+        "begin" => Begin::answering(number(word(rest, 0))?).write(out)?,
+        "end" => Performative::end(None).write(out)?,
+        "close" => Performative::close(condition(word(rest, 0))?).write(out)?,
+        "attach" => write_attach(out, word(rest, 0), behind(rest, 1))?,
+        "flow" => write_flow(out, rest)?,
+        "detach" => write_detach(out, rest)?,
+        _ => write_of_delivery(out, kind, rest)?,
     }
     Ok(())
 }
 
-fn write_of_link(out: &mut Vec<u8>, performative: &[&str]) -> io::Result<()> {
-    match performative {
-        ["attach", name, words @ ..] => write_attach(out, name, words)?,
-        ["flow", handle, count, credit, drains] => {
-            let session = Flow::of_session(0, 0);
-            let link = session.of_link(
-                number(handle)?,
-                number(count)?,
-                number(credit)?,
-                number(drains)?,
-            );
-            link.write(out)?;
-        }
-        ["detach", handle] => Detach::with(number(handle)?, true, None).write(out)?,
-        ["detach", handle, error] => {
-            Detach::with(number(handle)?, true, Some(condition(error)?)).write(out)?;
-        }
-        _ => write_of_delivery(out, performative)?,
-    }
+fn write_flow(out: &mut Vec<u8>, words: &[&str]) -> io::Result<()> {
+    let (handle, count) = (number(word(words, 0))?, number(word(words, 1))?);
+    let (credit, drains) = (number(word(words, 2))?, number(word(words, 3))?);
+    let link = Flow::of_session(0, 0).of_link(handle, count, credit, drains);
+    link.write(out)?;
+    Ok(())
+}
+
+fn write_detach(out: &mut Vec<u8>, words: &[&str]) -> io::Result<()> {
+    let (handle, error) = (number(word(words, 0))?, condition(word(words, 1))?);
+    Detach::with(handle, true, error).write(out)?;
     Ok(())
 }
 
@@ -65,22 +60,20 @@ fn write_attach(out: &mut Vec<u8>, name: &str, words: &[&str]) -> io::Result<()>
     if name.len() > 8 {
         return Err(no_case());
     }
-    match words {
-        ["to-producer", address] => {
-            let attach = asked(name, Role::Sender).to_producer(short(address)?);
+    let (kind, rest) = parted(words);
+    match kind {
+        "to-producer" => {
+            let attach = asked(name, Role::Sender).to_producer(short(word(rest, 0))?);
             Performative::Attach(attach).write(out)?;
         }
-        ["to-consumer", address, dynamic] => {
+        "to-consumer" => {
+            let (address, dynamic) = (short(word(rest, 0))?, number(word(rest, 1))?);
             let asked = asked(name, Role::Receiver);
-            let attach = asked.to_consumer(
-                short(address)?,
-                number(dynamic)?,
-                SenderSettleMode::Mixed,
-            );
+            let attach = asked.to_consumer(address, dynamic, SenderSettleMode::Mixed);
             attach.write(out)?;
         }
-        ["refused-sender"] => asked(name, Role::Sender).refused().write(out)?,
-        ["refused-receiver"] => asked(name, Role::Receiver).refused().write(out)?,
+        "refused-sender" => asked(name, Role::Sender).refused().write(out)?,
+        "refused-receiver" => asked(name, Role::Receiver).refused().write(out)?,
         _ => return Err(no_case()),
     }
     Ok(())
@@ -113,22 +106,28 @@ fn short(text: &str) -> io::Result<&str>
     Ok(text)
 }
 
-fn write_of_delivery(out: &mut Vec<u8>, performative: &[&str]) -> io::Result<()> {
-    match performative {
-        ["transfer", handle, id, settled, more] => {
-            let (settled, more) = (number(settled)?, number(more)?);
-            Transfer::first(number(handle)?, number(id)?, TAG, 0, settled, more).write(out)?;
-        }
-        ["transfer", handle, more] => Transfer::later(number(handle)?, number(more)?).write(out)?,
-        ["disposition", id] => Disposition::settling(number(id)?).write(out)?,
-        ["disposition", id, outcome] => write_outcome(out, number(id)?, outcome)?,
+fn write_of_delivery(out: &mut Vec<u8>, kind: &str, words: &[&str]) -> io::Result<()> {
+    let first = number(word(words, 0))?;
+    match kind {
+        "transfer" if words.len() > 2 => write_first(out, first, words)?,
+        "transfer" => Transfer::later(first, number(word(words, 1))?).write(out)?,
+        "disposition" => write_disposition(out, first, word(words, 1))?,
         _ => return Err(no_case()),
     }
     Ok(())
 }
 
-fn write_outcome(out: &mut Vec<u8>, id: u32, outcome: &str) -> io::Result<()> {
+/// A transfer that begins a delivery on the link of this handle.
+fn write_first(out: &mut Vec<u8>, handle: u32, words: &[&str]) -> io::Result<()> {
+    let (settled, more) = (number(word(words, 2))?, number(word(words, 3))?);
+    Transfer::first(handle, number(word(words, 1))?, TAG, 0, settled, more).write(out)?;
+    Ok(())
+}
+
+/// A disposition of one delivery: it is settled, where there is no outcome.
+fn write_disposition(out: &mut Vec<u8>, id: u32, outcome: &str) -> io::Result<()> {
     match outcome {
+        "" => Disposition::settling(id).write(out)?,
         "failed" => Disposition::outcome(id, Some(State::delivery_failed())).write(out)?,
         "released" => {
             Disposition::outcome(id, Some(State::of_outcome(Outcome::Released))).write(out)?;
@@ -141,10 +140,12 @@ fn write_outcome(out: &mut Vec<u8>, id: u32, outcome: &str) -> io::Result<()> {
     Ok(())
 }
 
-fn condition(name: &str) -> io::Result<ErrorCondition> {
+/// The error of this name, none where there is no name.
+fn condition(name: &str) -> io::Result<Option<ErrorCondition>> {
     match name {
-        "amqp:invalid-field" => Ok(ErrorCondition::InvalidField),
-        "amqp:not-allowed" => Ok(ErrorCondition::NotAllowed),
+        "" => Ok(None),
+        "amqp:invalid-field" => Ok(Some(ErrorCondition::InvalidField)),
+        "amqp:not-allowed" => Ok(Some(ErrorCondition::NotAllowed)),
         _ => Err(no_case()),
     }
 }
@@ -159,19 +160,17 @@ pub(crate) fn in_frames(alloc: Global, words: &[&str]) -> io::Result<String> {
 }
 
 fn write_frame(out: &mut Vec<u8>, frame: &[&str]) -> io::Result<()> {
-    match frame {
-        [channel, payload, "open"] => {
-            let open = Performative::Open(Open::of_router());
-            put(out, number(channel)?, &open, payload)
-        }
-        [channel, payload, "transfer"] => {
+    let (channel, payload) = (number(word(frame, 0))?, word(frame, 1));
+    match word(frame, 2) {
+        "open" => put(
+            out,
+            channel,
+            &Performative::Open(Open::of_router()),
+            payload,
+        ),
+        "transfer" => {
             let transfer = Transfer::first(0, 0, TAG, 0, false, false);
-            put(
-                out,
-                number(channel)?,
-                &Performative::Transfer(transfer),
-                payload,
-            )
+            put(out, channel, &Performative::Transfer(transfer), payload)
         }
         _ => Err(no_case()),
     }
