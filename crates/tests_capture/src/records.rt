@@ -1,7 +1,7 @@
 //! Records that are looked at: their lines, what they come to, and the ids of deliveries.
 
 use crate::octets::octets_of;
-use crate::words::{Answer, Subject, count, done, number, said, small, told};
+use crate::words::{Answer, Subject, behind, count, done, number, parted, said, small, told, word};
 use capture_view::{Happened, Ids, RecordView, Scope, Sender, said_by};
 use capture_words::{Page, Summary};
 use pairing_cert::Note;
@@ -34,45 +34,47 @@ impl Records {
 
 impl Subject for Records {
     fn answer(&mut self, words: &[&str]) -> Answer {
-        match words {
-            ["new"] => {
-                *self = Records::new(self.alloc);
-                done(self.alloc)
-            }
-            ["ids", words @ ..] => self.ids_answer(words),
-            ["table"] => self.table(),
-            ["text", width, octets @ ..] => self.text(count(width), octets),
-            ["octets", width, octets @ ..] => self.octets(count(width), octets),
-            [take, number, connection, note, kind, octets @ ..] => {
-                let Some(octets) = octets_of(self.alloc, octets)? else {
-                    return Ok(None);
-                };
-                let Some(view) = view_of(number, connection, note, kind, octets.as_slice()) else {
-                    return Ok(None);
-                };
-                self.record_answer(take, &view)
-            }
-            _ => Ok(None),
+        let (verb, rest) = parted(words);
+        match verb {
+            "new" => *self = Records::new(self.alloc),
+            "ids" => return self.ids_answer(rest),
+            "table" => return self.table(),
+            "text" => return self.text(count(word(rest, 0)), behind(rest, 1)),
+            "octets" => return self.octets(count(word(rest, 0)), behind(rest, 1)),
+            _ => return self.record_answer(verb, rest),
         }
+        done(self.alloc)
     }
 }
 
 impl Records {
-    /// What comes of a record: its line, or how many deliveries wait on the first link when it is taken.
-    fn record_answer(&mut self, word: &str, view: &RecordView<'_>) -> Answer {
-        match word {
-            "line" => {
-                let mut page = Page::new(self.alloc, None);
-                page.put_record(view, None, true)?;
-                told(self.alloc, page.text())
-            }
-            "take" => {
-                self.summary.take(view)?;
-                let waiting = self.summary.rows().first().map(|row| row.waiting);
-                told(self.alloc, waiting)
-            }
+    /// What comes of the record of these words.
+    fn record_answer(&mut self, verb: &str, words: &[&str]) -> Answer {
+        let Some(octets) = octets_of(self.alloc, behind(words, 4))? else {
+            return Ok(None);
+        };
+        let Some(view) = view_of(words, octets.as_slice()) else {
+            return Ok(None);
+        };
+        match verb {
+            "line" => self.line(&view),
+            "take" => self.take(&view),
             _ => Ok(None),
         }
+    }
+
+    /// The line of a record.
+    fn line(&self, view: &RecordView<'_>) -> Answer {
+        let mut page = Page::new(self.alloc, None);
+        page.put_record(view, None, true)?;
+        told(self.alloc, page.text())
+    }
+
+    /// A record is taken: how many deliveries wait on the first link then.
+    fn take(&mut self, view: &RecordView<'_>) -> Answer {
+        self.summary.take(view)?;
+        let waiting = self.summary.rows().first().map(|row| row.waiting);
+        told(self.alloc, waiting)
     }
 
     /// The table of the records that were taken.
@@ -104,32 +106,22 @@ impl Records {
 
     /// What comes of words about the ids.
     fn ids_answer(&mut self, words: &[&str]) -> Answer {
-        match words {
-            ["insert", id, value] => self.ids.insert(SCOPE, small(id), number(value))?,
-            ["clear"] => self.ids.clear(SCOPE),
-            ["has", first, last] => {
-                let has = self.ids.has_covered(SCOPE, small(first), small(last));
-                return told(self.alloc, has);
-            }
-            ["take", first, last] => {
-                let taken = self.ids.take_covered(SCOPE, small(first), small(last));
-                return told(self.alloc, taken);
-            }
+        let (verb, rest) = parted(words);
+        let (first, last) = (small(word(rest, 0)), small(word(rest, 1)));
+        match verb {
+            "insert" => self.ids.insert(SCOPE, first, number(word(rest, 1)))?,
+            "clear" => self.ids.clear(SCOPE),
+            "has" => return told(self.alloc, self.ids.has_covered(SCOPE, first, last)),
+            "take" => return told(self.alloc, self.ids.take_covered(SCOPE, first, last)),
             _ => return Ok(None),
         }
         done(self.alloc)
     }
 }
 
-/// The record of these words, with the octets of its frame.
-fn view_of<'a>(
-    record: &str,
-    connection: &str,
-    note: &str,
-    kind: &str,
-    octets: &'a [u8],
-) -> Option<RecordView<'a>> {
-    let happened = match kind {
+/// The record whose number, connection, note and kind are these words, with the octets of its frame.
+fn view_of<'a>(words: &[&str], octets: &'a [u8]) -> Option<RecordView<'a>> {
+    let happened = match word(words, 3) {
         "opened" => Happened::Opened,
         "in" => Happened::In(said_by(octets)),
         "out" => Happened::Out(said_by(octets)),
@@ -138,10 +130,10 @@ fn view_of<'a>(
         _ => return None,
     };
     Some(RecordView {
-        number: number(record),
-        connection: small(connection),
+        number: number(word(words, 0)),
+        connection: small(word(words, 1)),
         happened,
-        note: note_of(note)?,
+        note: note_of(word(words, 2))?,
     })
 }
 

@@ -4,7 +4,7 @@ use crate::fakes::Pieces;
 use crate::octets::octets_of;
 use crate::packing::{faults_in_words, pack_read, packets_shown};
 use crate::reading::{read_cuts, read_failing, read_in_words, read_pieces, read_within, shown};
-use crate::words::{Answer, Subject, count, done, said, small};
+use crate::words::{Answer, Subject, count, done, parted, said, small, word};
 use crate::writing::{Way, record_growing, written_again};
 use std::alloc::Global;
 
@@ -33,22 +33,22 @@ impl Texts {
     }
 
     /// What comes of reading the text.
-    fn reading_answer(&self, words: &[&str]) -> Answer {
+    fn reading_answer(&self, verb: &str, rest: &[&str]) -> Answer {
         let (alloc, text) = (self.alloc, self.text.as_slice());
-        match words {
-            ["read"] => said(alloc, read_in_words(alloc, text)?.as_str()),
-            ["show"] => shown(alloc, text),
-            ["cuts"] => read_cuts(alloc, text),
-            ["pieces", sizes @ ..] => read_pieces(alloc, text, text.len(), sizes),
-            ["cuts-in-pieces", sizes @ ..] => read_pieces(alloc, text, 0, sizes),
-            ["failing", size] => read_failing(alloc, text, count(size)),
-            ["within", most] => {
-                let reader = Pieces::steady(text, 4096, None);
-                said(alloc, read_within(alloc, reader, small(most))?.as_str())
-            }
-            ["within", most, "interrupted"] => {
-                let reader = Pieces::interrupted(text, 1, None);
-                said(alloc, read_within(alloc, reader, small(most))?.as_str())
+        match verb {
+            "read" => said(alloc, read_in_words(alloc, text)?.as_str()),
+            "show" => shown(alloc, text),
+            "cuts" => read_cuts(alloc, text),
+            "pieces" => read_pieces(alloc, text, text.len(), rest),
+            "cuts-in-pieces" => read_pieces(alloc, text, 0, rest),
+            "failing" => read_failing(alloc, text, count(word(rest, 0))),
+            "within" => {
+                let reader = match word(rest, 1) {
+                    "interrupted" => Pieces::interrupted(text, 1, None),
+                    _ => Pieces::steady(text, 4096, None),
+                };
+                let most = small(word(rest, 0));
+                said(alloc, read_within(alloc, reader, most)?.as_str())
             }
             _ => Ok(None),
         }
@@ -57,18 +57,21 @@ impl Texts {
     /// What comes of writing the text.
     fn writing_answer(&self, words: &[&str]) -> Answer {
         let (alloc, text) = (self.alloc, self.text.as_slice());
-        match words {
-            ["again"] => written_again(alloc, text),
-            ["growing", cut] => record_growing(alloc, text, count(cut)),
-            ["into-rooms", way @ ..] => match Way::of(way) {
+        let (verb, rest) = parted(words);
+        let number = count(word(rest, 0));
+        match verb {
+            "again" => written_again(alloc, text),
+            "growing" => record_growing(alloc, text, number),
+            "into-rooms" => match Way::of(rest) {
                 Some(way) => way.into_rooms(alloc, text),
                 None => Ok(None),
             },
-            ["packets", from] => packets_shown(alloc, text, count(from)),
-            ["packet-faults"] => faults_in_words(alloc),
-            ["packed", left] => pack_read(alloc, text, count(left), false, true),
-            ["packed", left, "failing"] => pack_read(alloc, text, count(left), true, true),
-            ["packed", left, "unflushed"] => pack_read(alloc, text, count(left), false, false),
+            "packets" => packets_shown(alloc, text, number),
+            "packet-faults" => faults_in_words(alloc),
+            "packed" => {
+                let (fails, flushes) = (word(rest, 1) == "failing", word(rest, 1) != "unflushed");
+                pack_read(alloc, text, number, fails, flushes)
+            }
             _ => Ok(None),
         }
     }
@@ -76,18 +79,17 @@ impl Texts {
 
 impl Subject for Texts {
     fn answer(&mut self, words: &[&str]) -> Answer {
-        match words {
-            ["text", words @ ..] => {
-                self.text.clear();
-                self.put(words)
+        let (verb, rest) = parted(words);
+        match verb {
+            "text" => self.text.clear(),
+            "more" => {}
+            "first" => {
+                self.text.truncate(count(word(rest, 0)));
+                return done(self.alloc);
             }
-            ["more", words @ ..] => self.put(words),
-            ["first", len] => {
-                self.text.truncate(count(len));
-                done(self.alloc)
-            }
-            ["write", words @ ..] => self.writing_answer(words),
-            words => self.reading_answer(words),
+            "write" => return self.writing_answer(rest),
+            _ => return self.reading_answer(verb, rest),
         }
+        self.put(rest)
     }
 }

@@ -2,7 +2,7 @@
 
 use crate::fakes::Room;
 use crate::runs::Runs;
-use crate::words::{Answer, count, told};
+use crate::words::{Answer, count, parted, told, word};
 use capture_form::{Capture, Reader, WriteFault, append, append_head, read_capture, write_capture};
 use capture_packets::{PacketFault, PacketWriter};
 use capture_recorder::Recorder;
@@ -120,21 +120,21 @@ enum By {
 impl Way {
     /// The way of these words: by what, the most octets of a call, and how a call fails.
     pub fn of(words: &[&str]) -> Option<Way> {
-        let (by, rest) = match words {
-            ["append", rest @ ..] => (By::Append, rest),
-            ["record", rest @ ..] => (By::Record, rest),
-            ["pack", rest @ ..] => (By::Pack, rest),
+        let (by, rest) = parted(words);
+        let by = match by {
+            "append" => By::Append,
+            "record" => By::Record,
+            "pack" => By::Pack,
             _ => return None,
         };
-        let (most, fault) = match rest {
-            [most] => (most, None),
-            [most, "full"] => (most, Some(ErrorKind::StorageFull)),
-            [most, "interrupted"] => (most, Some(ErrorKind::Interrupted)),
-            _ => return None,
+        let fault = match word(rest, 1) {
+            "full" => Some(ErrorKind::StorageFull),
+            "interrupted" => Some(ErrorKind::Interrupted),
+            _ => None,
         };
         Some(Way {
             by,
-            most: count(most),
+            most: count(word(rest, 0)),
             fault,
         })
     }
