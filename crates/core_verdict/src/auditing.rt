@@ -16,7 +16,10 @@ use std::alloc::{AllocError, Global};
 pub fn audit_core_text(alloc: Global, core: &Core) -> Result<Verdict, AllocError>
     ensures { IfOk result (AcceptsUnlessRefused (tally_in (record { rules = core.now.rules; records = core.now.records }))) }
 {
-    let text = write_capture(alloc, core.capture())?;
+    let capture = core.capture();
+    // What a capture keeps is known where its rules are looked at.
+    let _ = capture.rules();
+    let text = write_capture(alloc, capture)?;
     lawful_text();
     Ok(audit_bytes(alloc, text.as_slice()))
 }
