@@ -34,10 +34,7 @@ pub(crate) fn take_piece<P: Port>(
     let Ok(()) = reader.feed(piece) else {
         return Err(EngineFault::Memory);
     };
-    port.hold();
-    let taken = take_steps(connection, port, reader, output);
-    port.rest();
-    taken
+    take_steps(connection, port, reader, output)
 }
 
 /// Takes each step that is whole.

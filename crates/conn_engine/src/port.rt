@@ -54,20 +54,4 @@ pub trait Port {
         ensures err { OnErr result ((frames self.new ≡ frames self.old) × (out.new.items ≡ out.old.items)) }
         ensures items { items self.new ≡ items self.old }
         ensures connection { connection self.new ≡ connection self.old };
-
-    /// The engine makes several calls now, up to `rest`: a port may hold on to what it shares with others until then.
-    fn hold(&mut self)
-        ensures items { items self.new ≡ items self.old }
-        ensures frames { frames self.new ≡ frames self.old }
-        ensures idle { is_idle self.new ≡ is_idle self.old }
-        ensures connection { connection self.new ≡ connection self.old }
-    {}
-
-    /// The engine makes no more calls for now.
-    fn rest(&mut self)
-        ensures items { items self.new ≡ items self.old }
-        ensures frames { frames self.new ≡ frames self.old }
-        ensures idle { is_idle self.new ≡ is_idle self.old }
-        ensures connection { connection self.new ≡ connection self.old }
-    {}
 }

@@ -83,7 +83,7 @@ impl<G: Gate, J: Origin<G>> Start<G, J> {
 
 impl<G: Gate, P: Port, J: Origin<G>> Line<G, P, J> {
     /// The line of a gate and a port of its number.
-    #[tactic(auto, using(crate::proofs::ServedOn::open_new))]
+    #[tactic(auto, using(conn_serving::proofs::ServedOn::open_new))]
     pub(crate) fn new(alloc: Global, start: Start<G, J>, port: P) -> Line<G, P, J>
         requires conn { P.connection port ≡ start }
         requires items { P.items port ≡ [] }
@@ -131,7 +131,7 @@ impl<G: Gate, P: Port, J: Origin<G>> Line<G, P, J> {
     /// # Errors
     ///
     /// `Device`, where the gate answers it.
-    #[tactic(auto, using(crate::proofs::ServedOn::open_kept))]
+    #[tactic(auto, using(conn_serving::proofs::ServedOn::open_kept))]
     pub(crate) fn wait(&mut self) -> Result<(), Stop>
         requires { self.old ≡ Open }
         ensures { self.new ≡ Open }
