@@ -47,7 +47,7 @@ pub fn serve<'a, R: Threads + Wait + Net + Sync>(
 
 /// Why there are no slots: memory was refused, or a device.
 fn fault_of(error: &io::Error) -> RunFault
-    ensures { Brings result }
+    ensures brings { Brings result }
     ensures memory { (result ≡ Memory) ↔ ((error_kind error.now ≡ OutOfMemory) × (raw_os_error error.now ≡ None)) }
 {
     // An error with a number of the system's is no refused growth, whatever its kind.
