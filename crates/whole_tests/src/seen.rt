@@ -27,10 +27,7 @@ enum State {
 
 impl State {
     fn of_count(count: Option<u32>) -> State {
-        match count {
-            Some(count) => State::Count(count),
-            None => State::Nothing,
-        }
+        count.map_or(State::Nothing, State::Count)
     }
 }
 
