@@ -13,6 +13,7 @@ use Rattle.amqp_types.specs.Items.{seen_of}
 use Rattle.amqp_types.specs.Listed.{IsNumbered}
 use Rattle.amqp_types.proofs.Nested.{value_is}
 use Rattle.amqp_perf.specs.declared.descriptor.Outcome.{Outcome}
+use Rattle.amqp_perf.specs.declared.descriptor.Outcome.TheVariants.{Modified}
 use Rattle.amqp_perf.specs.Descriptors.{descriptor_of_code}
 use Rattle.amqp_perf.specs.Nested.{StateFields, outcome_named, state_in}
 use Rattle.amqp_perf.proofs.NumberedStates.{state_numbered}
@@ -113,7 +114,7 @@ binary_some octets sized first body size n own rest same code behind number long
     ∙ ap (λ (t : List ℕ). 0xA0 ∷ length own ∷ t) (sym (take-append-drop n body) ∙ rw (front, back) refl) in
     rw parts (item (optional types.Binary) binary_of (0xA0 ∷ length own ∷ (own ++ rest)) (0xA0 ∷ length own ∷ own) (Sized texts.Binary own) rest (binary_is own rest) refl)
 
--- a null, or a state without fields that a number describes
+-- a null, or a state that a number describes: without fields, or with one that is true
 pub state_null : (octets body : List ℕ) (first : ℕ) → octets ≡ first ∷ body → first ≡ 0x40 → IsItem (optional types.State) state_in octets None body
 state_null octets body first same code = rw (same, code) (item (optional types.State) state_in (0x40 ∷ body) (0x40 ∷ []) Null body (null_is body) refl)
 
@@ -125,41 +126,62 @@ empty_is : (levels : ℕ) → IsValue (suc levels) (0x45 ∷ []) (Nested kinds.L
 unfolding IsValue IsData code_of scalar_of_code
 empty_is levels = (codes.EmptyList, refl, (refl, refl))
 
-state_is : (n : ℕ) (rest : List ℕ) → At (0x00 ∷ 0x53 ∷ n ∷ 0x45 ∷ rest) (0x00 ∷ 0x53 ∷ n ∷ 0x45 ∷ []) (Described (0x53 ∷ n ∷ []) (0x45 ∷ [])) rest
+true_in : (levels : ℕ) → IsValue (suc (suc levels)) (0xC0 ∷ 0x02 ∷ 0x01 ∷ 0x41 ∷ []) (Nested kinds.List 1 (0x41 ∷ []))
+unfolding IsValue IsData code_of scalar_of_code
+true_in levels = (
+  codes.Nested kinds.List widths.One,
+  refl,
+  record {
+    n = 1;
+    body = 0x41 ∷ [];
+    counted = record {
+      count = 0x01 ∷ [];
+      says = record { len = refl; says = omega arith };
+      sized = record { size = 0x02 ∷ []; says = record { len = refl; says = omega arith }; parts = refl };
+      few = omega arith;
+    };
+    paired = tt;
+    items = (0x41 ∷ [], [], Boolean true, refl, (codes.Fixed scalars.True, refl, (refl, refl)), refl);
+    is = refl;
+  },
+)
+
+state_is : (n : ℕ) (list rest : List ℕ) (says : Part) → IsValue 29 list says → At (0x00 ∷ 0x53 ∷ n ∷ (list ++ rest)) (0x00 ∷ 0x53 ∷ n ∷ list) (Described (0x53 ∷ n ∷ []) list) rest
 unfolding IsValue IsData code_of
-state_is n rest = record {
+state_is n list rest says is = record {
   parts = refl;
   is = (
     codes.Described,
     refl,
     record {
       descriptor = 0x53 ∷ n ∷ [];
-      described = 0x45 ∷ [];
+      described = list;
       parts = refl;
       descriptor_says = Ulong n;
       descriptor_is = number_is 28 n;
-      described_says = Nested kinds.List 0 [];
-      described_is = empty_is 28;
+      described_says = says;
+      described_is = is;
       is = refl;
     },
   );
 }
 
-numbered : (n : ℕ) → IsNumbered (Described (0x53 ∷ n ∷ []) (0x45 ∷ [])) n
-numbered n =
+numbered : (n : ℕ) (list : List ℕ) (count : ℕ) (items : List ℕ) → IsValue 32 list (Nested kinds.List count items) → IsNumbered (Described (0x53 ∷ n ∷ []) list) n
+numbered n list count items is =
     let descriptor : seen_of (0x53 ∷ n ∷ []) ≡ record { octets = 0x53 ∷ n ∷ []; part = Ulong n } = value_is (0x53 ∷ n ∷ []) (Ulong n) (number_is 31 n) in
-    let described : seen_of (0x45 ∷ []) ≡ record { octets = 0x45 ∷ []; part = Nested kinds.List 0 [] } = value_is (0x45 ∷ []) (Nested kinds.List 0 []) (empty_is 31) in
+    let described : seen_of list ≡ record { octets = list; part = Nested kinds.List count items } = value_is list (Nested kinds.List count items) is in
     rw (descriptor, described) refl
 
--- the state that four octets are
-abbrev state_said : ℕ → StateFields
-state_said n = record { octets = 0x00 ∷ 0x53 ∷ n ∷ 0x45 ∷ []; outcome = outcome_named (descriptor_of_code n) }
+-- the state that a list is which a number describes
+abbrev state_said : ℕ → List ℕ → StateFields
+state_said n list = record { octets = 0x00 ∷ 0x53 ∷ n ∷ list; outcome = outcome_named (descriptor_of_code n) }
 
-state_by : (n : ℕ) (rest : List ℕ) → IsItem (optional types.State) state_in (0x00 ∷ 0x53 ∷ n ∷ 0x45 ∷ rest) (Some (state_said n)) rest
-state_by n rest =
-    let value : Seen = record { octets = 0x00 ∷ 0x53 ∷ n ∷ 0x45 ∷ []; part = Described (0x53 ∷ n ∷ []) (0x45 ∷ []) } in
-    let says : state_in value ≡ Some (state_said n) = state_numbered value n (numbered n) in
-    record { value = value; front = state_is n rest; fits = refl; is = sym says }
+state_by : (n : ℕ) (list : List ℕ) (count : ℕ) (items rest : List ℕ) → ((levels : ℕ) → IsValue (suc (suc levels)) list (Nested kinds.List count items))
+    → IsItem (optional types.State) state_in (0x00 ∷ 0x53 ∷ n ∷ (list ++ rest)) (Some (state_said n list)) rest
+state_by n list count items rest is =
+    let value : Seen = record { octets = 0x00 ∷ 0x53 ∷ n ∷ list; part = Described (0x53 ∷ n ∷ []) list } in
+    let says : state_in value ≡ Some (state_said n list) = state_numbered value n (numbered n list count items (is 30)) in
+    record { value = value; front = state_is n list rest (Nested kinds.List count items) (is 27); fits = refl; is = sym says }
 
 pub state_some : (octets raw rest : List ℕ) (n : ℕ) (outcome : Option Outcome) → 4 ≤ length octets → slice_index_or octets 0 0 ≡ 0x00 → slice_index_or octets 1 0 ≡ 0x53 → slice_index_or octets 3 0 ≡ 0x45
     → raw ≡ take 4 octets → rest ≡ drop 4 octets → slice_index_or octets 2 0 ≡ n → outcome ≡ outcome_named (descriptor_of_code n)
@@ -169,4 +191,19 @@ state_some (x ∷ []) raw rest n outcome long a b c front back code said = absur
 state_some (x ∷ y ∷ []) raw rest n outcome long a b c front back code said = absurd (omega (arith, long))
 state_some (x ∷ y ∷ z ∷ []) raw rest n outcome long a b c front back code said = absurd (omega (arith, long))
 state_some (x ∷ y ∷ z ∷ w ∷ more) raw rest n outcome long a b c front back code said =
-    rw (front, back, said, sym code, a, b, c) (state_by z more)
+    rw (front, back, said, sym code, a, b, c) (state_by z (0x45 ∷ []) 0 [] more (λ levels. empty_is (suc levels)))
+
+-- modified, with one field, which is true (part 3, 3.4.5)
+pub failed_some : (octets raw rest : List ℕ) → 7 ≤ length octets → slice_index_or octets 0 0 ≡ 0x00 → slice_index_or octets 1 0 ≡ 0x53 → slice_index_or octets 2 0 ≡ 0x27
+    → slice_index_or octets 3 0 ≡ 0xC0 → slice_index_or octets 4 0 ≡ 0x02 → slice_index_or octets 5 0 ≡ 0x01 → slice_index_or octets 6 0 ≡ 0x41
+    → raw ≡ take 7 octets → rest ≡ drop 7 octets → IsItem (optional types.State) state_in octets (Some (record { octets = raw; outcome = Some Modified })) rest
+unfolding descriptor_of_code
+failed_some (a ∷ b ∷ c ∷ d ∷ e ∷ f ∷ g ∷ more) raw rest long is0 is1 is2 is3 is4 is5 is6 front back =
+    rw (front, back, is0, is1, is2, is3, is4, is5, is6) (state_by 0x27 (0xC0 ∷ 0x02 ∷ 0x01 ∷ 0x41 ∷ []) 1 (0x41 ∷ []) more true_in)
+failed_some [] raw rest long is0 is1 is2 is3 is4 is5 is6 front back = absurd (omega (arith, long))
+failed_some (a ∷ []) raw rest long is0 is1 is2 is3 is4 is5 is6 front back = absurd (omega (arith, long))
+failed_some (a ∷ b ∷ []) raw rest long is0 is1 is2 is3 is4 is5 is6 front back = absurd (omega (arith, long))
+failed_some (a ∷ b ∷ c ∷ []) raw rest long is0 is1 is2 is3 is4 is5 is6 front back = absurd (omega (arith, long))
+failed_some (a ∷ b ∷ c ∷ d ∷ []) raw rest long is0 is1 is2 is3 is4 is5 is6 front back = absurd (omega (arith, long))
+failed_some (a ∷ b ∷ c ∷ d ∷ e ∷ []) raw rest long is0 is1 is2 is3 is4 is5 is6 front back = absurd (omega (arith, long))
+failed_some (a ∷ b ∷ c ∷ d ∷ e ∷ f ∷ []) raw rest long is0 is1 is2 is3 is4 is5 is6 front back = absurd (omega (arith, long))

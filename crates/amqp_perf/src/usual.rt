@@ -1,6 +1,6 @@
 //! Performatives in their usual form, read in one go.
 
-ghost use Rattle.std.specs.Prelude.{◌≡◌, ◌<◌, ◌-◌, IfSome, Ok, option_map, true, []};
+ghost use Rattle.std.specs.Prelude.{◌≡◌, ◌<◌, ◌-◌, IfSome, Ok, Some, option_map, true, []};
 ghost use Rattle.std.specs.Option.{option_copied};
 ghost use Rattle.amqp_perf.specs.declared.table.FieldType.TheVariants as types;
 ghost use Rattle.amqp_perf.specs.Tables.{mandatory, optional, table_of};
@@ -90,8 +90,39 @@ fn binary_item(octets: &[u8]) -> Option<(Option<&[u8]>, &[u8])>
     }
 }
 
-/// A null or a state without fields at the front, none of null, and the octets behind it.
-#[tactic(auto, using(crate::proofs::UsualItems::state_null, crate::proofs::UsualItems::state_some))]
+/// A state without fields at the front, and the octets behind it.
+#[tactic(auto, using(crate::proofs::UsualItems::state_some))]
+#[inline(always)]
+fn bare_state(octets: &[u8]) -> Option<(State<'_>, &[u8])>
+    ensures { IfSome result (λ x. IsItem (optional types.State) state_in octets.now (Some (state_view x.0)) x.1.now) }
+{
+    if octets.len() < 4 || octets[0] != 0x00 || octets[1] != 0x53 || octets[3] != 0x45 {
+        return None;
+    }
+    let (raw, rest) = octets.split_at(4);
+    let outcome = Outcome::of_code(u64::from(octets[2]));
+    Some((State { raw, outcome }, rest))
+}
+
+/// The state that says that the delivery failed, as this router writes it, at the front, and the octets behind it.
+#[tactic(auto, using(crate::proofs::UsualItems::failed_some))]
+#[inline(always)]
+fn failed_state(octets: &[u8]) -> Option<(State<'_>, &[u8])>
+    ensures { IfSome result (λ x. IsItem (optional types.State) state_in octets.now (Some (state_view x.0)) x.1.now) }
+{
+    if octets.len() < 7 || octets[0] != 0x00 || octets[1] != 0x53 || octets[2] != 0x27 {
+        return None;
+    }
+    if octets[3] != 0xC0 || octets[4] != 0x02 || octets[5] != 0x01 || octets[6] != 0x41 {
+        return None;
+    }
+    let (raw, rest) = octets.split_at(7);
+    let outcome = Some(Outcome::Modified);
+    Some((State { raw, outcome }, rest))
+}
+
+/// A null or a state in one of these two forms at the front, none of null, and the octets behind it.
+#[tactic(auto, using(crate::proofs::UsualItems::state_null))]
 #[inline(always)]
 fn state_item(octets: &[u8]) -> Option<(Option<State<'_>>, &[u8])>
     ensures { IfSome result (λ x. IsItem (optional types.State) state_in octets.now (option_map state_view x.0) x.1.now) }
@@ -100,12 +131,11 @@ fn state_item(octets: &[u8]) -> Option<(Option<State<'_>>, &[u8])>
     if *first == 0x40 {
         return Some((None, data));
     }
-    if octets.len() < 4 || octets[0] != 0x00 || octets[1] != 0x53 || octets[3] != 0x45 {
-        return None;
-    }
-    let (raw, rest) = octets.split_at(4);
-    let outcome = Outcome::of_code(u64::from(octets[2]));
-    Some((Some(State { raw, outcome }), rest))
+    let (state, rest) = match bare_state(octets) {
+        Some(read) => read,
+        None => failed_state(octets)?,
+    };
+    Some((Some(state), rest))
 }
 
 impl<'a> Usual<'a> {
