@@ -15,3 +15,5 @@ pub mod NumberedStates
 pub mod UsualItems
 pub mod UsualFields
 pub mod UsualTables
+mod Messages
+mod MessageExamples

@@ -16,3 +16,4 @@ pub mod SlotViews
 pub mod Conditions
 pub mod Router
 pub mod Usual
+pub mod Message

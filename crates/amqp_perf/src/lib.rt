@@ -15,6 +15,7 @@
 //!   say their error alone;
 //! - `usual`: transfers, dispositions and flows in the form that most have, read in one go;
 //! - `performative`: reading;
+//! - `message`: the address that a message is for;
 //! - `slot`: a field as it is written;
 //! - `writing`: writing a performative;
 //! - `router`: the performatives that the router writes.
@@ -30,6 +31,7 @@ mod disposition;
 mod fault;
 mod fields;
 mod flow;
+mod message;
 mod opening;
 mod performative;
 mod router;
@@ -50,6 +52,7 @@ pub use disposition::Disposition;
 pub use fault::PerfFault;
 pub use fields::{Fields, check_fields};
 pub use flow::Flow;
+pub use message::message_to;
 pub use opening::Open;
 pub use performative::Performative;
 pub use slot::{Slot, put_fields};

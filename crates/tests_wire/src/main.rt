@@ -6,6 +6,7 @@
 //!
 //! - `value`: values (`values`, and `puts` where they are written);
 //! - `performative`: performatives (`performatives`, and `written` where they are written);
+//! - `message`: the address that a message is for (`messages`);
 //! - `frame`, `header`, `sasl`: frames, protocol headers and the frames of a SASL exchange (`frames`, and `pieces` for
 //!   streams of frames that come in pieces);
 //! - `stream`: the steps of a client's stream (`streams`).
@@ -14,6 +15,7 @@
 #![tactic(auto)]
 
 mod frames;
+mod messages;
 mod performatives;
 mod pieces;
 mod puts;
@@ -46,6 +48,7 @@ fn answer(alloc: Global, subject: &str, words: &[&str]) -> io::Result<String> {
     match subject {
         "value" => values::answer(alloc, words),
         "performative" => performatives::answer(alloc, words),
+        "message" => messages::answer(alloc, words),
         "frame" => frames::answer(alloc, words),
         "header" => frames::header(alloc, word(words, 0)),
         "sasl" => frames::sasl(alloc, words),
