@@ -15,7 +15,9 @@ use Rattle.audit_ledger.specs.Ledger.{broken_behind}
 use Rattle.audit_core.specs.declared.auditor.Auditor.{Auditor}
 use Rattle.audit_core.specs.declared.verdict.Refusal.TheVariants.{Broken, Memory}
 use Rattle.audit_core.specs.Auditor.{Agrees, StandsFor, IsRefusalBehind}
-use Rattle.audit_core.specs.Verdict.{WantsMemory, AnswersCapture}
+use Rattle.capture_form.specs.declared.fault.FormKind.TheVariants as kinds
+use Rattle.audit_core.specs.declared.verdict.Verdict.TheVariants.{Accepted, Refused, Malformed, NoMemory, Unreadable}
+use Rattle.audit_core.specs.Verdict.{WantsMemory, AnswersCapture, AcceptsUnlessRefused}
 
 -- the router's open on a connection that nobody opened
 abbrev unasked : Record
@@ -76,3 +78,24 @@ second = inr (1, omega arith, refl)
 never_of_nothing : AnswersCapture (record { rules = []; records = [] }) (Err Memory) → ⊥
 never_of_nothing (inl rules) = absurd (omega (arith, rules))
 never_of_nothing (inr place) = absurd (omega (arith, place.1))
+
+-- ---- accepting, unless memory was refused
+
+module _ (tally other : Tally) where
+  same_tally : AcceptsUnlessRefused tally (Accepted tally)
+  same_tally = refl
+
+  no_memory : AcceptsUnlessRefused tally (NoMemory 5)
+  no_memory = tt
+
+  other_tally : (other ≡ tally → ⊥) → AcceptsUnlessRefused tally (Accepted other) → ⊥
+  other_tally differ is = differ is
+
+  refusing : AcceptsUnlessRefused tally (Refused 0 L1) → ⊥
+  refusing is = is
+
+  malformed : AcceptsUnlessRefused tally (Malformed 0 kinds.Magic) → ⊥
+  malformed is = is
+
+  unreadable : AcceptsUnlessRefused tally (Unreadable 0) → ⊥
+  unreadable is = is

@@ -7,5 +7,6 @@ mod ReadSoFar
 mod TextLengths
 mod Taken
 pub mod Verdicts
+pub mod Unread
 pub mod Recorded
 pub mod Answered

@@ -3,6 +3,7 @@ use Rattle.std.proofs.Common.{◌≡◌, refl, sym, ap, ◌∙◌, ℕ, ◌+◌,
 use Rattle.std.specs.Prelude.{is_ok}
 use Rattle.std.proofs.lemmas.List.{length-take-le}
 use Rattle.capture_form.specs.declared.fault.FormFault.{FormFault}
+use Rattle.capture_form.specs.declared.fault.FormKind.{FormKind}
 use Rattle.capture_form.specs.declared.records.Record.{Record}
 use Rattle.capture_form.specs.Frame.{AreOctets}
 use Rattle.capture_form.specs.Text.{IsCapture, Trace, text}
@@ -92,23 +93,22 @@ only_verdict octets one other h k = is_verdict octets one h ∙ sym (is_verdict 
 accepts_lawful : (trace : Trace) → IsCapture trace → broken_in trace ≡ None → Accepts (text trace) (tally_in trace)
 accepts_lawful trace bounds lawful = record { trace = trace; bounds = bounds; whole = refl; lawful = lawful; counted = refl }
 
-tally_told : Verdict → Tally → Tally
-tally_told (Accepted tally) other = tally
-tally_told (Refused number clause) other = other
-tally_told (Malformed offset form_kind) other = other
-tally_told (NoMemory offset) other = other
-tally_told (Unreadable offset) other = other
+same_tally : (one other : Tally) → Accepted one ≡ Accepted other → one ≡ other
+same_tally one other is = cc
+
+refused_accepted : (number : ℕ) (clause : Clause) (tally : Tally) → Refused number clause ≡ Accepted tally → ⊥
+refused_accepted number clause tally is = cc
+
+malformed_accepted : (offset : ℕ) (kind : FormKind) (tally : Tally) → Malformed offset kind ≡ Accepted tally → ⊥
+malformed_accepted offset kind tally is = cc
 
 -- so any answer on it is acceptance, unless memory was refused
 pub accepted_text : (trace : Trace) (verdict : Verdict) → IsCapture trace → broken_in trace ≡ None → Answers (text trace) verdict → AcceptsUnlessRefused (tally_in trace) verdict
-unfolding tally_told
 accepted_text trace (Accepted tally) bounds lawful answers =
-    ap (λ v. tally_told v tally) (only_verdict (text trace) (Accepted tally) (Accepted (tally_in trace)) answers (accepts_lawful trace bounds lawful))
+    same_tally tally (tally_in trace) (only_verdict (text trace) (Accepted tally) (Accepted (tally_in trace)) answers (accepts_lawful trace bounds lawful))
 accepted_text trace (Refused number clause) bounds lawful answers =
-    let clash : Refused number clause ≡ Accepted (tally_in trace) = only_verdict (text trace) (Refused number clause) (Accepted (tally_in trace)) answers (accepts_lawful trace bounds lawful) in
-    absurd cc
+    absurd (refused_accepted number clause (tally_in trace) (only_verdict (text trace) (Refused number clause) (Accepted (tally_in trace)) answers (accepts_lawful trace bounds lawful)))
 accepted_text trace (Malformed offset form_kind) bounds lawful answers =
-    let clash : Malformed offset form_kind ≡ Accepted (tally_in trace) = only_verdict (text trace) (Malformed offset form_kind) (Accepted (tally_in trace)) answers (accepts_lawful trace bounds lawful) in
-    absurd cc
+    absurd (malformed_accepted offset form_kind (tally_in trace) (only_verdict (text trace) (Malformed offset form_kind) (Accepted (tally_in trace)) answers (accepts_lawful trace bounds lawful)))
 accepted_text trace (NoMemory offset) bounds lawful answers = tt
 accepted_text trace (Unreadable offset) bounds lawful answers = absurd answers

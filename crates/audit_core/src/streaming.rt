@@ -1,11 +1,11 @@
 //! Judging a text that a reader gives, record by record.
 
-ghost use Rattle.std.specs.Prelude.{◌≡◌, ◌≢◌, ◌<◌, ◌++◌, ◌∷◌, List, [], length, IfErr, IfSome, None, OnOk};
+ghost use Rattle.std.specs.Prelude.{◌≡◌, ◌≢◌, ◌<◌, ◌++◌, ◌∷◌, ℕ, List, [], length, IfErr, IfSome, None, OnOk};
 ghost use Rattle.capture_form.specs.declared.records.Record.{Record};
 ghost use Rattle.capture_form.specs.Rules.{AreRules, RuleText};
-ghost use Rattle.capture_form.specs.Reader.{left_of, offset_of, fault_of, text_of_head};
+ghost use Rattle.capture_form.specs.Reader.{left_of, offset_of, fault_of, text_of_head, IsNew, IsUnreadable};
 ghost use Rattle.trace_clauses.specs.declared.tally.Tally.{Tally};
-ghost use Rattle.audit_core.specs.declared.verdict.Verdict.TheVariants.{Accepted};
+ghost use Rattle.audit_core.specs.declared.verdict.Verdict.TheVariants.{Accepted, Unreadable};
 ghost use Rattle.audit_core.specs.declared.verdict.Refusal.TheVariants.{Memory};
 ghost use Rattle.audit_core.specs.declared.auditor.TheConstants.{MOST_RECORDS};
 ghost use Rattle.audit_core.specs.Auditor.{Agrees, IsRefusalBehind, rules_of, tally_by};
@@ -16,7 +16,7 @@ use crate::auditor::Auditor;
 use crate::lengths::{len_of_head, len_of_record};
 use crate::verdict::{Refusal, Verdict};
 use crate::watching::{Unwatched, Watcher};
-use capture_form::{FormFault, FormKind, Reader, Record, Rule};
+use capture_form::{FormFault, FormKind, MOST_READS, Reader, Record, Rule};
 use std::alloc::{AllocError, Global};
 use std::io::Read;
 
@@ -43,8 +43,27 @@ where
     // `Malformed`, those in front of the fault.
     ensures watched { W.saw watcher.old [] → IfSome (R.remaining reader) (λ octets. Watched W.saw W.saw_refused watcher.new octets result) }
 {
-    match Reader::start(alloc, reader) {
-        Ok((rules, records)) => audit_read(alloc, rules, records, watcher),
+    match Reader::within(alloc, reader, MOST_READS) {
+        Ok(mut text) => audit_text(alloc, &mut text, watcher),
+        Err(AllocError) => Verdict::NoMemory(0),
+    }
+}
+
+/// The verdict of `audit_watched` on the octets of a reader of texts of which nothing was read yet. At `Unreadable` the reader
+/// tells that a read failed, or that no more may be made.
+pub fn audit_text<R: Read, W: Watcher>(
+    alloc: Global,
+    text: &mut Reader<R>,
+    watcher: &mut W,
+) -> Verdict
+    requires { IsNew text.old }
+    ensures answers { IfSome (left_of R.remaining text.old) (λ octets. AnswersRead octets result) }
+    ensures kept { IfSome (left_of R.remaining text.old) (λ octets. (tally : Tally) → result ≡ Accepted tally → IsKept octets) }
+    ensures watched { W.saw watcher.old [] → IfSome (left_of R.remaining text.old) (λ octets. Watched W.saw W.saw_refused watcher.new octets result) }
+    ensures unreadable { (offset : ℕ) → result ≡ Unreadable offset → IsUnreadable text.new }
+{
+    match text.read_head() {
+        Ok(rules) => audit_read(alloc, rules, text, watcher),
         Err(fault) => verdict_of_fault(fault),
     }
 }
@@ -53,16 +72,15 @@ where
 fn audit_read<R: Read, W: Watcher>(
     alloc: Global,
     rules: Vec<Rule>,
-    records: Reader<R>,
+    records: &mut Reader<R>,
     watcher: &mut W,
 ) -> Verdict
-where
-    R: Drop,
     requires rules { AreRules rules.items }
-    requires place { offset_of records ≡ length (text_of_head rules.items) }
-    requires runs { fault_of records ≡ None }
-    ensures answers { IfSome (left_of R.remaining records) (λ left. AnswersRead (text_of_head rules.items ++ left) result) }
-    ensures watched { W.saw watcher.old [] → IfSome (left_of R.remaining records) (λ left. Watched W.saw W.saw_refused watcher.new (text_of_head rules.items ++ left) result) }
+    requires place { offset_of records.old ≡ length (text_of_head rules.items) }
+    requires runs { fault_of records.old ≡ None }
+    ensures answers { IfSome (left_of R.remaining records.old) (λ left. AnswersRead (text_of_head rules.items ++ left) result) }
+    ensures watched { W.saw watcher.old [] → IfSome (left_of R.remaining records.old) (λ left. Watched W.saw W.saw_refused watcher.new (text_of_head rules.items ++ left) result) }
+    ensures unreadable { (offset : ℕ) → result ≡ Unreadable offset → IsUnreadable records.new }
 {
     let offset = len_of_head(&rules);
     let mut auditor = Auditor::new(alloc, rules);
@@ -73,21 +91,19 @@ where
 /// are read, and the auditor takes them.
 fn follow_read<R: Read, W: Watcher>(
     auditor: &mut Auditor,
-    records: Reader<R>,
+    records: &mut Reader<R>,
     offset: u64,
     watcher: &mut W,
 ) -> Verdict
-where
-    R: Drop,
     requires rules { AreRules (rules_of auditor.old) }
     requires agrees { Agrees auditor.old (rules_of auditor.old) [] }
     requires head { offset ≡ length (text_of_head (rules_of auditor.old)) }
-    requires place { offset_of records ≡ length (text_of_head (rules_of auditor.old)) }
-    requires runs { fault_of records ≡ None }
-    ensures answers { IfSome (left_of R.remaining records) (λ left. AnswersRead (text_of_head (rules_of auditor.old) ++ left) result) }
-    ensures watched { W.saw watcher.old [] → IfSome (left_of R.remaining records) (λ left. Watched W.saw W.saw_refused watcher.new (text_of_head (rules_of auditor.old) ++ left) result) }
+    requires place { offset_of records.old ≡ length (text_of_head (rules_of auditor.old)) }
+    requires runs { fault_of records.old ≡ None }
+    ensures answers { IfSome (left_of R.remaining records.old) (λ left. AnswersRead (text_of_head (rules_of auditor.old) ++ left) result) }
+    ensures watched { W.saw watcher.old [] → IfSome (left_of R.remaining records.old) (λ left. Watched W.saw W.saw_refused watcher.new (text_of_head (rules_of auditor.old) ++ left) result) }
+    ensures unreadable { (number : ℕ) → result ≡ Unreadable number → IsUnreadable records.new }
 {
-    let mut records = records;
     let mut offset = offset;
     'records: loop {
         match records.next_record() {

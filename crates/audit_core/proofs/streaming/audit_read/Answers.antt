@@ -22,9 +22,9 @@ follow_read-requires-clause-place g c = c.requires.place ∙ ap (λ rs. length (
 
 pub returns-clause-answers : goal.returns-clause-answers
 returns-clause-answers g c =
-    subst (λ (rs : List RuleText). IfSome (left_of g.R.Read.remaining c.args.records) (λ left. AnswersRead (text_of_head rs ++ left) c.follow_read.result)) c.new-auditor.ensures.stands.0 c.follow_read.ensures.answers
+    subst (λ (rs : List RuleText). IfSome (left_of g.R.Read.remaining c.args.records.now) (λ left. AnswersRead (text_of_head rs ++ left) c.follow_read.result)) c.new-auditor.ensures.stands.0 c.follow_read.ensures.answers
 
 pub returns-clause-watched : goal.returns-clause-watched
 returns-clause-watched g c =
     λ unseen.
-    subst (λ (rs : List RuleText). IfSome (left_of g.R.Read.remaining c.args.records) (λ left. Watched g.W.Watcher.saw g.W.Watcher.saw_refused c.follow_read.new.watcher (text_of_head rs ++ left) c.follow_read.result)) c.new-auditor.ensures.stands.0 (c.follow_read.ensures.watched unseen)
+    subst (λ (rs : List RuleText). IfSome (left_of g.R.Read.remaining c.args.records.now) (λ left. Watched g.W.Watcher.saw g.W.Watcher.saw_refused c.follow_read.new.watcher (text_of_head rs ++ left) c.follow_read.result)) c.new-auditor.ensures.stands.0 (c.follow_read.ensures.watched unseen)

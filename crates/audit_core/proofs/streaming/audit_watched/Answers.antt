@@ -1,31 +1,26 @@
-use Rattle.std.proofs.Common.{sym, subst}
 use Rattle.std.specs.Prelude.{IfSome}
 use Rattle.capture_form.specs.Reader.{left_of}
-use Rattle.audit_core.specs.Verdict.{AnswersRead}
-use Rattle.audit_core.specs.Watching.{Watched}
-use Rattle.audit_core.proofs.ReadSteps.{head_known, read_known, kept_known}
-use Rattle.audit_core.proofs.Watches.{seen_known, head_seen}
+use Rattle.audit_core.specs.declared.verdict.Verdict.{Verdict}
+use Rattle.audit_core.proofs.Unread.{kept_of, roomless, roomless_kept, roomless_seen}
 use Rattle.audit_core.proofs.streaming.audit_watched.Goals as goal
+
+pub returns-in-Ok-clause-answers : goal.returns-in-Ok-clause-answers
+returns-in-Ok-clause-answers g c =
+    kept_of (g.R.Read.remaining c.args.reader) (left_of g.R.Read.remaining c.in-Ok.text) _ c.in-Ok.ensures.left c.audit_text.ensures.answers
 
 pub returns-in-Ok-clause-kept : goal.returns-in-Ok-clause-kept
 returns-in-Ok-clause-kept g c =
-    let known = g.R.Read.remaining c.args.reader in
-    kept_known known _ (read_known known (left_of g.R.Read.remaining c.in-Ok.records) c.in-Ok.rules.items c.audit_read.result c.in-Ok.ensures.head c.audit_read.ensures.answers)
-
-pub returns-in-Err-clause-answers : goal.returns-in-Err-clause-answers
-returns-in-Err-clause-answers g c =
-    let known = g.R.Read.remaining c.args.reader in
-    subst (λ v. IfSome known (λ octets. AnswersRead octets v)) (sym c.verdict_of_fault.ensures) (head_known known c.in-Err.fault c.in-Err.ensures.exact)
+    kept_of (g.R.Read.remaining c.args.reader) (left_of g.R.Read.remaining c.in-Ok.text) _ c.in-Ok.ensures.left c.audit_text.ensures.kept
 
 pub returns-in-Ok-clause-watched : goal.returns-in-Ok-clause-watched
-returns-in-Ok-clause-watched g c =
-    λ unseen.
-    let known = g.R.Read.remaining c.args.reader in
-    seen_known g.W.Watcher.saw g.W.Watcher.saw_refused known (left_of g.R.Read.remaining c.in-Ok.records) c.in-Ok.rules.items c.audit_read.new.watcher c.audit_read.result c.in-Ok.ensures.head (c.audit_read.ensures.watched unseen)
+returns-in-Ok-clause-watched g c = λ unseen.
+    kept_of (g.R.Read.remaining c.args.reader) (left_of g.R.Read.remaining c.in-Ok.text) _ c.in-Ok.ensures.left (c.audit_text.ensures.watched unseen)
+
+pub returns-in-Err-clause-answers : goal.returns-in-Err-clause-answers
+returns-in-Err-clause-answers g c = roomless (g.R.Read.remaining c.args.reader)
+
+pub returns-in-Err-clause-kept : goal.returns-in-Err-clause-kept
+returns-in-Err-clause-kept g c = roomless_kept (g.R.Read.remaining c.args.reader)
 
 pub returns-in-Err-clause-watched : goal.returns-in-Err-clause-watched
-returns-in-Err-clause-watched g c =
-    λ unseen.
-    let known = g.R.Read.remaining c.args.reader in
-    subst (λ v. IfSome known (λ octets. Watched g.W.Watcher.saw g.W.Watcher.saw_refused c.args.watcher.now octets v)) (sym c.verdict_of_fault.ensures)
-    (head_seen g.W.Watcher.saw g.W.Watcher.saw_refused known c.args.watcher.now c.in-Err.fault unseen c.in-Err.ensures.exact)
+returns-in-Err-clause-watched g c = λ unseen. roomless_seen g.W.Watcher.saw g.W.Watcher.saw_refused (g.R.Read.remaining c.args.reader) c.args.watcher.now

@@ -1,4 +1,4 @@
-use Rattle.std.proofs.Common.{refl, sym, subst, length, None, Some, arith}
+use Rattle.std.proofs.Common.{refl, sym, subst, ◌∙◌, length, None, Some, arith}
 use Rattle.std.specs.Prelude.{[], IfSome, ◌++◌}
 use Rattle.capture_form.specs.Reader.{left_of, text_of_head}
 use Rattle.capture_form.specs.Text.{record_text}
@@ -8,11 +8,12 @@ use Rattle.audit_core.specs.Verdict.{AnswersRead}
 use Rattle.audit_core.specs.Watching.{Watched}
 use Rattle.audit_core.proofs.ReadSteps.{found_so, fits_so, moved_so, starts, few, goes_on, ends, refuses, stops}
 use Rattle.audit_core.proofs.Watches.{seen_by, stops_seen, ends_seen, refuses_seen}
+use Rattle.audit_core.proofs.Unread.{unread_fault, read_refusal}
 use Rattle.audit_core.proofs.streaming.follow_read.Goals as goal
 
 pub records-init : goal.records-init
 records-init g c =
-    starts g.R.Read.remaining (rules_of c.args.auditor.now) c.args.records c.args.auditor.now c.args.offset (λ records. g.W.Watcher.saw c.args.watcher.now [] → g.W.Watcher.saw c.args.watcher.now records) c.requires.rules c.requires.agrees c.requires.head c.requires.place
+    starts g.R.Read.remaining (rules_of c.args.auditor.now) c.args.records.now c.args.auditor.now c.args.offset (λ records. g.W.Watcher.saw c.args.watcher.now [] → g.W.Watcher.saw c.args.watcher.now records) c.requires.rules c.requires.agrees c.requires.head c.requires.place
     c.requires.runs (λ unseen. unseen)
 
 pub take_watched-requires-clause-few : goal.take_watched-requires-clause-few
@@ -32,7 +33,7 @@ returns-in-Err-take_watched-clause-answers g c =
     let rules = rules_of c.args.auditor.now in
     let next = found_so _ _ some.field-0 (Some some.entry) some.field-0-is some.ensures.next in
     let fits = fits_so some.field-0 some.entry some.field-0-is some.ensures.bounds in
-    subst (λ v. IfSome (left_of g.R.Read.remaining c.args.records) (λ left. AnswersRead (text_of_head rules ++ left) v)) (sym c.verdict_of_refusal.ensures)
+    subst (λ v. IfSome (left_of g.R.Read.remaining c.args.records.now) (λ left. AnswersRead (text_of_head rules ++ left) v)) (sym c.verdict_of_refusal.ensures)
     (refuses g.R.Read.remaining rules _ c.records.records c.records.auditor c.records.offset _ c.records.invariant some.entry _ c.in-Err-take_watched.refusal fits next c.in-Err-take_watched.ensures.refused)
 
 pub records-smaller : goal.records-smaller
@@ -58,7 +59,7 @@ returns-in-Ok-None-clause-answers g c =
 pub returns-in-Err-clause-answers : goal.returns-in-Err-clause-answers
 returns-in-Err-clause-answers g c =
     let rules = rules_of c.args.auditor.now in
-    subst (λ v. IfSome (left_of g.R.Read.remaining c.args.records) (λ left. AnswersRead (text_of_head rules ++ left) v)) (sym c.verdict_of_fault.ensures)
+    subst (λ v. IfSome (left_of g.R.Read.remaining c.args.records.now) (λ left. AnswersRead (text_of_head rules ++ left) v)) (sym c.verdict_of_fault.ensures)
     (stops g.R.Read.remaining rules _ c.records.records c.records.auditor c.records.offset _ c.records.invariant c.in-Err.fault c.in-Err.ensures.place c.in-Err.ensures.exact)
 
 pub returns-in-Ok-None-clause-watched : goal.returns-in-Ok-None-clause-watched
@@ -73,7 +74,7 @@ returns-in-Err-clause-watched g c =
     λ unseen.
     let rules = rules_of c.args.auditor.now in
     let so_far = seen_by g.R.Read.remaining rules _ c.records.records c.records.auditor c.records.offset (g.W.Watcher.saw c.args.watcher.now []) (g.W.Watcher.saw c.records.watcher) c.records.invariant unseen in
-    subst (λ v. IfSome (left_of g.R.Read.remaining c.args.records) (λ left. Watched g.W.Watcher.saw g.W.Watcher.saw_refused c.records.watcher (text_of_head rules ++ left) v)) (sym c.verdict_of_fault.ensures)
+    subst (λ v. IfSome (left_of g.R.Read.remaining c.args.records.now) (λ left. Watched g.W.Watcher.saw g.W.Watcher.saw_refused c.records.watcher (text_of_head rules ++ left) v)) (sym c.verdict_of_fault.ensures)
     (stops_seen g.W.Watcher.saw g.W.Watcher.saw_refused g.R.Read.remaining rules _ c.records.records c.records.auditor c.records.offset c.records.watcher so_far c.in-Err.fault c.in-Err.ensures.exact)
 
 pub returns-in-Err-take_watched-clause-watched : goal.returns-in-Err-take_watched-clause-watched
@@ -85,6 +86,14 @@ returns-in-Err-take_watched-clause-watched g c =
     let refusal = c.in-Err-take_watched.refusal in
     let next = found_so _ _ some.field-0 (Some some.entry) some.field-0-is some.ensures.next in
     let fits = fits_so some.field-0 some.entry some.field-0-is some.ensures.bounds in
-    subst (λ v. IfSome (left_of g.R.Read.remaining c.args.records) (λ left. Watched g.W.Watcher.saw g.W.Watcher.saw_refused c.take_watched.new.watcher (text_of_head rules ++ left) v)) (sym c.verdict_of_refusal.ensures)
+    subst (λ v. IfSome (left_of g.R.Read.remaining c.args.records.now) (λ left. Watched g.W.Watcher.saw g.W.Watcher.saw_refused c.take_watched.new.watcher (text_of_head rules ++ left) v)) (sym c.verdict_of_refusal.ensures)
     (refuses_seen g.W.Watcher.saw g.W.Watcher.saw_refused g.R.Read.remaining rules _ c.records.records c.records.auditor c.records.offset c.records.watcher so_far c.take_watched.new.watcher some.entry fits refusal _ next
     (c.in-Err-take_watched.ensures.refused rules so_far.records so_far.agrees) (λ no. c.in-Err-take_watched.ensures.explained no rules so_far.records so_far.agrees so_far.seen))
+
+pub returns-in-Err-clause-unreadable : goal.returns-in-Err-clause-unreadable
+returns-in-Err-clause-unreadable g c = λ number is.
+    c.in-Err.ensures.unreadable c.records.invariant.runs (unread_fault c.in-Err.fault.kind c.in-Err.fault.offset number (sym c.verdict_of_fault.ensures ∙ is))
+
+pub returns-in-Err-take_watched-clause-unreadable : goal.returns-in-Err-take_watched-clause-unreadable
+returns-in-Err-take_watched-clause-unreadable g c = λ number is.
+    absurd (read_refusal c.in-Err-take_watched.refusal c.records.offset number (sym c.verdict_of_refusal.ensures ∙ is))
