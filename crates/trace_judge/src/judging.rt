@@ -343,6 +343,24 @@ pub fn judge_unopened_moment<'a, P: Inputs<'a> + Outcomes<'a> + Carriage<'a>>(
     delivered(past, rules, event)
 }
 
+/// The record of this number in its place, whose frame was read already, as this moment.
+pub fn judge_read<'a, P: Inputs<'a> + Outcomes<'a> + Openings<'a> + Carriage<'a>>(
+    past: &P,
+    rules: &[Rule],
+    number: u64,
+    entry: &Record,
+    moment: Moment<'a>,
+) -> Event<'a>
+    requires read { moment_view moment ≡ law.moment_of entry.now.what }
+    ensures { (history : Events) → P.stands_for past.now rules.now history → number ≡ length history →
+        OpensKnown (λ c channel. P.knows_begin past.now c channel history) (λ s handle. P.knows_attach past.now s handle history)
+        (law.judge_unopened rules.now history entry.now.connection (law.moment_of entry.now.what) entry.now.note) →
+        (event_view result ≡ law.judge rules.now history entry.now) }
+{
+    let event = judge_unopened_moment(past, rules, number, entry.connection, moment, entry.note);
+    opened(past, event)
+}
+
 /// The record of this number in its place.
 pub fn judge<'a, P: Inputs<'a> + Outcomes<'a> + Openings<'a> + Carriage<'a>>(
     past: &P,
@@ -355,5 +373,5 @@ pub fn judge<'a, P: Inputs<'a> + Outcomes<'a> + Openings<'a> + Carriage<'a>>(
         (law.judge_unopened rules.now history entry.now.connection (law.moment_of entry.now.what) entry.now.note) →
         (event_view result ≡ law.judge rules.now history entry.now) }
 {
-    opened(past, judge_unopened(past, rules, number, entry))
+    judge_read(past, rules, number, entry, Moment::of(&entry.what))
 }
