@@ -16,4 +16,5 @@ pub mod Kept
 pub mod Answerable
 pub mod Again
 pub mod Short
+pub mod Unanswered
 mod AnsweringExamples

@@ -1,6 +1,6 @@
 //! The direct answer to what a client does.
 
-ghost use Rattle.std.specs.Prelude.{◌≡◌, ℕ, List, ◌∷◌, None, Some, IfOk, IsTrue};
+ghost use Rattle.std.specs.Prelude.{◌≡◌, ℕ, List, [], ◌∷◌, None, Some, IfOk, IsTrue, true};
 ghost use Rattle.pairing_cert.specs.declared.note.Note.TheVariants as notes;
 ghost use Rattle.capture_form.specs.Rules.{RuleText};
 ghost use Rattle.amqp_perf.specs.Meaning.{AFlow};
@@ -288,6 +288,14 @@ fn moment_answer<'a, P: Inputs<'a> + Openings<'a> + Counts>(
         }
         _ => Ok(Answer::Nothing),
     }
+}
+
+/// Whether nothing is owed for an event, whatever came before it: a transfer or a disposition without fault has no direct answer.
+/// Of one that says no, something may be owed or nothing.
+pub fn owes_nothing(event: &Event<'_>) -> bool
+    ensures { result ≡ true → (rules : List RuleText) (past : Events) → duties.answer rules (event_view event.now) past ≡ [] }
+{
+    event.fault.is_none() && (event.in_transfer().is_some() || event.in_disposition().is_some())
 }
 
 /// The frames that a router owes for an event of a client: its direct answer. It is asked of what stands for the events up to

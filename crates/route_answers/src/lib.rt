@@ -13,6 +13,6 @@ mod laws;
 mod reply;
 mod writing;
 
-pub use answer::answer_to;
+pub use answer::{answer_to, owes_nothing};
 pub use laws::laws_of_answers;
 pub use reply::{Answer, Reply, Saying, Source};
