@@ -26,6 +26,13 @@ is_why Summary = false
 is_why Why = true
 is_why (Packets path) = false
 
+-- whether one table is shown (own format)
+abbrev pub is_table : Mode → Bool
+is_table Lines = false
+is_table Summary = true
+is_table Why = false
+is_table (Packets path) = false
+
 -- one mode is asked for, and neither packets nor an audit (own format)
 abbrev pub IsPlain : Option Mode → Type 0
 IsPlain None = ⊥

@@ -39,12 +39,15 @@ pub struct Words<'a> {
 const WIDTH: usize = 32;
 
 impl<'a> Mode<'a> {
-    ghost use Rattle.std.specs.Prelude.{◌≡◌, false, true, None, is_some, option_map};
-    ghost use Rattle.show_program.specs.Words.{IsAudit, IsOne, IsPlain, are_several};
+    ghost use Rattle.std.specs.Prelude.{◌≡◌, false, true, None, IfSome, is_some, option_map};
+    ghost use Rattle.show_program.specs.Words.{IsAudit, IsOne, IsPlain, are_several, is_table, is_why, packets_of};
 
     /// The mode that the path of packets, and the flags of an audit and of a summary ask for; none where these are several.
     fn of_words(packets: Option<&'a str>, is_audited: bool, is_summary: bool) -> Option<Mode<'a>>
         ensures one { IsOne (are_several (is_some packets.entry) is_audited is_summary) result }
+        ensures packets { IfSome result (λ mode. packets_of mode ≡ option_map (λ path. path.now) packets.entry) }
+        ensures audit { IfSome result (λ mode. is_why mode ≡ is_audited) }
+        ensures summary { IfSome result (λ mode. is_table mode ≡ is_summary) }
         ensures plain { option_map (λ path. path.now) packets.entry ≡ None → is_audited ≡ false → IsPlain result }
         ensures audited { option_map (λ path. path.now) packets.entry ≡ None → is_audited ≡ true → is_summary ≡ false → IsAudit result }
     {
