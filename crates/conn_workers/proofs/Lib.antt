@@ -1,2 +1,3 @@
 mod Opens
 mod Gathered
+mod FaultExamples

@@ -3,6 +3,7 @@ use Rattle.std.proofs.Common.{◌≡◌, ℕ, List, [], ◌∷◌, None, Some, f
 use Rattle.clap.specs.declared.error.kind.ErrorKind.TheVariants.{DisplayHelp, DisplayVersion, MissingRequiredArgument, OutOfMemory, UnknownArgument}
 use Rattle.program_ends.specs.Telling.{TellsLine, TellsNoMemory, is_mistake}
 use Rattle.program_ends.specs.Words.{is_option}
+use Rattle.program_ends.specs.Source.{path_asked}
 
 abbrev held : List ℕ
 held = codes "held, "
@@ -40,3 +41,18 @@ options = refl
 
 no_options : is_option [] ∷ is_option (codes "a-b.cap") ∷ [] ≡ false ∷ false ∷ []
 no_options = refl
+
+-- ---- where a capture is read from
+
+named_file : path_asked (Some (codes "demo.cap")) ≡ Some (codes "demo.cap")
+named_file = refl
+
+no_word : path_asked None ≡ None
+no_word = refl
+
+-- a dash alone is standard input, and a path that begins with one is a path
+dash : path_asked (Some (codes "-")) ≡ None
+dash = refl
+
+dashed_file : path_asked (Some (codes "-x")) ≡ Some (codes "-x")
+dashed_file = refl

@@ -1,3 +1,4 @@
 mod Extended
 mod Histories
 pub mod Stepped
+mod ShelfExamples

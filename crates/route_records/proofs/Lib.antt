@@ -4,3 +4,4 @@ mod Heard
 pub mod Outputs
 pub mod Replied
 mod ShortReplies
+mod OutputExamples
