@@ -27,7 +27,10 @@ enum State {
 
 impl State {
     fn of_count(count: Option<u32>) -> State {
-        count.map_or(State::Nothing, State::Count)
+        match count {
+            Some(count) => State::Count(count),
+            None => State::Nothing,
+        }
     }
 }
 

@@ -1,188 +1,54 @@
-//! The worked captures by name, and their octets as the conversations write them.
+//! What is said of a worked capture.
 
-use crate::conversation::Conversation;
-use crate::rows;
-use std::alloc::Global;
-use std::io;
+use crate::seen::tell_capture;
+use crate::taken::{is_audited, is_read, is_taken};
+use audit_core::{Verdict, audit_bytes};
+use capture_form::{read_capture, write_capture};
+use std::{fs, io};
 
-/// The head of a record without a note that has an index.
-const NOTHING_WITH_AN_INDEX: &[u8] = b"\0\0\0\0\0\0\0\0\0\0\0\0\0\x01\0\0\0\0";
-
-/// What stands behind a record that breaks a clause: no record has this kind.
-const NO_KIND: u8 = 9;
-
-/// A worked capture, named as its file.
-#[derive(Clone, Copy, Debug, PartialEq, Eq)]
-pub enum Worked {
-    Attached,
-    ConsumerGone,
-    CreditFromTheFuture,
-    CreditFromTheFutureUnused,
-    CreditWrapped,
-    CreditWrappedSpent,
-    CutAtARecord,
-    CutFrame,
-    CutOpen,
-    Drained,
-    DynamicSource,
-    Empty,
-    LateConsumer,
-    Multicast,
-    NoConsumer,
-    OctetChanged,
-    Open,
-    OpenRefused,
-    OptionalFields,
-    Outcome,
-    OutcomeSettledBack,
-    SentBehindDrain,
-    Split,
-    ToldTwice,
-    TwoClients,
-    UnusedIndex,
-    Waiting,
-    WindowOfThree,
-    WindowOfTwo,
-    // these stand in no file
-    OpenedUnasked,
-    OutcomeBeforeItsDecision,
-    OutcomeToldTwice,
-    Sent,
-    SentTwice,
+/// Writes what is said of the capture `NAME.cap`, and whether its verdict is another than `NAME.line`.
+pub fn tell_worked(rt: &HostRuntime, name: &str) -> io::Result<()> {
+    let octets = fs::read(rt, format!(in rt.alloc(); "{name}.cap")?)?;
+    let verdict = audit_bytes(rt.alloc(), octets.as_slice());
+    tell_verdict(rt, name, verdict)?;
+    let wanted = fs::read_to_string(rt, format!(in rt.alloc(); "{name}.line")?)?;
+    if wanted.as_str().trim_end() != format!(in rt.alloc(); "{verdict}")?.as_str() {
+        println!(rt; "  another line than {name}.line")?;
+    }
+    tell_other_verdicts(rt, octets.as_slice(), verdict)?;
+    tell_as_capture(rt, octets.as_slice(), verdict)
 }
 
-impl Worked {
-    /// Those that stand in files, in the order of their names.
-    pub const IN_FILES: [Worked; 29] = [
-        Worked::Attached,
-        Worked::ConsumerGone,
-        Worked::CreditFromTheFuture,
-        Worked::CreditFromTheFutureUnused,
-        Worked::CreditWrapped,
-        Worked::CreditWrappedSpent,
-        Worked::CutAtARecord,
-        Worked::CutFrame,
-        Worked::CutOpen,
-        Worked::Drained,
-        Worked::DynamicSource,
-        Worked::Empty,
-        Worked::LateConsumer,
-        Worked::Multicast,
-        Worked::NoConsumer,
-        Worked::OctetChanged,
-        Worked::Open,
-        Worked::OpenRefused,
-        Worked::OptionalFields,
-        Worked::Outcome,
-        Worked::OutcomeSettledBack,
-        Worked::SentBehindDrain,
-        Worked::Split,
-        Worked::ToldTwice,
-        Worked::TwoClients,
-        Worked::UnusedIndex,
-        Worked::Waiting,
-        Worked::WindowOfThree,
-        Worked::WindowOfTwo,
-    ];
-
-    /// The others.
-    pub const OTHERS: [Worked; 5] = [
-        Worked::OpenedUnasked,
-        Worked::OutcomeBeforeItsDecision,
-        Worked::OutcomeToldTwice,
-        Worked::Sent,
-        Worked::SentTwice,
-    ];
-
-    pub fn name(self) -> &'static str {
-        match self {
-            Worked::Attached => "attached",
-            Worked::ConsumerGone => "consumer_gone",
-            Worked::CreditFromTheFuture => "credit_from_the_future",
-            Worked::CreditFromTheFutureUnused => "credit_from_the_future_unused",
-            Worked::CreditWrapped => "credit_wrapped",
-            Worked::CreditWrappedSpent => "credit_wrapped_spent",
-            Worked::CutAtARecord => "cut_at_a_record",
-            Worked::CutFrame => "cut_frame",
-            Worked::CutOpen => "cut_open",
-            Worked::Drained => "drained",
-            Worked::DynamicSource => "dynamic_source",
-            Worked::Empty => "empty",
-            Worked::LateConsumer => "late_consumer",
-            Worked::Multicast => "multicast",
-            Worked::NoConsumer => "no_consumer",
-            Worked::OctetChanged => "octet_changed",
-            Worked::Open => "open",
-            Worked::OpenRefused => "open_refused",
-            Worked::OptionalFields => "optional_fields",
-            Worked::Outcome => "outcome",
-            Worked::OutcomeSettledBack => "outcome_settled_back",
-            Worked::SentBehindDrain => "sent_behind_drain",
-            Worked::Split => "split",
-            Worked::ToldTwice => "told_twice",
-            Worked::TwoClients => "two_clients",
-            Worked::UnusedIndex => "unused_index",
-            Worked::Waiting => "waiting",
-            Worked::WindowOfThree => "window_of_three",
-            Worked::WindowOfTwo => "window_of_two",
-            Worked::OpenedUnasked => "opened_unasked",
-            Worked::OutcomeBeforeItsDecision => "outcome_before_its_decision",
-            Worked::OutcomeToldTwice => "outcome_told_twice",
-            Worked::Sent => "sent",
-            Worked::SentTwice => "sent_twice",
-        }
+/// Writes what is seen of the capture that octets are, if they are one, and where another text or another verdict comes of it.
+fn tell_as_capture(rt: &HostRuntime, octets: &[u8], verdict: Verdict) -> io::Result<()> {
+    let Ok(capture) = read_capture(rt.alloc(), octets) else {
+        return Ok(());
+    };
+    if write_capture(rt.alloc(), &capture)?.as_slice() != octets {
+        println!(rt; "  another text of the capture that was read")?;
     }
-
-    /// The conversation that it records.
-    fn conversation(self, alloc: Global) -> io::Result<Conversation> {
-        match self {
-            Worked::Attached => rows::attached(alloc, 100),
-            Worked::ConsumerGone => rows::consumer_gone(alloc),
-            Worked::CreditFromTheFuture => rows::credit_from_the_future(alloc),
-            Worked::CreditFromTheFutureUnused => rows::credit_from_the_future_unused(alloc),
-            Worked::CreditWrapped => rows::credit_wrapped(alloc),
-            Worked::CreditWrappedSpent => rows::credit_wrapped_spent(alloc),
-            Worked::CutAtARecord | Worked::CutFrame | Worked::CutOpen | Worked::Open => rows::open(
-                alloc,
-            ),
-            Worked::Drained => rows::drained(alloc),
-            Worked::DynamicSource => rows::dynamic_source(alloc),
-            Worked::Empty | Worked::UnusedIndex => Conversation::new(alloc),
-            Worked::LateConsumer => rows::late_consumer(alloc),
-            Worked::Multicast => rows::multicast(alloc),
-            Worked::NoConsumer => rows::no_consumer(alloc),
-            Worked::OctetChanged => rows::octet_changed(alloc),
-            Worked::OpenRefused => rows::open_refused(alloc),
-            Worked::OptionalFields => rows::optional_fields(alloc),
-            Worked::Outcome => rows::outcome(alloc),
-            Worked::OutcomeSettledBack => rows::outcome_settled_back(alloc),
-            Worked::SentBehindDrain => rows::sent_behind_drain(alloc),
-            Worked::Split => rows::split(alloc),
-            Worked::ToldTwice => rows::told_twice(alloc),
-            Worked::TwoClients => rows::two_clients(alloc),
-            Worked::Waiting => rows::waiting(alloc),
-            Worked::WindowOfThree => rows::window_of(alloc, 3),
-            Worked::WindowOfTwo => rows::window_of(alloc, 2),
-            Worked::OpenedUnasked => rows::opened_unasked(alloc),
-            Worked::OutcomeBeforeItsDecision => rows::outcome_before_its_decision(alloc),
-            Worked::OutcomeToldTwice => rows::outcome_told_twice(alloc),
-            Worked::Sent => rows::sent(alloc),
-            Worked::SentTwice => rows::sent_twice(alloc),
-        }
+    if !is_audited(rt.alloc(), &capture, verdict) {
+        println!(rt; "  another verdict of the capture than of its text")?;
     }
+    tell_capture(rt, &capture)
+}
 
-    /// Its octets: the text of the conversation, or what is left of it where it is cut, or with what follows it and is no
-    /// record.
-    pub fn octets(self, alloc: Global) -> io::Result<Vec<u8>> {
-        let mut octets = self.conversation(alloc)?.text()?;
-        match self {
-            Worked::CutAtARecord => octets.truncate(28),
-            Worked::CutOpen => octets.truncate(29),
-            Worked::CutFrame => octets.truncate(62),
-            Worked::UnusedIndex => octets.extend_from_slice(NOTHING_WITH_AN_INDEX)?,
-            Worked::OpenedUnasked => octets.push(NO_KIND)?,
-            _ => {}
-        }
-        Ok(octets)
+/// Says where the octets, read or taken record by record, get another verdict.
+pub fn tell_other_verdicts(rt: &HostRuntime, octets: &[u8], verdict: Verdict) -> io::Result<()> {
+    if !is_read(rt.alloc(), octets, verdict) {
+        println!(rt; "  another verdict of a reader than of its octets")?;
     }
+    if !is_taken(rt.alloc(), octets, verdict) {
+        println!(rt; "  another verdict of its records than of the text")?;
+    }
+    Ok(())
+}
+
+/// Writes the line of a verdict, and what is wrong with a text that is malformed.
+pub fn tell_verdict(rt: &HostRuntime, name: &str, verdict: Verdict) -> io::Result<()> {
+    println!(rt; "{name}: {verdict}")?;
+    if let Verdict::Malformed(_, kind) = verdict {
+        println!(rt; "  fault: {kind:?}")?;
+    }
+    Ok(())
 }

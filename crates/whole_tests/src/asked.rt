@@ -1,0 +1,109 @@
+//! What is asked of captures.
+//!
+//! A line asks one question: `worked: NAME`, or `WORD=NUMBER PART..: NAME` of a capture that is made piece by piece. A part is a
+//! file, or `TIMES*FILE`; the answer is printed behind the name.
+//!
+//! | Word | What is asked |
+//! |---|---|
+//! | `worked` | all that is said of the capture of this name (`worked`) |
+//! | `cuts=10` | the verdicts of the text, cut to each length from this one on, where they change |
+//! | `verdict` | the verdict of the text, which is made while it is read |
+//! | `waits=15` | how many records the capture has, and whether the delivery that begins in this one waits in the end |
+//! | `entries=21` | how many entries an auditor has behind so many records of the text, which is made while it is read |
+
+use crate::parts::{Part, Parts, octets_of};
+use crate::taken::take;
+use crate::worked::{tell_other_verdicts, tell_verdict, tell_worked};
+use audit_core::{Auditor, Verdict, audit_bytes, audit_stream};
+use capture_form::{Reader, read_capture};
+use std::alloc::Global;
+use std::io;
+use trace_law::waiting_at;
+
+/// Answers what a line asks.
+pub fn answer(rt: &HostRuntime, line: &str) -> io::Result<()> {
+    let (question, name) = line.split_once(": ").unwrap_or((line, line));
+    let mut words = question.split_whitespace();
+    let asked = words.next().unwrap_or("");
+    let (asked, number) = asked.split_once('=').unwrap_or((asked, ""));
+    let number = number.parse::<u32>().unwrap_or(0);
+    let mut parts = Vec::new(rt.alloc());
+    for word in words {
+        parts.push(Part::of(rt, word)?)?;
+    }
+    match asked {
+        "worked" => tell_worked(rt, name),
+        "cuts" => tell_cuts(rt, name, parts.as_slice(), number),
+        "verdict" => tell_read(rt, name, parts.as_slice()),
+        "waits" => tell_waiting(rt, name, parts.as_slice(), number),
+        "entries" => tell_entries(rt, name, parts.as_slice(), number),
+        _ => println!(rt; "no question: {line}"),
+    }
+}
+
+/// Writes the verdicts of a text, cut to each length from this one on, where they change.
+fn tell_cuts(rt: &HostRuntime, name: &str, parts: &[Part], first: u32) -> io::Result<()> {
+    let octets = octets_of(rt.alloc(), parts)?;
+    let mut last = Verdict::NoMemory(0);
+    for length in first as usize..=octets.len() {
+        let cut = octets.get(..length).unwrap_or(&[]);
+        let verdict = audit_bytes(rt.alloc(), cut);
+        tell_other_verdicts(rt, cut, verdict)?;
+        if verdict != last {
+            let name = format!(in rt.alloc(); "{name} {length}")?;
+            tell_verdict(rt, name.as_str(), verdict)?;
+        }
+        last = verdict;
+    }
+    Ok(())
+}
+
+/// Writes the verdict of a text that is made while it is read.
+fn tell_read(rt: &HostRuntime, name: &str, parts: &[Part]) -> io::Result<()> {
+    let verdict = audit_stream(rt.alloc(), Parts::of(parts));
+    println!(rt; "{name}: {verdict}")
+}
+
+/// Writes how many records a capture has, and whether the delivery that begins in one of them waits in the end.
+fn tell_waiting(rt: &HostRuntime, name: &str, parts: &[Part], delivery: u32) -> io::Result<()> {
+    let octets = octets_of(rt.alloc(), parts)?;
+    let Ok(capture) = read_capture(rt.alloc(), octets.as_slice()) else {
+        return println!(rt; "{name}: no capture");
+    };
+    let records = capture.records().len();
+    let waits = waiting_at(&capture, records, u64::from(delivery));
+    println!(rt; "{name}: {records} records, waits: {waits}")
+}
+
+/// Writes how many entries an auditor has behind so many records; none where one is refused, or there are fewer.
+fn tell_entries(rt: &HostRuntime, name: &str, parts: &[Part], count: u32) -> io::Result<()> {
+    let entries = entries_behind(rt.alloc(), parts, count);
+    println!(rt; "{name}: {entries:?}")
+}
+
+/// How many entries an auditor has behind the first `count` records of a text; none where a record is refused, or the text
+/// has fewer.
+fn entries_behind(alloc: Global, parts: &[Part], count: u32) -> Option<usize> {
+    let Ok((rules, mut records)) = Reader::start(alloc, Parts::of(parts)) else {
+        return None;
+    };
+    let mut auditor = Auditor::new(alloc, rules);
+    if takes(&mut auditor, &mut records, count) {
+        Some(auditor.entries())
+    } else {
+        None
+    }
+}
+
+/// Whether an auditor takes so many next records.
+fn takes(auditor: &mut Auditor, records: &mut Reader<Parts<'_>>, count: u32) -> bool {
+    for _ in 0..count {
+        let Ok(Some(entry)) = records.next_record() else {
+            return false;
+        };
+        if take(auditor, entry).is_err() {
+            return false;
+        }
+    }
+    true
+}
