@@ -1,0 +1,84 @@
+//! The frames of clients whose messages are measured, on channel 0: they come in short forms and in place of one another, so
+//! that little of the time goes to them.
+
+use crate::said;
+use crate::said::Attaching;
+use kit_clients::framed;
+use std::alloc::{AllocError, Global};
+
+/// How many octets a message has.
+const MESSAGE: [u8; 100] = [b'.'; 100];
+
+/// A client's open, and its begin, which takes as many transfers as there may be.
+pub const OPEN: &[u8] = &[
+    0, 0, 0, 0x11, 2, 0, 0, 0, 0, 0x53, 0x10, 0xC0, 4, 1, 0xA1, 1, b'c',
+];
+
+pub const BEGIN: &[u8] = &[
+    0, 0, 0, 0x17, 2, 0, 0, 0, 0, 0x53, 0x11, 0xC0, 10, 4, 0x40, 0x43, 0x70, 0x7F, 0xFF, 0xFF,
+    0xFF, 0x52, 100,
+];
+
+/// A detach that closes the link of handle 0.
+pub const DETACH: &[u8] = &[
+    0, 0, 0, 0x10, 2, 0, 0, 0, 0, 0x53, 0x16, 0xC0, 3, 2, 0x43, 0x41,
+];
+
+/// Puts a transfer of a whole message there, in place of what was there.
+pub fn put_transfer(out: &mut Vec<u8>, handle: u32, id: u32) -> Result<(), AllocError> {
+    out.clear();
+    out.extend_from_slice(&[0, 0, 0, 127, 2, 0, 0, 0, 0, 0x53, 0x14, 0xC0, 14, 3, 0x70])?;
+    out.extend_from_slice(&handle.to_be_bytes())?;
+    out.extend_from_slice(&[0x70])?;
+    out.extend_from_slice(&id.to_be_bytes())?;
+    out.extend_from_slice(&[0xA0, 1, b'1'])?;
+    out.extend_from_slice(&MESSAGE)
+}
+
+/// Puts a disposition there that accepts a delivery and settles it.
+pub fn put_accepted(out: &mut Vec<u8>, id: u32) -> Result<(), AllocError> {
+    out.clear();
+    out.extend_from_slice(&[
+        0, 0, 0, 26, 2, 0, 0, 0, 0, 0x53, 0x15, 0xC0, 13, 5, 0x41, 0x70,
+    ])?;
+    out.extend_from_slice(&id.to_be_bytes())?;
+    out.extend_from_slice(&[0x40, 0x41, 0x00, 0x53, 0x24, 0x45])
+}
+
+/// A flow that gives a link as much credit as there may be.
+pub fn crediting(alloc: Global, handle: u32) -> Result<Vec<u8>, AllocError> {
+    let mut out = Vec::new(alloc);
+    out.extend_from_slice(&[0, 0, 0, 34, 2, 0, 0, 0, 0, 0x53, 0x13, 0xC0, 21, 7, 0x43])?;
+    out.extend_from_slice(&[0x70, 0x7F, 0xFF, 0xFF, 0xFF, 0x43, 0x52, 100, 0x70])?;
+    out.extend_from_slice(&handle.to_be_bytes())?;
+    out.extend_from_slice(&[0x43, 0x70, 0x7F, 0xFF, 0xFF, 0xFF])?;
+    Ok(out)
+}
+
+/// A consumer's attach to an address, or a producer's.
+pub fn attaching(
+    alloc: Global,
+    handle: u32,
+    is_consumer: bool,
+    address: &str,
+) -> Result<Vec<u8>, AllocError> {
+    let code = if is_consumer { 0x28 } else { 0x29 };
+    let terminus = said::terminus(alloc, code, address.as_bytes(), false)?;
+    let (source, target) = if is_consumer {
+        (terminus.as_slice(), [0x40].as_slice())
+    } else {
+        ([0x40].as_slice(), terminus.as_slice())
+    };
+    let said = Attaching {
+        name: b"l",
+        handle,
+        is_receiver: is_consumer,
+        sender_mode: None,
+        receiver_mode: None,
+        source,
+        target,
+        initial_count: Some(0),
+    };
+    let body = said::attach(alloc, said)?;
+    framed(alloc, 0, body.as_slice())
+}
