@@ -1,8 +1,9 @@
 -- What an answer keeps: the law, the limit of the client, and the duties of a router (own rules).
-use Rattle.std.specs.Prelude.{◌≡◌, ◌≤◌, ◌<◌, ◌^◌, ℕ, Bool, true, false, ◌&&◌, not, List, [], ◌∷◌, length, None}
+use Rattle.std.specs.Prelude.{◌≡◌, ◌≤◌, ◌<◌, ◌^◌, ℕ, Bool, true, false, ◌&&◌, ◌||◌, not, List, [], ◌∷◌, length, None, is_some}
 use Rattle.capture_form.specs.Rules.{RuleText}
 use Rattle.trace_events.specs.Frame.{Spoken}
 use Rattle.trace_events.specs.Event.{Event, Moment, Opened, Out, is_lost}
+use Rattle.trace_events.specs.Said.{in_transfer, in_disposition}
 use Rattle.trace_events.specs.Connection.{has_event, is_over, was_opened, has_in_open, has_out_frame, frame_limit}
 use Rattle.trace_clauses.specs.Clauses.{broken_clause, first_broken}
 use Rattle.trace_clauses.specs.Written.{spoken_octets}
@@ -21,6 +22,10 @@ abbrev pub may_happen : ℕ → Moment → List Event → Bool
 may_happen c Opened past = true
 may_happen c (Out frame) past = false
 may_happen c m past = was_opened c past && not (was_lost c past)
+
+-- a client's transfer or disposition, without fault
+abbrev pub is_sound_transfer_or_disposition : Event → Bool
+is_sound_transfer_or_disposition e = not (is_some e.fault) && (is_some (in_transfer e) || is_some (in_disposition e))
 
 -- on each connection that is not over, a frame was written just where an open of the client stands
 abbrev pub AreOpensAnswered : List Event → Type 0

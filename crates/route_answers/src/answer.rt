@@ -14,7 +14,7 @@ ghost use Rattle.trace_clauses.specs.Clauses.{first_broken};
 ghost use Rattle.trace_clauses.specs.Written.{session_numbers};
 ghost use Rattle.trace_values.specs.View.{Events, event_view, link_view, spoken_view, body_view};
 ghost use Rattle.trace_duties.specs.Answer as duties;
-ghost use Rattle.route_answers.specs.Answering.{IsReady, may_happen};
+ghost use Rattle.route_answers.specs.Answering.{IsReady, may_happen, is_sound_transfer_or_disposition};
 ghost use Rattle.route_answers.specs.Replies.{reply_view, answer_view, IsAnswerable, IsAnswerableBody, EchoesLive, AreShortTexts, IsHeardShort, CanBeSaid, CanBeWritten, said_answer};
 
 use crate::attach::accepted;
@@ -290,10 +290,11 @@ fn moment_answer<'a, P: Inputs<'a> + Openings<'a> + Counts>(
     }
 }
 
-/// Whether nothing is owed for an event, whatever came before it: a transfer or a disposition without fault has no direct answer.
-/// Of one that says no, something may be owed or nothing.
+/// Whether an event is a client's transfer or disposition without fault. Nothing is owed for such a one, whatever came before
+/// it: it has no direct answer. Of any other, something may be owed or nothing.
 pub fn owes_nothing(event: &Event<'_>) -> bool
-    ensures { result ≡ true → (rules : List RuleText) (past : Events) → duties.answer rules (event_view event.now) past ≡ [] }
+    ensures is { result ≡ is_sound_transfer_or_disposition (event_view event.now) }
+    ensures owed { result ≡ true → (rules : List RuleText) (past : Events) → duties.answer rules (event_view event.now) past ≡ [] }
 {
     event.fault.is_none() && (event.in_transfer().is_some() || event.in_disposition().is_some())
 }
