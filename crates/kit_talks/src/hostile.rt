@@ -168,20 +168,8 @@ impl Driver {
         for _ in 0..self.chance.one_of(&[1, 1, 1, 160, 161, 255, 256], 0) {
             text.push(b'n')?;
         }
-        let source = match self.chance.number(6) {
-            0 => EMPTY_SOURCE,
-            1 => SYMBOL_SOURCE,
-            2 => NO_SOURCE,
-            3 => NO_TARGET,
-            _ => NULL,
-        };
-        let target = match self.chance.number(6) {
-            0 => COORDINATOR,
-            1 => DYNAMIC_TARGET,
-            2 => NO_TARGET,
-            3 => NO_SOURCE,
-            _ => NULL,
-        };
+        let source = self.odd_source();
+        let target = self.odd_target();
         let long = said::terminus(self.alloc, 0x28, text.as_slice(), false)?;
         let attaching = Attaching {
             name: text.as_slice(),
@@ -203,6 +191,28 @@ impl Driver {
         };
         let body = said::attach(self.alloc, attaching)?;
         framed(self.alloc, place.channel, body.as_slice())
+    }
+
+    /// The octets of a source that is empty, or none, or those of a target.
+    fn odd_source(&mut self) -> &'static [u8] {
+        match self.chance.number(6) {
+            0 => EMPTY_SOURCE,
+            1 => SYMBOL_SOURCE,
+            2 => NO_SOURCE,
+            3 => NO_TARGET,
+            _ => NULL,
+        }
+    }
+
+    /// The octets of a target that no message is sent to, or none, or those of a source.
+    fn odd_target(&mut self) -> &'static [u8] {
+        match self.chance.number(6) {
+            0 => COORDINATOR,
+            1 => DYNAMIC_TARGET,
+            2 => NO_TARGET,
+            3 => NO_SOURCE,
+            _ => NULL,
+        }
     }
 
     /// A transfer on some handle, with some id.
