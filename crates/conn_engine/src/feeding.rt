@@ -14,7 +14,7 @@ use route_items::Item;
 use stream_reading::{Event, Phase, Step, StreamFault, StreamReader, answer_to, answer_to_fault};
 
 /// Takes the next octets of a stream, and each step that is whole then, in order: it is answered, and the router is
-/// told of it.
+/// told of it. The port holds in between.
 ///
 /// # Errors
 ///
@@ -34,7 +34,10 @@ pub(crate) fn take_piece<P: Port>(
     let Ok(()) = reader.feed(piece) else {
         return Err(EngineFault::Memory);
     };
-    take_steps(connection, port, reader, output)
+    port.hold();
+    let taken = take_steps(connection, port, reader, output);
+    port.rest();
+    taken
 }
 
 /// Takes each step that is whole.

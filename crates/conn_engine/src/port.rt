@@ -54,4 +54,21 @@ pub trait Port {
         ensures err { OnErr result ((frames self.new ≡ frames self.old) × (out.new.items ≡ out.old.items)) }
         ensures items { items self.new ≡ items self.old }
         ensures connection { connection self.new ≡ connection self.old };
+
+    /// Several calls follow, up to `rest`: until then a port may hold on to what it shares with others. A port that shares nothing
+    /// has nothing to do.
+    fn hold(&mut self)
+        ensures items { items self.new ≡ items self.old }
+        ensures frames { frames self.new ≡ frames self.old }
+        ensures idle { is_idle self.new ≡ is_idle self.old }
+        ensures connection { connection self.new ≡ connection self.old }
+    {}
+
+    /// No more calls follow for now: a port lets go of what it held on to.
+    fn rest(&mut self)
+        ensures items { items self.new ≡ items self.old }
+        ensures frames { frames self.new ≡ frames self.old }
+        ensures idle { is_idle self.new ≡ is_idle self.old }
+        ensures connection { connection self.new ≡ connection self.old }
+    {}
 }

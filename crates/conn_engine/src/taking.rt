@@ -16,12 +16,34 @@ use std::alloc::AllocError;
 pub(crate) const ENOUGH_OCTETS: usize = 65536;
 
 /// Takes frames of a port until it has none or enough octets wait, from the record numbered `next` on, and keeps where
-/// the first close ends.
+/// the first close ends. The port holds in between.
 ///
 /// # Errors
 ///
 /// Where the memory for a frame is refused. Those before it were taken.
 pub(crate) fn take_frames<P: Port>(
+    port: &mut P,
+    output: &mut Output,
+    next: &mut u64,
+    close: &mut Option<usize>,
+) -> Result<(), AllocError>
+    ensures took { TookFrames (P.frames port.old) (P.frames port.new) output.old output.new close.old close.new }
+    ensures all { OnOk result (IsRefilled (P.is_idle port.new) output.new) }
+    ensures items { P.items port.new ≡ P.items port.old }
+    ensures connection { P.connection port.new ≡ P.connection port.old }
+{
+    port.hold();
+    let taken = take_all_frames(port, output, next, close);
+    port.rest();
+    taken
+}
+
+/// Takes frames of a port until it has none or enough octets wait.
+///
+/// # Errors
+///
+/// Where the memory for a frame is refused. Those before it were taken.
+fn take_all_frames<P: Port>(
     port: &mut P,
     output: &mut Output,
     next: &mut u64,

@@ -1,6 +1,6 @@
 use Rattle.std.proofs.Common.{◌∙◌}
 use Rattle.conn_engine.proofs.FramesOn.{fewer, took_more}
-use Rattle.conn_engine.proofs.taking.take_frames.Goals as goal
+use Rattle.conn_engine.proofs.taking.take_all_frames.Goals as goal
 
 pub loop-port-preserved : goal.loop-port-preserved
 loop-port-preserved g c = record {

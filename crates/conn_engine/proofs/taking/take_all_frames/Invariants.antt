@@ -1,6 +1,6 @@
 use Rattle.std.proofs.Common.{◌≡◌, ◌-◌, ◌^◌}
 use Rattle.conn_engine.specs.Taking.{TookFrames}
-use Rattle.conn_engine.proofs.taking.take_frames.Given as goal
+use Rattle.conn_engine.proofs.taking.take_all_frames.Given as goal
 
 abbrev pub invariant-loop-port : goal.invariant-loop-port
 invariant-loop-port g l = record {
