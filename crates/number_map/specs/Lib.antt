@@ -1,0 +1,3 @@
+pub use Rattle.indexmap.specs.IndexMap
+pub mod Lends
+pub mod NumberMap
