@@ -11,7 +11,7 @@ ghost use Rattle.trace_values.specs.View.{event_view, link_view};
 
 use crate::consumers::opened;
 use audit_tables::HeldLink;
-use indexmap::IndexMap;
+use number_map::NumberMap;
 use std::alloc::{AllocError, Global};
 use trace_values::{Event, Link};
 
@@ -19,7 +19,7 @@ use trace_values::{Event, Link};
 #[derive(Drop)]
 pub struct ConsumerLinks {
     alloc: Global,
-    entries: IndexMap<u64, HeldLink>,
+    entries: NumberMap<u64, HeldLink>,
 }
 
 impl ConsumerLinks {
@@ -29,7 +29,7 @@ impl ConsumerLinks {
     {
         ConsumerLinks {
             alloc,
-            entries: IndexMap::new(alloc),
+            entries: NumberMap::new(alloc),
         }
     }
 

@@ -21,8 +21,8 @@ use crate::groups::{HeldGroups, Marks};
 use crate::held::HeldDelivery;
 use audit_addresses::Addresses;
 use capture_form::Rule;
-use indexmap::IndexMap;
 use number_groups::NumberSet;
+use number_map::NumberMap;
 use std::alloc::{AllocError, Global};
 use trace_values::{Event, Link};
 
@@ -30,7 +30,7 @@ use trace_values::{Event, Link};
 #[derive(Drop)]
 pub struct Deliveries {
     alloc: Global,
-    entries: IndexMap<u64, HeldDelivery>,
+    entries: NumberMap<u64, HeldDelivery>,
     pub(crate) groups: HeldGroups,
 }
 
@@ -41,7 +41,7 @@ impl Deliveries {
     {
         Deliveries {
             alloc,
-            entries: IndexMap::new(alloc),
+            entries: NumberMap::new(alloc),
             groups: HeldGroups::new(alloc),
         }
     }

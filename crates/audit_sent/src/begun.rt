@@ -4,7 +4,7 @@ ghost use Rattle.std.specs.Prelude.{◌≡◌, ◌∷◌, ℕ, [], OnOk};
 ghost use Rattle.audit_sent.specs.SentTables.{AreBegun};
 ghost use Rattle.trace_values.specs.View.{Events, event_view};
 
-use indexmap::IndexMap;
+use number_map::NumberMap;
 use pairing_cert::Note;
 use std::alloc::{AllocError, Global};
 use trace_values::Event;
@@ -14,8 +14,8 @@ use trace_values::Event;
 #[doc(hidden)]
 #[derive(Drop)]
 pub struct LastNumbers {
-    pub(crate) on_link: IndexMap<u64, u64>,
-    pub(crate) carriers: IndexMap<u64, u64>,
+    pub(crate) on_link: NumberMap<u64, u64>,
+    pub(crate) carriers: NumberMap<u64, u64>,
 }
 
 impl LastNumbers {
@@ -24,8 +24,8 @@ impl LastNumbers {
         ensures { AreBegun result [] }
     {
         LastNumbers {
-            on_link: IndexMap::new(alloc),
-            carriers: IndexMap::new(alloc),
+            on_link: NumberMap::new(alloc),
+            carriers: NumberMap::new(alloc),
         }
     }
 

@@ -26,8 +26,8 @@ use crate::begun::LastNumbers;
 use crate::groups::SentGroups;
 use crate::payload::goes_on_with;
 use crate::sent::SentDelivery;
-use indexmap::IndexMap;
 use number_groups::{Groups, IdOn, NumberSet};
+use number_map::NumberMap;
 use std::alloc::{AllocError, Global};
 use trace_values::{Event, Link};
 
@@ -35,7 +35,7 @@ use trace_values::{Event, Link};
 #[derive(Drop)]
 pub struct SentDeliveries {
     alloc: Global,
-    entries: IndexMap<u64, SentDelivery>,
+    entries: NumberMap<u64, SentDelivery>,
     groups: SentGroups,
     begun: LastNumbers,
 }
@@ -47,7 +47,7 @@ impl SentDeliveries {
     {
         SentDeliveries {
             alloc,
-            entries: IndexMap::new(alloc),
+            entries: NumberMap::new(alloc),
             groups: SentGroups::new(alloc),
             begun: LastNumbers::new(alloc),
         }

@@ -5,8 +5,7 @@ ghost use Rattle.number_groups.specs.Groups.{numbers};
 ghost use Rattle.trace_events.specs.Words.{where_passes};
 ghost use Rattle.audit_sent.specs.Earliest as law;
 
-use number_groups::Groups;
-use std::hash::Hash;
+use number_groups::{Groups, NumberKey};
 
 /// A test of records by their numbers.
 pub(crate) trait NumberTest {
@@ -44,7 +43,7 @@ fn passing<T: NumberTest>(number: Option<u64>, test: &T) -> Option<u64>
 }
 
 /// The least number of the group of the key that passes. It takes the time of the group.
-pub(crate) fn least<K: Copy + Eq + Hash + Drop, T: NumberTest>(
+pub(crate) fn least<K: NumberKey, T: NumberTest>(
     groups: &Groups<K>,
     key: &K,
     test: &T,

@@ -10,7 +10,7 @@ ghost use Rattle.trace_values.specs.View.{event_view};
 
 use crate::handle::Handle;
 use crate::handles::{Handles, handle_of};
-use indexmap::IndexMap;
+use number_map::NumberMap;
 use std::alloc::{AllocError, Global};
 use trace_values::Event;
 
@@ -19,7 +19,7 @@ use trace_values::Event;
 #[derive(Drop)]
 pub struct Channels {
     alloc: Global,
-    pub(crate) entries: IndexMap<u16, Handles>,
+    pub(crate) entries: NumberMap<u16, Handles>,
 }
 
 /// The event says something of a handle on a live session.
@@ -36,7 +36,7 @@ impl Channels {
     {
         Channels {
             alloc,
-            entries: IndexMap::new(alloc),
+            entries: NumberMap::new(alloc),
         }
     }
 
@@ -69,7 +69,7 @@ impl Channels {
         ensures said { OnErr result (says_of_handle (event_view event.now) ≡ true) }
     {
         if event.moment.is_final() {
-            self.entries = IndexMap::new(self.alloc);
+            self.entries = NumberMap::new(self.alloc);
         } else if let Some(channel) = event.moment.channel() {
             self.take_on(channel, event)?;
         }

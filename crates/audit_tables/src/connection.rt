@@ -11,7 +11,7 @@ ghost use Rattle.trace_values.specs.View.{event_view};
 use crate::sessions::{Counted, opens_or_ends, session_after};
 use crate::unanswered::Unanswered;
 use flow_counts::{MAX_FRAME_SIZE, MIN_MAX_FRAME_SIZE};
-use indexmap::IndexMap;
+use number_map::NumberMap;
 use std::alloc::{AllocError, Global};
 use trace_values::Event;
 
@@ -87,8 +87,8 @@ impl Seen {
 pub struct Connection {
     alloc: Global,
     seen: Seen,
-    sessions: IndexMap<u16, Counted>,
-    unanswered: IndexMap<u16, Unanswered>,
+    sessions: NumberMap<u16, Counted>,
+    unanswered: NumberMap<u16, Unanswered>,
 }
 
 impl Connection {
@@ -99,8 +99,8 @@ impl Connection {
         Connection {
             alloc,
             seen: Seen::new(),
-            sessions: IndexMap::new(alloc),
-            unanswered: IndexMap::new(alloc),
+            sessions: NumberMap::new(alloc),
+            unanswered: NumberMap::new(alloc),
         }
     }
 
@@ -154,7 +154,7 @@ impl Connection {
         }
         self.seen = self.seen.after(event);
         if event.moment.is_final() {
-            self.sessions = IndexMap::new(self.alloc);
+            self.sessions = NumberMap::new(self.alloc);
         }
         Ok(())
     }

@@ -14,7 +14,7 @@ ghost use Rattle.trace_values.specs.View.{Events, event_view};
 use crate::connection::{Connection, Seen};
 use crate::sessions::Counted;
 use crate::unanswered::Unanswered;
-use indexmap::IndexMap;
+use number_map::NumberMap;
 use std::alloc::{AllocError, Global};
 use trace_values::Event;
 
@@ -22,7 +22,7 @@ use trace_values::Event;
 #[derive(Drop)]
 pub struct Connections {
     alloc: Global,
-    entries: IndexMap<u32, Connection>,
+    entries: NumberMap<u32, Connection>,
 }
 
 impl Connections {
@@ -33,7 +33,7 @@ impl Connections {
     {
         Connections {
             alloc,
-            entries: IndexMap::new(alloc),
+            entries: NumberMap::new(alloc),
         }
     }
 

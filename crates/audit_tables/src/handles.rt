@@ -11,7 +11,7 @@ ghost use Rattle.trace_values.specs.View.{event_view};
 
 use crate::handle::Handle;
 use amqp_perf::Performative;
-use indexmap::IndexMap;
+use number_map::NumberMap;
 use std::alloc::{AllocError, Global};
 use trace_values::{Event, handle_in};
 
@@ -20,7 +20,7 @@ use trace_values::{Event, handle_in};
 #[derive(Drop)]
 pub struct Handles {
     alloc: Global,
-    pub(crate) entries: IndexMap<u32, Handle>,
+    pub(crate) entries: NumberMap<u32, Handle>,
 }
 
 /// The handle of which a performative says something.
@@ -47,7 +47,7 @@ impl Handles {
     {
         Handles {
             alloc,
-            entries: IndexMap::new(alloc),
+            entries: NumberMap::new(alloc),
         }
     }
 

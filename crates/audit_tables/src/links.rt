@@ -13,7 +13,7 @@ ghost use Rattle.trace_values.specs.View.{Events, event_view};
 
 use crate::channels::{Channels, says_of_handle};
 use crate::handle::Handle;
-use indexmap::IndexMap;
+use number_map::NumberMap;
 use std::alloc::{AllocError, Global};
 use trace_values::Event;
 
@@ -21,7 +21,7 @@ use trace_values::Event;
 #[derive(Drop)]
 pub struct Links {
     alloc: Global,
-    pub(crate) entries: IndexMap<u32, Channels>,
+    pub(crate) entries: NumberMap<u32, Channels>,
 }
 
 impl Links {
@@ -31,7 +31,7 @@ impl Links {
     {
         Links {
             alloc,
-            entries: IndexMap::new(alloc),
+            entries: NumberMap::new(alloc),
         }
     }
 

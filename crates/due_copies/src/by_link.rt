@@ -4,7 +4,7 @@ ghost use Rattle.std.specs.Prelude.{◌≡◌, ◌&&◌, ◌==◌, ◌<◌, ◌�
 ghost use Rattle.indexmap.specs.IndexMap.{get};
 ghost use Rattle.due_copies.specs.ByLink.{copy_at, count_of};
 
-use indexmap::IndexMap;
+use number_map::NumberMap;
 use std::alloc::{AllocError, Global};
 use std::collections::BTreeMap;
 
@@ -12,7 +12,7 @@ use std::collections::BTreeMap;
 #[derive(Drop)]
 pub struct ByLink {
     alloc: Global,
-    entries: IndexMap<u64, BTreeMap<u64, u64>>,
+    entries: NumberMap<u64, BTreeMap<u64, u64>>,
 }
 
 impl ByLink {
@@ -22,7 +22,7 @@ impl ByLink {
     {
         ByLink {
             alloc,
-            entries: IndexMap::new(alloc),
+            entries: NumberMap::new(alloc),
         }
     }
 

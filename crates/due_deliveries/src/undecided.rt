@@ -9,9 +9,8 @@ ghost use Rattle.trace_events.specs.Outgoing.{outgoing_begun};
 ghost use Rattle.trace_values.specs.View.{event_view, outgoing_view};
 
 use amqp_perf::{Disposition, Role};
-use number_groups::{Groups, IdOn};
+use number_groups::{Groups, IdOn, NumberKey};
 use std::alloc::{AllocError, Global};
-use std::hash::Hash;
 use trace_values::{Event, Outgoing};
 
 /// The numbers of the deliveries to clients that their consumers may still decide. One that is over without a decision stays
@@ -26,7 +25,7 @@ pub struct Undecided {
 }
 
 /// The numbers of the group.
-fn numbers_of<K: Copy + Eq + Hash + Drop>(
+fn numbers_of<K: NumberKey>(
     alloc: Global,
     groups: &Groups<K>,
     key: &K,

@@ -15,9 +15,8 @@ ghost use Rattle.number_groups.specs.Ids.{same_id};
 ghost use Rattle.due_outcomes.specs.SentNumbers.{Grows, IsUnder, KeepsAll};
 
 use amqp_perf::{Disposition, Role};
-use number_groups::{Ascending, Groups, IdOn};
+use number_groups::{Ascending, Groups, IdOn, NumberKey};
 use std::alloc::{AllocError, Global};
-use std::hash::Hash;
 use trace_values::{Event, Link, Outgoing};
 
 /// Numbers by the deliveries to clients that they stand for.
@@ -43,7 +42,7 @@ fn add(candidates: &mut Ascending, number: Option<u64>) -> Result<(), AllocError
 }
 
 /// All numbers of the group become candidates.
-fn add_group<K: Copy + Eq + Hash + Drop>(
+fn add_group<K: NumberKey>(
     candidates: &mut Ascending,
     groups: &Groups<K>,
     key: &K,

@@ -5,18 +5,17 @@ ghost use Rattle.std.specs.List.{IsDistinct};
 ghost use Rattle.indexmap.specs.IndexMap.{get};
 
 use crate::group::Group;
-use indexmap::IndexMap;
+use number_map::{NumberKey, NumberMap};
 use std::alloc::{AllocError, Global};
-use std::hash::Hash;
 
 /// Sets of numbers by key. A key without numbers takes no memory.
 #[derive(Drop)]
-pub struct Groups<K: Copy + Eq + Hash + Drop> {
+pub struct Groups<K: NumberKey> {
     alloc: Global,
-    entries: IndexMap<K, Group>,
+    entries: NumberMap<K, Group>,
 }
 
-impl<K: Copy + Eq + Hash + Drop> Groups<K> {
+impl<K: NumberKey> Groups<K> {
     ghost use Rattle.number_groups.specs.Groups.{AreSame, Joined, Left, is_kept, is_member, numbers};
 
     /// No numbers.
@@ -25,7 +24,7 @@ impl<K: Copy + Eq + Hash + Drop> Groups<K> {
     {
         Groups {
             alloc,
-            entries: IndexMap::new(alloc),
+            entries: NumberMap::new(alloc),
         }
     }
 

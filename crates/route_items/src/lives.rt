@@ -7,7 +7,7 @@ ghost use Rattle.route_items.specs.Inputs as law;
 ghost use Rattle.route_items.specs.Lives.{AreLives, life_after, life_in};
 
 use crate::Item;
-use indexmap::IndexMap;
+use number_map::NumberMap;
 use std::alloc::{AllocError, Global};
 
 /// What became of a connection.
@@ -44,7 +44,7 @@ impl Life {
 /// What became of each connection, by the inputs that came; one without any was not opened.
 #[derive(Drop)]
 pub struct Lives {
-    entries: IndexMap<u32, Life>,
+    entries: NumberMap<u32, Life>,
 }
 
 impl Lives {
@@ -53,7 +53,7 @@ impl Lives {
         ensures { AreLives result [] }
     {
         Lives {
-            entries: IndexMap::new(alloc),
+            entries: NumberMap::new(alloc),
         }
     }
 

@@ -1,16 +1,15 @@
 //! Numbers, alone and under keys of a number, of a pair of numbers and of octets.
 
 use crate::words::{Answer, Subject, done, number, parted, parts, small, told, word};
-use number_groups::{Ascending, Groups, NumberSet, OctetGroups};
+use number_groups::{Ascending, Groups, IdOn, NumberKey, NumberSet, OctetGroups};
 use std::alloc::Global;
-use std::hash::Hash;
 
 /// Groups of each kind of key, and numbers without one.
 #[derive(Drop)]
 pub struct Keyed {
     alloc: Global,
     by_number: Groups<u64>,
-    by_pair: Groups<(u64, u32)>,
+    by_pair: Groups<IdOn>,
     by_octets: OctetGroups,
     set: NumberSet,
     ascending: Ascending,
@@ -38,7 +37,10 @@ impl Subject for Keyed {
             "number" => group_answer(alloc, &mut self.by_number, number(key), verb, value),
             "pair" => {
                 let parts = parts(alloc, key)?;
-                let key = (number(word(&parts, 0)), small(word(&parts, 1)));
+                let key = IdOn {
+                    session: number(word(&parts, 0)),
+                    id: small(word(&parts, 1)),
+                };
                 group_answer(alloc, &mut self.by_pair, key, verb, value)
             }
             "octets" => self.octets_answer(octets_of(key), verb, value),
@@ -89,7 +91,7 @@ impl Keyed {
 
 /// What comes of a word about the numbers of a key, with the number or the index behind it. `count` tells too whether there
 /// are none.
-fn group_answer<K: Copy + Eq + Hash + Drop>(
+fn group_answer<K: NumberKey>(
     alloc: Global,
     groups: &mut Groups<K>,
     key: K,
