@@ -1,6 +1,6 @@
 //! The links of live sessions that an event ends, asked before the tables take it.
 
-ghost use Rattle.std.specs.Prelude.{◌≡◌, ◌++◌, ◌↔◌, ◌⊎◌, ℕ, List, [], ◌∷◌, IfOk, OnOk, Some, is_some, nat_eq, option_map};
+ghost use Rattle.std.specs.Prelude.{◌≡◌, ◌++◌, ◌↔◌, ◌⊎◌, ℕ, List, [], ◌∷◌, IfOk, OnOk, Some, is_some, nat_eq, option_map, true, false};
 ghost use Rattle.std.specs.List.{Contains};
 ghost use Rattle.indexmap.specs.IndexMap.{IsUnique, values};
 ghost use Rattle.capture_form.specs.Rules.{RuleText};
@@ -15,8 +15,9 @@ ghost use Rattle.trace_values.specs.View.{event_view, link_view};
 use crate::channels::Channels;
 use crate::handles::{Handles, handle_of};
 use crate::links::Links;
+use amqp_perf::Performative;
 use std::alloc::{AllocError, Global};
-use trace_values::{Event, Link};
+use trace_values::{Body, Event, Link, Moment};
 
 /// A session of the event's channel ends with it, or another begins there.
 fn ends_channel(event: &Event) -> bool
@@ -34,11 +35,27 @@ fn ends_named(event: &Event) -> bool
         || event.out_attach().is_some() && event.link.is_some()
 }
 
+/// The event's frame is a transfer, a disposition or a flow, as most are. These end nothing.
+fn ends_nothing(event: &Event) -> bool
+    ensures { result ≡ true → may_end (event_view event.now) ≡ false }
+{
+    let (Moment::In(frame) | Moment::Out(frame)) = &event.moment else {
+        return false;
+    };
+    match &frame.body {
+        Body::Says(spoken) => matches!(
+            spoken.performative,
+            Performative::Transfer(_) | Performative::Disposition(_) | Performative::Flow(_)
+        ),
+        _ => false,
+    }
+}
+
 /// The event may end links, as far as its kind tells. Few do.
 fn may_end(event: &Event) -> bool
     ensures { result ≡ may_end (event_view event.now) }
 {
-    event.moment.is_final() || ends_channel(event) || ends_named(event)
+    !ends_nothing(event) && (event.moment.is_final() || ends_channel(event) || ends_named(event))
 }
 
 impl Links {
