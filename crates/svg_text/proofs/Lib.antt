@@ -1,0 +1,8 @@
+-- proofs/Lib.antt
+pub mod Pieces
+pub mod Reading
+pub mod Octets
+pub mod Puts
+pub mod Contents
+pub mod Fronts
+pub mod Examples
