@@ -1,0 +1,9 @@
+use Rattle.std.proofs.Common.{◌∙◌}
+use Rattle.capture_chart.specs.Shown.{shown}
+use Rattle.capture_chart.proofs.Drawings.{arrow_drawn}
+use Rattle.capture_chart.proofs.arrows.draw_arrow.Goals as goal
+
+pub returns : goal.returns
+returns c =
+    arrow_drawn c.end.result c.args.drawing c.in_ok-opened.opened c.in_ok-titled.titled c.in_ok-described.described c.in_ok-seen.seen _ _ _ (shown c.args.arrow.now)
+    c.in_ok-opened.ensures c.in_ok-titled.ensures (c.as_str.ensures.value ∙ c.in_ok-title.ensures) c.in_ok-described.ensures c.in_ok-seen.ensures c.end.ensures

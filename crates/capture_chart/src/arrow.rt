@@ -1,0 +1,80 @@
+//! An arrow of a chart.
+
+use crate::topic::{Course, Topic, course_of, topic_of};
+use capture_view::{LinkTold, RecordView};
+use capture_words::Page;
+use itoa::Buffer;
+use pairing_cert::Note;
+use std::alloc::{AllocError, Global};
+
+/// How many characters of a text of the capture stand in an arrow's words.
+const WIDTH: usize = 40;
+
+/// What is shown of a record.
+#[derive(Debug, Drop)]
+pub struct Arrow {
+    /// The number of the record.
+    pub number: u64,
+    pub connection: u32,
+    pub course: Course,
+    pub topic: Topic,
+    /// The record of the first transfer of the delivery that is carried.
+    pub carried: Option<u64>,
+    /// The line of the record.
+    pub words: String,
+}
+
+impl Arrow {
+    ghost use Rattle.std.specs.Prelude.{◌≡◌, IfOk, OnOk, ◌++◌};
+    ghost use Rattle.std.specs.String.{string_bytes};
+    ghost use Rattle.capture_view.specs.Viewed.{viewed};
+    ghost use Rattle.capture_chart.specs.Shown.{shown, shown_of, title_text};
+
+    /// The arrow of a record, whose frame names this link, or stands on a session that has begun.
+    pub(crate) fn new(
+        alloc: Global,
+        view: &RecordView<'_>,
+        link: Option<LinkTold<'_>>,
+        has_session: bool,
+    ) -> Result<Arrow, AllocError>
+        ensures { IfOk result (λ arrow. shown arrow ≡ shown_of (viewed view.now)) }
+    {
+        let mut page = Page::new(alloc, Some(WIDTH));
+        page.put_record(view, link, has_session)?;
+        let words = String::from_str(alloc, page.text().trim())?;
+        Ok(Arrow {
+            number: view.number,
+            connection: view.connection,
+            course: course_of(view.happened),
+            topic: topic_of(view.happened),
+            carried: carried_by(view.note),
+            words,
+        })
+    }
+
+    /// What the arrow is called.
+    pub(crate) fn title(&self, alloc: Global) -> Result<String, AllocError>
+        ensures { IfOk result (λ title. string_bytes title ≡ title_text (shown self.now)) }
+    {
+        let mut digits = Buffer::new();
+        let mut title = String::from_str(alloc, digits.format(self.number))?;
+        title.push_str(" connection ")?;
+        let mut digits = Buffer::new();
+        title.push_str(digits.format(self.connection))?;
+        title.push_str(self.course.words())?;
+        title.push_str(self.topic.words())?;
+        Ok(title)
+    }
+}
+
+ghost use Rattle.std.specs.Prelude.{◌≡◌};
+ghost use Rattle.capture_chart.specs.Shown as shown;
+
+fn carried_by(note: Note) -> Option<u64>
+    ensures { result ≡ shown.carried_by note }
+{
+    match note {
+        Note::Pair(number) => Some(number),
+        Note::None | Note::Told(_) => None,
+    }
+}

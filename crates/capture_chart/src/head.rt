@@ -1,0 +1,63 @@
+//! What stands in front of the lanes.
+
+ghost use Rattle.std.specs.Prelude.{◌≡◌, IfOk};
+ghost use Rattle.capture_chart.specs.Drawn.{DrawsSome};
+
+use crate::parts::draw_words;
+use std::alloc::AllocError;
+use svg_text::{Attribute, Drawing, Element, Name, Value};
+
+/// How it looks, in light and dark.
+const STYLE: &str = "svg { color: #1a1a1a; background: #ffffff; font: 11px monospace } \
+@media (prefers-color-scheme: dark) { svg { color: #e8e8e8; background: #16181c } } \
+text, path { fill: currentColor } line { stroke: currentColor } \
+.lane { stroke-opacity: 0.3 } .shaft { marker-end: url(#head) } \
+.carries { stroke-opacity: 0.5; stroke-dasharray: 2 3 }";
+
+/// Draws the title, the style, and the head of an arrow.
+pub(crate) fn draw_head(drawing: Drawing, title: &str) -> Result<Drawing, AllocError>
+    ensures { IfOk result (λ after. DrawsSome drawing after) }
+{
+    let titled = draw_words(drawing, Element::Title, title)?;
+    let styled = draw_words(titled, Element::Style, STYLE)?;
+    let defined = styled.start(Element::Definitions, &[])?;
+    let marked = draw_marker(defined)?;
+    marked.end()
+}
+
+fn draw_marker(drawing: Drawing) -> Result<Drawing, AllocError>
+    ensures { IfOk result (λ after. DrawsSome drawing after) }
+{
+    let attributes = [
+        Attribute {
+            name: Name::Identity,
+            value: Value::Text("head"),
+        },
+        Attribute {
+            name: Name::MarkerWidth,
+            value: Value::Number(8),
+        },
+        Attribute {
+            name: Name::MarkerHeight,
+            value: Value::Number(8),
+        },
+        Attribute {
+            name: Name::RefX,
+            value: Value::Number(8),
+        },
+        Attribute {
+            name: Name::RefY,
+            value: Value::Number(4),
+        },
+        Attribute {
+            name: Name::Orient,
+            value: Value::Text("auto"),
+        },
+    ];
+    let marked = drawing.start(Element::Marker, &attributes)?;
+    let path = [Attribute {
+        name: Name::Data,
+        value: Value::Text("M0 0 L8 4 L0 8 Z"),
+    }];
+    marked.empty(Element::Path, &path)?.end()
+}

@@ -1,0 +1,42 @@
+//! Lanes, drawn.
+
+ghost use Rattle.std.specs.Prelude.{◌≡◌, IfOk};
+ghost use Rattle.capture_chart.specs.Drawn.{DrawsSome};
+
+use crate::parts::{draw_label, draw_line};
+use crate::places::lane_place;
+use itoa::Buffer;
+use std::alloc::{AllocError, Global};
+use svg_text::Drawing;
+
+/// Draws the lane of the router and that of each connection, down to this place.
+pub(crate) fn draw_lanes(
+    alloc: Global,
+    drawing: Drawing,
+    lanes: &[u32],
+    bottom: u32,
+) -> Result<Drawing, AllocError>
+    ensures { IfOk result (λ after. DrawsSome drawing after) }
+{
+    let mut drawing = draw_lane(drawing, 0, "router", bottom)?;
+    for (lane, connection) in lanes.iter().enumerate() {
+        let words = lane_words(alloc, *connection)?;
+        drawing = draw_lane(drawing, lane.saturating_add(1), words.as_str(), bottom)?;
+    }
+    Ok(drawing)
+}
+
+fn draw_lane(drawing: Drawing, lane: usize, words: &str, bottom: u32) -> Result<Drawing, AllocError>
+    ensures { IfOk result (λ after. DrawsSome drawing after) }
+{
+    let at = lane_place(lane);
+    let lined = draw_line(drawing, "lane", (at, 30), (at, bottom))?;
+    draw_label(lined, (at, 20), words)
+}
+
+fn lane_words(alloc: Global, connection: u32) -> Result<String, AllocError> {
+    let mut digits = Buffer::new();
+    let mut words = String::from_str(alloc, "connection ")?;
+    words.push_str(digits.format(connection))?;
+    Ok(words)
+}

@@ -1,0 +1,25 @@
+//! The records of a capture as a sequence chart: an SVG.
+//!
+//! A `Chart` takes records one after the other, those that are to be shown, and has an arrow for each of them, in order: its
+//! number, its connection, whether the frame goes to the router or to the client, and which performative its octets are.
+//! `Chart::draw` gives the document, well-formed by the grammar of XML (`svg_text`): one lane for the router, one for each
+//! connection, and a group for each arrow with its title, the record's line in words, and the arrow; from a delivery that
+//! comes in to each transfer that carries it goes a thin line, where both are shown.
+//!
+//! In reading order: `topic`, `arrow`, `chart`; `places` is where lanes and rows stand; `parts` are elements of several calls;
+//! `arrows`, `head`, `lanes`, `draw`.
+#![tactic(auto)]
+
+mod arrow;
+mod arrows;
+mod chart;
+mod draw;
+mod head;
+mod lanes;
+mod parts;
+mod places;
+mod topic;
+
+pub use arrow::Arrow;
+pub use chart::{Chart, ChartFault, MOST_ARROWS};
+pub use topic::{Course, Topic};
