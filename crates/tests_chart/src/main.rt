@@ -1,0 +1,35 @@
+//! Draws the captures of the folder that the program runs in, `data/` here, in the order of their names, and texts that
+//! would break a document if they were written as they are. `stdout` holds what is expected; an independent program reads
+//! each document of it, and finds there each text that was handed in.
+#![tactic(auto)]
+
+mod captures;
+mod texts;
+
+use captures::chart_of;
+use std::{fs, io};
+use texts::tell_texts;
+
+fn main(rt: HostRuntime) -> io::Result<()> {
+    for name in names_of_captures(&rt)?.iter() {
+        let octets = fs::read(&rt, format!(in rt.alloc(); "{name}.cap")?)?;
+        println!(rt; "== {name}")?;
+        match chart_of(rt.alloc(), name, octets.as_slice())? {
+            Some(document) => rt.print(document.as_str())?,
+            None => rt.println("no capture, or too many records")?,
+        }
+    }
+    tell_texts(&rt)
+}
+
+/// The names of the captures in the folder that the program runs in, in order.
+fn names_of_captures(rt: &HostRuntime) -> io::Result<Vec<String>> {
+    let mut names = Vec::new(rt.alloc());
+    for entry in fs::read_dir(rt, ".")? {
+        if let Some(name) = entry?.file_name().strip_suffix(".cap") {
+            names.push(String::from_str(rt.alloc(), name)?)?;
+        }
+    }
+    names.sort()?;
+    Ok(names)
+}
