@@ -1,16 +1,18 @@
 -- Drawings that have something more.
-use Rattle.std.proofs.Common.{◌≡◌, ℕ, ◌+◌, ◌<◌, ◌≤◌, List, [], ◌∷◌, ◌++◌, length, map, take, get_or, Result, Ok, Err, refl, sym, subst, ap, ◌∙◌, append_assoc, append-nil}
-use Rattle.std.proofs.lemmas.List.{map_more, take_all}
+use Rattle.std.proofs.Common.{◌≡◌, ℕ, ◌+◌, ◌<◌, ◌≤◌, List, [], ◌∷◌, ◌++◌, length, map, take, get_or, arith, suc, Result, Ok, Err, refl, sym, subst, ap, ◌∙◌, append_assoc, append-nil}
+use Rattle.std.proofs.lemmas.List.{length-map, length-take, map_more, take_all}
 use Rattle.std.proofs.lemmas.Result.{IfOk-weaker}
 use Rattle.std.specs.Prelude.{IfOk}
-use Rattle.std.specs.List.{AllZip, concat}
+use Rattle.std.specs.List.{concat}
 use Rattle.svg_text.specs.declared.element.Element.{Element}
 use Rattle.svg_text.specs.declared.element.Element.TheVariants.{Description, Group, Title}
 use Rattle.svg_text.specs.declared.attribute.Attribute.{Attribute}
 use Rattle.svg_text.specs.Drawn.{Drawn, end_octets, start_octets}
 use Rattle.capture_chart.specs.declared.arrow.Arrow.{Arrow}
 use Rattle.capture_chart.specs.Shown.{Shown, shown, title_text}
-use Rattle.capture_chart.specs.Drawn.{Draws, DrawsArrow, DrawsArrows, DrawsSome, IsArrow, element_octets}
+use Rattle.capture_chart.specs.declared.places.Place.{Place}
+use Rattle.capture_chart.specs.Places.{place_at}
+use Rattle.capture_chart.specs.Drawn.{AreArrows, Draws, DrawsArrow, DrawsArrows, DrawsSome, IsArrow, element_octets, shaft_octets, tie_octets}
 
 -- ---- one behind the other
 
@@ -71,55 +73,91 @@ closed_some r a opened inner element start is some ends =
 
 -- ---- arrows
 
-group_assoc : (s t d m e : List ℕ) → s ++ ((t ++ (d ++ m)) ++ e) ≡ s ++ (t ++ (d ++ (m ++ e)))
-group_assoc s t d m e = simp append_assoc
+group_assoc : (s t d k h m e : List ℕ) → s ++ ((t ++ (d ++ (k ++ (h ++ m)))) ++ e) ≡ s ++ (t ++ (d ++ (k ++ (h ++ (m ++ e)))))
+group_assoc s t d k h m e = simp append_assoc
 
-pub arrow_drawn : {E : Type 0} (r : Result Drawn E) (a opened titled described seen : Drawn) (attributes : List Attribute) (title words : List ℕ) (arrow : Shown)
+pub arrow_drawn : {E : Type 0} (r : Result Drawn E) (a opened titled described tied shot seen : Drawn) (attributes : List Attribute) (title words : List ℕ) (arrow : Shown) (place : Place)
     → opened ≡ record { octets = a.octets ++ start_octets Group attributes; unclosed = a.unclosed ++ Group ∷ [] }
     → Draws opened titled (element_octets Title title) → title ≡ title_text arrow → Draws titled described (element_octets Description words)
-    → DrawsSome described seen → Ends r seen → IfOk r (λ after. DrawsArrow a after arrow)
-arrow_drawn r a opened titled described seen attributes title words arrow is first title_is second some ends =
-    let inside = element_octets Title title ++ (element_octets Description words ++ some.more) in
-    let draws : Draws opened seen inside = draws_then opened titled seen _ _ first (draws_then titled described seen _ _ second some.draws) in
+    → Draws described tied (tie_octets place) → Draws tied shot (shaft_octets arrow.course place) → DrawsSome shot seen → Ends r seen
+    → IfOk r (λ after. DrawsArrow place a after arrow)
+arrow_drawn r a opened titled described tied shot seen attributes title words arrow place is first title_is second third fourth some ends =
+    let heads = element_octets Title title in
+    let told = element_octets Description words in
+    let tie = tie_octets place in
+    let shaft = shaft_octets arrow.course place in
+    let inside = heads ++ (told ++ (tie ++ (shaft ++ some.more))) in
+    let draws : Draws opened seen inside =
+    draws_then opened titled seen heads _ first
+    (draws_then titled described seen told _ second
+    (draws_then described tied seen tie _ third
+    (draws_then tied shot seen shaft some.more fourth some.draws))) in
     IfOk-weaker r _ _ (λ after draws. record {
       more = start_octets Group attributes ++ (inside ++ end_octets Group);
       draws = draws;
       drawn = record {
         attributes = attributes;
         words = words;
-        seen = some.more;
-        parts = group_assoc (start_octets Group attributes) (element_octets Title title) (element_octets Description words) some.more (end_octets Group)
-            ∙ ap (λ (t : List ℕ). start_octets Group attributes ++ (element_octets Title t ++ (element_octets Description words ++ (some.more ++ end_octets Group)))) title_is;
+        label = some.more;
+        parts = group_assoc (start_octets Group attributes) heads told tie shaft some.more (end_octets Group)
+            ∙ ap (λ (t : List ℕ). start_octets Group attributes ++ (element_octets Title t ++ (told ++ (tie ++ (shaft ++ (some.more ++ end_octets Group)))))) title_is;
       };
     })
     (closed r a opened seen Group (start_octets Group attributes) inside is draws ends)
 
-all_zip_push : (arrows : List Shown) (groups : List (List ℕ)) (arrow : Shown) (group : List ℕ) → AllZip IsArrow arrows groups → IsArrow arrow group
-    → AllZip IsArrow (arrows ++ arrow ∷ []) (groups ++ group ∷ [])
-all_zip_push [] [] arrow group h k = (k, tt)
-all_zip_push [] (y ∷ ys) arrow group h k = absurd h
-all_zip_push (x ∷ xs) [] arrow group h k = absurd h
-all_zip_push (x ∷ xs) (y ∷ ys) arrow group h k = (h.0, all_zip_push xs ys arrow group h.1 k)
+arrows_push : (lanes : List ℕ) (all : List Shown) (row : ℕ) (arrows : List Shown) (groups : List (List ℕ)) (arrow : Shown) (group : List ℕ) → AreArrows lanes all row arrows groups
+    → IsArrow (place_at lanes all (row + length arrows) arrow) arrow group → AreArrows lanes all row (arrows ++ arrow ∷ []) (groups ++ group ∷ [])
+arrows_push lanes all row [] [] arrow group h k =
+    (subst (λ (i : ℕ). IsArrow (place_at lanes all i arrow) arrow group) (let e : row + 0 ≡ row = omega arith in e) k, tt)
+arrows_push lanes all row [] (y ∷ ys) arrow group h k = absurd h
+arrows_push lanes all row (x ∷ xs) [] arrow group h k = absurd h
+arrows_push lanes all row (x ∷ xs) (y ∷ ys) arrow group h k = (
+  h.0,
+  arrows_push lanes all (row + 1) xs ys arrow group h.1
+      (subst (λ (i : ℕ). IsArrow (place_at lanes all i arrow) arrow group) (let e : row + suc (length xs) ≡ (row + 1) + length xs = omega arith in e) k),
+)
 
 concat_push : (groups : List (List ℕ)) (group : List ℕ) → concat (groups ++ group ∷ []) ≡ concat groups ++ group
 concat_push [] group = append-nil group
 concat_push (x ∷ xs) group = ap (λ (t : List ℕ). x ++ t) (concat_push xs group) ∙ sym (append_assoc x (concat xs) group)
 
-pub no_arrows : (a : Drawn) → DrawsArrows a a []
-no_arrows a = record { groups = []; draws = record { octets = sym (append-nil a.octets); unclosed = refl }; drawn = tt }
+pub no_arrows : (lanes : List ℕ) (all : List Shown) (a : Drawn) → DrawsArrows lanes all a a []
+no_arrows lanes all a = record { groups = []; draws = record { octets = sym (append-nil a.octets); unclosed = refl }; drawn = tt }
 
 -- one arrow more
-pub arrows_more : (a b c : Drawn) (arrows : List Arrow) (i : ℕ) (arrow : Arrow) → i < length arrows → arrow ≡ get_or arrows i arrow
-    → DrawsArrows a b (map shown (take i arrows)) → DrawsArrow b c (shown arrow) → DrawsArrows a c (map shown (take (i + 1) arrows))
-arrows_more a b c arrows i arrow below is before one =
+pub arrows_more : (lanes : List ℕ) (all : List Shown) (a b c : Drawn) (arrows : List Arrow) (i : ℕ) (arrow : Arrow) (place : Place) → i < length arrows → arrow ≡ get_or arrows i arrow
+    → place ≡ place_at lanes all i (shown arrow)
+    → DrawsArrows lanes all a b (map shown (take i arrows)) → DrawsArrow place b c (shown arrow) → DrawsArrows lanes all a c (map shown (take (i + 1) arrows))
+arrows_more lanes all a b c arrows i arrow place below is placed before one =
     let same : map shown (take (i + 1) arrows) ≡ map shown (take i arrows) ++ shown arrow ∷ [] =
     map_more shown arrows i arrow below ∙ ap (λ (x : Arrow). map shown (take i arrows) ++ shown x ∷ []) (sym is) in
-    subst (DrawsArrows a c) (sym same)
+    let count : 0 + length (map shown (take i arrows)) ≡ i = simp (length-map, length-take) (omega arith) in
+    let drawn : IsArrow (place_at lanes all (0 + length (map shown (take i arrows))) (shown arrow)) (shown arrow) one.more =
+    subst (λ (p : Place). IsArrow p (shown arrow) one.more) (placed ∙ ap (λ (n : ℕ). place_at lanes all n (shown arrow)) (sym count)) one.drawn in
+    subst (DrawsArrows lanes all a c) (sym same)
     (record {
       groups = before.groups ++ one.more ∷ [];
       draws = subst (Draws a c) (sym (concat_push before.groups one.more)) (draws_then a b c (concat before.groups) one.more before.draws one.draws);
-      drawn = all_zip_push (map shown (take i arrows)) before.groups (shown arrow) one.more before.drawn one.drawn;
+      drawn = arrows_push lanes all 0 (map shown (take i arrows)) before.groups (shown arrow) one.more before.drawn drawn;
     })
 
-pub all_arrows : (a b : Drawn) (arrows : List Arrow) (i : ℕ) → length arrows ≤ i → DrawsArrows a b (map shown (take i arrows)) → DrawsArrows a b (map shown arrows)
-all_arrows a b arrows i end h = subst (λ (xs : List Arrow). DrawsArrows a b (map shown xs)) (take_all i arrows end) h
+pub all_arrows : (lanes : List ℕ) (all : List Shown) (a b : Drawn) (arrows : List Arrow) (i : ℕ) → length arrows ≤ i → DrawsArrows lanes all a b (map shown (take i arrows))
+    → DrawsArrows lanes all a b (map shown arrows)
+all_arrows lanes all a b arrows i end h = subst (λ (xs : List Arrow). DrawsArrows lanes all a b (map shown xs)) (take_all i arrows end) h
+
+-- ---- told in other words
+
+pub if_draws : {E : Type 0} (r : Result Drawn E) (a : Drawn) (m : List ℕ) → IfOk r (λ b. b ≡ record { octets = a.octets ++ m; unclosed = a.unclosed }) → IfOk r (λ b. Draws a b m)
+if_draws (Ok b) a m is = written a b m is
+if_draws (Err e) a m is = tt
+
+pub if_some_of : {E : Type 0} (r : Result Drawn E) (a : Drawn) (m : List ℕ) → IfOk r (λ b. Draws a b m) → IfOk r (λ b. DrawsSome a b)
+if_some_of (Ok b) a m h = some_of a b m h
+if_some_of (Err e) a m h = tt
+
+pub if_told : {E : Type 0} (r : Result Drawn E) (a : Drawn) (m n : List ℕ) → IfOk r (λ b. Draws a b m) → m ≡ n → IfOk r (λ b. Draws a b n)
+if_told (Ok b) a m n h is = subst (Draws a b) is h
+if_told (Err e) a m n h is = tt
+
+pub none_drawn : (a : Drawn) (m : List ℕ) → m ≡ [] → Draws a a m
+none_drawn a m is = subst (Draws a a) (sym is) (record { octets = sym (append-nil a.octets); unclosed = refl })

@@ -1,3 +1,4 @@
 -- proofs/Lib.antt
 pub mod Titles
 pub mod Drawings
+pub mod LaneLemmas

@@ -1,23 +1,80 @@
 -- What is drawn of a chart.
-use Rattle.std.specs.Prelude.{◌≡◌, ℕ, List, [], ◌∷◌, ◌++◌}
-use Rattle.std.specs.List.{AllZip, concat}
-use Rattle.std.specs.Str.{chars}
+use Rattle.std.specs.Prelude.{◌≡◌, ℕ, ◌+◌, List, [], ◌∷◌, ◌++◌, codes, decimal, Option, Some, None, ⊤}
+use Rattle.std.specs.List.{concat}
+use Rattle.std.specs.Str.{chars, encode_utf8_all}
 use Rattle.svg_text.specs.declared.element.Element.{Element}
 use Rattle.svg_text.specs.declared.element.Element.TheVariants.{Description, Group, Title}
 use Rattle.svg_text.specs.declared.attribute.Attribute.{Attribute}
+use Rattle.svg_text.specs.Grammar.{Tag, empty_text}
+use Rattle.svg_text.specs.Escaping.{pieces_of}
 use Rattle.svg_text.specs.Drawn.{Drawn, end_octets, root_end, start_octets, text_octets}
+use Rattle.capture_chart.specs.declared.places.TheConstants.{ROUTER}
+use Rattle.capture_chart.specs.declared.places.Place.{Place}
+use Rattle.capture_chart.specs.declared.topic.Course.{Course}
+use Rattle.capture_chart.specs.declared.topic.Course.TheVariants.{ToRouter, ToClient, Beside}
 use Rattle.capture_chart.specs.Shown.{Shown, title_text}
+use Rattle.capture_chart.specs.Places.{between, lanes_of, place_at}
+
+-- ---- elements
 
 -- an element with a text in it
 abbrev pub element_octets : Element → List ℕ → List ℕ
 element_octets element text = start_octets element [] ++ (text_octets (chars text) ++ end_octets element)
 
--- an arrow is a group with the arrow's title, a description, and something that is seen
-pub record IsArrow (arrow : Shown) (octets : List ℕ) : Type 0 where
+-- a line of this class
+abbrev pub line_tag : List ℕ → ℕ × ℕ → ℕ × ℕ → Tag
+line_tag class from to = record {
+  name = codes "line";
+  attributes = record { name = codes "class"; value = pieces_of (chars class) }
+      ∷ record { name = codes "x1"; value = pieces_of (decimal from.0) }
+      ∷ record { name = codes "y1"; value = pieces_of (decimal from.1) }
+      ∷ record { name = codes "x2"; value = pieces_of (decimal to.0) }
+      ∷ record { name = codes "y2"; value = pieces_of (decimal to.1) }
+      ∷ [];
+}
+
+unfoldable pub line_octets : List ℕ → ℕ × ℕ → ℕ × ℕ → List ℕ
+line_octets class from to = encode_utf8_all (empty_text (line_tag class from to) ++ 10 ∷ [])
+
+-- ---- arrows
+
+-- a line from the middle of the arrow of the delivery that is carried, if that is shown, to the middle of this one
+abbrev pub tie_from : Place → Option (ℕ × ℕ) → List ℕ
+tie_from place None = []
+tie_from place (Some delivery) = line_octets (codes "carries") (between ROUTER delivery.0, delivery.1) (between ROUTER place.lane, place.row)
+
+abbrev pub tie_octets : Place → List ℕ
+tie_octets place = tie_from place place.carried
+
+-- a line between the lanes of the connection and the router, with its head at its end
+abbrev pub shaft_octets : Course → Place → List ℕ
+shaft_octets ToRouter place = line_octets (codes "shaft") (place.lane, place.row) (ROUTER, place.row)
+shaft_octets ToClient place = line_octets (codes "shaft") (ROUTER, place.row) (place.lane, place.row)
+shaft_octets Beside place = []
+
+-- an arrow at a place is a group with the arrow's title, a description, both lines and a label
+pub record IsArrow (place : Place) (arrow : Shown) (octets : List ℕ) : Type 0 where
   pub attributes : List Attribute
   pub words : List ℕ
-  pub seen : List ℕ
-  pub parts : octets ≡ start_octets Group attributes ++ (element_octets Title (title_text arrow) ++ (element_octets Description words ++ (seen ++ end_octets Group)))
+  pub label : List ℕ
+  pub parts : octets ≡ start_octets Group attributes
+      ++ (element_octets Title (title_text arrow) ++ (element_octets Description words ++ (tie_octets place ++ (shaft_octets arrow.course place ++ (label ++ end_octets Group)))))
+
+-- groups are those of the arrows from a row on of a chart, in order, each once
+abbrev pub AreArrows : List ℕ → List Shown → ℕ → List Shown → List (List ℕ) → Type 0
+AreArrows lanes all row [] [] = ⊤
+AreArrows lanes all row [] (group ∷ groups) = ⊥
+AreArrows lanes all row (arrow ∷ arrows) [] = ⊥
+AreArrows lanes all row (arrow ∷ arrows) (group ∷ groups) = IsArrow (place_at lanes all row arrow) arrow group × AreArrows lanes all (row + 1) arrows groups
+
+-- octets of a document with these arrows at its end, in order, each once
+pub record HasArrows (arrows : List Shown) (octets : List ℕ) : Type 0 where
+  pub front : List ℕ
+  pub groups : List (List ℕ)
+  pub drawn : AreArrows (lanes_of arrows) arrows 0 arrows groups
+  pub parts : octets ≡ (front ++ concat groups) ++ root_end
+
+-- ---- drawings
 
 -- a drawing has octets more, and as many elements open
 pub record Draws (before after : Drawn) (more : List ℕ) : Type 0 where
@@ -30,20 +87,13 @@ pub record DrawsSome (before after : Drawn) : Type 0 where
   pub draws : Draws before after more
 
 -- it has an arrow more
-pub record DrawsArrow (before after : Drawn) (arrow : Shown) : Type 0 where
+pub record DrawsArrow (place : Place) (before after : Drawn) (arrow : Shown) : Type 0 where
   pub more : List ℕ
   pub draws : Draws before after more
-  pub drawn : IsArrow arrow more
+  pub drawn : IsArrow place arrow more
 
--- it has these arrows more, in order, each once
-pub record DrawsArrows (before after : Drawn) (arrows : List Shown) : Type 0 where
+-- it has these first arrows of a chart more, in order, each once
+pub record DrawsArrows (lanes : List ℕ) (all : List Shown) (before after : Drawn) (arrows : List Shown) : Type 0 where
   pub groups : List (List ℕ)
   pub draws : Draws before after (concat groups)
-  pub drawn : AllZip IsArrow arrows groups
-
--- octets of a document with these arrows at its end, in order, each once
-pub record HasArrows (arrows : List Shown) (octets : List ℕ) : Type 0 where
-  pub front : List ℕ
-  pub groups : List (List ℕ)
-  pub drawn : AllZip IsArrow arrows groups
-  pub parts : octets ≡ (front ++ concat groups) ++ root_end
+  pub drawn : AreArrows lanes all 0 arrows groups

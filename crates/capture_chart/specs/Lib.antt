@@ -1,3 +1,4 @@
 -- specs/Lib.antt
 pub mod Shown
+pub mod Places
 pub mod Drawn

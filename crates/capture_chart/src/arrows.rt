@@ -2,24 +2,14 @@
 
 ghost use Rattle.std.specs.Prelude.{◌≡◌, IfOk, map};
 ghost use Rattle.capture_chart.specs.Shown.{shown};
-ghost use Rattle.capture_chart.specs.Drawn.{DrawsArrow, DrawsArrows, DrawsSome};
+ghost use Rattle.capture_chart.specs.Drawn.{Draws, DrawsArrow, DrawsArrows, shaft_octets, tie_octets};
 
 use crate::arrow::Arrow;
 use crate::parts::{draw_label, draw_line, draw_words};
-use crate::places::{between, connection_place, lane_place, row_place};
+use crate::places::{Place, ROUTER, between, place_at};
 use crate::topic::Course;
 use std::alloc::{AllocError, Global};
 use svg_text::{Attribute, Drawing, Element, Name, Value};
-
-/// Where an arrow stands.
-#[derive(Clone, Copy, Debug)]
-struct Place {
-    /// Of its connection's lane.
-    lane: u32,
-    row: u32,
-    /// Where the delivery that is carried comes in, if it is shown.
-    carried: Option<(u32, u32)>,
-}
 
 /// Draws each arrow, in order.
 pub(crate) fn draw_arrows(
@@ -28,26 +18,14 @@ pub(crate) fn draw_arrows(
     arrows: &[Arrow],
     lanes: &[u32],
 ) -> Result<Drawing, AllocError>
-    ensures { IfOk result (λ after. DrawsArrows drawing after (map shown arrows.now)) }
+    ensures { IfOk result (λ after. DrawsArrows lanes.now (map shown arrows.now) drawing after (map shown arrows.now)) }
 {
     let mut drawing = drawing;
     for (row, arrow) in arrows.iter().enumerate() {
-        let place = Place {
-            lane: connection_place(lanes, arrow.connection),
-            row: row_place(row),
-            carried: carried_place(arrows, lanes, arrow),
-        };
+        let place = place_at(lanes, arrows, row, arrow);
         drawing = draw_arrow(alloc, drawing, arrow, place)?;
     }
     Ok(drawing)
-}
-
-/// Where the delivery that an arrow carries comes in, if it is shown.
-fn carried_place(arrows: &[Arrow], lanes: &[u32], arrow: &Arrow) -> Option<(u32, u32)> {
-    let carried = arrow.carried?;
-    let row = arrows.iter().position(|other| other.number == carried)?;
-    let delivery = arrows.get(row)?;
-    Some((connection_place(lanes, delivery.connection), row_place(row)))
 }
 
 /// Draws an arrow with its title and its description.
@@ -57,42 +35,47 @@ fn draw_arrow(
     arrow: &Arrow,
     place: Place,
 ) -> Result<Drawing, AllocError>
-    ensures { IfOk result (λ after. DrawsArrow drawing after (shown arrow.now)) }
+    ensures { IfOk result (λ after. DrawsArrow place drawing after (shown arrow.now)) }
 {
     let title = arrow.title(alloc)?;
-    let opened = drawing.start(
-        Element::Group,
-        &[Attribute {
-            name: Name::Class,
-            value: Value::Text("arrow"),
-        }],
-    )?;
+    let attributes = [Attribute {
+        name: Name::Class,
+        value: Value::Text("arrow"),
+    }];
+    let opened = drawing.start(Element::Group, &attributes)?;
     let titled = draw_words(opened, Element::Title, title.as_str())?;
     let described = draw_words(titled, Element::Description, arrow.words.as_str())?;
-    let seen = draw_seen(described, arrow, place)?;
-    seen.end()
+    let tied = draw_tie(described, place)?;
+    let shot = draw_shaft(tied, arrow.course, place)?;
+    let at = (ROUTER + 8, place.row.saturating_sub(4));
+    let labelled = draw_label(shot, at, arrow.words.as_str())?;
+    labelled.end()
 }
 
-/// Draws what is seen of an arrow.
-fn draw_seen(drawing: Drawing, arrow: &Arrow, place: Place) -> Result<Drawing, AllocError>
-    ensures { IfOk result (λ after. DrawsSome drawing after) }
+/// Draws a line from the delivery that is carried, if it is shown.
+fn draw_tie(drawing: Drawing, place: Place) -> Result<Drawing, AllocError>
+    ensures { IfOk result (λ after. Draws drawing after (tie_octets place)) }
 {
-    let router = (lane_place(0), place.row);
-    let client = (place.lane, place.row);
-    let tied = match place.carried {
+    match place.carried {
         Some((lane, row)) => draw_line(
             drawing,
             "carries",
-            (between(router.0, lane), row),
-            (between(router.0, client.0), place.row),
-        )?,
-        None => drawing,
-    };
-    let drawn = match arrow.course {
-        Course::ToRouter => draw_line(tied, "shaft", client, router)?,
-        Course::ToClient => draw_line(tied, "shaft", router, client)?,
-        Course::Beside => tied,
-    };
-    let label = (router.0.saturating_add(8), place.row.saturating_sub(4));
-    draw_label(drawn, label, arrow.words.as_str())
+            (between(ROUTER, lane), row),
+            (between(ROUTER, place.lane), place.row),
+        ),
+        None => Ok(drawing),
+    }
+}
+
+/// Draws a line from the side that wrote a frame to the other.
+fn draw_shaft(drawing: Drawing, course: Course, place: Place) -> Result<Drawing, AllocError>
+    ensures { IfOk result (λ after. Draws drawing after (shaft_octets course place)) }
+{
+    let client = (place.lane, place.row);
+    let router = (ROUTER, place.row);
+    match course {
+        Course::ToRouter => draw_line(drawing, "shaft", client, router),
+        Course::ToClient => draw_line(drawing, "shaft", router, client),
+        Course::Beside => Ok(drawing),
+    }
 }

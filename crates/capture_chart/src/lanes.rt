@@ -4,7 +4,7 @@ ghost use Rattle.std.specs.Prelude.{◌≡◌, IfOk};
 ghost use Rattle.capture_chart.specs.Drawn.{DrawsSome};
 
 use crate::parts::{draw_label, draw_line};
-use crate::places::lane_place;
+use crate::places::{ROUTER, lane_place};
 use itoa::Buffer;
 use std::alloc::{AllocError, Global};
 use svg_text::Drawing;
@@ -18,18 +18,17 @@ pub(crate) fn draw_lanes(
 ) -> Result<Drawing, AllocError>
     ensures { IfOk result (λ after. DrawsSome drawing after) }
 {
-    let mut drawing = draw_lane(drawing, 0, "router", bottom)?;
+    let mut drawing = draw_lane(drawing, ROUTER, "router", bottom)?;
     for (lane, connection) in lanes.iter().enumerate() {
         let words = lane_words(alloc, *connection)?;
-        drawing = draw_lane(drawing, lane.saturating_add(1), words.as_str(), bottom)?;
+        drawing = draw_lane(drawing, lane_place(lane), words.as_str(), bottom)?;
     }
     Ok(drawing)
 }
 
-fn draw_lane(drawing: Drawing, lane: usize, words: &str, bottom: u32) -> Result<Drawing, AllocError>
+fn draw_lane(drawing: Drawing, at: u32, words: &str, bottom: u32) -> Result<Drawing, AllocError>
     ensures { IfOk result (λ after. DrawsSome drawing after) }
 {
-    let at = lane_place(lane);
     let lined = draw_line(drawing, "lane", (at, 30), (at, bottom))?;
     draw_label(lined, (at, 20), words)
 }

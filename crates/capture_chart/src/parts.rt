@@ -1,7 +1,7 @@
 //! Elements of several calls.
 
 ghost use Rattle.std.specs.Prelude.{◌≡◌, IfOk};
-ghost use Rattle.capture_chart.specs.Drawn.{Draws, DrawsSome, element_octets};
+ghost use Rattle.capture_chart.specs.Drawn.{Draws, DrawsSome, element_octets, line_octets};
 
 use std::alloc::AllocError;
 use svg_text::{Attribute, Drawing, Element, Name, Value};
@@ -24,7 +24,7 @@ pub(crate) fn draw_line(
     from: (u32, u32),
     to: (u32, u32),
 ) -> Result<Drawing, AllocError>
-    ensures { IfOk result (λ after. DrawsSome drawing after) }
+    ensures { IfOk result (λ after. Draws drawing after (line_octets class.now from to)) }
 {
     drawing.empty(
         Element::Line,

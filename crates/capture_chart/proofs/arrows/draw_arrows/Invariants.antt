@@ -4,4 +4,4 @@ use Rattle.capture_chart.specs.Drawn.{DrawsArrows}
 use Rattle.capture_chart.proofs.arrows.draw_arrows.Given as goal
 
 abbrev pub invariant-loop-row : goal.invariant-loop-row
-invariant-loop-row l = DrawsArrows l.fn.drawing l.drawing (map shown (take l.row l.arrows))
+invariant-loop-row l = DrawsArrows l.lanes (map shown l.arrows) l.fn.drawing l.drawing (map shown (take l.row l.arrows))
