@@ -2,3 +2,4 @@
 pub mod Titles
 pub mod Drawings
 pub mod LaneLemmas
+pub mod Examples

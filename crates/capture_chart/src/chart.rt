@@ -24,8 +24,8 @@ pub struct Chart {
 }
 
 impl Chart {
-    ghost use Rattle.std.specs.Prelude.{◌≡◌, ◌≤◌, ◌↔◌, ◌++◌, ◌∷◌, [], length, map, Err, OnOk, OnErr};
-    ghost use Rattle.capture_view.specs.Viewed.{viewed};
+    ghost use Rattle.std.specs.Prelude.{◌≡◌, ◌≤◌, ◌↔◌, ◌++◌, ◌∷◌, [], List, length, map, Err, OnOk, OnErr};
+    ghost use Rattle.capture_view.specs.Viewed.{Viewed, viewed};
     ghost use Rattle.capture_chart.specs.Shown.{arrows_of, shown, shown_of};
 
     /// No arrows.
@@ -58,6 +58,8 @@ impl Chart {
         has_session: bool,
     ) -> Result<(), ChartFault>
         ensures taken { OnOk result (arrows_of self.new ≡ arrows_of self.old ++ shown_of (viewed view.now) ∷ []) }
+        // Where it had the arrows of these records, it has those of one more.
+        ensures all { OnOk result ((before : List Viewed) → arrows_of self.old ≡ map shown_of before → arrows_of self.new ≡ map shown_of (before ++ viewed view.now ∷ [])) }
         ensures same { OnErr result (arrows_of self.new ≡ arrows_of self.old) }
         ensures full { (result ≡ Err ChartFault.Full) ↔ (MOST_ARROWS ≤ length (arrows_of self.old)) }
     {
