@@ -101,7 +101,7 @@ line = record { name = codes "line"; attributes = record { name = codes "x1"; va
 
 is_line : IsTag line
 unfolding line
-is_line = record { name = refl; attributes = refl; distinct = refl }
+is_line = record { name = refl; known = refl; attributes = refl; distinct = refl }
 
 line_text : empty_text line ≡ codes "<line x1=\"1\" y1=\"&quot;\"/>"
 unfolding line
@@ -113,6 +113,22 @@ nameless = record { name = []; attributes = [] }
 no_nameless : IsTag nameless → ⊥
 unfolding nameless
 no_nameless h = let f : false ≡ true = h.name in cc
+
+-- an element that holds a script
+script : Tag
+script = record { name = codes "script"; attributes = [] }
+
+no_script : IsTag script → ⊥
+unfolding script
+no_script h = let f : false ≡ true = h.known in cc
+
+-- an attribute that holds one
+onload : Tag
+onload = record { name = codes "line"; attributes = record { name = codes "onload"; value = Character 49 ∷ [] } ∷ [] }
+
+no_onload : IsTag onload → ⊥
+unfolding onload
+no_onload h = let f : false ≡ true = h.attributes in cc
 
 -- a quote in a value
 broken : Tag
@@ -137,7 +153,7 @@ group = record { name = codes "g"; attributes = [] }
 
 is_group : IsTag group
 unfolding group
-is_group = record { name = refl; attributes = refl; distinct = refl }
+is_group = record { name = refl; known = refl; attributes = refl; distinct = refl }
 
 nested : Content
 nested = Text (Character 65) (Element group (EmptyElement line Nothing) (codes "g") Nothing)
@@ -189,7 +205,7 @@ unfolding group
 small = record {
   attributes = [];
   inside = Element group Nothing (codes "g") Nothing;
-  tag = record { name = refl; attributes = refl; distinct = refl };
+  tag = record { name = refl; known = refl; attributes = refl; distinct = refl };
   content = (is_group, tt, refl, tt);
   parts = refl;
 }

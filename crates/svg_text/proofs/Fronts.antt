@@ -3,15 +3,15 @@ use Rattle.std.proofs.Common.{◌≡◌, ℕ, ◌<◌, ◌^◌, Bool, true, fals
 use Rattle.std.proofs.lemmas.List.{map-append, same_from_push}
 use Rattle.std.proofs.lemmas.Str.{encodes-append}
 use Rattle.std.specs.Prelude.{codes, decimal}
-use Rattle.std.specs.List.{list_all}
-use Rattle.std.specs.Str.{encode_utf8_all}
+use Rattle.std.specs.List.{list_all, list_any}
+use Rattle.std.specs.Str.{bytes_eq, encode_utf8_all}
 use Rattle.svg_text.specs.declared.element.Element.{Element}
 use Rattle.svg_text.specs.declared.element.Element.TheVariants as elements
 use Rattle.svg_text.specs.declared.attribute.Name.{Name}
 use Rattle.svg_text.specs.declared.attribute.Name.TheVariants as names
 use Rattle.svg_text.specs.declared.attribute.Attribute.{Attribute}
 use Rattle.svg_text.specs.Grammar as grammar
-use Rattle.svg_text.specs.Grammar.{Content, EmptyElement, IsContent, IsTag, Nothing, Tag, Text, Character, are_distinct, content_text, empty_text, end_text, is_attribute, is_name, is_value_piece, pieces_text, start_text}
+use Rattle.svg_text.specs.Grammar.{Content, EmptyElement, IsContent, IsTag, Nothing, Tag, Text, Character, are_distinct, attribute_names, content_text, empty_text, end_text, is_attribute, is_name, is_value_piece, pieces_text, start_text}
 use Rattle.svg_text.specs.Escaping.{pieces_of}
 use Rattle.svg_text.specs.Names.{attribute_name, element_name}
 use Rattle.svg_text.specs.Drawn.{AreDistinct, Drawn, IsFront, IsOpened, IsSvg, Opened, Whole, Within, attribute_of, opened_names, opened_text, root_attributes, root_name, tag_of, text_octets, value_text}
@@ -53,10 +53,43 @@ attribute_is_name names.MarkerWidth = refl
 attribute_is_name names.MarkerHeight = refl
 attribute_is_name names.Orient = refl
 
+element_is_known : (element : Element) → list_any (bytes_eq (element_name element)) grammar.elements ≡ true
+element_is_known elements.Title = refl
+element_is_known elements.Description = refl
+element_is_known elements.Style = refl
+element_is_known elements.Definitions = refl
+element_is_known elements.Marker = refl
+element_is_known elements.Path = refl
+element_is_known elements.Group = refl
+element_is_known elements.Line = refl
+element_is_known elements.Rectangle = refl
+element_is_known elements.Text = refl
+
+attribute_is_known : (name : Name) → list_any (bytes_eq (attribute_name name)) attribute_names ≡ true
+attribute_is_known names.Namespace = refl
+attribute_is_known names.Version = refl
+attribute_is_known names.Width = refl
+attribute_is_known names.Height = refl
+attribute_is_known names.ViewBox = refl
+attribute_is_known names.Identity = refl
+attribute_is_known names.Class = refl
+attribute_is_known names.X = refl
+attribute_is_known names.Y = refl
+attribute_is_known names.X1 = refl
+attribute_is_known names.Y1 = refl
+attribute_is_known names.X2 = refl
+attribute_is_known names.Y2 = refl
+attribute_is_known names.Data = refl
+attribute_is_known names.RefX = refl
+attribute_is_known names.RefY = refl
+attribute_is_known names.MarkerWidth = refl
+attribute_is_known names.MarkerHeight = refl
+attribute_is_known names.Orient = refl
+
 are_attributes : (attributes : List Attribute) → list_all is_attribute (map attribute_of attributes) ≡ true
 are_attributes [] = refl
 are_attributes (attribute ∷ rest) =
-    and_true _ _ (and_true _ _ (attribute_is_name attribute.name) (value_pieces (value_text attribute.value))) (are_attributes rest)
+    and_true _ _ (and_true _ _ (attribute_is_name attribute.name) (and_true _ _ (attribute_is_known attribute.name) (value_pieces (value_text attribute.value)))) (are_attributes rest)
 
 same_names : (attributes : List Attribute) → map (λ (attribute : grammar.Attribute). attribute.name) (map attribute_of attributes) ≡ map (λ (attribute : Attribute). attribute_name attribute.name) attributes
 same_names [] = refl
@@ -65,6 +98,7 @@ same_names (attribute ∷ rest) = ap (λ t. attribute_name attribute.name ∷ t)
 pub element_tag : (element : Element) (attributes : List Attribute) → AreDistinct attributes → IsTag (tag_of (element_name element) attributes)
 element_tag element attributes distinct = record {
   name = element_is_name element;
+  known = element_is_known element;
   attributes = are_attributes attributes;
   distinct = ap are_distinct (same_names attributes) ∙ distinct;
 }
@@ -72,6 +106,7 @@ element_tag element attributes distinct = record {
 root_tag : (width height : ℕ) → IsTag (record { name = root_name; attributes = root_attributes width height })
 root_tag width height = record {
   name = refl;
+  known = refl;
   attributes =
       and_true _ _ (value_pieces (codes "http://www.w3.org/2000/svg"))
       (and_true _ _ (value_pieces (codes "1.1"))

@@ -1,8 +1,9 @@
 -- What a reader finds in a text that was escaped.
-use Rattle.std.proofs.Common.{◌≡◌, ℕ, Bool, true, false, ◌||◌, List, [], ◌∷◌, ◌++◌, map, refl, sym, subst, ap, ◌∙◌, append_assoc}
+use Rattle.std.proofs.Common.{◌≡◌, ℕ, Bool, true, false, ◌&&◌, ◌||◌, List, [], ◌∷◌, ◌++◌, map, refl, sym, subst, ap, ◌∙◌, append_assoc}
 use Rattle.std.proofs.lemmas.Bool.{eqb-true}
 use Rattle.std.specs.Prelude.{◌==◌, codes, decimal, Option, Some, None, if◌then◌else◌}
 use Rattle.std.specs.Fmt.{digits}
+use Rattle.std.specs.List.{list_all}
 use Rattle.svg_text.specs.Grammar.{Piece, Character, Entity, Number, is_char, piece_text, pieces_text}
 use Rattle.svg_text.specs.Escaping.{is_blank, literal, piece_of, pieces_of, read, read_on, replacement, shown}
 
@@ -90,3 +91,21 @@ pub read_pieces : (text : List ℕ) → read (pieces_text (pieces_of text)) ≡ 
 unfolding IsReadAs
 read_pieces [] = refl
 read_pieces (c ∷ rest) = piece_read c (pieces_text (pieces_of rest)) ∙ ap (λ t. shown c ∷ t) (read_pieces rest)
+
+shown_same : (c : ℕ) (b : Bool) → b ≡ true → (if b then c else replacement) ≡ c
+shown_same c true is = refl
+shown_same c false is = absurd (let f : false ≡ true = is in cc)
+
+split : (a b : Bool) → (a && b) ≡ true → (a ≡ true) × (b ≡ true)
+split true b h = (refl, h)
+split false b h = absurd (let f : false ≡ true = h in cc)
+
+all_shown : (text : List ℕ) → list_all is_char text ≡ true → map shown text ≡ text
+all_shown [] all = refl
+all_shown (c ∷ rest) all =
+    let s = split (is_char c) (list_all is_char rest) all in
+    ap (λ (x : ℕ). x ∷ map shown rest) (shown_same c (is_char c) s.0) ∙ ap (λ (t : List ℕ). c ∷ t) (all_shown rest s.1)
+
+-- a text whose characters a document may have is read as it was handed in
+pub read_same : (text : List ℕ) → list_all is_char text ≡ true → read (pieces_text (pieces_of text)) ≡ text
+read_same text all = read_pieces text ∙ all_shown text all

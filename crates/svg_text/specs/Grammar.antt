@@ -1,5 +1,6 @@
--- What a well-formed document is (XML 1.0, fifth edition; the numbers are its productions, or sections). A document is read
--- as characters. Where the standard allows more than a chart needs, only a part of it is allowed, which is said there.
+-- What a well-formed document is (XML 1.0, fifth edition; the numbers are its productions, or sections), with elements and
+-- attributes of SVG 1.1 alone. A document is read as characters. Where the standard allows more than a chart needs, only a
+-- part of it is allowed, which is said there.
 use Rattle.std.specs.Prelude.{◌≡◌, ℕ, Bool, true, false, not, ◌&&◌, ◌||◌, ◌==◌, List, [], ◌∷◌, ◌++◌, map, codes, decimal}
 use Rattle.std.specs.Char.{is_ascii_alphabetic, is_ascii_digit}
 use Rattle.std.specs.Int.{is_in_range}
@@ -55,6 +56,20 @@ is_value_piece (Character c) = is_char c && (not (c == 60) && (not (c == 38) && 
 is_value_piece (Entity name) = list_any (bytes_eq name) entities
 is_value_piece (Number number) = is_char number
 
+-- ---- what an SVG may have
+
+-- the elements of SVG 1.1 that a chart may have: none of them holds a script, or fetches anything
+abbrev pub elements : List (List ℕ)
+elements =
+    codes "svg" ∷ codes "title" ∷ codes "desc" ∷ codes "style" ∷ codes "defs" ∷ codes "marker" ∷ codes "path" ∷ codes "g" ∷ codes "line" ∷ codes "rect"
+    ∷ codes "text" ∷ []
+
+-- and the attributes: none of them holds a script, or names anything outside
+abbrev pub attribute_names : List (List ℕ)
+attribute_names =
+    codes "xmlns" ∷ codes "version" ∷ codes "width" ∷ codes "height" ∷ codes "viewBox" ∷ codes "id" ∷ codes "class" ∷ codes "x" ∷ codes "y" ∷ codes "x1"
+    ∷ codes "y1" ∷ codes "x2" ∷ codes "y2" ∷ codes "d" ∷ codes "refX" ∷ codes "refY" ∷ codes "markerWidth" ∷ codes "markerHeight" ∷ codes "orient" ∷ []
+
 -- ---- tags
 
 pub record Attribute : Type 0 where
@@ -70,7 +85,7 @@ attributes_text [] = []
 attributes_text (attribute ∷ rest) = attribute_text attribute ++ attributes_text rest
 
 abbrev pub is_attribute : Attribute → Bool
-is_attribute attribute = is_name attribute.name && list_all is_value_piece attribute.value
+is_attribute attribute = is_name attribute.name && (list_any (bytes_eq attribute.name) attribute_names && list_all is_value_piece attribute.value)
 
 abbrev pub are_distinct : List (List ℕ) → Bool
 are_distinct [] = true
@@ -84,6 +99,7 @@ pub record Tag : Type 0 where
 -- no attribute stands there twice (3.1, Unique Att Spec)
 pub record IsTag (tag : Tag) : Type 0 where
   pub name : is_name tag.name ≡ true
+  pub known : list_any (bytes_eq tag.name) elements ≡ true
   pub attributes : list_all is_attribute tag.attributes ≡ true
   pub distinct : are_distinct (map (λ (attribute : Attribute). attribute.name) tag.attributes) ≡ true
 

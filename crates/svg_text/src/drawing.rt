@@ -28,8 +28,9 @@ impl Model for Drawing {
 
 impl Drawing {
     ghost use Rattle.svg_text.specs.declared.element.Element.{Element};
-    ghost use Rattle.std.specs.Prelude.{◌≡◌, ◌≢◌, List, ◌∷◌, [], ◌++◌, IfOk, map};
-    ghost use Rattle.svg_text.specs.Grammar.{pieces_text};
+    ghost use Rattle.std.specs.Prelude.{◌≡◌, ◌≢◌, List, ◌∷◌, [], ◌++◌, IfOk, map, true};
+    ghost use Rattle.svg_text.specs.Grammar.{is_char, pieces_text};
+    ghost use Rattle.std.specs.List.{list_all};
     ghost use Rattle.svg_text.specs.Escaping.{pieces_of, read, shown};
     ghost use Rattle.std.specs.Str.{chars};
     ghost use Rattle.std.specs.String.{string_bytes};
@@ -92,6 +93,7 @@ impl Drawing {
         ensures written { IfOk result (λ drawing. drawing ≡ record { octets = self.octets ++ text_octets (chars text.now); unclosed = self.unclosed }) }
         // A reader finds each character there, or what stands for one that no document may have.
         ensures found { read (pieces_text (pieces_of (chars text.now))) ≡ map shown (chars text.now) }
+        ensures same { list_all is_char (chars text.now) ≡ true → read (pieces_text (pieces_of (chars text.now))) ≡ chars text.now }
     {
         let Drawing {
             text: mut before,

@@ -1,7 +1,7 @@
 use Rattle.std.proofs.Common.{refl, subst, sym}
 use Rattle.std.specs.Str.{chars}
 use Rattle.svg_text.specs.Drawn.{IsFront}
-use Rattle.svg_text.proofs.Reading.{read_pieces}
+use Rattle.svg_text.proofs.Reading.{read_pieces, read_same}
 use Rattle.svg_text.proofs.Fronts.{front_text}
 use Rattle.svg_text.proofs.drawing.Drawing.text.Goals as goal
 
@@ -15,3 +15,9 @@ returns-clause-found c = read_pieces (chars c.args.text.now)
 
 pub returns-in_err-put_text-clause-found : goal.returns-in_err-put_text-clause-found
 returns-in_err-put_text-clause-found c = read_pieces (chars c.args.text.now)
+
+pub returns-clause-same : goal.returns-clause-same
+returns-clause-same c all = read_same (chars c.args.text.now) all
+
+pub returns-in_err-put_text-clause-same : goal.returns-in_err-put_text-clause-same
+returns-in_err-put_text-clause-same c all = read_same (chars c.args.text.now) all
