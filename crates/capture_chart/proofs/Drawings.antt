@@ -7,12 +7,22 @@ use Rattle.std.specs.List.{concat}
 use Rattle.svg_text.specs.declared.element.Element.{Element}
 use Rattle.svg_text.specs.declared.element.Element.TheVariants.{Description, Group, Title}
 use Rattle.svg_text.specs.declared.attribute.Attribute.{Attribute}
+use Rattle.svg_text.specs.declared.attribute.Name.TheVariants.{Class}
+use Rattle.svg_text.specs.declared.attribute.Value.TheVariants as values
+use Rattle.svg_text.specs.Grammar as grammar
+use Rattle.svg_text.specs.Grammar.{start_text}
+use Rattle.svg_text.specs.Escaping.{pieces_of}
 use Rattle.svg_text.specs.Drawn.{Drawn, end_octets, start_octets}
+use Rattle.std.specs.Prelude.{codes}
+use Rattle.std.specs.Borrow.{Bor}
+use Rattle.std.specs.Str.{chars, encode_utf8_all}
+use Rattle.capture_chart.specs.declared.marks.Mark.{Mark}
+use Rattle.capture_chart.specs.Marks.{Marking, class_of}
 use Rattle.capture_chart.specs.declared.arrow.Arrow.{Arrow}
 use Rattle.capture_chart.specs.Shown.{Shown, shown, title_text}
 use Rattle.capture_chart.specs.declared.places.Place.{Place}
 use Rattle.capture_chart.specs.Places.{place_at}
-use Rattle.capture_chart.specs.Drawn.{AreArrows, Draws, DrawsArrow, DrawsArrows, DrawsSome, IsArrow, element_octets, shaft_octets, tie_octets}
+use Rattle.capture_chart.specs.Drawn.{AreArrows, Draws, DrawsArrow, DrawsArrows, DrawsSome, IsArrow, element_octets, group_octets, shaft_octets, tie_octets}
 
 -- ---- one behind the other
 
@@ -76,12 +86,19 @@ closed_some r a opened inner element start is some ends =
 group_assoc : (s t d k h m e : List ℕ) → s ++ ((t ++ (d ++ (k ++ (h ++ m)))) ++ e) ≡ s ++ (t ++ (d ++ (k ++ (h ++ (m ++ e)))))
 group_assoc s t d k h m e = simp append_assoc
 
-pub arrow_drawn : {E : Type 0} (r : Result Drawn E) (a opened titled described tied shot seen : Drawn) (attributes : List Attribute) (title words : List ℕ) (arrow : Shown) (place : Place)
-    → opened ≡ record { octets = a.octets ++ start_octets Group attributes; unclosed = a.unclosed ++ Group ∷ [] }
-    → Draws opened titled (element_octets Title title) → title ≡ title_text arrow → Draws titled described (element_octets Description words)
+-- what begins a group of this class
+pub group_is : (class : Bor (List ℕ)) (mark : Mark) → class.now ≡ class_of mark
+    → start_octets Group ((let a : Attribute = record { name = Class; value = values.Text class } in a) ∷ []) ≡ group_octets mark
+unfolding start_octets group_octets
+group_is class mark is =
+    ap (λ (t : List ℕ). encode_utf8_all (start_text (record { name = codes "g"; attributes = (let a : grammar.Attribute = record { name = codes "class"; value = pieces_of (chars t) } in a) ∷ [] }))) is
+
+pub arrow_drawn : {E : Type 0} (r : Result Drawn E) (a opened titled described tied shot seen : Drawn) (start title words : List ℕ) (arrow : Shown) (place : Place)
+    → opened ≡ record { octets = a.octets ++ start; unclosed = a.unclosed ++ Group ∷ [] } → start ≡ group_octets place.mark
+    → Draws opened titled (element_octets Title title) → title ≡ title_text place.mark arrow → Draws titled described (element_octets Description words)
     → Draws described tied (tie_octets place) → Draws tied shot (shaft_octets arrow.course place) → DrawsSome shot seen → Ends r seen
     → IfOk r (λ after. DrawsArrow place a after arrow)
-arrow_drawn r a opened titled described tied shot seen attributes title words arrow place is first title_is second third fourth some ends =
+arrow_drawn r a opened titled described tied shot seen start title words arrow place is start_is first title_is second third fourth some ends =
     let heads = element_octets Title title in
     let told = element_octets Description words in
     let tie = tie_octets place in
@@ -93,57 +110,57 @@ arrow_drawn r a opened titled described tied shot seen attributes title words ar
     (draws_then described tied seen tie _ third
     (draws_then tied shot seen shaft some.more fourth some.draws))) in
     IfOk-weaker r _ _ (λ after draws. record {
-      more = start_octets Group attributes ++ (inside ++ end_octets Group);
+      more = start ++ (inside ++ end_octets Group);
       draws = draws;
       drawn = record {
-        attributes = attributes;
         words = words;
         label = some.more;
-        parts = group_assoc (start_octets Group attributes) heads told tie shaft some.more (end_octets Group)
-            ∙ ap (λ (t : List ℕ). start_octets Group attributes ++ (element_octets Title t ++ (told ++ (tie ++ (shaft ++ (some.more ++ end_octets Group)))))) title_is;
+        parts = group_assoc (start) heads told tie shaft some.more (end_octets Group)
+            ∙ ap (λ (t : List ℕ). start ++ (element_octets Title t ++ (told ++ (tie ++ (shaft ++ (some.more ++ end_octets Group)))))) title_is
+            ∙ ap (λ (t : List ℕ). t ++ (element_octets Title (title_text place.mark arrow) ++ (told ++ (tie ++ (shaft ++ (some.more ++ end_octets Group)))))) start_is;
       };
     })
-    (closed r a opened seen Group (start_octets Group attributes) inside is draws ends)
+    (closed r a opened seen Group (start) inside is draws ends)
 
-arrows_push : (lanes : List ℕ) (all : List Shown) (row : ℕ) (arrows : List Shown) (groups : List (List ℕ)) (arrow : Shown) (group : List ℕ) → AreArrows lanes all row arrows groups
-    → IsArrow (place_at lanes all (row + length arrows) arrow) arrow group → AreArrows lanes all row (arrows ++ arrow ∷ []) (groups ++ group ∷ [])
-arrows_push lanes all row [] [] arrow group h k =
-    (subst (λ (i : ℕ). IsArrow (place_at lanes all i arrow) arrow group) (let e : row + 0 ≡ row = omega arith in e) k, tt)
-arrows_push lanes all row [] (y ∷ ys) arrow group h k = absurd h
-arrows_push lanes all row (x ∷ xs) [] arrow group h k = absurd h
-arrows_push lanes all row (x ∷ xs) (y ∷ ys) arrow group h k = (
+arrows_push : (marks : Marking) (lanes : List ℕ) (all : List Shown) (row : ℕ) (arrows : List Shown) (groups : List (List ℕ)) (arrow : Shown) (group : List ℕ) → AreArrows marks lanes all row arrows groups
+    → IsArrow (place_at marks lanes all (row + length arrows) arrow) arrow group → AreArrows marks lanes all row (arrows ++ arrow ∷ []) (groups ++ group ∷ [])
+arrows_push marks lanes all row [] [] arrow group h k =
+    (subst (λ (i : ℕ). IsArrow (place_at marks lanes all i arrow) arrow group) (let e : row + 0 ≡ row = omega arith in e) k, tt)
+arrows_push marks lanes all row [] (y ∷ ys) arrow group h k = absurd h
+arrows_push marks lanes all row (x ∷ xs) [] arrow group h k = absurd h
+arrows_push marks lanes all row (x ∷ xs) (y ∷ ys) arrow group h k = (
   h.0,
-  arrows_push lanes all (row + 1) xs ys arrow group h.1
-      (subst (λ (i : ℕ). IsArrow (place_at lanes all i arrow) arrow group) (let e : row + suc (length xs) ≡ (row + 1) + length xs = omega arith in e) k),
+  arrows_push marks lanes all (row + 1) xs ys arrow group h.1
+      (subst (λ (i : ℕ). IsArrow (place_at marks lanes all i arrow) arrow group) (let e : row + suc (length xs) ≡ (row + 1) + length xs = omega arith in e) k),
 )
 
 concat_push : (groups : List (List ℕ)) (group : List ℕ) → concat (groups ++ group ∷ []) ≡ concat groups ++ group
 concat_push [] group = append-nil group
 concat_push (x ∷ xs) group = ap (λ (t : List ℕ). x ++ t) (concat_push xs group) ∙ sym (append_assoc x (concat xs) group)
 
-pub no_arrows : (lanes : List ℕ) (all : List Shown) (a : Drawn) → DrawsArrows lanes all a a []
-no_arrows lanes all a = record { groups = []; draws = record { octets = sym (append-nil a.octets); unclosed = refl }; drawn = tt }
+pub no_arrows : (marks : Marking) (lanes : List ℕ) (all : List Shown) (a : Drawn) → DrawsArrows marks lanes all a a []
+no_arrows marks lanes all a = record { groups = []; draws = record { octets = sym (append-nil a.octets); unclosed = refl }; drawn = tt }
 
 -- one arrow more
-pub arrows_more : (lanes : List ℕ) (all : List Shown) (a b c : Drawn) (arrows : List Arrow) (i : ℕ) (arrow : Arrow) (place : Place) → i < length arrows → arrow ≡ get_or arrows i arrow
-    → place ≡ place_at lanes all i (shown arrow)
-    → DrawsArrows lanes all a b (map shown (take i arrows)) → DrawsArrow place b c (shown arrow) → DrawsArrows lanes all a c (map shown (take (i + 1) arrows))
-arrows_more lanes all a b c arrows i arrow place below is placed before one =
+pub arrows_more : (marks : Marking) (lanes : List ℕ) (all : List Shown) (a b c : Drawn) (arrows : List Arrow) (i : ℕ) (arrow : Arrow) (place : Place) → i < length arrows → arrow ≡ get_or arrows i arrow
+    → place ≡ place_at marks lanes all i (shown arrow)
+    → DrawsArrows marks lanes all a b (map shown (take i arrows)) → DrawsArrow place b c (shown arrow) → DrawsArrows marks lanes all a c (map shown (take (i + 1) arrows))
+arrows_more marks lanes all a b c arrows i arrow place below is placed before one =
     let same : map shown (take (i + 1) arrows) ≡ map shown (take i arrows) ++ shown arrow ∷ [] =
     map_more shown arrows i arrow below ∙ ap (λ (x : Arrow). map shown (take i arrows) ++ shown x ∷ []) (sym is) in
     let count : 0 + length (map shown (take i arrows)) ≡ i = simp (length-map, length-take) (omega arith) in
-    let drawn : IsArrow (place_at lanes all (0 + length (map shown (take i arrows))) (shown arrow)) (shown arrow) one.more =
-    subst (λ (p : Place). IsArrow p (shown arrow) one.more) (placed ∙ ap (λ (n : ℕ). place_at lanes all n (shown arrow)) (sym count)) one.drawn in
-    subst (DrawsArrows lanes all a c) (sym same)
+    let drawn : IsArrow (place_at marks lanes all (0 + length (map shown (take i arrows))) (shown arrow)) (shown arrow) one.more =
+    subst (λ (p : Place). IsArrow p (shown arrow) one.more) (placed ∙ ap (λ (n : ℕ). place_at marks lanes all n (shown arrow)) (sym count)) one.drawn in
+    subst (DrawsArrows marks lanes all a c) (sym same)
     (record {
       groups = before.groups ++ one.more ∷ [];
       draws = subst (Draws a c) (sym (concat_push before.groups one.more)) (draws_then a b c (concat before.groups) one.more before.draws one.draws);
-      drawn = arrows_push lanes all 0 (map shown (take i arrows)) before.groups (shown arrow) one.more before.drawn drawn;
+      drawn = arrows_push marks lanes all 0 (map shown (take i arrows)) before.groups (shown arrow) one.more before.drawn drawn;
     })
 
-pub all_arrows : (lanes : List ℕ) (all : List Shown) (a b : Drawn) (arrows : List Arrow) (i : ℕ) → length arrows ≤ i → DrawsArrows lanes all a b (map shown (take i arrows))
-    → DrawsArrows lanes all a b (map shown arrows)
-all_arrows lanes all a b arrows i end h = subst (λ (xs : List Arrow). DrawsArrows lanes all a b (map shown xs)) (take_all i arrows end) h
+pub all_arrows : (marks : Marking) (lanes : List ℕ) (all : List Shown) (a b : Drawn) (arrows : List Arrow) (i : ℕ) → length arrows ≤ i → DrawsArrows marks lanes all a b (map shown (take i arrows))
+    → DrawsArrows marks lanes all a b (map shown arrows)
+all_arrows marks lanes all a b arrows i end h = subst (λ (xs : List Arrow). DrawsArrows marks lanes all a b (map shown xs)) (take_all i arrows end) h
 
 -- ---- told in other words
 

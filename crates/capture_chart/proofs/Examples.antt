@@ -10,14 +10,14 @@ use Rattle.amqp_perf.specs.Meaning.{AnEnd}
 use Rattle.capture_view.specs.Saying.{NoBody, Saying, Says}
 use Rattle.capture_view.specs.Viewed.{Viewed}
 use Rattle.capture_view.specs.Viewed as happenings
-use Rattle.svg_text.specs.Drawn.{start_octets}
-use Rattle.svg_text.specs.declared.element.Element.TheVariants.{Group}
 use Rattle.capture_chart.specs.declared.places.Place.{Place}
 use Rattle.capture_chart.specs.declared.topic.Course.TheVariants.{Beside, ToClient, ToRouter}
 use Rattle.capture_chart.specs.declared.topic.Topic.TheVariants as topics
+use Rattle.capture_chart.specs.declared.marks.Mark.TheVariants.{Compared, Plain, Refused}
+use Rattle.capture_chart.specs.Marks.{Marking, mark_of}
 use Rattle.capture_chart.specs.Shown.{Shown, carried_by, shown_of, title_text}
 use Rattle.capture_chart.specs.Places.{carried_place, connection_place, lanes_of, row_place}
-use Rattle.capture_chart.specs.Drawn.{AreArrows, HasArrows, IsArrow, line_octets, shaft_octets, tie_octets}
+use Rattle.capture_chart.specs.Drawn.{AreArrows, HasArrows, IsArrow, group_octets, line_octets, shaft_octets, tie_octets}
 
 -- ---- what is shown
 
@@ -45,9 +45,34 @@ lost_shown : shown_of (record { number = 5; connection = 1; happened = happening
     ≡ record { number = 5; connection = 1; course = Beside; topic = topics.Lost; carried = None }
 lost_shown = refl
 
-ending_title : title_text ending_arrow ≡ codes "3 connection 7 to router: end"
+ending_title : title_text Plain ending_arrow ≡ codes "3 connection 7 to router: end"
 unfolding ending_arrow title_text digits
 ending_title = refl
+
+ending_refused : title_text Refused ending_arrow ≡ codes "3 connection 7 to router: end, refused"
+unfolding ending_arrow title_text digits
+ending_refused = refl
+
+-- ---- marks
+
+marks : Marking
+marks = record { refused = Some 5; compared = 2 ∷ 5 ∷ [] }
+
+unmarked : mark_of marks 3 ≡ Plain
+unfolding marks
+unmarked = refl
+
+compared : mark_of marks 2 ≡ Compared
+unfolding marks
+compared = refl
+
+-- the one that is refused is not shown as one that it is compared with
+refused : mark_of marks 5 ≡ Refused
+unfolding marks
+refused = refl
+
+none_marked : mark_of (record { refused = None; compared = [] }) 0 ≡ Plain
+none_marked = refl
 
 -- ---- where it stands
 
@@ -91,7 +116,7 @@ unfolding line_octets chars digits encode
 a_line = refl
 
 here : Place
-here = record { lane = 340; row = 60; carried = None }
+here = record { lane = 340; row = 60; carried = None; mark = Plain }
 
 to_router : shaft_octets ToRouter here ≡ line_octets (codes "shaft") (340, 60) (60, 60)
 unfolding here
@@ -108,20 +133,20 @@ untied : tie_octets here ≡ []
 unfolding here
 untied = refl
 
-tied : tie_octets (record { lane = 620; row = 88; carried = Some (340, 60) }) ≡ line_octets (codes "carries") (200, 60) (340, 88)
+tied : tie_octets (record { lane = 620; row = 88; carried = Some (340, 60); mark = Plain }) ≡ line_octets (codes "carries") (200, 60) (340, 88)
 tied = refl
 
 -- no arrow has no octets
 no_octets : (place : Place) (arrow : Shown) → IsArrow place arrow [] → ⊥
-unfolding start_octets encode
+unfolding group_octets encode
 no_octets place arrow h = let f = h.parts in cc
 
 -- an arrow that is left out, and one that is no record's
-left_out : (arrow : Shown) → AreArrows [] (arrow ∷ []) 0 (arrow ∷ []) [] → ⊥
-left_out arrow h = h
+left_out : (marks : Marking) (arrow : Shown) → AreArrows marks [] (arrow ∷ []) 0 (arrow ∷ []) [] → ⊥
+left_out _ arrow h = h
 
-one_more : (group : List ℕ) → AreArrows [] [] 0 [] (group ∷ []) → ⊥
-one_more group h = h
+one_more : (marks : Marking) (group : List ℕ) → AreArrows marks [] [] 0 [] (group ∷ []) → ⊥
+one_more _ group h = h
 
-none : AreArrows [] [] 0 [] []
-none = tt
+none : (marks : Marking) → AreArrows marks [] [] 0 [] []
+none _ = tt

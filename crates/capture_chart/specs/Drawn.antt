@@ -4,14 +4,15 @@ use Rattle.std.specs.List.{concat}
 use Rattle.std.specs.Str.{chars, encode_utf8_all}
 use Rattle.svg_text.specs.declared.element.Element.{Element}
 use Rattle.svg_text.specs.declared.element.Element.TheVariants.{Description, Group, Title}
-use Rattle.svg_text.specs.declared.attribute.Attribute.{Attribute}
-use Rattle.svg_text.specs.Grammar.{Tag, empty_text}
+use Rattle.svg_text.specs.Grammar.{Tag, empty_text, start_text}
 use Rattle.svg_text.specs.Escaping.{pieces_of}
 use Rattle.svg_text.specs.Drawn.{Drawn, end_octets, root_end, start_octets, text_octets}
 use Rattle.capture_chart.specs.declared.places.TheConstants.{ROUTER}
 use Rattle.capture_chart.specs.declared.places.Place.{Place}
 use Rattle.capture_chart.specs.declared.topic.Course.{Course}
 use Rattle.capture_chart.specs.declared.topic.Course.TheVariants.{ToRouter, ToClient, Beside}
+use Rattle.capture_chart.specs.declared.marks.Mark.{Mark}
+use Rattle.capture_chart.specs.Marks.{Marking, class_of}
 use Rattle.capture_chart.specs.Shown.{Shown, title_text}
 use Rattle.capture_chart.specs.Places.{between, lanes_of, place_at}
 
@@ -52,26 +53,29 @@ shaft_octets ToRouter place = line_octets (codes "shaft") (place.lane, place.row
 shaft_octets ToClient place = line_octets (codes "shaft") (ROUTER, place.row) (place.lane, place.row)
 shaft_octets Beside place = []
 
+-- what begins the group of an arrow with this mark
+unfoldable pub group_octets : Mark → List ℕ
+group_octets mark = encode_utf8_all (start_text (record { name = codes "g"; attributes = record { name = codes "class"; value = pieces_of (chars (class_of mark)) } ∷ [] }))
+
 -- an arrow at a place is a group with the arrow's title, a description, both lines and a label
 pub record IsArrow (place : Place) (arrow : Shown) (octets : List ℕ) : Type 0 where
-  pub attributes : List Attribute
   pub words : List ℕ
   pub label : List ℕ
-  pub parts : octets ≡ start_octets Group attributes
-      ++ (element_octets Title (title_text arrow) ++ (element_octets Description words ++ (tie_octets place ++ (shaft_octets arrow.course place ++ (label ++ end_octets Group)))))
+  pub parts : octets ≡ group_octets place.mark
+      ++ (element_octets Title (title_text place.mark arrow) ++ (element_octets Description words ++ (tie_octets place ++ (shaft_octets arrow.course place ++ (label ++ end_octets Group)))))
 
 -- groups are those of the arrows from a row on of a chart, in order, each once
-abbrev pub AreArrows : List ℕ → List Shown → ℕ → List Shown → List (List ℕ) → Type 0
-AreArrows lanes all row [] [] = ⊤
-AreArrows lanes all row [] (group ∷ groups) = ⊥
-AreArrows lanes all row (arrow ∷ arrows) [] = ⊥
-AreArrows lanes all row (arrow ∷ arrows) (group ∷ groups) = IsArrow (place_at lanes all row arrow) arrow group × AreArrows lanes all (row + 1) arrows groups
+abbrev pub AreArrows : Marking → List ℕ → List Shown → ℕ → List Shown → List (List ℕ) → Type 0
+AreArrows marks lanes all row [] [] = ⊤
+AreArrows marks lanes all row [] (group ∷ groups) = ⊥
+AreArrows marks lanes all row (arrow ∷ arrows) [] = ⊥
+AreArrows marks lanes all row (arrow ∷ arrows) (group ∷ groups) = IsArrow (place_at marks lanes all row arrow) arrow group × AreArrows marks lanes all (row + 1) arrows groups
 
 -- octets of a document with these arrows at its end, in order, each once
-pub record HasArrows (arrows : List Shown) (octets : List ℕ) : Type 0 where
+pub record HasArrows (marks : Marking) (arrows : List Shown) (octets : List ℕ) : Type 0 where
   pub front : List ℕ
   pub groups : List (List ℕ)
-  pub drawn : AreArrows (lanes_of arrows) arrows 0 arrows groups
+  pub drawn : AreArrows marks (lanes_of arrows) arrows 0 arrows groups
   pub parts : octets ≡ (front ++ concat groups) ++ root_end
 
 -- ---- drawings
@@ -93,7 +97,7 @@ pub record DrawsArrow (place : Place) (before after : Drawn) (arrow : Shown) : T
   pub drawn : IsArrow place arrow more
 
 -- it has these first arrows of a chart more, in order, each once
-pub record DrawsArrows (lanes : List ℕ) (all : List Shown) (before after : Drawn) (arrows : List Shown) : Type 0 where
+pub record DrawsArrows (marks : Marking) (lanes : List ℕ) (all : List Shown) (before after : Drawn) (arrows : List Shown) : Type 0 where
   pub groups : List (List ℕ)
   pub draws : Draws before after (concat groups)
-  pub drawn : AreArrows lanes all 0 arrows groups
+  pub drawn : AreArrows marks lanes all 0 arrows groups

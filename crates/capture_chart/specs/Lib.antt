@@ -1,4 +1,5 @@
 -- specs/Lib.antt
+pub mod Marks
 pub mod Shown
 pub mod Places
 pub mod Drawn

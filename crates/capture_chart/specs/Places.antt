@@ -3,6 +3,7 @@ use Rattle.std.specs.Prelude.{ℕ, ◌+◌, ◌-◌, ◌*◌, ◌/◌, ◌^◌, 
 use Rattle.std.specs.List.{list_any}
 use Rattle.capture_chart.specs.declared.places.TheConstants.{FIRST_LANE, LANE, ROUTER, ROW, TOP}
 use Rattle.capture_chart.specs.declared.places.Place.{Place}
+use Rattle.capture_chart.specs.Marks.{Marking, mark_of}
 use Rattle.capture_chart.specs.Shown.{Shown}
 
 -- a number of 32 bits, which stops at the largest
@@ -49,10 +50,11 @@ abbrev pub carried_place : List ℕ → List Shown → Option ℕ → Option (�
 carried_place lanes arrows None = None
 carried_place lanes arrows (Some number) = found_place lanes number 0 arrows
 
--- where the arrow in a row of a chart stands
-abbrev pub place_at : List ℕ → List Shown → ℕ → Shown → Place
-place_at lanes arrows row arrow = record {
+-- where the arrow in a row of a chart stands, and its mark
+abbrev pub place_at : Marking → List ℕ → List Shown → ℕ → Shown → Place
+place_at marks lanes arrows row arrow = record {
   lane = connection_place lanes arrow.connection;
   row = row_place row;
   carried = carried_place lanes arrows arrow.carried;
+  mark = mark_of marks arrow.number;
 }

@@ -11,6 +11,8 @@ use Rattle.capture_chart.specs.declared.topic.Course.{Course}
 use Rattle.capture_chart.specs.declared.topic.Course.TheVariants.{ToRouter, ToClient, Beside}
 use Rattle.capture_chart.specs.declared.topic.Topic.{Topic}
 use Rattle.capture_chart.specs.declared.topic.Topic.TheVariants as topics
+use Rattle.capture_chart.specs.declared.marks.Mark.{Mark}
+use Rattle.capture_chart.specs.Marks.{mark_words}
 use Rattle.capture_chart.specs.declared.arrow.Arrow.{Arrow}
 use Rattle.capture_chart.specs.declared.chart.Chart.{Chart}
 
@@ -107,6 +109,7 @@ course_words ToRouter = codes " to router: "
 course_words ToClient = codes " from router: "
 course_words Beside = codes ": "
 
--- the title of an arrow
-unfoldable pub title_text : Shown → List ℕ
-title_text shown = decimal shown.number ++ (codes " connection " ++ (decimal shown.connection ++ (course_words shown.course ++ topic_words shown.topic)))
+-- the title of an arrow with this mark
+unfoldable pub title_text : Mark → Shown → List ℕ
+title_text mark shown =
+    decimal shown.number ++ (codes " connection " ++ (decimal shown.connection ++ (course_words shown.course ++ (topic_words shown.topic ++ mark_words mark))))

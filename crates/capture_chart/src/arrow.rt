@@ -1,5 +1,6 @@
 //! An arrow of a chart.
 
+use crate::marks::Mark;
 use crate::topic::{Course, Topic, course_of, topic_of};
 use capture_view::{LinkTold, RecordView};
 use capture_words::Page;
@@ -52,9 +53,9 @@ impl Arrow {
         })
     }
 
-    /// What the arrow is called.
-    pub(crate) fn title(&self, alloc: Global) -> Result<String, AllocError>
-        ensures { IfOk result (λ title. string_bytes title ≡ title_text (shown self.now)) }
+    /// What the arrow is called under this mark.
+    pub(crate) fn title(&self, alloc: Global, mark: Mark) -> Result<String, AllocError>
+        ensures { IfOk result (λ title. string_bytes title ≡ title_text mark (shown self.now)) }
     {
         let mut digits = Buffer::new();
         let mut title = String::from_str(alloc, digits.format(self.number))?;
@@ -63,6 +64,7 @@ impl Arrow {
         title.push_str(digits.format(self.connection))?;
         title.push_str(self.course.words())?;
         title.push_str(self.topic.words())?;
+        title.push_str(mark.words())?;
         Ok(title)
     }
 }

@@ -1,10 +1,12 @@
 //! Arrows, drawn.
 
 ghost use Rattle.std.specs.Prelude.{◌≡◌, IfOk, map};
+ghost use Rattle.capture_chart.specs.Marks.{marking};
 ghost use Rattle.capture_chart.specs.Shown.{shown};
 ghost use Rattle.capture_chart.specs.Drawn.{Draws, DrawsArrow, DrawsArrows, shaft_octets, tie_octets};
 
 use crate::arrow::Arrow;
+use crate::marks::Marks;
 use crate::parts::{draw_label, draw_line, draw_words};
 use crate::places::{Place, ROUTER, between, place_at};
 use crate::topic::Course;
@@ -17,12 +19,13 @@ pub(crate) fn draw_arrows(
     drawing: Drawing,
     arrows: &[Arrow],
     lanes: &[u32],
+    marks: Marks<'_>,
 ) -> Result<Drawing, AllocError>
-    ensures { IfOk result (λ after. DrawsArrows lanes.now (map shown arrows.now) drawing after (map shown arrows.now)) }
+    ensures { IfOk result (λ after. DrawsArrows (marking marks.entry) lanes.now (map shown arrows.now) drawing after (map shown arrows.now)) }
 {
     let mut drawing = drawing;
     for (row, arrow) in arrows.iter().enumerate() {
-        let place = place_at(lanes, arrows, row, arrow);
+        let place = place_at(marks, lanes, arrows, row, arrow);
         drawing = draw_arrow(alloc, drawing, arrow, place)?;
     }
     Ok(drawing)
@@ -37,10 +40,10 @@ fn draw_arrow(
 ) -> Result<Drawing, AllocError>
     ensures { IfOk result (λ after. DrawsArrow place drawing after (shown arrow.now)) }
 {
-    let title = arrow.title(alloc)?;
+    let title = arrow.title(alloc, place.mark)?;
     let attributes = [Attribute {
         name: Name::Class,
-        value: Value::Text("arrow"),
+        value: Value::Text(place.mark.class()),
     }];
     let opened = drawing.start(Element::Group, &attributes)?;
     let titled = draw_words(opened, Element::Title, title.as_str())?;

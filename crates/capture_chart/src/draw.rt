@@ -4,6 +4,7 @@ use crate::arrows::draw_arrows;
 use crate::chart::Chart;
 use crate::head::draw_head;
 use crate::lanes::draw_lanes;
+use crate::marks::Marks;
 use crate::places::{lane_place, lanes_of, row_place};
 use std::alloc::AllocError;
 use svg_text::Drawing;
@@ -12,13 +13,14 @@ impl Chart {
     ghost use Rattle.std.specs.Prelude.{◌≡◌, IfOk};
     ghost use Rattle.std.specs.String.{string_bytes};
     ghost use Rattle.svg_text.specs.Drawn.{IsSvg};
+    ghost use Rattle.capture_chart.specs.Marks.{marking};
     ghost use Rattle.capture_chart.specs.Shown.{arrows_of};
     ghost use Rattle.capture_chart.specs.Drawn.{HasArrows};
 
-    /// The chart as the text of an SVG under this title.
-    pub fn draw(&self, title: &str) -> Result<String, AllocError>
+    /// The chart as the text of an SVG under this title, with these records marked.
+    pub fn draw(&self, title: &str, marks: Marks<'_>) -> Result<String, AllocError>
         ensures document { IfOk result (λ text. IsSvg (string_bytes text)) }
-        ensures arrows { IfOk result (λ text. HasArrows (arrows_of self.now) (string_bytes text)) }
+        ensures arrows { IfOk result (λ text. HasArrows (marking marks.entry) (arrows_of self.now) (string_bytes text)) }
     {
         let arrows = self.arrows.as_slice();
         let lanes = lanes_of(self.alloc, arrows)?;
@@ -27,7 +29,7 @@ impl Chart {
         let started = Drawing::new(self.alloc, width, height)?;
         let headed = draw_head(started, title)?;
         let ruled = draw_lanes(self.alloc, headed, lanes.as_slice(), height)?;
-        let drawn = draw_arrows(self.alloc, ruled, arrows, lanes.as_slice())?;
+        let drawn = draw_arrows(self.alloc, ruled, arrows, lanes.as_slice(), marks)?;
         drawn.finish()
     }
 }

@@ -9,7 +9,9 @@ use svg_text::{Attribute, Drawing, Element, Name, Value};
 
 /// How it looks, in light and dark.
 const STYLE: &str = "svg { color: #1a1a1a; background: #ffffff; font: 11px monospace } \
-@media (prefers-color-scheme: dark) { svg { color: #e8e8e8; background: #16181c } } \
+.refused { color: #b3001b } .compared { color: #0047b3 } \
+@media (prefers-color-scheme: dark) { svg { color: #e8e8e8; background: #16181c } \
+.refused { color: #ff8182 } .compared { color: #79b8ff } } \
 text, path { fill: currentColor } line { stroke: currentColor } \
 .lane { stroke-opacity: 0.3 } .shaft { marker-end: url(#head) } \
 .carries { stroke-opacity: 0.5; stroke-dasharray: 2 3 }";

@@ -4,9 +4,10 @@
 //! number, its connection, whether the frame goes to the router or to the client, and which performative its octets are.
 //! `Chart::draw` gives the document, well-formed by the grammar of XML (`svg_text`): one lane for the router, one for each
 //! connection, and a group for each arrow with its title, the record's line in words, and the arrow; from a delivery that
-//! comes in to each transfer that carries it goes a thin line, where both are shown.
+//! comes in to each transfer that carries it goes a thin line, where both are shown. Records may be marked: the one that is
+//! refused, and those that it is compared with.
 //!
-//! In reading order: `topic`, `arrow`, `chart`; `places` is where lanes and rows stand; `parts` are elements of several calls;
+//! In reading order: `topic`, `marks`, `arrow`, `chart`; `places` is where lanes and rows stand; `parts` are elements of several calls;
 //! `arrows`, `head`, `lanes`, `draw`.
 #![tactic(auto)]
 
@@ -16,10 +17,12 @@ mod chart;
 mod draw;
 mod head;
 mod lanes;
+mod marks;
 mod parts;
 mod places;
 mod topic;
 
 pub use arrow::Arrow;
 pub use chart::{Chart, ChartFault, MOST_ARROWS};
+pub use marks::{Mark, Marks};
 pub use topic::{Course, Topic};

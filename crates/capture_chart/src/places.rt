@@ -1,10 +1,12 @@
 //! Where lanes and rows stand, in pixels.
 
 ghost use Rattle.std.specs.Prelude.{◌≡◌, IfOk, OnOk, map};
+ghost use Rattle.capture_chart.specs.Marks.{marking};
 ghost use Rattle.capture_chart.specs.Shown.{shown};
 ghost use Rattle.capture_chart.specs.Places as spec;
 
 use crate::arrow::Arrow;
+use crate::marks::{Mark, Marks};
 use std::alloc::{AllocError, Global};
 
 /// The place of the router's lane.
@@ -18,7 +20,7 @@ pub(crate) const TOP: u32 = 60;
 /// From one row to the next.
 pub(crate) const ROW: u32 = 28;
 
-/// Where an arrow stands.
+/// Where an arrow stands, and how it is marked.
 #[derive(Clone, Copy, Debug)]
 pub(crate) struct Place {
     /// Of its connection's lane.
@@ -26,6 +28,7 @@ pub(crate) struct Place {
     pub row: u32,
     /// Where the delivery that is carried comes in, if it is shown: its lane and its row.
     pub carried: Option<(u32, u32)>,
+    pub mark: Mark,
 }
 
 /// The place of a row of arrows.
@@ -69,9 +72,15 @@ pub(crate) fn between(one: u32, other: u32) -> u32
     one / 2 + other / 2
 }
 
-/// Where an arrow of a chart stands, by its row.
-pub(crate) fn place_at(lanes: &[u32], arrows: &[Arrow], row: usize, arrow: &Arrow) -> Place
-    ensures { result ≡ spec.place_at lanes.now (map shown arrows.now) row (shown arrow.now) }
+/// Where an arrow of a chart stands, by its row, and how it is marked.
+pub(crate) fn place_at(
+    marks: Marks<'_>,
+    lanes: &[u32],
+    arrows: &[Arrow],
+    row: usize,
+    arrow: &Arrow,
+) -> Place
+    ensures { result ≡ spec.place_at (marking marks.entry) lanes.now (map shown arrows.now) row (shown arrow.now) }
 {
     Place {
         lane: connection_place(lanes, arrow.connection),
@@ -80,6 +89,7 @@ pub(crate) fn place_at(lanes: &[u32], arrows: &[Arrow], row: usize, arrow: &Arro
             Some(number) => found_place(lanes, arrows, number),
             None => None,
         },
+        mark: marks.mark_of(arrow.number),
     }
 }
 

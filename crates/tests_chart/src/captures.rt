@@ -1,11 +1,12 @@
 //! A capture, drawn.
 
-use capture_chart::Chart;
+use capture_chart::{Chart, Marks};
 use capture_form::{Record, read_capture};
 use capture_view::{Names, view_of};
 use std::alloc::{AllocError, Global};
 
-/// The chart of all records of a capture, if the octets are one, and has few records.
+/// The chart of all records of a capture, if the octets are one, and has few records: its second record is marked as one that
+/// is refused, and its first as one that it is compared with.
 pub fn chart_of(alloc: Global, title: &str, octets: &[u8]) -> Result<Option<String>, AllocError> {
     let Ok(capture) = read_capture(alloc, octets) else {
         return Ok(None);
@@ -17,7 +18,11 @@ pub fn chart_of(alloc: Global, title: &str, octets: &[u8]) -> Result<Option<Stri
             return Ok(None);
         }
     }
-    Ok(Some(chart.draw(title)?))
+    let marks = Marks {
+        refused: Some(1),
+        compared: &[0],
+    };
+    Ok(Some(chart.draw(title, marks)?))
 }
 
 /// Takes a record, and says whether it has an arrow.
