@@ -1,5 +1,5 @@
 -- Drawings that have something more.
-use Rattle.std.proofs.Common.{◌≡◌, ℕ, ◌+◌, ◌<◌, ◌≤◌, List, [], ◌∷◌, ◌++◌, length, map, take, get_or, arith, suc, Result, Ok, Err, refl, sym, subst, ap, ◌∙◌, append_assoc, append-nil}
+use Rattle.std.proofs.Common.{◌≡◌, ℕ, ◌+◌, ◌-◌, ◌<◌, ◌≤◌, List, [], ◌∷◌, ◌++◌, length, map, take, get_or, arith, suc, Result, Ok, Err, refl, sym, subst, ap, ◌∙◌, append_assoc, append-nil}
 use Rattle.std.proofs.lemmas.List.{length-map, length-take, map_more, take_all}
 use Rattle.std.proofs.lemmas.Result.{IfOk-weaker}
 use Rattle.std.specs.Prelude.{IfOk}
@@ -21,8 +21,9 @@ use Rattle.capture_chart.specs.Marks.{Marking, class_of}
 use Rattle.capture_chart.specs.declared.arrow.Arrow.{Arrow}
 use Rattle.capture_chart.specs.Shown.{Shown, shown, title_text}
 use Rattle.capture_chart.specs.declared.places.Place.{Place}
+use Rattle.capture_chart.specs.declared.places.TheConstants.{ROUTER}
 use Rattle.capture_chart.specs.Places.{place_at}
-use Rattle.capture_chart.specs.Drawn.{AreArrows, Draws, DrawsArrow, DrawsArrows, DrawsSome, IsArrow, element_octets, group_octets, shaft_octets, tie_octets}
+use Rattle.capture_chart.specs.Drawn.{AreArrows, Draws, DrawsArrow, DrawsArrows, DrawsSome, IsArrow, element_octets, group_octets, label_octets, shaft_octets, tie_octets}
 
 -- ---- one behind the other
 
@@ -96,28 +97,28 @@ group_is class mark is =
 pub arrow_drawn : {E : Type 0} (r : Result Drawn E) (a opened titled described tied shot seen : Drawn) (start title words : List ℕ) (arrow : Shown) (place : Place)
     → opened ≡ record { octets = a.octets ++ start; unclosed = a.unclosed ++ Group ∷ [] } → start ≡ group_octets place.mark
     → Draws opened titled (element_octets Title title) → title ≡ title_text place.mark arrow → Draws titled described (element_octets Description words)
-    → Draws described tied (tie_octets place) → Draws tied shot (shaft_octets arrow.course place) → DrawsSome shot seen → Ends r seen
+    → Draws described tied (tie_octets place) → Draws tied shot (shaft_octets arrow.course place) → Draws shot seen (label_octets (ROUTER + 8, place.row - 4) words) → Ends r seen
     → IfOk r (λ after. DrawsArrow place a after arrow)
-arrow_drawn r a opened titled described tied shot seen start title words arrow place is start_is first title_is second third fourth some ends =
+arrow_drawn r a opened titled described tied shot seen start title words arrow place is start_is first title_is second third fourth fifth ends =
     let heads = element_octets Title title in
     let told = element_octets Description words in
     let tie = tie_octets place in
     let shaft = shaft_octets arrow.course place in
-    let inside = heads ++ (told ++ (tie ++ (shaft ++ some.more))) in
+    let label = label_octets (ROUTER + 8, place.row - 4) words in
+    let inside = heads ++ (told ++ (tie ++ (shaft ++ label))) in
     let draws : Draws opened seen inside =
     draws_then opened titled seen heads _ first
     (draws_then titled described seen told _ second
     (draws_then described tied seen tie _ third
-    (draws_then tied shot seen shaft some.more fourth some.draws))) in
+    (draws_then tied shot seen shaft label fourth fifth))) in
     IfOk-weaker r _ _ (λ after draws. record {
       more = start ++ (inside ++ end_octets Group);
       draws = draws;
       drawn = record {
         words = words;
-        label = some.more;
-        parts = group_assoc (start) heads told tie shaft some.more (end_octets Group)
-            ∙ ap (λ (t : List ℕ). start ++ (element_octets Title t ++ (told ++ (tie ++ (shaft ++ (some.more ++ end_octets Group)))))) title_is
-            ∙ ap (λ (t : List ℕ). t ++ (element_octets Title (title_text place.mark arrow) ++ (told ++ (tie ++ (shaft ++ (some.more ++ end_octets Group)))))) start_is;
+        parts = group_assoc (start) heads told tie shaft label (end_octets Group)
+            ∙ ap (λ (t : List ℕ). start ++ (element_octets Title t ++ (told ++ (tie ++ (shaft ++ (label ++ end_octets Group)))))) title_is
+            ∙ ap (λ (t : List ℕ). t ++ (element_octets Title (title_text place.mark arrow) ++ (told ++ (tie ++ (shaft ++ (label ++ end_octets Group)))))) start_is;
       };
     })
     (closed r a opened seen Group (start) inside is draws ends)
@@ -178,3 +179,7 @@ if_told (Err e) a m n h is = tt
 
 pub none_drawn : (a : Drawn) (m : List ℕ) → m ≡ [] → Draws a a m
 none_drawn a m is = subst (Draws a a) (sym is) (record { octets = sym (append-nil a.octets); unclosed = refl })
+
+pub if_draws_then : {E : Type 0} (r : Result Drawn E) (a b : Drawn) (m n : List ℕ) → Draws a b m → IfOk r (λ c. Draws b c n) → IfOk r (λ c. Draws a c (m ++ n))
+if_draws_then (Ok c) a b m n h k = draws_then a b c m n h k
+if_draws_then (Err e) a b m n h k = tt

@@ -10,6 +10,7 @@ use Rattle.amqp_perf.specs.Meaning.{AnEnd}
 use Rattle.capture_view.specs.Saying.{NoBody, Saying, Says}
 use Rattle.capture_view.specs.Viewed.{Viewed}
 use Rattle.capture_view.specs.Viewed as happenings
+use Rattle.svg_text.specs.Drawn.{end_octets}
 use Rattle.capture_chart.specs.declared.places.Place.{Place}
 use Rattle.capture_chart.specs.declared.topic.Course.TheVariants.{Beside, ToClient, ToRouter}
 use Rattle.capture_chart.specs.declared.topic.Topic.TheVariants as topics
@@ -17,7 +18,7 @@ use Rattle.capture_chart.specs.declared.marks.Mark.TheVariants.{Compared, Plain,
 use Rattle.capture_chart.specs.Marks.{Marking, mark_of}
 use Rattle.capture_chart.specs.Shown.{Shown, carried_by, shown_of, title_text}
 use Rattle.capture_chart.specs.Places.{carried_place, connection_place, lanes_of, row_place}
-use Rattle.capture_chart.specs.Drawn.{AreArrows, HasArrows, IsArrow, group_octets, line_octets, shaft_octets, tie_octets}
+use Rattle.capture_chart.specs.Drawn.{AreArrows, HasArrows, IsArrow, all_lanes, connection_words, group_octets, label_octets, lane_octets, line_octets, shaft_octets, tie_octets}
 
 -- ---- what is shown
 
@@ -114,6 +115,19 @@ carried_unseen = refl
 a_line : line_octets (codes "shaft") (340, 60) (60, 60) ≡ codes "<line class=\"shaft\" x1=\"340\" y1=\"60\" x2=\"60\" y2=\"60\"/>\n"
 unfolding line_octets chars digits encode
 a_line = refl
+
+a_label : label_octets (68, 56) (codes "a<b") ≡ codes "<text x=\"68\" y=\"56\">a&lt;b</text>\n"
+unfolding label_octets end_octets chars digits encode
+a_label = refl
+
+-- two lanes of connections, and the router's
+three_lanes : all_lanes 90 (7 ∷ 4 ∷ [])
+    ≡ lane_octets 90 60 (codes "router") ++ (lane_octets 90 340 (connection_words 7) ++ (lane_octets 90 620 (connection_words 4) ++ []))
+three_lanes = refl
+
+fourth_name : connection_words 4 ≡ codes "connection 4"
+unfolding digits
+fourth_name = refl
 
 here : Place
 here = record { lane = 340; row = 60; carried = None; mark = Plain }

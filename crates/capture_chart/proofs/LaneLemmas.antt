@@ -1,7 +1,8 @@
 -- Lanes and rows, found one by one.
-use Rattle.std.proofs.Common.{◌≡◌, ℕ, ◌+◌, ◌<◌, ◌≤◌, Bool, true, false, List, [], ◌∷◌, ◌++◌, length, map, take, drop, get_or, Option, Some, None, refl, sym, subst, ap, ◌∙◌, arith, suc, add-one}
+use Rattle.std.proofs.Common.{◌≡◌, ℕ, ◌+◌, ◌<◌, ◌≤◌, Bool, true, false, List, [], ◌∷◌, ◌++◌, length, map, take, drop, get_or, Option, Some, None, refl, sym, subst, ap, ◌∙◌, arith, suc, append_assoc, append-nil}
 use Rattle.std.proofs.Math.Seq.{drop-cons}
-use Rattle.std.proofs.lemmas.List.{at_drop_all, at_drop_more, drop_all, get_or-map, length-map, map_more}
+use Rattle.std.proofs.lemmas.List.{length-take, take_more, at_drop_all, at_drop_more, drop_all, get_or-map, length-map, map_more}
+use Rattle.capture_chart.specs.Drawn.{connection_words, lane_octets, lanes_octets}
 use Rattle.std.specs.Prelude.{◌==◌, if◌then◌else◌}
 use Rattle.capture_chart.specs.declared.arrow.Arrow.{Arrow}
 use Rattle.capture_chart.specs.declared.places.TheConstants.{FIRST_LANE, LANE, ROUTER}
@@ -52,3 +53,26 @@ lane_here connection lanes i below = at_drop_more (found_lane connection i) lane
 
 pub no_lane : (connection : ℕ) (lanes : List ℕ) (i : ℕ) → length lanes ≤ i → found_lane connection i (drop i lanes) ≡ ROUTER
 no_lane connection lanes i end = at_drop_all (found_lane connection i) lanes i end
+
+-- ---- lanes, drawn
+
+lanes_drawn_push : (bottom lane : ℕ) (lanes : List ℕ) (connection : ℕ)
+    → lanes_octets bottom lane (lanes ++ connection ∷ []) ≡ lanes_octets bottom lane lanes ++ lane_octets bottom (count_place FIRST_LANE LANE (lane + length lanes)) (connection_words connection)
+lanes_drawn_push bottom lane [] connection =
+    append-nil _ ∙ ap (λ (n : ℕ). lane_octets bottom (count_place FIRST_LANE LANE n) (connection_words connection)) (let e : lane ≡ lane + 0 = omega arith in e)
+lanes_drawn_push bottom lane (x ∷ xs) connection =
+    let first = lane_octets bottom (count_place FIRST_LANE LANE lane) (connection_words x) in
+    ap (λ (t : List ℕ). first ++ t)
+    (lanes_drawn_push bottom (lane + 1) xs connection
+    ∙ ap (λ (n : ℕ). lanes_octets bottom (lane + 1) xs ++ lane_octets bottom (count_place FIRST_LANE LANE n) (connection_words connection))
+    (let e : (lane + 1) + length xs ≡ lane + suc (length xs) = omega arith in e))
+    ∙ sym (append_assoc first (lanes_octets bottom (lane + 1) xs) _)
+
+-- one lane more
+pub lanes_drawn_more : (bottom : ℕ) (lanes : List ℕ) (i : ℕ) → i < length lanes
+    → lanes_octets bottom 0 (take (i + 1) lanes) ≡ lanes_octets bottom 0 (take i lanes) ++ lane_octets bottom (count_place FIRST_LANE LANE i) (connection_words (get_or lanes i 0))
+lanes_drawn_more bottom lanes i below =
+    ap (lanes_octets bottom 0) (take_more lanes i 0 below)
+    ∙ lanes_drawn_push bottom 0 (take i lanes) (get_or lanes i 0)
+    ∙ ap (λ (n : ℕ). lanes_octets bottom 0 (take i lanes) ++ lane_octets bottom (count_place FIRST_LANE LANE n) (connection_words (get_or lanes i 0)))
+    (let e : 0 + length (take i lanes) ≡ i = simp length-take (omega arith) in e)

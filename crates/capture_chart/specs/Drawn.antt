@@ -1,20 +1,20 @@
 -- What is drawn of a chart.
-use Rattle.std.specs.Prelude.{◌≡◌, ℕ, ◌+◌, List, [], ◌∷◌, ◌++◌, codes, decimal, Option, Some, None, ⊤}
+use Rattle.std.specs.Prelude.{◌≡◌, ℕ, ◌+◌, ◌-◌, List, [], ◌∷◌, ◌++◌, codes, decimal, Option, Some, None, ⊤}
 use Rattle.std.specs.List.{concat}
 use Rattle.std.specs.Str.{chars, encode_utf8_all}
 use Rattle.svg_text.specs.declared.element.Element.{Element}
-use Rattle.svg_text.specs.declared.element.Element.TheVariants.{Description, Group, Title}
+use Rattle.svg_text.specs.declared.element.Element.TheVariants.{Description, Group, Text, Title}
 use Rattle.svg_text.specs.Grammar.{Tag, empty_text, start_text}
 use Rattle.svg_text.specs.Escaping.{pieces_of}
 use Rattle.svg_text.specs.Drawn.{Drawn, end_octets, root_end, start_octets, text_octets}
-use Rattle.capture_chart.specs.declared.places.TheConstants.{ROUTER}
+use Rattle.capture_chart.specs.declared.places.TheConstants.{FIRST_LANE, LANE, ROUTER}
 use Rattle.capture_chart.specs.declared.places.Place.{Place}
 use Rattle.capture_chart.specs.declared.topic.Course.{Course}
 use Rattle.capture_chart.specs.declared.topic.Course.TheVariants.{ToRouter, ToClient, Beside}
 use Rattle.capture_chart.specs.declared.marks.Mark.{Mark}
 use Rattle.capture_chart.specs.Marks.{Marking, class_of}
 use Rattle.capture_chart.specs.Shown.{Shown, title_text}
-use Rattle.capture_chart.specs.Places.{between, lanes_of, place_at}
+use Rattle.capture_chart.specs.Places.{between, count_place, lanes_of, place_at}
 
 -- ---- elements
 
@@ -37,6 +37,34 @@ line_tag class from to = record {
 unfoldable pub line_octets : List ℕ → ℕ × ℕ → ℕ × ℕ → List ℕ
 line_octets class from to = encode_utf8_all (empty_text (line_tag class from to) ++ 10 ∷ [])
 
+-- words at a place
+abbrev pub label_tag : ℕ × ℕ → Tag
+label_tag at = record {
+  name = codes "text";
+  attributes = record { name = codes "x"; value = pieces_of (decimal at.0) } ∷ record { name = codes "y"; value = pieces_of (decimal at.1) } ∷ [];
+}
+
+unfoldable pub label_octets : ℕ × ℕ → List ℕ → List ℕ
+label_octets at words = encode_utf8_all (start_text (label_tag at)) ++ (text_octets (chars words) ++ end_octets Text)
+
+-- ---- lanes
+
+-- a lane at a place, down to the bottom, under its name
+abbrev pub lane_octets : ℕ → ℕ → List ℕ → List ℕ
+lane_octets bottom at words = line_octets (codes "lane") (at, 30) (at, bottom) ++ label_octets (at, 20) words
+
+abbrev pub connection_words : ℕ → List ℕ
+connection_words connection = codes "connection " ++ decimal connection
+
+-- the lanes of connections, from a number on
+abbrev pub lanes_octets : ℕ → ℕ → List ℕ → List ℕ
+lanes_octets bottom lane [] = []
+lanes_octets bottom lane (connection ∷ rest) = lane_octets bottom (count_place FIRST_LANE LANE lane) (connection_words connection) ++ lanes_octets bottom (lane + 1) rest
+
+-- the lane of the router, and those of connections
+abbrev pub all_lanes : ℕ → List ℕ → List ℕ
+all_lanes bottom lanes = lane_octets bottom ROUTER (codes "router") ++ lanes_octets bottom 0 lanes
+
 -- ---- arrows
 
 -- a line from the middle of the arrow of the delivery that is carried, if that is shown, to the middle of this one
@@ -57,12 +85,11 @@ shaft_octets Beside place = []
 unfoldable pub group_octets : Mark → List ℕ
 group_octets mark = encode_utf8_all (start_text (record { name = codes "g"; attributes = record { name = codes "class"; value = pieces_of (chars (class_of mark)) } ∷ [] }))
 
--- an arrow at a place is a group with the arrow's title, a description, both lines and a label
+-- an arrow at a place is a group with the arrow's title, words as its description, both lines, and the same words at its place
 pub record IsArrow (place : Place) (arrow : Shown) (octets : List ℕ) : Type 0 where
   pub words : List ℕ
-  pub label : List ℕ
   pub parts : octets ≡ group_octets place.mark
-      ++ (element_octets Title (title_text place.mark arrow) ++ (element_octets Description words ++ (tie_octets place ++ (shaft_octets arrow.course place ++ (label ++ end_octets Group)))))
+      ++ (element_octets Title (title_text place.mark arrow) ++ (element_octets Description words ++ (tie_octets place ++ (shaft_octets arrow.course place ++ (label_octets (ROUTER + 8, place.row - 4) words ++ end_octets Group)))))
 
 -- groups are those of the arrows from a row on of a chart, in order, each once
 abbrev pub AreArrows : Marking → List ℕ → List Shown → ℕ → List Shown → List (List ℕ) → Type 0
@@ -71,12 +98,13 @@ AreArrows marks lanes all row [] (group ∷ groups) = ⊥
 AreArrows marks lanes all row (arrow ∷ arrows) [] = ⊥
 AreArrows marks lanes all row (arrow ∷ arrows) (group ∷ groups) = IsArrow (place_at marks lanes all row arrow) arrow group × AreArrows marks lanes all (row + 1) arrows groups
 
--- octets of a document with these arrows at its end, in order, each once
+-- octets of a document with the lanes of these arrows and the arrows at its end, in order, each once
 pub record HasArrows (marks : Marking) (arrows : List Shown) (octets : List ℕ) : Type 0 where
   pub front : List ℕ
+  pub bottom : ℕ
   pub groups : List (List ℕ)
   pub drawn : AreArrows marks (lanes_of arrows) arrows 0 arrows groups
-  pub parts : octets ≡ (front ++ concat groups) ++ root_end
+  pub parts : octets ≡ (front ++ (all_lanes bottom (lanes_of arrows) ++ concat groups)) ++ root_end
 
 -- ---- drawings
 

@@ -17,7 +17,8 @@ impl Chart {
     ghost use Rattle.capture_chart.specs.Shown.{arrows_of};
     ghost use Rattle.capture_chart.specs.Drawn.{HasArrows};
 
-    /// The chart as the text of an SVG under this title, with these records marked.
+    /// The chart as the text of an SVG under this title, with these records marked. Where memory is refused nothing is
+    /// made.
     pub fn draw(&self, title: &str, marks: Marks<'_>) -> Result<String, AllocError>
         ensures document { IfOk result (λ text. IsSvg (string_bytes text)) }
         ensures arrows { IfOk result (λ text. HasArrows (marking marks.entry) (arrows_of self.now) (string_bytes text)) }

@@ -1,7 +1,8 @@
 //! Lanes, drawn.
 
 ghost use Rattle.std.specs.Prelude.{◌≡◌, IfOk};
-ghost use Rattle.capture_chart.specs.Drawn.{DrawsSome};
+ghost use Rattle.std.specs.String.{string_bytes};
+ghost use Rattle.capture_chart.specs.Drawn.{Draws, all_lanes, connection_words, lane_octets};
 
 use crate::parts::{draw_label, draw_line};
 use crate::places::{ROUTER, lane_place};
@@ -16,7 +17,7 @@ pub(crate) fn draw_lanes(
     lanes: &[u32],
     bottom: u32,
 ) -> Result<Drawing, AllocError>
-    ensures { IfOk result (λ after. DrawsSome drawing after) }
+    ensures { IfOk result (λ after. Draws drawing after (all_lanes bottom lanes.now)) }
 {
     let mut drawing = draw_lane(drawing, ROUTER, "router", bottom)?;
     for (lane, connection) in lanes.iter().enumerate() {
@@ -27,13 +28,15 @@ pub(crate) fn draw_lanes(
 }
 
 fn draw_lane(drawing: Drawing, at: u32, words: &str, bottom: u32) -> Result<Drawing, AllocError>
-    ensures { IfOk result (λ after. DrawsSome drawing after) }
+    ensures { IfOk result (λ after. Draws drawing after (lane_octets bottom at words.now)) }
 {
     let lined = draw_line(drawing, "lane", (at, 30), (at, bottom))?;
     draw_label(lined, (at, 20), words)
 }
 
-fn lane_words(alloc: Global, connection: u32) -> Result<String, AllocError> {
+fn lane_words(alloc: Global, connection: u32) -> Result<String, AllocError>
+    ensures { IfOk result (λ words. string_bytes words ≡ connection_words connection) }
+{
     let mut digits = Buffer::new();
     let mut words = String::from_str(alloc, "connection ")?;
     words.push_str(digits.format(connection))?;

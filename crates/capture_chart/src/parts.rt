@@ -1,7 +1,7 @@
 //! Elements of several calls.
 
 ghost use Rattle.std.specs.Prelude.{◌≡◌, IfOk};
-ghost use Rattle.capture_chart.specs.Drawn.{Draws, DrawsSome, element_octets, line_octets};
+ghost use Rattle.capture_chart.specs.Drawn.{Draws, element_octets, label_octets, line_octets};
 
 use std::alloc::AllocError;
 use svg_text::{Attribute, Drawing, Element, Name, Value};
@@ -59,7 +59,7 @@ pub(crate) fn draw_label(
     at: (u32, u32),
     words: &str,
 ) -> Result<Drawing, AllocError>
-    ensures { IfOk result (λ after. DrawsSome drawing after) }
+    ensures { IfOk result (λ after. Draws drawing after (label_octets at words.now)) }
 {
     let attributes = [
         Attribute {

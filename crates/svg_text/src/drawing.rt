@@ -8,7 +8,7 @@ use std::alloc::{AllocError, Global};
 use std::marker::Model;
 
 /// A document that is an SVG, up to where something may be written next: its text so far, and the elements that are open in
-/// its root.
+/// its root. Each call takes it and gives it back; where memory is refused it is gone.
 #[derive(Debug, Drop)]
 pub struct Drawing {
     text: String,

@@ -1,8 +1,11 @@
 use Rattle.svg_text.specs.declared.element.Element.TheVariants.{Text}
-use Rattle.capture_chart.proofs.Drawings.{closed_some, some_of, written}
+use Rattle.svg_text.specs.Drawn.{start_octets}
+use Rattle.capture_chart.specs.Drawn.{label_octets}
+use Rattle.capture_chart.proofs.Drawings.{closed, written}
 use Rattle.capture_chart.proofs.parts.draw_label.Goals as goal
 
 pub returns : goal.returns
+unfolding start_octets label_octets
 returns c =
-    closed_some c.end.result c.args.drawing c.in_ok-start.field-0 c.in_ok-text.field-0 Text _ c.in_ok-start.ensures
-    (some_of c.in_ok-start.field-0 c.in_ok-text.field-0 _ (written c.in_ok-start.field-0 c.in_ok-text.field-0 _ c.in_ok-text.ensures.written)) c.end.ensures
+    closed c.end.result c.args.drawing c.in_ok-start.field-0 c.in_ok-text.field-0 Text _ _ c.in_ok-start.ensures
+    (written c.in_ok-start.field-0 c.in_ok-text.field-0 _ c.in_ok-text.ensures.written) c.end.ensures
