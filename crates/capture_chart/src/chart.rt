@@ -60,7 +60,9 @@ impl Chart {
         ensures taken { OnOk result (arrows_of self.new ≡ arrows_of self.old ++ shown_of (viewed view.now) ∷ []) }
         // Where it had the arrows of these records, it has those of one more.
         ensures all { OnOk result ((before : List Viewed) → arrows_of self.old ≡ map shown_of before → arrows_of self.new ≡ map shown_of (before ++ viewed view.now ∷ [])) }
+        // Where it was not taken the arrows are those that were there.
         ensures same { OnErr result (arrows_of self.new ≡ arrows_of self.old) }
+        // It is full where there are as many as there may be, and only there.
         ensures full { (result ≡ Err ChartFault.Full) ↔ (MOST_ARROWS ≤ length (arrows_of self.old)) }
     {
         if self.arrows.len() >= MOST_ARROWS {

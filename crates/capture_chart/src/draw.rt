@@ -20,7 +20,10 @@ impl Chart {
     /// The chart as the text of an SVG under this title, with these records marked. Where memory is refused nothing is
     /// made.
     pub fn draw(&self, title: &str, marks: Marks<'_>) -> Result<String, AllocError>
+        // It is well-formed, and an SVG.
         ensures document { IfOk result (λ text. IsSvg (string_bytes text)) }
+        // It has the lanes of the arrows' connections and that of the router, and each arrow, in order and once: its title, its line
+        // in words, where it runs, its mark, and from which delivery.
         ensures arrows { IfOk result (λ text. HasArrows (marking marks.entry) (arrows_of self.now) (string_bytes text)) }
     {
         let arrows = self.arrows.as_slice();

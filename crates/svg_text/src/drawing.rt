@@ -93,6 +93,7 @@ impl Drawing {
         ensures written { IfOk result (λ drawing. drawing ≡ record { octets = self.octets ++ text_octets (chars text.now); unclosed = self.unclosed }) }
         // A reader finds each character there, or what stands for one that no document may have.
         ensures found { read (pieces_text (pieces_of (chars text.now))) ≡ map shown (chars text.now) }
+        // Where a document may have each of them it is read as it was handed in.
         ensures same { list_all is_char (chars text.now) ≡ true → read (pieces_text (pieces_of (chars text.now))) ≡ chars text.now }
     {
         let Drawing {
@@ -127,6 +128,7 @@ impl Drawing {
     pub fn finish(self) -> Result<String, AllocError>
         requires { self.unclosed ≡ [] }
         ensures text { IfOk result (λ text. string_bytes text ≡ self.octets ++ root_end) }
+        // It is well-formed, and an SVG.
         ensures document { IfOk result (λ text. IsSvg (string_bytes text)) }
     {
         let Drawing {
