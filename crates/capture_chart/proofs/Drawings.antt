@@ -39,9 +39,6 @@ some_of a b m h = record { more = m; draws = h }
 pub some_then : (a b c : Drawn) → DrawsSome a b → DrawsSome b c → DrawsSome a c
 some_then a b c h k = record { more = h.more ++ k.more; draws = draws_then a b c h.more k.more h.draws k.draws }
 
-pub some_none : (a : Drawn) → DrawsSome a a
-some_none a = record { more = []; draws = record { octets = sym (append-nil a.octets); unclosed = refl } }
-
 pub if_some_then : {E : Type 0} (r : Result Drawn E) (a b : Drawn) → DrawsSome a b → IfOk r (λ c. DrawsSome b c) → IfOk r (λ c. DrawsSome a c)
 if_some_then (Ok c) a b h k = some_then a b c h k
 if_some_then (Err e) a b h k = tt
@@ -49,10 +46,6 @@ if_some_then (Err e) a b h k = tt
 -- what was written
 pub written : (a b : Drawn) (m : List ℕ) → b ≡ record { octets = a.octets ++ m; unclosed = a.unclosed } → Draws a b m
 written a b m is = record { octets = ap (λ (d : Drawn). d.octets) is; unclosed = ap (λ (d : Drawn). d.unclosed) is }
-
-pub if_written : {E : Type 0} (r : Result Drawn E) (a : Drawn) (m : List ℕ) → IfOk r (λ b. b ≡ record { octets = a.octets ++ m; unclosed = a.unclosed }) → IfOk r (λ b. DrawsSome a b)
-if_written (Ok b) a m is = some_of a b m (written a b m is)
-if_written (Err e) a m is = tt
 
 -- ---- elements
 
@@ -163,22 +156,11 @@ pub all_arrows : (marks : Marking) (lanes : List ℕ) (all : List Shown) (a b : 
     → DrawsArrows marks lanes all a b (map shown arrows)
 all_arrows marks lanes all a b arrows i end h = subst (λ (xs : List Arrow). DrawsArrows marks lanes all a b (map shown xs)) (take_all i arrows end) h
 
--- ---- told in other words
+-- ---- calls that may fail
 
 pub if_draws : {E : Type 0} (r : Result Drawn E) (a : Drawn) (m : List ℕ) → IfOk r (λ b. b ≡ record { octets = a.octets ++ m; unclosed = a.unclosed }) → IfOk r (λ b. Draws a b m)
 if_draws (Ok b) a m is = written a b m is
 if_draws (Err e) a m is = tt
-
-pub if_some_of : {E : Type 0} (r : Result Drawn E) (a : Drawn) (m : List ℕ) → IfOk r (λ b. Draws a b m) → IfOk r (λ b. DrawsSome a b)
-if_some_of (Ok b) a m h = some_of a b m h
-if_some_of (Err e) a m h = tt
-
-pub if_told : {E : Type 0} (r : Result Drawn E) (a : Drawn) (m n : List ℕ) → IfOk r (λ b. Draws a b m) → m ≡ n → IfOk r (λ b. Draws a b n)
-if_told (Ok b) a m n h is = subst (Draws a b) is h
-if_told (Err e) a m n h is = tt
-
-pub none_drawn : (a : Drawn) (m : List ℕ) → m ≡ [] → Draws a a m
-none_drawn a m is = subst (Draws a a) (sym is) (record { octets = sym (append-nil a.octets); unclosed = refl })
 
 pub if_draws_then : {E : Type 0} (r : Result Drawn E) (a b : Drawn) (m n : List ℕ) → Draws a b m → IfOk r (λ c. Draws b c n) → IfOk r (λ c. Draws a c (m ++ n))
 if_draws_then (Ok c) a b m n h k = draws_then a b c m n h k

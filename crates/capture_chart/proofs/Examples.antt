@@ -1,13 +1,13 @@
 -- What is shown and drawn of small records, worked out by hand.
-use Rattle.std.proofs.Common.{◌≡◌, ℕ, Bool, true, false, List, [], ◌∷◌, ◌++◌, map, refl, sym, ap, ◌∙◌}
-use Rattle.std.specs.Prelude.{None, Option, Some, codes}
+use Rattle.std.proofs.Common.{◌≡◌, ℕ, List, [], ◌∷◌, ◌++◌, refl}
+use Rattle.std.specs.Prelude.{None, Some, codes}
 use Rattle.std.specs.Fmt.{digits}
 use Rattle.std.specs.Str.{chars}
 use lib.Utf8.{encode}
 use Rattle.pairing_cert.specs.declared.note.Note.TheVariants as notes
 use Rattle.pairing_cert.specs.declared.note.Why.TheVariants as rows
 use Rattle.amqp_perf.specs.Meaning.{AnEnd}
-use Rattle.capture_view.specs.Saying.{NoBody, Saying, Says}
+use Rattle.capture_view.specs.Saying.{NoBody, Says}
 use Rattle.capture_view.specs.Viewed.{Viewed}
 use Rattle.capture_view.specs.Viewed as happenings
 use Rattle.svg_text.specs.Drawn.{end_octets}
@@ -16,9 +16,9 @@ use Rattle.capture_chart.specs.declared.topic.Course.TheVariants.{Beside, ToClie
 use Rattle.capture_chart.specs.declared.topic.Topic.TheVariants as topics
 use Rattle.capture_chart.specs.declared.marks.Mark.TheVariants.{Compared, Plain, Refused}
 use Rattle.capture_chart.specs.Marks.{Marking, mark_of}
-use Rattle.capture_chart.specs.Shown.{Shown, carried_by, shown_of, title_text}
+use Rattle.capture_chart.specs.Shown.{Shown, shown_of, title_text}
 use Rattle.capture_chart.specs.Places.{carried_place, connection_place, lanes_of, row_place}
-use Rattle.capture_chart.specs.Drawn.{AreArrows, HasArrows, IsArrow, all_lanes, connection_words, group_octets, label_octets, lane_octets, line_octets, shaft_octets, tie_octets}
+use Rattle.capture_chart.specs.Drawn.{AreArrows, IsArrow, all_lanes, connection_words, group_octets, label_octets, lane_octets, line_octets, shaft_octets, tie_octets}
 
 -- ---- what is shown
 

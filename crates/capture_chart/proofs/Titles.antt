@@ -1,5 +1,5 @@
 -- A title, written part by part.
-use Rattle.std.proofs.Common.{◌≡◌, ℕ, List, ◌++◌, refl, sym, ap, ◌∙◌, append_assoc}
+use Rattle.std.proofs.Common.{◌≡◌, ℕ, List, ◌++◌, ap, ◌∙◌, append_assoc}
 use Rattle.std.specs.Prelude.{codes, decimal}
 use Rattle.capture_chart.specs.declared.marks.Mark.{Mark}
 use Rattle.capture_chart.specs.Marks.{mark_words}

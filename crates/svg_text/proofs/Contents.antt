@@ -1,7 +1,5 @@
 -- Content that is written piece by piece.
-use Rattle.std.proofs.Common.{◌≡◌, ℕ, Bool, true, false, ◌&&◌, List, [], ◌∷◌, ◌++◌, map, refl, sym, subst, ap, ◌∙◌, append_assoc, append-nil}
-use Rattle.std.proofs.lemmas.List.{same_from_push}
-use Rattle.std.specs.Prelude.{codes}
+use Rattle.std.proofs.Common.{◌≡◌, ℕ, Bool, true, false, ◌&&◌, List, [], ◌∷◌, ◌++◌, refl, sym, ap, ◌∙◌, append_assoc, append-nil}
 use Rattle.std.specs.List.{list_all}
 use Rattle.svg_text.specs.Grammar.{Content, EmptyElement, Element, empty_text, IsContent, IsTag, Nothing, Piece, Tag, Text, Character, content_text, end_text, is_data_piece, piece_text, pieces_text, start_text}
 use Rattle.svg_text.specs.Drawn.{IsOpened, Opened, Whole, Within, opened_names, opened_text}

@@ -1,8 +1,8 @@
 -- Of each part of the definitions something that meets it, and something that fails it alone.
-use Rattle.std.proofs.Common.{◌≡◌, ℕ, Bool, true, false, List, [], ◌∷◌, ◌++◌, map, refl}
+use Rattle.std.proofs.Common.{◌≡◌, true, false, [], ◌∷◌, refl}
 use Rattle.std.specs.Prelude.{codes}
-use Rattle.svg_text.specs.Grammar.{Attribute, Character, Content, Element, EmptyElement, Entity, IsContent, IsDocument, IsTag, Nothing, Number, Piece, Tag, Text, are_distinct, attribute_text, content_text, empty_text, end_text, is_attribute, is_char, is_data_piece, is_name, is_value_piece, piece_text, pieces_text, start_text}
-use Rattle.svg_text.specs.Escaping.{pieces_of, read, shown}
+use Rattle.svg_text.specs.Grammar.{Character, Content, Element, EmptyElement, Entity, IsContent, IsDocument, IsTag, Nothing, Number, Tag, Text, content_text, empty_text, is_char, is_data_piece, is_name, is_value_piece, pieces_text}
+use Rattle.svg_text.specs.Escaping.{pieces_of, read}
 
 -- ---- characters
 

@@ -1,5 +1,5 @@
 -- A document that is written part by part.
-use Rattle.std.proofs.Common.{◌≡◌, ℕ, ◌<◌, ◌^◌, Bool, true, false, ◌&&◌, List, [], ◌∷◌, ◌++◌, map, refl, sym, subst, ap, ◌∙◌, append_assoc, append-nil}
+use Rattle.std.proofs.Common.{◌≡◌, ℕ, true, List, [], ◌∷◌, ◌++◌, map, refl, sym, ap, ◌∙◌, append_assoc, append-nil}
 use Rattle.std.proofs.lemmas.List.{map-append, same_from_push}
 use Rattle.std.proofs.lemmas.Str.{encodes-append}
 use Rattle.std.specs.Prelude.{codes, decimal}

@@ -1,10 +1,9 @@
 -- The octets of tags and texts.
-use Rattle.std.proofs.Common.{◌≡◌, ℕ, ◌+◌, ◌<◌, ◌^◌, Bool, true, false, List, [], ◌∷◌, ◌++◌, map, take, length, get_or, refl, sym, subst, ap, ◌∙◌, append_assoc, append-nil}
+use Rattle.std.proofs.Common.{◌≡◌, ℕ, ◌+◌, ◌<◌, List, [], ◌∷◌, ◌++◌, map, take, length, get_or, refl, sym, ap, ◌∙◌, append_assoc, append-nil}
 use Rattle.std.proofs.lemmas.List.{map-append, map_more}
-use Rattle.std.proofs.lemmas.Str.{encodes-append, chars-IsAscii}
-use Rattle.std.proofs.lemmas.Fmt.{IsAscii-decimal}
+use Rattle.std.proofs.lemmas.Str.{encodes-append}
 use Rattle.std.specs.Prelude.{codes, decimal}
-use Rattle.std.specs.Str.{chars, encode_utf8_all}
+use Rattle.std.specs.Str.{encode_utf8_all}
 use lib.Utf8.{encode}
 use Rattle.svg_text.specs.declared.element.Element.{Element}
 use Rattle.svg_text.specs.declared.element.Element.TheVariants as elements
@@ -33,9 +32,6 @@ text_octets-append a b =
 -- of one more character
 pub text_octets-push : (a : List ℕ) (c : ℕ) → text_octets (a ++ c ∷ []) ≡ text_octets a ++ encode_utf8_all (piece_text (piece_of c))
 text_octets-push a c = text_octets-append a (c ∷ []) ∙ ap (λ (t : List ℕ). text_octets a ++ encode_utf8_all t) (append-nil (piece_text (piece_of c)))
-
-pub decimal_chars : (n : ℕ) → n < 2 ^ 64 → chars (decimal n) ≡ decimal n
-decimal_chars n small = chars-IsAscii (decimal n) (IsAscii-decimal n small)
 
 pub map_same : (xs : List ℕ) → map (λ c. c) xs ≡ xs
 map_same [] = refl

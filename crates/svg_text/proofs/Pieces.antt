@@ -1,10 +1,9 @@
 -- Any text, escaped, is text of a document, and is read as itself where it may stand there.
-use Rattle.std.proofs.Common.{◌≡◌, ℕ, ◌+◌, ◌-◌, ◌*◌, Bool, true, false, not, ◌&&◌, ◌||◌, List, [], ◌∷◌, ◌++◌, map, refl, sym, subst, ap, ◌∙◌, append_assoc, append-nil}
-use Rattle.std.proofs.lemmas.Bool.{eqb-true}
-use Rattle.std.specs.Prelude.{◌==◌, codes, decimal, Some, None, if◌then◌else◌}
+use Rattle.std.proofs.Common.{◌≡◌, ℕ, Bool, true, false, not, ◌&&◌, ◌||◌, List, [], ◌∷◌, refl, ap}
+use Rattle.std.specs.Prelude.{◌==◌, codes, if◌then◌else◌}
 use Rattle.std.specs.List.{list_all}
-use Rattle.svg_text.specs.Grammar.{Piece, Character, Entity, Number, is_char, is_data_piece, is_value_piece, piece_text, pieces_text}
-use Rattle.svg_text.specs.Escaping.{is_blank, literal, piece_of, pieces_of, read_on, replacement, shown}
+use Rattle.svg_text.specs.Grammar.{Piece, Character, Entity, Number, is_char, is_data_piece, is_value_piece}
+use Rattle.svg_text.specs.Escaping.{is_blank, piece_of, pieces_of, replacement}
 
 pub and_true : (a b : Bool) → a ≡ true → b ≡ true → (a && b) ≡ true
 and_true true b h k = k

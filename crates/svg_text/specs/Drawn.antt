@@ -2,8 +2,6 @@
 use Rattle.std.specs.Prelude.{◌≡◌, ℕ, true, List, [], ◌∷◌, ◌++◌, map, codes, decimal}
 use Rattle.std.specs.Str.{chars, encode_utf8_all}
 use Rattle.svg_text.specs.declared.element.Element.{Element}
-use Rattle.svg_text.specs.declared.attribute.Name.{Name}
-use Rattle.svg_text.specs.declared.attribute.Name.TheVariants as names
 use Rattle.svg_text.specs.declared.attribute.Value.{Value}
 use Rattle.svg_text.specs.declared.attribute.Value.TheVariants as values
 use Rattle.svg_text.specs.declared.attribute.Attribute.{Attribute}

@@ -1,4 +1,4 @@
-use Rattle.std.proofs.Common.{List, ℕ, [], ◌++◌, ap, get_or, sym, subst, take, ◌∙◌, append_assoc, append-nil}
+use Rattle.std.proofs.Common.{List, ℕ, ◌++◌, ap, get_or, sym, subst, take, ◌∙◌, append_assoc, append-nil}
 use Rattle.std.proofs.lemmas.List.{take_all}
 use Rattle.std.specs.Prelude.{codes}
 use Rattle.capture_chart.specs.declared.places.TheConstants.{FIRST_LANE, LANE, ROUTER}

@@ -1,4 +1,4 @@
-use Rattle.std.proofs.Common.{ℕ, sym, ap, ◌∙◌}
+use Rattle.std.proofs.Common.{sym, ◌∙◌}
 use Rattle.std.proofs.lemmas.Bool.{eq-eqb, ne_eqb}
 use Rattle.capture_chart.proofs.LaneLemmas.{chosen_false, chosen_true, lane_here, no_lane}
 use Rattle.capture_chart.proofs.places.connection_place.Goals as goal

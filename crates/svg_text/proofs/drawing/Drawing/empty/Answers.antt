@@ -1,6 +1,5 @@
-use Rattle.std.proofs.Common.{List, ℕ, ◌++◌, ap, refl, subst, sym, ◌∙◌, ◌≡◌}
+use Rattle.std.proofs.Common.{List, ℕ, ◌++◌, ap, refl, subst, sym, ◌∙◌}
 use Rattle.std.specs.Prelude.{codes}
-use Rattle.std.specs.String.{string_bytes}
 use Rattle.svg_text.specs.Names.{element_name}
 use Rattle.svg_text.specs.Drawn.{IsFront, tag_front, tag_of, empty_octets}
 use Rattle.svg_text.proofs.Octets.{empty_octets_is}

@@ -1,4 +1,4 @@
-use Rattle.std.proofs.Common.{List, ap, refl, subst, sym, ◌∙◌}
+use Rattle.std.proofs.Common.{List, ap, subst, sym, ◌∙◌}
 use Rattle.std.proofs.lemmas.List.{same_from_push}
 use Rattle.svg_text.specs.declared.element.Element.{Element}
 use Rattle.svg_text.specs.Names.{element_name}
