@@ -1,6 +1,7 @@
 //! Draws the captures of the folder that the program runs in, `data/` here, in the order of their names, and texts that
-//! would break a document if they were written as they are. `stdout` holds what is expected; an independent program reads
-//! each document of it, and finds there each text that was handed in.
+//! would break a document if they were written as they are. In `names.cap` a client gives its links such names, and sends
+//! octets that are no frames. `stdout` holds what is expected; an independent parser of XML read each document of it, and
+//! found there each text that was handed in.
 #![tactic(auto)]
 
 mod captures;
