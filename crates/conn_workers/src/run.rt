@@ -32,9 +32,9 @@ use parts::{apart_all, together};
 /// system makes no thread, the gates of one worker are served only after those of another have ended, so that clients that
 /// wait for each other may wait for good.
 ///
-/// No gate was called before. Each worker owns its gates and engines, and holds the lock of the core for one step or one
-/// copy of a frame; never while it reads, writes or waits. A gate whose read or write fails is no fault of the run: its
-/// connection is lost. One whose `ready` answers `Device` ends the run.
+/// No gate was called before. Each worker owns its gates and engines, and takes the lock of the core once for all frames of a
+/// read, and once for those that it is to write; it holds it never while it reads, writes or waits. A gate whose read or write
+/// fails is no fault of the run: its connection is lost. One whose `ready` answers `Device` ends the run.
 ///
 /// # Errors
 ///

@@ -1,8 +1,8 @@
 //! What one worker does.
 
-ghost use Rattle.std.specs.Prelude.{◌≡◌, ◌<◌, ◌+◌, length, IfOk, IfSome, OnOk, vec_len, All};
+ghost use Rattle.std.specs.Prelude.{◌≡◌, ◌<◌, ◌+◌, ◌∷◌, Some, length, drop, slice_get, IfOk, IfSome, OnOk, vec_len, All};
 ghost use Rattle.std.specs.VecDeque.{deque_len};
-ghost use Rattle.conn_serving.specs.declared.serving.Status.TheVariants.{Open};
+ghost use Rattle.conn_serving.specs.declared.serving.Status.TheVariants.{Open, Ended};
 
 use crate::alarm::Alarm;
 use crate::done::Done;
@@ -14,9 +14,9 @@ use std::alloc::Global;
 use std::collections::VecDeque;
 use std::sync::Wait;
 
-/// The most octets of one read: those of the largest frame, or of some hundred small messages, so that no connection keeps its
-/// worker long.
-const BUFFER: usize = 16384;
+/// The most octets of one read: those of four of the largest frames, or of some hundreds of small messages. Its frames are handed to
+/// the core under one lock, so that this bounds how long a connection keeps its worker, and the other workers from the core.
+const BUFFER: usize = 65536;
 
 /// Serves these gates to their ends, one after the other in each round. Where a round moves nothing, it waits a little at
 /// one gate, the next in turn. It tells the other workers where it stops. Where one of these has, it is called off: it drops
@@ -71,7 +71,7 @@ fn serve_all<G: Gate + Drop, R: Wait, W: Wait, J: Origin<G>>(
 }
 
 /// The lines of gates that are handed over in falling order of their numbers, in rising order.
-#[tactic(auto, using(crate::proofs::Opens::open_front, crate::proofs::Opens::open_pop))]
+#[tactic(auto, using(crate::proofs::Opens::open_front))]
 fn open_lines<'a, G: Gate + Drop, R: Wait, J: Origin<G>>(
     alloc: Global,
     exchange: &'a Exchange<R>,
@@ -83,11 +83,21 @@ fn open_lines<'a, G: Gate + Drop, R: Wait, J: Origin<G>>(
     let mut lines = VecDeque::new(alloc);
     for start in starts {
         let port = exchange.port(start.conn());
-        let Ok(()) = lines.push_front(Line::new(alloc, start, port)) else {
-            return Err(Stop::Memory);
-        };
+        put_front(&mut lines, Line::new(alloc, start, port))?;
     }
     Ok(lines)
+}
+
+/// Puts a line in front of the others. It does so for any type, since the borrow checker does not cover the push of a line whose
+/// port may hold a core.
+fn put_front<T: Drop>(lines: &mut VecDeque<T>, line: T) -> Result<(), Stop>
+    ensures items { OnOk result (lines.new.items ≡ line ∷ lines.old.items) }
+    ensures len { OnOk result (deque_len lines.new ≡ deque_len lines.old + 1) }
+{
+    match lines.push_front(line) {
+        Ok(()) => Ok(()),
+        Err(_) => Err(Stop::Memory),
+    }
 }
 
 /// Gives each line one turn, and says whether any moved octets or ended.
@@ -110,8 +120,8 @@ fn serve_each<'a, G: Gate + Drop, R: Wait, J: Origin<G>>(
     Ok(moved)
 }
 
-/// Gives the first line one turn, and puts it behind the others, or among those that have ended.
-#[tactic(auto, using(crate::proofs::Opens::open_push, crate::proofs::Opens::open_pop))]
+/// Gives the first line one turn in its place, and puts it behind the others, or among those that have ended.
+#[tactic(auto, using(crate::proofs::Opens::open_turned, crate::proofs::Opens::open_behind))]
 fn serve_next<'a, G: Gate + Drop, R: Wait, J: Origin<G>>(
     lines: &mut VecDeque<Line<G, ExchangePort<'a, R>, J>>,
     done: &mut Vec<Done<G, J>>,
@@ -122,25 +132,39 @@ fn serve_next<'a, G: Gate + Drop, R: Wait, J: Origin<G>>(
     ensures open { OnOk result (All (λ s. s ≡ Open) lines.new.items) }
     ensures len { OnOk result (deque_len lines.new + vec_len done.new ≡ deque_len lines.old + vec_len done.old) }
 {
-    let Some(mut line) = lines.pop_front() else {
+    let Some(line) = lines.front_mut() else {
         return Ok(false);
     };
     let turn = line.turn(buffer)?;
     if turn == Turn::Ended {
-        return match done.push(Done::new(line)) {
-            Ok(()) => Ok(true),
-            Err(_) => Err(Stop::Memory),
-        };
+        end_first(lines, done)?;
+        return Ok(true);
     }
-    let moved = turn == Turn::Moved;
-    let Ok(()) = lines.push_back(line) else {
-        return Err(Stop::Memory);
-    };
-    Ok(moved)
+    lines.rotate_left(1);
+    Ok(turn == Turn::Moved)
 }
 
-/// Waits at the first line, and puts it behind the others.
-#[tactic(auto, using(crate::proofs::Opens::open_push, crate::proofs::Opens::open_pop))]
+/// Takes the first line, which has ended, from those that are open, and puts it among those that have ended.
+fn end_first<'a, G: Gate + Drop, R: Wait, J: Origin<G>>(
+    lines: &mut VecDeque<Line<G, ExchangePort<'a, R>, J>>,
+    done: &mut Vec<Done<G, J>>,
+) -> Result<(), Stop>
+    requires ended { slice_get lines.old.items 0 ≡ Some Ended }
+    requires open { All (λ s. s ≡ Open) (drop 1 lines.old.items) }
+    ensures open { OnOk result (All (λ s. s ≡ Open) lines.new.items) }
+    ensures len { OnOk result (deque_len lines.new + vec_len done.new ≡ deque_len lines.old + vec_len done.old) }
+{
+    match lines.pop_front() {
+        Some(line) => match done.push(Done::new(line)) {
+            Ok(()) => Ok(()),
+            Err(_) => Err(Stop::Memory),
+        },
+        None => Ok(()),
+    }
+}
+
+/// Waits at the first line in its place, and puts it behind the others.
+#[tactic(auto, using(crate::proofs::Opens::open_turned))]
 fn wait_for_next<'a, G: Gate + Drop, R: Wait, J: Origin<G>>(
     lines: &mut VecDeque<Line<G, ExchangePort<'a, R>, J>>,
 ) -> Result<(), Stop>
@@ -148,12 +172,10 @@ fn wait_for_next<'a, G: Gate + Drop, R: Wait, J: Origin<G>>(
     ensures open { OnOk result (All (λ s. s ≡ Open) lines.new.items) }
     ensures len { OnOk result (deque_len lines.new ≡ deque_len lines.old) }
 {
-    let Some(mut line) = lines.pop_front() else {
+    let Some(line) = lines.front_mut() else {
         return Ok(());
     };
     line.wait()?;
-    let Ok(()) = lines.push_back(line) else {
-        return Err(Stop::Memory);
-    };
+    lines.rotate_left(1);
     Ok(())
 }

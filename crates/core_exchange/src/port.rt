@@ -1,19 +1,23 @@
 //! A connection's way to a core that threads share.
 
-ghost use Rattle.std.specs.Prelude.{◌≡◌, []};
+ghost use Rattle.std.specs.Prelude.{◌≡◌, [], None, false};
 
-use crate::exchange::Exchange;
+use crate::exchange::{Exchange, frame_from};
 use crate::seat::Seat;
 use conn_engine::{Port, PortFault};
+use route_core::Core;
 use route_items::Item;
 use std::alloc::{AllocError, Global};
-use std::sync::Wait;
+use std::sync::{MutexGuard, Wait};
 
 /// Hands the items of a connection to the core of an exchange, and gives the frames that the core wrote to it. It keeps
 /// copies of the items that the core took and of the frames that were given.
 #[derive(Drop)]
 pub struct ExchangePort<'a, R: Wait> {
     exchange: &'a Exchange<R>,
+    // Whether more calls follow, and the core, if one of them took it.
+    is_holding: bool,
+    core: Option<MutexGuard<'a, Core>>,
     seat: Seat,
     // A record's number and a mark: while the mark stands, nothing was written in that record or a later one.
     unwritten: Option<(u64, u64)>,
@@ -28,6 +32,8 @@ impl<'a, R: Wait> ExchangePort<'a, R> {
     {
         ExchangePort {
             exchange,
+            is_holding: false,
+            core: None,
             seat: Seat {
                 conn,
                 items: Vec::new(alloc),
@@ -43,10 +49,23 @@ impl<'a, R: Wait> ExchangePort<'a, R> {
     {
         let ExchangePort {
             exchange: _,
+            is_holding: _,
+            core: _,
             seat,
             unwritten: _,
         } = self;
         seat
+    }
+
+    /// Gives the core back, unless more calls follow.
+    fn let_go(&mut self)
+        ensures core { self.new.is_holding ≡ false → self.new.core ≡ None }
+        ensures holding { self.new.is_holding ≡ self.old.is_holding }
+        ensures seat { self.new.seat ≡ self.old.seat }
+    {
+        if !self.is_holding {
+            self.core = None;
+        }
     }
 
     /// Whether nothing was written from a record on since this was found last, so that there is no need for the lock.
@@ -75,7 +94,11 @@ impl<'a, R: Wait> Port for ExchangePort<'a, R> {
         let Ok(()) = self.seat.items.reserve(1) else {
             return Err(PortFault::Memory);
         };
-        match self.exchange.step(item) {
+        let exchange = self.exchange;
+        let core = self.core.get_or_insert_with(|| exchange.taken());
+        let answer = exchange.step(core, item);
+        self.let_go();
+        match answer {
             Ok(()) => {
                 self.seat.items.push_reserved(entry.what);
                 Ok(())
@@ -90,7 +113,11 @@ impl<'a, R: Wait> Port for ExchangePort<'a, R> {
         if self.has_seen_all(from, mark) {
             return Ok(None);
         }
-        let Some((number, frame)) = self.exchange.copy_out(self.seat.conn, from)? else {
+        let exchange = self.exchange;
+        let core = self.core.get_or_insert_with(|| exchange.taken());
+        let found = frame_from(exchange.alloc(), core, self.seat.conn, from);
+        self.let_go();
+        let Some((number, frame)) = found? else {
             self.unwritten = Some((from, mark));
             return Ok(None);
         };
@@ -98,5 +125,17 @@ impl<'a, R: Wait> Port for ExchangePort<'a, R> {
         out.extend_from_slice(&frame)?;
         self.seat.frames.push_reserved(frame);
         Ok(Some(number))
+    }
+
+    fn hold(&mut self) {
+        self.is_holding = true;
+    }
+
+    fn rest(&mut self)
+        ensures core { self.new.core ≡ None }
+        ensures seat { self.new.seat ≡ self.old.seat }
+    {
+        self.is_holding = false;
+        self.let_go();
     }
 }

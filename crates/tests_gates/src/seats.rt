@@ -1,5 +1,7 @@
 //! Two ports of one exchange on one thread, and seats that are not what the capture has.
 
+ghost use Rattle.std.specs.Prelude.{◌≡◌};
+
 use address_table::Rules;
 use capture_form::{Distribution, Rule, What};
 use conn_engine::Port;
@@ -66,6 +68,21 @@ fn two_seats<R: Wait + Print + AllocGlobal>(
 ) -> io::Result<(Seat, Seat)> {
     let mut first = exchange.port(0);
     let mut second = exchange.port(1);
+    let told = tell_openings(rt, &mut first, &mut second);
+    let seats = (first.into_seat(), second.into_seat());
+    told?;
+    Ok(seats)
+}
+
+/// Opens the connections of both ports, sends an open by the first one, and prints what they give.
+fn tell_openings<R: Print + AllocGlobal, P: Port>(
+    rt: &R,
+    first: &mut P,
+    second: &mut P,
+) -> io::Result<()>
+    requires first { P.connection first.old ≡ 0 }
+    requires second { P.connection second.old ≡ 1 }
+{
     let opened = first.submit(Item::Opened(0)).is_ok();
     let beside = second.submit(Item::Opened(1)).is_ok();
     let came = first.submit(Item::In(0, OPEN)).is_ok();
@@ -74,8 +91,7 @@ fn two_seats<R: Wait + Print + AllocGlobal>(
     let octets = hex::encode(rt.alloc(), out.as_slice())?;
     println!(rt; "opened {opened} and {beside}, came {came}, record {number:?} is {octets}")?;
     let (more, others) = (first.next_out(4, &mut out)?, second.next_out(0, &mut out)?);
-    println!(rt; "then {more:?}, and on the other connection {others:?}")?;
-    Ok((first.into_seat(), second.into_seat()))
+    println!(rt; "then {more:?}, and on the other connection {others:?}")
 }
 
 /// The seats, of which this is wrong.
@@ -123,10 +139,16 @@ fn tell_seats(rt: &impl Print, seats: &[Seat]) -> io::Result<()> {
 
 /// A port that found nothing finds what comes; and asked from an earlier record on, it looks again.
 fn play_ports<R: Wait + Print + AllocGlobal>(rt: &R) -> io::Result<()> {
+    let exchange = new_exchange(rt, rt.alloc())?;
+    tell_found(rt, exchange.port(1), exchange.port(1))
+}
+
+/// Opens the connection of both ports and sends an open by one of them, and prints what the other finds.
+fn tell_found<R: Print + AllocGlobal, P: Port + Drop>(rt: &R, one: P, same: P) -> io::Result<()>
+    requires { P.connection one ≡ 1 }
+{
     let alloc = rt.alloc();
-    let exchange = new_exchange(rt, alloc)?;
-    let mut one = exchange.port(1);
-    let mut same = exchange.port(1);
+    let (mut one, mut same) = (one, same);
     let mut out = Vec::new(alloc);
     let opened = one.submit(Item::Opened(1)).is_ok();
     let (first, second) = (same.next_out(0, &mut out)?, same.next_out(0, &mut out)?);
