@@ -11,7 +11,7 @@ use Rattle.trace_clauses.specs.declared.clause.Clause.TheVariants.{L1, L2}
 use Rattle.trace_clauses.specs.Written.{spoken_octets, written_open}
 use Rattle.trace_clauses.proofs.Captures.{opened}
 use Rattle.trace_clauses.proofs.Made.{write}
-use Rattle.audit_ledger.specs.HeldEvents.{no_parts, has_parts, facts_of, parts_of, event_of}
+use Rattle.audit_ledger.specs.HeldEvents.{has_parts, facts_of, parts_of, event_of}
 use Rattle.audit_ledger.specs.NextEvents.{IsRead, IsAnswer}
 
 -- ---- memory is asked for the link alone, for either delivery alone, and for nothing else
@@ -26,7 +26,7 @@ module _ (l : Link) (d : Incoming) (j : Outgoing) where
   outgoing_alone : has_parts (record { link = None; incoming = None; outgoing = Some j }) ≡ true
   outgoing_alone = refl
 
-no_part : has_parts no_parts ≡ false
+no_part : has_parts (record { link = None; incoming = None; outgoing = None }) ≡ false
 no_part = refl
 
 -- an event is its facts, its parts and its moment

@@ -1,5 +1,5 @@
 -- What an event is apart from its moment, and what the code's copy of it says (own rules).
-use Rattle.std.specs.Prelude.{Bool, ◌||◌, Option, None, is_some, option_map}
+use Rattle.std.specs.Prelude.{Bool, ◌||◌, Option, is_some, option_map}
 use Rattle.trace_events.specs.Event.{Event, Link, Incoming, Outgoing, Moment}
 use Rattle.audit_tables.specs.HeldViews.{held_link_view}
 use Rattle.audit_ledger.specs.declared.held_parts.HeldIncoming.{HeldIncoming}
@@ -15,9 +15,6 @@ pub record Parts : Type 0 where
   pub link : Option Link
   pub incoming : Option Incoming
   pub outgoing : Option Outgoing
-
-abbrev pub no_parts : Parts
-no_parts = record { link = None; incoming = None; outgoing = None }
 
 -- there is any of them
 abbrev pub has_parts : Parts → Bool

@@ -1,7 +1,7 @@
 //! An event that is kept, but for its moment, with addresses of its own: what it borrowed them from may then be moved by it.
 
 ghost use Rattle.std.specs.Prelude.{◌≡◌, IfOk, OnErr, true};
-ghost use Rattle.audit_ledger.specs.HeldEvents.{event_of, facts_of, parts_of, no_parts, has_parts, held_event_view};
+ghost use Rattle.audit_ledger.specs.HeldEvents.{facts_of, parts_of, has_parts, held_event_view};
 ghost use Rattle.trace_events.specs.Event as law;
 ghost use Rattle.trace_values.specs.View.{event_view, moment_view};
 
@@ -40,26 +40,6 @@ impl HeldFacts {
             fault: event.fault,
         }
     }
-
-    /// The event of them, with this moment, and without link and deliveries.
-    fn event<'e>(&self, moment: Moment<'e>) -> Event<'e>
-        ensures { event_view result ≡ event_of self.now no_parts (moment_view moment.entry) }
-    {
-        Event {
-            number: self.number,
-            connection: self.connection,
-            moment,
-            note: self.note,
-            session: self.session,
-            link: None,
-            incoming: None,
-            outgoing: None,
-            told: self.told,
-            settled: self.settled,
-            is_heard: self.is_heard,
-            fault: self.fault,
-        }
-    }
 }
 
 /// An event but for its moment. The octets of its frame stand with whoever read them, and are handed back with the moment.
@@ -89,11 +69,20 @@ impl HeldEvent {
     pub fn event<'e>(&'e self, moment: Moment<'e>) -> Event<'e>
         ensures { event_view result ≡ held_event_view self.now (moment_view moment.entry) }
     {
+        let facts = &self.facts;
         Event {
+            number: facts.number,
+            connection: facts.connection,
+            moment,
+            note: facts.note,
+            session: facts.session,
             link: self.parts.link(),
             incoming: self.parts.incoming(),
             outgoing: self.parts.outgoing(),
-            ..self.facts.event(moment)
+            told: facts.told,
+            settled: facts.settled,
+            is_heard: facts.is_heard,
+            fault: facts.fault,
         }
     }
 }

@@ -105,7 +105,14 @@ impl Ledger {
         let looked = self.tables.looked();
         let number = self.tally.records;
         let moment = Moment::of(&entry.what);
-        match next_event(&looked, rules, number, entry.connection, moment, entry.note) {
+        match next_event(
+            &looked,
+            rules,
+            number,
+            entry.connection,
+            &moment,
+            entry.note,
+        ) {
             Ok(event) => Ok(HeldEvent::new(self.alloc, &event)?),
             Err(clause) => Err(NotEntered::Broken(clause)),
         }

@@ -131,19 +131,19 @@ fn broken_by_other<'a, P: Inputs<'a> + Openings<'a> + Counts>(
         (spoken_view spoken.now).meaning clause)) law.clauses) }
 {
     let note = event.note;
-    match spoken.performative {
+    match &spoken.performative {
         Performative::Begin(begin) => {
-            let is_met = answers_begin(past, event.connection, spoken.channel, &begin);
+            let is_met = answers_begin(past, event.connection, spoken.channel, begin);
             first_broken(Clause::L2, is_met, note)
         }
         Performative::Attach(attach) => {
-            first_broken(Clause::L3, answers_live(past, rules, event, &attach), note)
+            first_broken(Clause::L3, answers_live(past, rules, event, attach), note)
         }
         Performative::Flow(flow) => {
-            first_broken(Clause::L10, tells_counts(past, rules, event, &flow), note)
+            first_broken(Clause::L10, tells_counts(past, rules, event, flow), note)
         }
         Performative::Detach(detach) => {
-            first_broken(Clause::L13, may_detach(past, event, &detach), note)
+            first_broken(Clause::L13, may_detach(past, event, detach), note)
         }
         Performative::End(_) => {
             first_broken(Clause::L13, may_end(past, event, spoken.channel), note)
@@ -187,15 +187,15 @@ fn broken_by_spoken<'a, P: Questions<'a>>(
     {
         return Some(Clause::L1);
     }
-    match spoken.performative {
+    match &spoken.performative {
         Performative::Transfer(transfer) => {
-            broken_by_transfer(past, rules, event, &transfer, spoken.payload)
+            broken_by_transfer(past, rules, event, transfer, spoken.payload)
         }
         Performative::Disposition(disposition) => broken_by_disposition(
             past,
             rules,
             event,
-            &disposition,
+            disposition,
         ),
         _ => broken_by_other(past, rules, event, spoken),
     }
@@ -214,11 +214,11 @@ pub fn broken_clause<'a, P: Questions<'a>>(
         CarriesKnown (λ n. P.knows_number past.now n history) (λ j. P.knows_outgoing past.now j history) (event_view event.now) →
         (result ≡ law.broken_clause rules.now (event_view event.now) history) }
 {
-    let Moment::Out(frame) = event.moment else {
+    let Moment::Out(frame) = &event.moment else {
         return None;
     };
     match frame.spoken() {
-        Some(spoken) => broken_by_spoken(past, rules, event, &frame, &spoken),
+        Some(spoken) => broken_by_spoken(past, rules, event, frame, spoken),
         None => Some(Clause::L1),
     }
 }

@@ -47,7 +47,7 @@ fn link_of<'a, P: Inputs<'a>>(
     ensures { (rules : List RuleText) (history : Events) → P.stands_for past.now rules history → IfSome session (λ s. IsLiveOn s history) →
         (option_map link_view result ≡ link_of (moment_view moment.now) history session) }
 {
-    named_link(past, session?, &moment.spoken()?)
+    named_link(past, session?, moment.spoken()?)
 }
 
 // What a transfer begins or goes on with, and what a disposition tells or settles.
@@ -61,7 +61,7 @@ fn incoming_part<'a, P: Inputs<'a>>(
     ensures { (rules : List RuleText) (history : Events) → P.stands_for past.now rules history → NamesLive (event_view event.now) history →
         (option_map incoming_view result ≡ law.incoming_part (event_view event.now) (spoken_view spoken.now).meaning history) }
 {
-    let Performative::Transfer(transfer) = spoken.performative else {
+    let Performative::Transfer(transfer) = &spoken.performative else {
         return None;
     };
     let link = event.link?;
@@ -70,7 +70,7 @@ fn incoming_part<'a, P: Inputs<'a>>(
     }
     match past.incoming_in_progress(&link) {
         Some(delivery) => Some(delivery),
-        None => Some(Incoming::new(event.number, &transfer, link)),
+        None => Some(Incoming::new(event.number, transfer, link)),
     }
 }
 
@@ -79,9 +79,9 @@ fn incoming_by<'a, P: Inputs<'a>>(past: &P, event: &Event<'a>) -> Option<Incomin
     ensures { (rules : List RuleText) (history : Events) → P.stands_for past.now rules history → NamesLive (event_view event.now) history →
         (option_map incoming_view result ≡ law.incoming_by (event_view event.now) (event_view event.now).moment history) }
 {
-    match event.moment {
+    match &event.moment {
         Moment::In(frame) if event.is_heard && event.fault.is_none() => {
-            incoming_part(past, event, &frame.spoken()?)
+            incoming_part(past, event, frame.spoken()?)
         }
         _ => None,
     }
@@ -96,7 +96,7 @@ fn outgoing_part<'a, P: Carriage<'a>>(
     ensures { (rules : List RuleText) (history : Events) → P.stands_for past.now rules history → NamesLive (event_view event.now) history →
         (option_map outgoing_view result ≡ law.outgoing_part (event_view event.now) (spoken_view spoken.now).meaning history) }
 {
-    let Performative::Transfer(transfer) = spoken.performative else {
+    let Performative::Transfer(transfer) = &spoken.performative else {
         return None;
     };
     let link = event.link?;
@@ -105,7 +105,7 @@ fn outgoing_part<'a, P: Carriage<'a>>(
     }
     match past.outgoing_in_progress(&link) {
         Some(delivery) => Some(delivery),
-        None => Some(Outgoing::new(event.number, event.note, &transfer, link)),
+        None => Some(Outgoing::new(event.number, event.note, transfer, link)),
     }
 }
 
@@ -113,8 +113,8 @@ fn outgoing_by<'a, P: Carriage<'a>>(past: &P, event: &Event<'a>) -> Option<Outgo
     ensures { (rules : List RuleText) (history : Events) → P.stands_for past.now rules history → NamesLive (event_view event.now) history →
         (option_map outgoing_view result ≡ law.outgoing_by (event_view event.now) (event_view event.now).moment history) }
 {
-    match event.moment {
-        Moment::Out(frame) => outgoing_part(past, event, &frame.spoken()?),
+    match &event.moment {
+        Moment::Out(frame) => outgoing_part(past, event, frame.spoken()?),
         _ => None,
     }
 }
@@ -154,12 +154,12 @@ fn told_by<'a, P: Outcomes<'a>>(past: &P, rules: &[Rule], event: &Event) -> Opti
     ensures { (history : Events) → P.stands_for past.now rules.now history → StandsLive (event_view event.now) history →
         (result ≡ law.told_by rules.now (event_view event.now) (event_view event.now).moment history) }
 {
-    match event.out_spoken()?.performative {
+    match &event.out_spoken()?.performative {
         Performative::Disposition(disposition) => told_by_role(
             past,
             rules,
             event.session?,
-            &disposition,
+            disposition,
         ),
         _ => None,
     }
@@ -169,11 +169,11 @@ fn settled_by<'a, P: Outcomes<'a>>(past: &P, event: &Event) -> Option<u64>
     ensures { (rules : List RuleText) (history : Events) → P.stands_for past.now rules history → StandsLive (event_view event.now) history →
         (result ≡ law.settled_by (event_view event.now) (event_view event.now).moment history) }
 {
-    match event.out_spoken()?.performative {
+    match &event.out_spoken()?.performative {
         Performative::Disposition(disposition) => settled_by_role(
             past,
             event.session?,
-            &disposition,
+            disposition,
         ),
         _ => None,
     }
@@ -216,26 +216,26 @@ fn opened_link<'a, P: Openings<'a>>(past: &P, event: &Event<'a>) -> Option<Link<
 }
 
 // In five steps: where the record stands, whether it is heard, its fault, the deliveries that it is of, and what it
-// opens.
+// opens. Each fills in its fields of the event, which is large.
 
 fn placed<'a, P: Inputs<'a>>(
     past: &P,
     number: u64,
     connection: u32,
-    moment: Moment<'a>,
+    moment: &Moment<'a>,
     note: Note,
 ) -> Event<'a>
     ensures { (rules : List RuleText) (history : Events) → P.stands_for past.now rules history → number ≡ length history →
-        (event_view result ≡ law.placed history connection (moment_view moment.entry) note) }
+        (event_view result ≡ law.placed history connection (moment_view moment.now) note) }
 {
-    let session = session_of(past, connection, &moment);
+    let session = session_of(past, connection, moment);
     Event {
         number,
         connection,
-        moment,
+        moment: *moment,
         note,
         session,
-        link: link_of(past, &moment, session),
+        link: link_of(past, moment, session),
         incoming: None,
         outgoing: None,
         told: None,
@@ -245,71 +245,75 @@ fn placed<'a, P: Inputs<'a>>(
     }
 }
 
-fn with_heard<'a, P: Inputs<'a>>(past: &P, event: Event<'a>) -> Event<'a>
-    ensures { (rules : List RuleText) (history : Events) → P.stands_for past.now rules history → StandsLive (event_view event.entry) history →
-        (event_view result ≡ law.heard history (event_view event.entry)) }
+fn heard_by<'a, P: Inputs<'a>>(past: &P, event: &Event) -> bool
+    ensures { (rules : List RuleText) (history : Events) → P.stands_for past.now rules history → StandsLive (event_view event.now) history →
+        (result ≡ law.heard_by (event_view event.now) (event_view event.now).moment history) }
 {
-    let is_heard = match event.moment {
-        Moment::In(frame) => is_heard_body(past, &event, &frame.body),
+    match &event.moment {
+        Moment::In(frame) => is_heard_body(past, event, &frame.body),
         _ => false,
-    };
-    Event { is_heard, ..event }
+    }
+}
+
+fn hear<'a, P: Inputs<'a>>(past: &P, event: &mut Event<'a>)
+    ensures { (rules : List RuleText) (history : Events) → P.stands_for past.now rules history → StandsLive (event_view event.old) history →
+        (event_view event.new ≡ law.heard history (event_view event.old)) }
+{
+    event.is_heard = heard_by(past, event);
 }
 
 fn fault_by<'a, P: Inputs<'a>>(past: &P, rules: &[Rule], event: &Event) -> Option<Fault>
     ensures { (history : Events) → P.stands_for past.now rules.now history → StandsLive (event_view event.now) history → NamesLive (event_view event.now) history →
         (result ≡ law.fault_by rules.now (event_view event.now) (event_view event.now).moment history) }
 {
-    match event.moment {
+    match &event.moment {
         Moment::In(frame) if event.is_heard => body_fault(past, rules, event, &frame.body),
         _ => None,
     }
 }
 
-fn faulted<'a, P: Inputs<'a>>(past: &P, rules: &[Rule], event: Event<'a>) -> Event<'a>
-    ensures { (history : Events) → P.stands_for past.now rules.now history → StandsLive (event_view event.entry) history → NamesLive (event_view event.entry) history →
-        (event_view result ≡ law.faulted rules.now history (event_view event.entry)) }
+fn find_fault<'a, P: Inputs<'a>>(past: &P, rules: &[Rule], event: &mut Event<'a>)
+    ensures { (history : Events) → P.stands_for past.now rules.now history → StandsLive (event_view event.old) history → NamesLive (event_view event.old) history →
+        (event_view event.new ≡ law.faulted rules.now history (event_view event.old)) }
 {
-    let fault = fault_by(past, rules, &event);
-    Event { fault, ..event }
+    event.fault = fault_by(past, rules, event);
 }
 
-fn delivered<'a, P: Inputs<'a> + Outcomes<'a> + Carriage<'a>>(
+fn find_deliveries<'a, P: Inputs<'a> + Outcomes<'a> + Carriage<'a>>(
     past: &P,
     rules: &[Rule],
-    event: Event<'a>,
-) -> Event<'a>
-    ensures { (history : Events) → P.stands_for past.now rules.now history → StandsLive (event_view event.entry) history → NamesLive (event_view event.entry) history →
-        (event_view result ≡ law.delivered rules.now history (event_view event.entry)) }
+    event: &mut Event<'a>,
+)
+    ensures { (history : Events) → P.stands_for past.now rules.now history → StandsLive (event_view event.old) history → NamesLive (event_view event.old) history →
+        (event_view event.new ≡ law.delivered rules.now history (event_view event.old)) }
 {
-    Event {
-        incoming: incoming_by(past, &event),
-        outgoing: outgoing_by(past, &event),
-        told: told_by(past, rules, &event),
-        settled: settled_by(past, &event),
-        ..event
-    }
+    let incoming = incoming_by(past, event);
+    let outgoing = outgoing_by(past, event);
+    let told = told_by(past, rules, event);
+    let settled = settled_by(past, event);
+    event.incoming = incoming;
+    event.outgoing = outgoing;
+    event.told = told;
+    event.settled = settled;
 }
 
-/// An Out begin stands on its own session, and an Out attach names its own link; any other event stays as it was.
-pub fn opened<'a, P: Openings<'a>>(past: &P, event: Event<'a>) -> Event<'a>
-    ensures { (rules : List RuleText) (history : Events) → P.stands_for past.now rules history → StandsLive (event_view event.entry) history →
-        OpensKnown (λ c channel. P.knows_begin past.now c channel history) (λ s handle. P.knows_attach past.now s handle history) (event_view event.entry) →
-        (event_view result ≡ law.opened history (event_view event.entry)) }
+/// Fills in what the event opens: an Out begin stands on its own session, and an Out attach names its own link; any other
+/// event stays as it was.
+pub fn open<'a, P: Openings<'a>>(past: &P, event: &mut Event<'a>)
+    ensures { (rules : List RuleText) (history : Events) → P.stands_for past.now rules history → StandsLive (event_view event.old) history →
+        OpensKnown (λ c channel. P.knows_begin past.now c channel history) (λ s handle. P.knows_attach past.now s handle history) (event_view event.old) →
+        (event_view event.new ≡ law.opened history (event_view event.old)) }
 {
-    let session = match opened_session(past, &event) {
+    let session = match opened_session(past, event) {
         Some(own) => Some(own),
         None => event.session,
     };
-    let link = match opened_link(past, &event) {
+    let link = match opened_link(past, event) {
         Some(own) => Some(own),
         None => event.link,
     };
-    Event {
-        session,
-        link,
-        ..event
-    }
+    event.session = session;
+    event.link = link;
 }
 
 /// A record, with its note, as the event of this number, but for what it opens: the law can be asked here.
@@ -323,7 +327,7 @@ pub fn judge_unopened<'a, P: Inputs<'a> + Outcomes<'a> + Carriage<'a>>(
         (event_view result ≡ law.judge_unopened rules.now history entry.now.connection (law.moment_of entry.now.what) entry.now.note) }
 {
     let moment = Moment::of(&entry.what);
-    judge_unopened_moment(past, rules, number, entry.connection, moment, entry.note)
+    judge_unopened_moment(past, rules, number, entry.connection, &moment, entry.note)
 }
 
 /// The same where the octets of the frame are read already, of this moment and note.
@@ -332,33 +336,17 @@ pub fn judge_unopened_moment<'a, P: Inputs<'a> + Outcomes<'a> + Carriage<'a>>(
     rules: &[Rule],
     number: u64,
     connection: u32,
-    moment: Moment<'a>,
+    moment: &Moment<'a>,
     note: Note,
 ) -> Event<'a>
     ensures { (history : Events) → P.stands_for past.now rules.now history → number ≡ length history →
-        (event_view result ≡ law.judge_unopened rules.now history connection (moment_view moment.entry) note) }
+        (event_view result ≡ law.judge_unopened rules.now history connection (moment_view moment.now) note) }
 {
-    let event = placed(past, number, connection, moment, note);
-    let event = faulted(past, rules, with_heard(past, event));
-    delivered(past, rules, event)
-}
-
-/// The record of this number in its place, whose frame was read already, as this moment.
-pub fn judge_read<'a, P: Inputs<'a> + Outcomes<'a> + Openings<'a> + Carriage<'a>>(
-    past: &P,
-    rules: &[Rule],
-    number: u64,
-    entry: &Record,
-    moment: Moment<'a>,
-) -> Event<'a>
-    requires read { moment_view moment ≡ law.moment_of entry.now.what }
-    ensures { (history : Events) → P.stands_for past.now rules.now history → number ≡ length history →
-        OpensKnown (λ c channel. P.knows_begin past.now c channel history) (λ s handle. P.knows_attach past.now s handle history)
-        (law.judge_unopened rules.now history entry.now.connection (law.moment_of entry.now.what) entry.now.note) →
-        (event_view result ≡ law.judge rules.now history entry.now) }
-{
-    let event = judge_unopened_moment(past, rules, number, entry.connection, moment, entry.note);
-    opened(past, event)
+    let mut event = placed(past, number, connection, moment, note);
+    hear(past, &mut event);
+    find_fault(past, rules, &mut event);
+    find_deliveries(past, rules, &mut event);
+    event
 }
 
 /// The record of this number in its place.
@@ -373,5 +361,9 @@ pub fn judge<'a, P: Inputs<'a> + Outcomes<'a> + Openings<'a> + Carriage<'a>>(
         (law.judge_unopened rules.now history entry.now.connection (law.moment_of entry.now.what) entry.now.note) →
         (event_view result ≡ law.judge rules.now history entry.now) }
 {
-    judge_read(past, rules, number, entry, Moment::of(&entry.what))
+    let moment = Moment::of(&entry.what);
+    let (connection, note) = (entry.connection, entry.note);
+    let mut event = judge_unopened_moment(past, rules, number, connection, &moment, note);
+    open(past, &mut event);
+    event
 }

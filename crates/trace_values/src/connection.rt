@@ -1,7 +1,7 @@
 //! What says that a connection is over (part 2 of the standard, section 2.4).
 
 use crate::event::Moment;
-use crate::frame::{Frame, Spoken};
+use crate::frame::Frame;
 use amqp_perf::Performative;
 
 impl<'a> Frame<'a> {
@@ -12,13 +12,10 @@ impl<'a> Frame<'a> {
     fn says_close(&self) -> bool
         ensures { result ≡ says_close (frame_view self.now) }
     {
-        matches!(
-            self.spoken(),
-            Some(Spoken {
-                performative: Performative::Close(_),
-                ..
-            })
-        )
+        match self.spoken() {
+            Some(spoken) => matches!(spoken.performative, Performative::Close(_)),
+            None => false,
+        }
     }
 }
 

@@ -50,10 +50,10 @@ impl<'a> Frame<'a> {
     }
 
     /// The performative, if it is one.
-    pub fn spoken(&self) -> Option<Spoken<'a>>
-        ensures { option_map spoken_view result ≡ spoken_in (frame_view self.now).body }
+    pub fn spoken(&self) -> Option<&Spoken<'a>>
+        ensures { option_map (λ spoken. spoken_view spoken.now) result ≡ spoken_in (frame_view self.now).body }
     {
-        match self.body {
+        match &self.body {
             Body::Says(spoken) => Some(spoken),
             _ => None,
         }

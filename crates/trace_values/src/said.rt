@@ -11,19 +11,19 @@ impl<'a> Moment<'a> {
     ghost use Rattle.trace_events.specs.Event.{in_frame, out_frame, is_opened, is_lost, is_broken, is_out, spoken_of, channel_of};
     ghost use Rattle.trace_values.specs.View.{spoken_view, frame_view, moment_view};
 
-    fn in_frame(&self) -> Option<Frame<'a>>
-        ensures { option_map frame_view result ≡ in_frame (moment_view self.now) }
+    fn in_frame(&self) -> Option<&Frame<'a>>
+        ensures { option_map (λ frame. frame_view frame.now) result ≡ in_frame (moment_view self.now) }
     {
-        match *self {
+        match self {
             Moment::In(frame) => Some(frame),
             _ => None,
         }
     }
 
-    fn out_frame(&self) -> Option<Frame<'a>>
-        ensures { option_map frame_view result ≡ out_frame (moment_view self.now) }
+    fn out_frame(&self) -> Option<&Frame<'a>>
+        ensures { option_map (λ frame. frame_view frame.now) result ≡ out_frame (moment_view self.now) }
     {
-        match *self {
+        match self {
             Moment::Out(frame) => Some(frame),
             _ => None,
         }
@@ -58,8 +58,8 @@ impl<'a> Moment<'a> {
     }
 
     /// The performative of a frame, in either direction.
-    pub fn spoken(&self) -> Option<Spoken<'a>>
-        ensures { option_map spoken_view result ≡ spoken_of (moment_view self.now) }
+    pub fn spoken(&self) -> Option<&Spoken<'a>>
+        ensures { option_map (λ spoken. spoken_view spoken.now) result ≡ spoken_of (moment_view self.now) }
     {
         match self {
             Moment::In(frame) | Moment::Out(frame) => frame.spoken(),
@@ -114,15 +114,15 @@ impl<'a> Event<'a> {
     }
 
     /// The performative that the client sent.
-    pub fn in_spoken(&self) -> Option<Spoken<'a>>
-        ensures { option_map spoken_view result ≡ said.in_spoken (event_view self.now) }
+    pub fn in_spoken(&self) -> Option<&Spoken<'a>>
+        ensures { option_map (λ spoken. spoken_view spoken.now) result ≡ said.in_spoken (event_view self.now) }
     {
         self.moment.in_frame()?.spoken()
     }
 
     /// The performative that the router wrote.
-    pub fn out_spoken(&self) -> Option<Spoken<'a>>
-        ensures { option_map spoken_view result ≡ said.out_spoken (event_view self.now) }
+    pub fn out_spoken(&self) -> Option<&Spoken<'a>>
+        ensures { option_map (λ spoken. spoken_view spoken.now) result ≡ said.out_spoken (event_view self.now) }
     {
         self.moment.out_frame()?.spoken()
     }
@@ -191,26 +191,20 @@ impl<'a> Event<'a> {
     pub fn is_in_end(&self) -> bool
         ensures { result ≡ said.is_in_end (event_view self.now) }
     {
-        matches!(
-            self.in_spoken(),
-            Some(Spoken {
-                performative: Performative::End(_),
-                ..
-            })
-        )
+        match self.in_spoken() {
+            Some(spoken) => matches!(spoken.performative, Performative::End(_)),
+            None => false,
+        }
     }
 
     /// The client sent a close.
     pub fn is_in_close(&self) -> bool
         ensures { result ≡ said.is_in_close (event_view self.now) }
     {
-        matches!(
-            self.in_spoken(),
-            Some(Spoken {
-                performative: Performative::Close(_),
-                ..
-            })
-        )
+        match self.in_spoken() {
+            Some(spoken) => matches!(spoken.performative, Performative::Close(_)),
+            None => false,
+        }
     }
 
     /// The router's begin.
@@ -277,26 +271,20 @@ impl<'a> Event<'a> {
     pub fn is_out_end(&self) -> bool
         ensures { result ≡ said.is_out_end (event_view self.now) }
     {
-        matches!(
-            self.out_spoken(),
-            Some(Spoken {
-                performative: Performative::End(_),
-                ..
-            })
-        )
+        match self.out_spoken() {
+            Some(spoken) => matches!(spoken.performative, Performative::End(_)),
+            None => false,
+        }
     }
 
     /// The router wrote a close.
     pub fn is_out_close(&self) -> bool
         ensures { result ≡ said.is_out_close (event_view self.now) }
     {
-        matches!(
-            self.out_spoken(),
-            Some(Spoken {
-                performative: Performative::Close(_),
-                ..
-            })
-        )
+        match self.out_spoken() {
+            Some(spoken) => matches!(spoken.performative, Performative::Close(_)),
+            None => false,
+        }
     }
 }
 

@@ -13,13 +13,13 @@ pub returns : goal.returns
 returns g c = λ past stands numbered.
     let rules = c.args.rules.now in
     let connection = c.args.connection in
-    let moment = moment_view c.args.moment in
+    let moment = moment_view c.args.moment.now in
     let note = c.args.note in
     let live = placed-stands past connection moment note in
     let names = placed-names past connection moment note in
     let Stands : Event → Type 0 = λ e. StandsLive e past in
     let Names : Event → Type 0 = λ e. NamesLive e past in
     let placed = c.placed-event.ensures rules past stands numbered in
-    let heard = c.with_heard.ensures rules past stands (subst Stands (sym placed) live) ∙ ap (law.heard past) placed in
-    let faulted = c.faulted-event.ensures past stands (subst Stands (sym heard) live) (subst Names (sym heard) names) ∙ ap (law.faulted rules past) heard in
-    c.delivered.ensures past stands (subst Stands (sym faulted) live) (subst Names (sym faulted) names) ∙ ap (law.delivered rules past) faulted
+    let heard = c.hear.ensures rules past stands (subst Stands (sym placed) live) ∙ ap (law.heard past) placed in
+    let faulted = c.find_fault.ensures past stands (subst Stands (sym heard) live) (subst Names (sym heard) names) ∙ ap (law.faulted rules past) heard in
+    c.find_deliveries.ensures past stands (subst Stands (sym faulted) live) (subst Names (sym faulted) names) ∙ ap (law.delivered rules past) faulted

@@ -8,7 +8,7 @@ use Rattle.trace_judge.proofs.judging.placed.Goals as goal
 
 pub returns : goal.returns
 returns g c = λ rules past stands numbered.
-    let moment = moment_view c.args.moment in
+    let moment = moment_view c.args.moment.now in
     let on = c.session_of-session.ensures rules past stands in
     let live = subst (λ (o : Option Session). IfSome o (λ s. IsLiveOn s past)) (sym on) (placed-stands past c.args.connection moment c.args.note) in
     let named = c.link_of.ensures rules past stands live ∙ ap (link_of moment past) on in
