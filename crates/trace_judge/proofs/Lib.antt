@@ -1,2 +1,3 @@
 pub mod OutcomeSizes
 mod DecidedRows
+mod FirstRows

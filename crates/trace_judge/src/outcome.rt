@@ -2,11 +2,14 @@
 //! this router).
 
 ghost use Rattle.capture_form.specs.Rules.{RuleText};
-ghost use Rattle.std.specs.Prelude.{List, ◌≡◌, ◌≤◌, ◌^◌, option_map};
+ghost use Rattle.std.specs.Prelude.{List, ◌≡◌, ◌≤◌, ◌^◌, true, false, None, Some, IfSome, is_some, option_map};
+ghost use Rattle.std.specs.List.{list_any};
 ghost use Rattle.trace_clauses.specs.Outcome.{outcome_octets, bare_outcome};
 ghost use Rattle.std.specs.Option.{option_copied};
+ghost use Rattle.trace_events.specs.Event as law_events;
 ghost use Rattle.trace_events.specs.Outgoing.{pairing};
-ghost use Rattle.trace_judge.specs.Told.{decided_view, told_view};
+ghost use Rattle.trace_events.specs.Waiting as waiting;
+ghost use Rattle.trace_judge.specs.Told.{asks_pairing, decided_view, told_view};
 ghost use Rattle.trace_values.specs.View.{incoming_view, outgoing_view, Events};
 ghost use Rattle.trace_judge.specs.OutcomeSize as law;
 ghost use Rattle.trace_clauses.specs.Outcome as rows;
@@ -190,6 +193,96 @@ pub fn row<'a, P: Outcomes<'a>>(
         Why::M => None,
         _ if is_of_multicast(rules, delivery) => None,
         _ => anycast_row(past, delivery, why),
+    }
+}
+
+/// The first of the rows that ask of the decision, and what it tells: the outcome, without its fields where the producer does not
+/// take that frame.
+fn decided_row<'a, P: Outcomes<'a>>(
+    past: &P,
+    delivery: &Incoming,
+    own: &Decision<'a>,
+) -> (Why, Told<'a>)
+    ensures tells { (rules : List RuleText) (history : Events) (j : law_events.Outgoing) → P.stands_for past.now rules history →
+        rows.paired_row (incoming_view delivery.now) j history (Some (decided_view own.now)) result.0 ≡ Some (told_view result.1) }
+    ensures paired { asks_pairing result.0 ≡ true }
+{
+    if takes_decided(past, delivery, own) {
+        (Why::C, decided(own))
+    } else {
+        (Why::Z, decided_bare(own))
+    }
+}
+
+/// The first of the rows that apply without a decision, and what it tells.
+fn undecided_row<'a, P: Outcomes<'a>>(past: &P, outgoing: &Outgoing) -> Option<(Why, Told<'a>)>
+    ensures tells { (rules : List RuleText) (history : Events) (d : law_events.Incoming) → P.stands_for past.now rules history → P.knows_outgoing past.now (outgoing_view outgoing.now) history →
+        IfSome result (λ x. rows.paired_row d (outgoing_view outgoing.now) history None x.0 ≡ Some (told_view x.1)) }
+    ensures paired { IfSome result (λ x. asks_pairing x.0 ≡ true) }
+    ensures none { (rules : List RuleText) (history : Events) (d : law_events.Incoming) → P.stands_for past.now rules history → P.knows_outgoing past.now (outgoing_view outgoing.now) history →
+        result ≡ None → (why : Why) → rows.paired_row d (outgoing_view outgoing.now) history None why ≡ None }
+{
+    if is_sent_settled(past, outgoing) {
+        Some((Why::S, Told::Bare(Outcome::Accepted)))
+    } else if past.is_live(&outgoing.link) {
+        None
+    } else {
+        Some((Why::L, Told::DeliveryFailed))
+    }
+}
+
+/// The first of the rows that ask what carried an anycast delivery to its consumer, and what it tells.
+fn first_paired_row<'a, P: Outcomes<'a>>(past: &P, delivery: &Incoming) -> Option<(Why, Told<'a>)>
+    ensures tells { (rules : List RuleText) (history : Events) → P.stands_for past.now rules history → P.knows_incoming past.now (incoming_view delivery.now) history →
+        IfSome result (λ x. rows.anycast_row (incoming_view delivery.now) history x.0 (pairing (incoming_view delivery.now) history) ≡ Some (told_view x.1)) }
+    ensures paired { IfSome result (λ x. asks_pairing x.0 ≡ true) }
+    ensures none { (rules : List RuleText) (history : Events) → P.stands_for past.now rules history → P.knows_incoming past.now (incoming_view delivery.now) history →
+        result ≡ None → (why : Why) → rows.anycast_row (incoming_view delivery.now) history why (pairing (incoming_view delivery.now) history) ≡ None }
+{
+    let outgoing = past.pairing(delivery)?;
+    match past.decision(&outgoing) {
+        Some(own) => Some(decided_row(past, delivery, &own)),
+        None => undecided_row(past, &outgoing),
+    }
+}
+
+/// The same, of a delivery that may be of multicast, and then has none.
+fn first_anycast_row<'a, P: Outcomes<'a>>(
+    past: &P,
+    is_multicast: bool,
+    delivery: &Incoming,
+) -> Option<(Why, Told<'a>)>
+    ensures tells { (history : Events) (rules : List RuleText) → P.stands_for past.now rules history → P.knows_incoming past.now (incoming_view delivery.now) history →
+        is_multicast ≡ waiting.is_of_multicast rules (incoming_view delivery.now) →
+        IfSome result (λ x. rows.row rules (incoming_view delivery.now) history x.0 ≡ Some (told_view x.1)) }
+    ensures none { (history : Events) (rules : List RuleText) → P.stands_for past.now rules history → P.knows_incoming past.now (incoming_view delivery.now) history →
+        is_multicast ≡ waiting.is_of_multicast rules (incoming_view delivery.now) →
+        result ≡ None → (why : Why) → asks_pairing why ≡ true → rows.row rules (incoming_view delivery.now) history why ≡ None }
+{
+    if is_multicast {
+        None
+    } else {
+        first_paired_row(past, delivery)
+    }
+}
+
+/// The first row that applies to a delivery, and what it tells. The decision is asked for once.
+pub fn first_row<'a, P: Outcomes<'a>>(
+    past: &P,
+    rules: &[Rule],
+    delivery: &Incoming,
+) -> Option<(Why, Told<'a>)>
+    ensures tells { (history : Events) → P.stands_for past.now rules.now history → P.knows_incoming past.now (incoming_view delivery.now) history →
+        IfSome result (λ x. rows.row rules.now (incoming_view delivery.now) history x.0 ≡ Some (told_view x.1)) }
+    ensures none { (history : Events) → P.stands_for past.now rules.now history → P.knows_incoming past.now (incoming_view delivery.now) history →
+        result ≡ None → list_any (λ why. is_some (rows.row rules.now (incoming_view delivery.now) history why)) rows.reasons ≡ false }
+{
+    let is_multicast = is_of_multicast(rules, delivery);
+    match first_anycast_row(past, is_multicast, delivery) {
+        Some(first) => Some(first),
+        None if past.is_gone(rules, delivery) => Some((Why::N, Told::Bare(Outcome::Released))),
+        None if is_multicast => Some((Why::M, Told::Bare(Outcome::Accepted))),
+        None => None,
     }
 }
 

@@ -49,7 +49,7 @@ returns-in_err-why-clause-none c = λ none records stands d there number.
     let at : incoming_at c.args.number past ≡ Some d = subst (λ n. incoming_at n past ≡ Some d) number (begun-at rules past c.args.looked.now stands d there) in
     let given : Some own ≡ incoming_at c.args.number past = c.in_ok-delivery.ensures.value rules past stands.1.1.1.1.0.0 has in
     let same : own ≡ d = same_some own d (given ∙ at) in
-    let none_applies = c.in_err-why.ensures.none refl past stands (c.in_ok-delivery.ensures.known rules past stands.1.1.1.1.0.0) in
+    let none_applies = c.in_err-why.ensures.none past stands (c.in_ok-delivery.ensures.known rules past stands.1.1.1.1.0.0) refl in
     sym rows ∙ (ap (λ (x : Incoming). list_any (λ why. is_some (row rules x past why)) reasons) (sym same) ∙ none_applies))
 
 pub returns-clause-due : goal.returns-clause-due
@@ -60,5 +60,5 @@ returns-clause-due c = λ records stands.
     record {
       at = knows-at rules past c.args.looked.now.deliveries.now stands.1.1.1.1.0.0 (incoming_view c.in_ok-delivery.delivery) knows;
       may = sym (c.may_be_told.ensures rules past stands knows) ∙ c.if-not-may_be_told.false;
-      tells = c.in_ok-why.ensures.found past stands knows;
+      tells = c.in_ok-why.ensures.tells past stands knows;
     }
