@@ -16,10 +16,9 @@ ghost use Rattle.route_dues.specs.Writing.{IsReadAgain};
 use crate::frame::put_spoken;
 use amqp_perf::{Flow, Performative};
 use capture_form::Rule;
-use flow_counts::CAPACITY;
 use std::alloc::AllocError;
 use trace_events::Session;
-use trace_judge::Counts;
+use trace_judge::{Counts, full_credit};
 use trace_values::Link;
 
 /// Appends the flow that gives a live session its window anew.
@@ -66,18 +65,6 @@ fn put_numbers<P: Counts>(
     );
     let flow = numbers.of_link(link.handle, delivery_count, link_credit, drains);
     put_spoken(out, session.channel, &Performative::Flow(flow), &[])
-}
-
-/// The credit that fills a producer's live link up.
-fn full_credit<P: Counts>(past: &P, rules: &[Rule], link: &Link) -> u32
-    requires few { P.is_short past.now }
-    ensures { (history : Events) → P.stands_for past.now rules.now history → IsLiveLink (link_view link.now) history →
-        (result ≡ law.full_credit rules.now history (link_view link.now)) }
-{
-    match u32::try_from(past.undecided_count(rules, link)) {
-        Ok(undecided) => CAPACITY.saturating_sub(undecided),
-        Err(_) => 0,
-    }
 }
 
 /// Appends the flow that fills up the credit of a producer's live link.

@@ -37,8 +37,8 @@ pub fn may_be_topped_up<'a, P: Inputs<'a> + Counts>(past: &P, rules: &[Rule], li
         && (has_multicast(rules, link.address) || past.has_consumer(link.address))
 }
 
-/// The credit that fills a producer's link up.
-fn full_credit<P: Counts>(past: &P, rules: &[Rule], link: &Link) -> u32
+/// The credit that fills a producer's live link up.
+pub fn full_credit<P: Counts>(past: &P, rules: &[Rule], link: &Link) -> u32
     requires few { P.is_short past.now }
     ensures { (history : Events) → P.stands_for past.now rules.now history → IsLiveLink (link_view link.now) history →
         (result ≡ law.full_credit rules.now history (link_view link.now)) }
