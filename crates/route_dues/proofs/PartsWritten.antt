@@ -16,12 +16,6 @@ use Rattle.route_dues.specs.Transfers.{filled_on}
 use Rattle.route_dues.proofs.Lengths.{spoken_long, within}
 use Rattle.route_dues.proofs.TransferLengths.{filled_fits}
 
--- a short transfer without payload may be written
-pub bare_within : (channel : ℕ) (fields : TransferFields) (short : TransferFields) → fields ≡ short → length (performative_octets (ATransfer short)) ≤ 100
-    → length (spoken_octets (spoken_with channel (ATransfer fields) [])) ≤ MAX_FRAME_SIZE
-bare_within channel fields short same fits =
-    subst (λ x. length (spoken_octets (spoken_with channel (ATransfer x) [])) ≤ MAX_FRAME_SIZE) (sym same) (omega (arith, spoken_long (spoken_with channel (ATransfer short) []), fits))
-
 module _ (l : Link) (of : Bool → TransferFields) (bare fields : TransferFields) (room m : ℕ) (rest : List ℕ)
     (least : m ≡ min room (length rest)) (first : bare ≡ of true) (second : fields ≡ of (nat_lt room (length rest))) where
   -- as long as its octets can be counted in four
