@@ -36,6 +36,7 @@ fn ends_named(event: &Event) -> bool
 }
 
 /// The event's frame is a transfer, a disposition or a flow, as most are. These end nothing.
+#[inline(always)]
 fn ends_nothing(event: &Event) -> bool
     ensures { result ≡ true → may_end (event_view event.now) ≡ false }
 {
@@ -55,7 +56,7 @@ fn ends_nothing(event: &Event) -> bool
 fn may_end(event: &Event) -> bool
     ensures { result ≡ may_end (event_view event.now) }
 {
-    !ends_nothing(event) && (event.moment.is_final() || ends_channel(event) || ends_named(event))
+    event.moment.is_final() || ends_channel(event) || ends_named(event)
 }
 
 impl Links {
@@ -66,7 +67,24 @@ impl Links {
     /// # Errors
     ///
     /// Memory was refused.
+    #[inline(always)]
     pub fn ended(&self, alloc: Global, event: &Event) -> Result<Vec<Link<'_>>, AllocError>
+        ensures { IfOk result (λ links. (rules : List RuleText) (records : List Record) (r : Record) → event_view event.now ≡ judge rules (history rules records) r →
+            AreLinked self.now (history rules records) → AreEnded (event_view event.now) (history rules records) (views links.items)) }
+    {
+        if ends_nothing(event) {
+            return Ok(Vec::new(alloc));
+        }
+        self.ended_by(alloc, event)
+    }
+
+    /// The same of an event of any kind.
+    ///
+    /// # Errors
+    ///
+    /// Memory was refused.
+    #[inline(never)]
+    fn ended_by(&self, alloc: Global, event: &Event) -> Result<Vec<Link<'_>>, AllocError>
         ensures { IfOk result (λ links. (rules : List RuleText) (records : List Record) (r : Record) → event_view event.now ≡ judge rules (history rules records) r →
             AreLinked self.now (history rules records) → AreEnded (event_view event.now) (history rules records) (views links.items)) }
     {
