@@ -10,7 +10,7 @@ ghost use Rattle.route_records.specs.Replies.{IsReply, AreReplies, IsAnswerable,
 use audit_ledger::HeldEvent;
 use capture_form::{Frame, Record, Rule, What};
 use pairing_cert::Note;
-use route_answers::{Answer, Reply, answer_to, owes_nothing};
+use route_answers::{Answer, Reply, answer_to};
 use route_work::Looked;
 use std::alloc::{AllocError, Global};
 use trace_values::{Event, Moment};
@@ -89,9 +89,6 @@ fn answer_by<'a>(
     ensures short { IfOk result CanBeWritten }
 {
     let event = event_of(held, entry);
-    if owes_nothing(&event) {
-        return Ok(Answer::Nothing);
-    }
     let answer = answer_to(alloc, looked, rules, &event)?;
     Ok(answer)
 }
