@@ -1,10 +1,11 @@
-//! Numbers, alone and under keys of a number, of a pair of numbers and of octets.
+//! Numbers, alone and under keys of a number, of a pair of numbers and of octets; and values under numbers.
 
 use crate::words::{Answer, Subject, done, number, parted, parts, small, told, word};
 use number_groups::{Ascending, Groups, IdOn, NumberKey, NumberSet, OctetGroups};
-use std::alloc::Global;
+use number_map::NumberMap;
+use std::alloc::{AllocError, Global};
 
-/// Groups of each kind of key, and numbers without one.
+/// Groups of each kind of key, numbers without one, and a map.
 #[derive(Drop)]
 pub struct Keyed {
     alloc: Global,
@@ -13,6 +14,7 @@ pub struct Keyed {
     by_octets: OctetGroups,
     set: NumberSet,
     ascending: Ascending,
+    map: NumberMap<u64, u64>,
 }
 
 impl Keyed {
@@ -24,6 +26,7 @@ impl Keyed {
             by_octets: OctetGroups::new(alloc),
             set: NumberSet::new(alloc),
             ascending: Ascending::new(alloc),
+            map: NumberMap::new(alloc),
         }
     }
 }
@@ -46,6 +49,7 @@ impl Subject for Keyed {
             "octets" => self.octets_answer(octets_of(key), verb, value),
             "set" => self.set_answer(verb, number(key)),
             "ascending" => self.ascending_answer(verb, number(key)),
+            "map" => self.map_answer(verb, number(key), value),
             _ => Ok(None),
         }
     }
@@ -86,6 +90,20 @@ impl Keyed {
             _ => return Ok(None),
         }
         done(self.alloc)
+    }
+
+    /// What comes of a word about the values under numbers.
+    fn map_answer(&mut self, verb: &str, key: u64, value: u64) -> Answer {
+        match verb {
+            "insert" => match self.map.insert(key, value) {
+                Ok(old) => told(self.alloc, old),
+                Err(_) => Err(AllocError),
+            },
+            "remove" => told(self.alloc, self.map.swap_remove(&key)),
+            "get" => told(self.alloc, self.map.get(&key)),
+            "count" => told(self.alloc, self.map.len()),
+            _ => Ok(None),
+        }
     }
 }
 
