@@ -3,7 +3,6 @@ use Rattle.std.proofs.Common.{◌≡◌, ℕ, ◌+◌, ◌-◌, ◌<◌, ◌≤�
 use Rattle.std.proofs.lemmas.List.{length-map, length-take, map_more, take_all}
 use Rattle.std.proofs.lemmas.Result.{IfOk-weaker}
 use Rattle.std.specs.Prelude.{IfOk}
-use Rattle.std.specs.List.{concat}
 use Rattle.svg_text.specs.declared.element.Element.{Element}
 use Rattle.svg_text.specs.declared.element.Element.TheVariants.{Description, Group, Title}
 use Rattle.svg_text.specs.declared.attribute.Attribute.{Attribute}
@@ -12,18 +11,18 @@ use Rattle.svg_text.specs.declared.attribute.Value.TheVariants as values
 use Rattle.svg_text.specs.Grammar as grammar
 use Rattle.svg_text.specs.Grammar.{start_text}
 use Rattle.svg_text.specs.Escaping.{pieces_of}
-use Rattle.svg_text.specs.Drawn.{Drawn, end_octets, start_octets}
+use Rattle.svg_text.specs.Drawn.{Drawn, end_octets, root_end, root_octets, start_octets}
 use Rattle.std.specs.Prelude.{codes}
 use Rattle.std.specs.Borrow.{Bor}
 use Rattle.std.specs.Str.{chars, encode_utf8_all}
 use Rattle.capture_chart.specs.declared.marks.Mark.{Mark}
 use Rattle.capture_chart.specs.Marks.{Marking, class_of}
 use Rattle.capture_chart.specs.declared.arrow.Arrow.{Arrow}
-use Rattle.capture_chart.specs.Shown.{Shown, shown, title_text}
+use Rattle.capture_chart.specs.Shown.{Shown, Worded, shown, shown_in, title_text, worded}
 use Rattle.capture_chart.specs.declared.places.Place.{Place}
 use Rattle.capture_chart.specs.declared.places.TheConstants.{ROUTER}
-use Rattle.capture_chart.specs.Places.{place_at}
-use Rattle.capture_chart.specs.Drawn.{AreArrows, Draws, DrawsArrow, DrawsArrows, DrawsSome, IsArrow, element_octets, group_octets, label_octets, shaft_octets, tie_octets}
+use Rattle.capture_chart.specs.Places.{lanes_of, place_at, row_place}
+use Rattle.capture_chart.specs.Drawn.{Draws, DrawsSome, HasArrows, all_lanes, arrow_octets, arrows_octets, chart_octets, element_octets, group_octets, height_of, label_octets, shaft_octets, start_of, tie_octets, width_of}
 
 -- ---- one behind the other
 
@@ -87,74 +86,112 @@ unfolding start_octets group_octets
 group_is class mark is =
     ap (λ (t : List ℕ). encode_utf8_all (start_text (record { name = codes "g"; attributes = (let a : grammar.Attribute = record { name = codes "class"; value = pieces_of (chars t) } in a) ∷ [] }))) is
 
-pub arrow_drawn : {E : Type 0} (r : Result Drawn E) (a opened titled described tied shot seen : Drawn) (start title words : List ℕ) (arrow : Shown) (place : Place)
+pub arrow_drawn : {E : Type 0} (r : Result Drawn E) (a opened titled described tied shot seen : Drawn) (start title : List ℕ) (arrow : Worded) (place : Place)
     → opened ≡ record { octets = a.octets ++ start; unclosed = a.unclosed ++ Group ∷ [] } → start ≡ group_octets place.mark
-    → Draws opened titled (element_octets Title title) → title ≡ title_text place.mark arrow → Draws titled described (element_octets Description words)
-    → Draws described tied (tie_octets place) → Draws tied shot (shaft_octets arrow.course place) → Draws shot seen (label_octets (ROUTER + 8, place.row - 4) words) → Ends r seen
-    → IfOk r (λ after. DrawsArrow place a after arrow)
-arrow_drawn r a opened titled described tied shot seen start title words arrow place is start_is first title_is second third fourth fifth ends =
+    → Draws opened titled (element_octets Title title) → title ≡ title_text place.mark arrow.shows → Draws titled described (element_octets Description arrow.words)
+    → Draws described tied (tie_octets place) → Draws tied shot (shaft_octets arrow.shows.course place) → Draws shot seen (label_octets (ROUTER + 8, place.row - 4) arrow.words) → Ends r seen
+    → IfOk r (λ after. Draws a after (arrow_octets place arrow))
+unfolding arrow_octets
+arrow_drawn r a opened titled described tied shot seen start title arrow place is start_is first title_is second third fourth fifth ends =
     let heads = element_octets Title title in
-    let told = element_octets Description words in
+    let told = element_octets Description arrow.words in
     let tie = tie_octets place in
-    let shaft = shaft_octets arrow.course place in
-    let label = label_octets (ROUTER + 8, place.row - 4) words in
+    let shaft = shaft_octets arrow.shows.course place in
+    let label = label_octets (ROUTER + 8, place.row - 4) arrow.words in
     let inside = heads ++ (told ++ (tie ++ (shaft ++ label))) in
     let draws : Draws opened seen inside =
     draws_then opened titled seen heads _ first
     (draws_then titled described seen told _ second
     (draws_then described tied seen tie _ third
     (draws_then tied shot seen shaft label fourth fifth))) in
-    IfOk-weaker r _ _ (λ after draws. record {
-      more = start ++ (inside ++ end_octets Group);
-      draws = draws;
-      drawn = record {
-        words = words;
-        parts = group_assoc (start) heads told tie shaft label (end_octets Group)
-            ∙ ap (λ (t : List ℕ). start ++ (element_octets Title t ++ (told ++ (tie ++ (shaft ++ (label ++ end_octets Group)))))) title_is
-            ∙ ap (λ (t : List ℕ). t ++ (element_octets Title (title_text place.mark arrow) ++ (told ++ (tie ++ (shaft ++ (label ++ end_octets Group)))))) start_is;
-      };
-    })
-    (closed r a opened seen Group (start) inside is draws ends)
+    let parts : start ++ (inside ++ end_octets Group) ≡ arrow_octets place arrow =
+    group_assoc start heads told tie shaft label (end_octets Group)
+    ∙ ap (λ (t : List ℕ). start ++ (element_octets Title t ++ (told ++ (tie ++ (shaft ++ (label ++ end_octets Group)))))) title_is
+    ∙ ap (λ (t : List ℕ). t ++ (element_octets Title (title_text place.mark arrow.shows) ++ (told ++ (tie ++ (shaft ++ (label ++ end_octets Group)))))) start_is in
+    IfOk-weaker r _ _ (λ after drawn. subst (Draws a after) parts drawn) (closed r a opened seen Group start inside is draws ends)
 
-arrows_push : (marks : Marking) (lanes : List ℕ) (all : List Shown) (row : ℕ) (arrows : List Shown) (groups : List (List ℕ)) (arrow : Shown) (group : List ℕ) → AreArrows marks lanes all row arrows groups
-    → IsArrow (place_at marks lanes all (row + length arrows) arrow) arrow group → AreArrows marks lanes all row (arrows ++ arrow ∷ []) (groups ++ group ∷ [])
-arrows_push marks lanes all row [] [] arrow group h k =
-    (subst (λ (i : ℕ). IsArrow (place_at marks lanes all i arrow) arrow group) (let e : row + 0 ≡ row = omega arith in e) k, tt)
-arrows_push marks lanes all row [] (y ∷ ys) arrow group h k = absurd h
-arrows_push marks lanes all row (x ∷ xs) [] arrow group h k = absurd h
-arrows_push marks lanes all row (x ∷ xs) (y ∷ ys) arrow group h k = (
-  h.0,
-  arrows_push marks lanes all (row + 1) xs ys arrow group h.1
-      (subst (λ (i : ℕ). IsArrow (place_at marks lanes all i arrow) arrow group) (let e : row + suc (length xs) ≡ (row + 1) + length xs = omega arith in e) k),
-)
+arrows_push : (marks : Marking) (lanes : List ℕ) (all : List Shown) (row : ℕ) (arrows : List Worded) (arrow : Worded)
+    → arrows_octets marks lanes all row (arrows ++ arrow ∷ []) ≡ arrows_octets marks lanes all row arrows ++ arrow_octets (place_at marks lanes all (row + length arrows) arrow.shows) arrow
+arrows_push marks lanes all row [] arrow =
+    append-nil _ ∙ ap (λ (n : ℕ). arrow_octets (place_at marks lanes all n arrow.shows) arrow) (let e : row ≡ row + 0 = omega arith in e)
+arrows_push marks lanes all row (x ∷ xs) arrow =
+    let first = arrow_octets (place_at marks lanes all row x.shows) x in
+    ap (λ (t : List ℕ). first ++ t)
+    (arrows_push marks lanes all (row + 1) xs arrow
+    ∙ ap (λ (n : ℕ). arrows_octets marks lanes all (row + 1) xs ++ arrow_octets (place_at marks lanes all n arrow.shows) arrow)
+    (let e : (row + 1) + length xs ≡ row + suc (length xs) = omega arith in e))
+    ∙ sym (append_assoc first (arrows_octets marks lanes all (row + 1) xs) _)
 
-concat_push : (groups : List (List ℕ)) (group : List ℕ) → concat (groups ++ group ∷ []) ≡ concat groups ++ group
-concat_push [] group = append-nil group
-concat_push (x ∷ xs) group = ap (λ (t : List ℕ). x ++ t) (concat_push xs group) ∙ sym (append_assoc x (concat xs) group)
-
-pub no_arrows : (marks : Marking) (lanes : List ℕ) (all : List Shown) (a : Drawn) → DrawsArrows marks lanes all a a []
-no_arrows marks lanes all a = record { groups = []; draws = record { octets = sym (append-nil a.octets); unclosed = refl }; drawn = tt }
+pub draws_nothing : (a : Drawn) → Draws a a []
+draws_nothing a = record { octets = sym (append-nil a.octets); unclosed = refl }
 
 -- one arrow more
 pub arrows_more : (marks : Marking) (lanes : List ℕ) (all : List Shown) (a b c : Drawn) (arrows : List Arrow) (i : ℕ) (arrow : Arrow) (place : Place) → i < length arrows → arrow ≡ get_or arrows i arrow
     → place ≡ place_at marks lanes all i (shown arrow)
-    → DrawsArrows marks lanes all a b (map shown (take i arrows)) → DrawsArrow place b c (shown arrow) → DrawsArrows marks lanes all a c (map shown (take (i + 1) arrows))
+    → Draws a b (arrows_octets marks lanes all 0 (map worded (take i arrows))) → Draws b c (arrow_octets place (worded arrow))
+    → Draws a c (arrows_octets marks lanes all 0 (map worded (take (i + 1) arrows)))
 arrows_more marks lanes all a b c arrows i arrow place below is placed before one =
-    let same : map shown (take (i + 1) arrows) ≡ map shown (take i arrows) ++ shown arrow ∷ [] =
-    map_more shown arrows i arrow below ∙ ap (λ (x : Arrow). map shown (take i arrows) ++ shown x ∷ []) (sym is) in
-    let count : 0 + length (map shown (take i arrows)) ≡ i = simp (length-map, length-take) (omega arith) in
-    let drawn : IsArrow (place_at marks lanes all (0 + length (map shown (take i arrows))) (shown arrow)) (shown arrow) one.more =
-    subst (λ (p : Place). IsArrow p (shown arrow) one.more) (placed ∙ ap (λ (n : ℕ). place_at marks lanes all n (shown arrow)) (sym count)) one.drawn in
-    subst (DrawsArrows marks lanes all a c) (sym same)
-    (record {
-      groups = before.groups ++ one.more ∷ [];
-      draws = subst (Draws a c) (sym (concat_push before.groups one.more)) (draws_then a b c (concat before.groups) one.more before.draws one.draws);
-      drawn = arrows_push marks lanes all 0 (map shown (take i arrows)) before.groups (shown arrow) one.more before.drawn drawn;
-    })
+    let same : map worded (take (i + 1) arrows) ≡ map worded (take i arrows) ++ worded arrow ∷ [] =
+    map_more worded arrows i arrow below ∙ ap (λ (x : Arrow). map worded (take i arrows) ++ worded x ∷ []) (sym is) in
+    let count : 0 + length (map worded (take i arrows)) ≡ i = simp (length-map, length-take) (omega arith) in
+    let front = arrows_octets marks lanes all 0 (map worded (take i arrows)) in
+    let whole : arrows_octets marks lanes all 0 (map worded (take (i + 1) arrows)) ≡ front ++ arrow_octets place (worded arrow) =
+    ap (arrows_octets marks lanes all 0) same
+    ∙ arrows_push marks lanes all 0 (map worded (take i arrows)) (worded arrow)
+    ∙ ap (λ (n : ℕ). front ++ arrow_octets (place_at marks lanes all n (shown arrow)) (worded arrow)) count
+    ∙ ap (λ (p : Place). front ++ arrow_octets p (worded arrow)) (sym placed) in
+    subst (Draws a c) (sym whole) (draws_then a b c front _ before one)
 
-pub all_arrows : (marks : Marking) (lanes : List ℕ) (all : List Shown) (a b : Drawn) (arrows : List Arrow) (i : ℕ) → length arrows ≤ i → DrawsArrows marks lanes all a b (map shown (take i arrows))
-    → DrawsArrows marks lanes all a b (map shown arrows)
-all_arrows marks lanes all a b arrows i end h = subst (λ (xs : List Arrow). DrawsArrows marks lanes all a b (map shown xs)) (take_all i arrows end) h
+pub all_arrows : (marks : Marking) (lanes : List ℕ) (all : List Shown) (a b : Drawn) (arrows : List Arrow) (i : ℕ) → length arrows ≤ i
+    → Draws a b (arrows_octets marks lanes all 0 (map worded (take i arrows))) → Draws a b (arrows_octets marks lanes all 0 (map worded arrows))
+all_arrows marks lanes all a b arrows i end h = subst (λ (xs : List Arrow). Draws a b (arrows_octets marks lanes all 0 (map worded xs))) (take_all i arrows end) h
+
+-- ---- documents
+
+shown_worded : (arrows : List Arrow) → shown_in (map worded arrows) ≡ map shown arrows
+shown_worded [] = refl
+shown_worded (x ∷ xs) = ap (λ (t : List Shown). shown x ∷ t) (shown_worded xs)
+
+-- a document of some size, with these lanes
+sized : (title : List ℕ) (marks : Marking) (all : List Shown) (arrows : List Worded) (lanes : List ℕ) (width height : ℕ) (looks octets : List ℕ)
+    → lanes ≡ lanes_of all → width ≡ width_of lanes → height ≡ height_of all
+    → octets ≡ root_octets width height ++ (element_octets Title title ++ (looks ++ (all_lanes height lanes ++ arrows_octets marks lanes all 0 arrows)))
+    → octets ≡ start_of title (width_of (lanes_of all)) (height_of all) ++ (looks ++ chart_octets marks all arrows)
+sized title marks all arrows lanes width height looks octets lanes_are width_is height_is parts =
+    let heads = element_octets Title title in
+    let high = height_of all in
+    let wide = width_of (lanes_of all) in
+    parts
+    ∙ ap (λ (n : ℕ). root_octets n height ++ (heads ++ (looks ++ (all_lanes height lanes ++ arrows_octets marks lanes all 0 arrows)))) (width_is ∙ ap width_of lanes_are)
+    ∙ ap (λ (n : ℕ). root_octets wide n ++ (heads ++ (looks ++ (all_lanes n lanes ++ arrows_octets marks lanes all 0 arrows)))) height_is
+    ∙ ap (λ (ls : List ℕ). root_octets wide high ++ (heads ++ (looks ++ (all_lanes high ls ++ arrows_octets marks ls all 0 arrows)))) lanes_are
+    ∙ sym (append_assoc (root_octets wide high) heads (looks ++ chart_octets marks all arrows))
+
+-- a document, drawn part by part
+pub document_drawn : {A E : Type 0} (text_of : A → List ℕ) (r : Result A E) (title : List ℕ) (marks : Marking) (arrows : List Arrow) (lanes : List ℕ) (width height : ℕ)
+    (started titled headed ruled drawn : Drawn) → lanes ≡ lanes_of (map shown arrows) → width ≡ width_of lanes → height ≡ row_place (length arrows)
+    → started ≡ record { octets = root_octets width height; unclosed = [] } → Draws started titled (element_octets Title title) → DrawsSome titled headed
+    → Draws headed ruled (all_lanes height lanes) → Draws ruled drawn (arrows_octets marks lanes (map shown arrows) 0 (map worded arrows))
+    → IfOk r (λ text. text_of text ≡ drawn.octets ++ root_end) → IfOk r (λ text. HasArrows title marks (map worded arrows) (text_of text))
+document_drawn text_of r title marks arrows lanes width height started titled headed ruled drawn lanes_are width_is height_is is first looks second third end =
+    let all = map shown arrows in
+    let heads = element_octets Title title in
+    let ruling = all_lanes height lanes in
+    let group = arrows_octets marks lanes all 0 (map worded arrows) in
+    let high : height ≡ height_of all = height_is ∙ ap row_place (sym (let e : length (map shown arrows) ≡ length arrows = simp length-map in e)) in
+    let draws : Draws started drawn (heads ++ (looks.more ++ (ruling ++ group))) =
+    draws_then started titled drawn heads _ first
+    (draws_then titled headed drawn looks.more _ looks.draws
+    (draws_then headed ruled drawn ruling group second third)) in
+    let octets = sized title marks all (map worded arrows) lanes width height looks.more drawn.octets lanes_are width_is high
+    (draws.octets ∙ ap (λ (d : Drawn). d.octets ++ (heads ++ (looks.more ++ (ruling ++ group)))) is) in
+    let shows = shown_worded arrows in
+    IfOk-weaker r _ _ (λ text is_text. record {
+      looks = looks.more;
+      parts = is_text
+          ∙ ap (λ (t : List ℕ). t ++ root_end) octets
+          ∙ ap (λ (s : List Shown). (start_of title (width_of (lanes_of s)) (height_of s) ++ (looks.more ++ chart_octets marks s (map worded arrows))) ++ root_end) (sym shows);
+    }) end
 
 -- ---- calls that may fail
 

@@ -1,5 +1,6 @@
 -- What is shown and drawn of small records, worked out by hand.
-use Rattle.std.proofs.Common.{◌≡◌, ℕ, List, [], ◌∷◌, ◌++◌, refl}
+use Rattle.std.proofs.Common.{◌≡◌, ◌<◌, ℕ, ◌+◌, List, [], ◌∷◌, ◌++◌, length, get_or, arith, ap, refl}
+use Rattle.std.proofs.lemmas.List.{length-append}
 use Rattle.std.specs.Prelude.{None, Some, codes}
 use Rattle.std.specs.Fmt.{digits}
 use Rattle.std.specs.Str.{chars}
@@ -10,15 +11,16 @@ use Rattle.amqp_perf.specs.Meaning.{AnEnd}
 use Rattle.capture_view.specs.Saying.{NoBody, Says}
 use Rattle.capture_view.specs.Viewed.{Viewed}
 use Rattle.capture_view.specs.Viewed as happenings
-use Rattle.svg_text.specs.Drawn.{end_octets}
+use Rattle.svg_text.specs.declared.element.Element.TheVariants.{Description, Group, Title}
+use Rattle.svg_text.specs.Drawn.{end_octets, root_end, root_octets, start_octets}
 use Rattle.capture_chart.specs.declared.places.Place.{Place}
 use Rattle.capture_chart.specs.declared.topic.Course.TheVariants.{Beside, ToClient, ToRouter}
 use Rattle.capture_chart.specs.declared.topic.Topic.TheVariants as topics
 use Rattle.capture_chart.specs.declared.marks.Mark.TheVariants.{Compared, Plain, Refused}
 use Rattle.capture_chart.specs.Marks.{Marking, mark_of}
-use Rattle.capture_chart.specs.Shown.{Shown, shown_of, title_text}
-use Rattle.capture_chart.specs.Places.{carried_place, connection_place, lanes_of, row_place}
-use Rattle.capture_chart.specs.Drawn.{AreArrows, IsArrow, all_lanes, connection_words, group_octets, label_octets, lane_octets, line_octets, shaft_octets, tie_octets}
+use Rattle.capture_chart.specs.Shown.{Shown, Worded, shown_of, title_text}
+use Rattle.capture_chart.specs.Places.{carried_place, connection_place, lanes_of, place_at, row_place}
+use Rattle.capture_chart.specs.Drawn.{HasArrows, all_lanes, arrow_octets, arrows_octets, connection_words, element_octets, group_octets, label_octets, lane_octets, line_octets, shaft_octets, start_of, tie_octets}
 
 -- ---- what is shown
 
@@ -150,17 +152,84 @@ untied = refl
 tied : tie_octets (record { lane = 620; row = 88; carried = Some (340, 60); mark = Plain }) ≡ line_octets (codes "carries") (200, 60) (340, 88)
 tied = refl
 
--- no arrow has no octets
-no_octets : (place : Place) (arrow : Shown) → IsArrow place arrow [] → ⊥
-unfolding group_octets encode
-no_octets place arrow h = let f = h.parts in cc
+-- an arrow with this line
+ending_worded : List ℕ → Worded
+ending_worded words = record { shows = ending_arrow; words = words }
 
--- an arrow that is left out, and one that is no record's
-left_out : (marks : Marking) (arrow : Shown) → AreArrows marks [] (arrow ∷ []) 0 (arrow ∷ []) [] → ⊥
-left_out _ arrow h = h
+-- its title, its line, its shaft, and its line again
+an_arrow : arrow_octets here (ending_worded (codes "a"))
+    ≡ group_octets Plain
+    ++ (element_octets Title (codes "3 connection 7 to router: end")
+    ++ (element_octets Description (codes "a") ++ ([] ++ (line_octets (codes "shaft") (340, 60) (60, 60) ++ (label_octets (68, 56) (codes "a") ++ end_octets Group)))))
+unfolding arrow_octets here ending_worded ending_arrow title_text digits
+an_arrow = refl
 
-one_more : (marks : Marking) (group : List ℕ) → AreArrows marks [] [] 0 [] (group ∷ []) → ⊥
-one_more _ group h = h
+other_words : arrow_octets here (ending_worded (codes "a")) ≡ arrow_octets here (ending_worded (codes "b")) → ⊥
+unfolding arrow_octets here ending_worded ending_arrow title_text group_octets start_octets end_octets chars digits encode
+other_words is = let f : ◌≡◌ {A = ℕ} 97 98 = ap (λ (octets : List ℕ). get_or octets 68 0) is in omega arith
 
-none : (marks : Marking) → AreArrows marks [] [] 0 [] []
-none _ = tt
+-- each stands in a row of its own, in order
+two_arrows : (words : List ℕ) → arrows_octets marks (7 ∷ 4 ∷ []) (one ∷ other ∷ []) 0 (record { shows = one; words = words } ∷ record { shows = other; words = words } ∷ [])
+    ≡ arrow_octets (place_at marks (7 ∷ 4 ∷ []) (one ∷ other ∷ []) 0 one) (record { shows = one; words = words })
+    ++ (arrow_octets (place_at marks (7 ∷ 4 ∷ []) (one ∷ other ∷ []) 1 other) (record { shows = other; words = words }) ++ [])
+two_arrows words = refl
+
+-- ---- documents
+
+no_marks : Marking
+no_marks = record { refused = None; compared = [] }
+
+-- a document without arrows, with this title and height, and lanes down to this bottom
+bare_document : List ℕ → ℕ → ℕ → List ℕ
+bare_document title height bottom = (start_of title 620 height ++ ([] ++ (all_lanes bottom [] ++ []))) ++ root_end
+
+a_document : HasArrows (codes "t") no_marks [] (bare_document (codes "t") 60 60)
+unfolding bare_document
+a_document = record { looks = []; parts = refl }
+
+-- how it looks stands in front of the lanes
+looking : (looks : List ℕ) → HasArrows (codes "t") no_marks [] ((start_of (codes "t") 620 60 ++ (looks ++ (all_lanes 60 [] ++ []))) ++ root_end)
+looking looks = record { looks = looks; parts = refl }
+
+another_title : HasArrows (codes "u") no_marks [] (bare_document (codes "t") 60 60) → ⊥
+unfolding bare_document root_octets start_octets chars digits encode
+another_title h = let f : ◌≡◌ {A = ℕ} 116 117 = ap (λ (octets : List ℕ). get_or octets 106 0) h.parts in omega arith
+
+another_height : HasArrows (codes "t") no_marks [] (bare_document (codes "t") 88 60) → ⊥
+unfolding bare_document root_octets chars digits encode
+another_height h = let f : ◌≡◌ {A = ℕ} 56 54 = ap (λ (octets : List ℕ). get_or octets 74 0) h.parts in omega arith
+
+-- octets that are more than there are
+too_long : (a b c d more : List ℕ) → length b < length d + length more → (a ++ b) ++ c ≡ (a ++ (more ++ d)) ++ c → ⊥
+too_long a b c d more long is =
+    omega (arith, long, ap length is, length-append (a ++ b) c, length-append a b, length-append (a ++ (more ++ d)) c, length-append a (more ++ d), length-append more d)
+
+-- lanes that go further down than the arrows do
+ending_elsewhere : (looks : List ℕ) → bare_document (codes "t") 60 88 ≡ (start_of (codes "t") 620 60 ++ (looks ++ (all_lanes 60 [] ++ []))) ++ root_end → ⊥
+unfolding bare_document root_octets start_octets end_octets line_octets label_octets chars digits encode
+ending_elsewhere [] is = let f : ◌≡◌ {A = ℕ} 56 54 = ap (λ (octets : List ℕ). get_or octets 163 0) is in omega arith
+ending_elsewhere (x ∷ xs) is =
+    let less : length ([] ++ (all_lanes 88 [] ++ [])) ≡ 87 = refl in
+    let more : length (all_lanes 60 [] ++ []) ≡ 87 = refl in
+    too_long (start_of (codes "t") 620 60) ([] ++ (all_lanes 88 [] ++ [])) root_end (all_lanes 60 [] ++ []) (x ∷ xs) (omega (arith, less, more)) is
+
+another_bottom : HasArrows (codes "t") no_marks [] (bare_document (codes "t") 60 88) → ⊥
+another_bottom h = ending_elsewhere h.looks h.parts
+
+-- a document of one arrow
+one_arrow : List ℕ → List ℕ
+one_arrow groups = (start_of (codes "t") 900 88 ++ ([] ++ (all_lanes 88 (7 ∷ []) ++ groups))) ++ root_end
+
+with_arrow : HasArrows (codes "t") no_marks (ending_worded (codes "a") ∷ []) (one_arrow (arrow_octets here (ending_worded (codes "a")) ++ []))
+unfolding one_arrow ending_worded ending_arrow here no_marks
+with_arrow = record { looks = []; parts = refl }
+
+-- it is left out
+left_out : HasArrows (codes "t") no_marks (ending_worded (codes "a") ∷ []) (one_arrow []) → ⊥
+unfolding one_arrow ending_worded ending_arrow arrow_octets title_text group_octets start_octets end_octets line_octets label_octets chars digits encode no_marks
+left_out h =
+    let lanes = all_lanes 88 (7 ∷ []) in
+    let arrow = arrow_octets (place_at no_marks (7 ∷ []) (ending_arrow ∷ []) 0 ending_arrow) (ending_worded (codes "a")) in
+    let less : length ([] ++ (lanes ++ [])) ≡ 183 = refl in
+    let more : length (lanes ++ (arrow ++ [])) ≡ 349 = refl in
+    too_long (start_of (codes "t") 900 88) ([] ++ (lanes ++ [])) root_end (lanes ++ (arrow ++ [])) h.looks (omega (arith, less, more)) h.parts

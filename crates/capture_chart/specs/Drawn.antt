@@ -1,20 +1,19 @@
 -- What is drawn of a chart.
-use Rattle.std.specs.Prelude.{◌≡◌, ℕ, ◌+◌, ◌-◌, List, [], ◌∷◌, ◌++◌, codes, decimal, Option, Some, None, ⊤}
-use Rattle.std.specs.List.{concat}
+use Rattle.std.specs.Prelude.{◌≡◌, ℕ, ◌+◌, ◌-◌, List, [], ◌∷◌, ◌++◌, length, codes, decimal, Option, Some, None}
 use Rattle.std.specs.Str.{chars, encode_utf8_all}
 use Rattle.svg_text.specs.declared.element.Element.{Element}
 use Rattle.svg_text.specs.declared.element.Element.TheVariants.{Description, Group, Text, Title}
 use Rattle.svg_text.specs.Grammar.{Tag, empty_text, start_text}
 use Rattle.svg_text.specs.Escaping.{pieces_of}
-use Rattle.svg_text.specs.Drawn.{Drawn, end_octets, root_end, start_octets, text_octets}
-use Rattle.capture_chart.specs.declared.places.TheConstants.{FIRST_LANE, LANE, ROUTER}
+use Rattle.svg_text.specs.Drawn.{Drawn, end_octets, root_end, root_octets, start_octets, text_octets}
+use Rattle.capture_chart.specs.declared.places.TheConstants.{ROUTER}
 use Rattle.capture_chart.specs.declared.places.Place.{Place}
 use Rattle.capture_chart.specs.declared.topic.Course.{Course}
 use Rattle.capture_chart.specs.declared.topic.Course.TheVariants.{ToRouter, ToClient, Beside}
 use Rattle.capture_chart.specs.declared.marks.Mark.{Mark}
 use Rattle.capture_chart.specs.Marks.{Marking, class_of}
-use Rattle.capture_chart.specs.Shown.{Shown, title_text}
-use Rattle.capture_chart.specs.Places.{between, count_place, lanes_of, place_at}
+use Rattle.capture_chart.specs.Shown.{Shown, Worded, shown_in, title_text}
+use Rattle.capture_chart.specs.Places.{between, lane_place, lanes_of, place_at, row_place}
 
 -- ---- elements
 
@@ -59,7 +58,7 @@ connection_words connection = codes "connection " ++ decimal connection
 -- the lanes of connections, from a number on
 abbrev pub lanes_octets : ℕ → ℕ → List ℕ → List ℕ
 lanes_octets bottom lane [] = []
-lanes_octets bottom lane (connection ∷ rest) = lane_octets bottom (count_place FIRST_LANE LANE lane) (connection_words connection) ++ lanes_octets bottom (lane + 1) rest
+lanes_octets bottom lane (connection ∷ rest) = lane_octets bottom (lane_place lane) (connection_words connection) ++ lanes_octets bottom (lane + 1) rest
 
 -- the lane of the router, and those of connections
 abbrev pub all_lanes : ℕ → List ℕ → List ℕ
@@ -85,26 +84,39 @@ shaft_octets Beside place = []
 unfoldable pub group_octets : Mark → List ℕ
 group_octets mark = encode_utf8_all (start_text (record { name = codes "g"; attributes = record { name = codes "class"; value = pieces_of (chars (class_of mark)) } ∷ [] }))
 
--- an arrow at a place is a group with the arrow's title, words as its description, both lines, and the same words at its place
-pub record IsArrow (place : Place) (arrow : Shown) (octets : List ℕ) : Type 0 where
-  pub words : List ℕ
-  pub parts : octets ≡ group_octets place.mark
-      ++ (element_octets Title (title_text place.mark arrow) ++ (element_octets Description words ++ (tie_octets place ++ (shaft_octets arrow.course place ++ (label_octets (ROUTER + 8, place.row - 4) words ++ end_octets Group)))))
+-- an arrow at a place: a group with the arrow's title, its words as its description, both lines, and the same words at its place
+unfoldable pub arrow_octets : Place → Worded → List ℕ
+arrow_octets place arrow = group_octets place.mark
+    ++ (element_octets Title (title_text place.mark arrow.shows) ++ (element_octets Description arrow.words ++ (tie_octets place ++ (shaft_octets arrow.shows.course place ++ (label_octets (ROUTER + 8, place.row - 4) arrow.words ++ end_octets Group)))))
 
--- groups are those of the arrows from a row on of a chart, in order, each once
-abbrev pub AreArrows : Marking → List ℕ → List Shown → ℕ → List Shown → List (List ℕ) → Type 0
-AreArrows marks lanes all row [] [] = ⊤
-AreArrows marks lanes all row [] (group ∷ groups) = ⊥
-AreArrows marks lanes all row (arrow ∷ arrows) [] = ⊥
-AreArrows marks lanes all row (arrow ∷ arrows) (group ∷ groups) = IsArrow (place_at marks lanes all row arrow) arrow group × AreArrows marks lanes all (row + 1) arrows groups
+-- the arrows from a row on of a chart that shows all these, in order, each once
+abbrev pub arrows_octets : Marking → List ℕ → List Shown → ℕ → List Worded → List ℕ
+arrows_octets marks lanes all row [] = []
+arrows_octets marks lanes all row (arrow ∷ rest) = arrow_octets (place_at marks lanes all row arrow.shows) arrow ++ arrows_octets marks lanes all (row + 1) rest
 
--- octets of a document with the lanes of these arrows and the arrows at its end, in order, each once
-pub record HasArrows (marks : Marking) (arrows : List Shown) (octets : List ℕ) : Type 0 where
-  pub front : List ℕ
-  pub bottom : ℕ
-  pub groups : List (List ℕ)
-  pub drawn : AreArrows marks (lanes_of arrows) arrows 0 arrows groups
-  pub parts : octets ≡ (front ++ (all_lanes bottom (lanes_of arrows) ++ concat groups)) ++ root_end
+-- ---- documents
+
+-- one row more than there are arrows
+abbrev pub height_of : List Shown → ℕ
+height_of arrows = row_place (length arrows)
+
+-- room for one lane more than there are
+abbrev pub width_of : List ℕ → ℕ
+width_of lanes = lane_place (length lanes + 1)
+
+-- the start of a document of this size, with this title
+abbrev pub start_of : List ℕ → ℕ → ℕ → List ℕ
+start_of title width height = root_octets width height ++ element_octets Title title
+
+-- the lanes of arrows, and the arrows themselves
+abbrev pub chart_octets : Marking → List Shown → List Worded → List ℕ
+chart_octets marks all arrows = all_lanes (height_of all) (lanes_of all) ++ arrows_octets marks (lanes_of all) all 0 arrows
+
+-- octets of a document with this title, and at its end the lanes of these arrows and the arrows, in order, each once; between
+-- them stands how it looks
+pub record HasArrows (title : List ℕ) (marks : Marking) (arrows : List Worded) (octets : List ℕ) : Type 0 where
+  pub looks : List ℕ
+  pub parts : octets ≡ (start_of title (width_of (lanes_of (shown_in arrows))) (height_of (shown_in arrows)) ++ (looks ++ chart_octets marks (shown_in arrows) arrows)) ++ root_end
 
 -- ---- drawings
 
@@ -117,15 +129,3 @@ pub record Draws (before after : Drawn) (more : List ℕ) : Type 0 where
 pub record DrawsSome (before after : Drawn) : Type 0 where
   pub more : List ℕ
   pub draws : Draws before after more
-
--- it has an arrow more
-pub record DrawsArrow (place : Place) (before after : Drawn) (arrow : Shown) : Type 0 where
-  pub more : List ℕ
-  pub draws : Draws before after more
-  pub drawn : IsArrow place arrow more
-
--- it has these first arrows of a chart more, in order, each once
-pub record DrawsArrows (marks : Marking) (lanes : List ℕ) (all : List Shown) (before after : Drawn) (arrows : List Shown) : Type 0 where
-  pub groups : List (List ℕ)
-  pub draws : Draws before after (concat groups)
-  pub drawn : AreArrows marks lanes all 0 arrows groups

@@ -17,10 +17,13 @@ count_place first step count = most (first + most (step * most count))
 abbrev pub row_place : ℕ → ℕ
 row_place row = count_place TOP ROW row
 
+abbrev pub lane_place : ℕ → ℕ
+lane_place lane = count_place FIRST_LANE LANE lane
+
 -- the place of a connection's lane, of lanes from a number on; that of the router where it has none
 abbrev pub found_lane : ℕ → ℕ → List ℕ → ℕ
 found_lane connection lane [] = ROUTER
-found_lane connection lane (other ∷ rest) = if other == connection then count_place FIRST_LANE LANE lane else found_lane connection (lane + 1) rest
+found_lane connection lane (other ∷ rest) = if other == connection then lane_place lane else found_lane connection (lane + 1) rest
 
 abbrev pub connection_place : List ℕ → ℕ → ℕ
 connection_place lanes connection = found_lane connection 0 lanes

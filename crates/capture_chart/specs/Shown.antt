@@ -1,5 +1,6 @@
 -- What an arrow of a chart shows of its record.
 use Rattle.std.specs.Prelude.{ℕ, List, ◌++◌, codes, decimal, map, Option, Some, None}
+use Rattle.std.specs.String.{string_bytes}
 use Rattle.pairing_cert.specs.declared.note.Note.{Note}
 use Rattle.pairing_cert.specs.declared.note.Note.TheVariants as notes
 use Rattle.amqp_perf.specs.Meaning.{Meaning, AnOpen, ABegin, AnAttach, AFlow, ATransfer, ADisposition, ADetach, AnEnd, AClose}
@@ -84,6 +85,21 @@ shown arrow = record { number = arrow.number; connection = arrow.connection; cou
 -- the arrows of a chart, in order
 abbrev pub arrows_of : Chart → List Shown
 arrows_of chart = map shown chart.arrows.items
+
+-- an arrow with the line of its record
+pub record Worded : Type 0 where
+  pub shows : Shown
+  pub words : List ℕ
+
+abbrev pub worded : Arrow → Worded
+worded arrow = record { shows = shown arrow; words = string_bytes arrow.words }
+
+-- the arrows of a chart with their words, in order
+abbrev pub worded_of : Chart → List Worded
+worded_of chart = map worded chart.arrows.items
+
+abbrev pub shown_in : List Worded → List Shown
+shown_in arrows = map (λ (arrow : Worded). arrow.shows) arrows
 
 -- ---- in words
 

@@ -2,8 +2,8 @@
 
 ghost use Rattle.std.specs.Prelude.{◌≡◌, IfOk, map};
 ghost use Rattle.capture_chart.specs.Marks.{marking};
-ghost use Rattle.capture_chart.specs.Shown.{shown};
-ghost use Rattle.capture_chart.specs.Drawn.{Draws, DrawsArrow, DrawsArrows, shaft_octets, tie_octets};
+ghost use Rattle.capture_chart.specs.Shown.{shown, worded};
+ghost use Rattle.capture_chart.specs.Drawn.{Draws, arrow_octets, arrows_octets, shaft_octets, tie_octets};
 
 use crate::arrow::Arrow;
 use crate::marks::Marks;
@@ -21,7 +21,7 @@ pub(crate) fn draw_arrows(
     lanes: &[u32],
     marks: Marks<'_>,
 ) -> Result<Drawing, AllocError>
-    ensures { IfOk result (λ after. DrawsArrows (marking marks.entry) lanes.now (map shown arrows.now) drawing after (map shown arrows.now)) }
+    ensures { IfOk result (λ after. Draws drawing after (arrows_octets (marking marks.entry) lanes.now (map shown arrows.now) 0 (map worded arrows.now))) }
 {
     let mut drawing = drawing;
     for (row, arrow) in arrows.iter().enumerate() {
@@ -38,7 +38,7 @@ fn draw_arrow(
     arrow: &Arrow,
     place: Place,
 ) -> Result<Drawing, AllocError>
-    ensures { IfOk result (λ after. DrawsArrow place drawing after (shown arrow.now)) }
+    ensures { IfOk result (λ after. Draws drawing after (arrow_octets place (worded arrow.now))) }
 {
     let title = arrow.title(alloc, place.mark)?;
     let attributes = [Attribute {

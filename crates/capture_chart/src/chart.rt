@@ -26,7 +26,7 @@ pub struct Chart {
 impl Chart {
     ghost use Rattle.std.specs.Prelude.{◌≡◌, ◌≤◌, ◌↔◌, ◌++◌, ◌∷◌, [], List, length, map, Err, OnOk, OnErr};
     ghost use Rattle.capture_view.specs.Viewed.{Viewed, viewed};
-    ghost use Rattle.capture_chart.specs.Shown.{arrows_of, shown, shown_of};
+    ghost use Rattle.capture_chart.specs.Shown.{arrows_of, shown, shown_of, worded, worded_of};
 
     /// No arrows.
     pub fn new(alloc: Global) -> Chart
@@ -40,7 +40,8 @@ impl Chart {
 
     /// The arrows, in the order in which their records were taken.
     pub fn arrows(&self) -> &[Arrow]
-        ensures { map shown result.now ≡ arrows_of self.now }
+        ensures shown { map shown result.now ≡ arrows_of self.now }
+        ensures words { map worded result.now ≡ worded_of self.now }
     {
         self.arrows.as_slice()
     }

@@ -5,16 +5,17 @@ use crate::chart::Chart;
 use crate::head::draw_head;
 use crate::lanes::draw_lanes;
 use crate::marks::Marks;
+use crate::parts::draw_words;
 use crate::places::{lane_place, lanes_of, row_place};
 use std::alloc::AllocError;
-use svg_text::Drawing;
+use svg_text::{Drawing, Element};
 
 impl Chart {
     ghost use Rattle.std.specs.Prelude.{◌≡◌, IfOk};
     ghost use Rattle.std.specs.String.{string_bytes};
     ghost use Rattle.svg_text.specs.Drawn.{IsSvg};
     ghost use Rattle.capture_chart.specs.Marks.{marking};
-    ghost use Rattle.capture_chart.specs.Shown.{arrows_of};
+    ghost use Rattle.capture_chart.specs.Shown.{worded_of};
     ghost use Rattle.capture_chart.specs.Drawn.{HasArrows};
 
     /// The chart as the text of an SVG under this title, with these records marked. Where memory is refused nothing is
@@ -22,16 +23,18 @@ impl Chart {
     pub fn draw(&self, title: &str, marks: Marks<'_>) -> Result<String, AllocError>
         // It is well-formed, and an SVG.
         ensures document { IfOk result (λ text. IsSvg (string_bytes text)) }
-        // It has the lanes of the arrows' connections and that of the router, and each arrow, in order and once: its title, its line
-        // in words, where it runs, its mark, and from which delivery.
-        ensures arrows { IfOk result (λ text. HasArrows (marking marks.entry) (arrows_of self.now) (string_bytes text)) }
+        // It begins with this title, and is large enough for what it has: the lanes of the arrows' connections and that of the
+        // router, and each arrow, in order and once, with its title, the line of its record, where it runs, its mark, and from
+        // which delivery.
+        ensures arrows { IfOk result (λ text. HasArrows title.now (marking marks.entry) (worded_of self.now) (string_bytes text)) }
     {
         let arrows = self.arrows.as_slice();
         let lanes = lanes_of(self.alloc, arrows)?;
-        let width = lane_place(lanes.len().saturating_add(1));
+        let width = lane_place(lanes.len() + 1);
         let height = row_place(arrows.len());
         let started = Drawing::new(self.alloc, width, height)?;
-        let headed = draw_head(started, title)?;
+        let titled = draw_words(started, Element::Title, title)?;
+        let headed = draw_head(titled)?;
         let ruled = draw_lanes(self.alloc, headed, lanes.as_slice(), height)?;
         let drawn = draw_arrows(self.alloc, ruled, arrows, lanes.as_slice(), marks)?;
         drawn.finish()

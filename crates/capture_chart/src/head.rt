@@ -1,4 +1,4 @@
-//! What stands in front of the lanes.
+//! What stands between the title and the lanes.
 
 ghost use Rattle.std.specs.Prelude.{◌≡◌, IfOk};
 ghost use Rattle.capture_chart.specs.Drawn.{DrawsSome};
@@ -16,12 +16,11 @@ text, path { fill: currentColor } line { stroke: currentColor } \
 .lane { stroke-opacity: 0.3 } .shaft { marker-end: url(#head) } \
 .carries { stroke-opacity: 0.5; stroke-dasharray: 2 3 }";
 
-/// Draws the title, the style, and the head of an arrow.
-pub(crate) fn draw_head(drawing: Drawing, title: &str) -> Result<Drawing, AllocError>
+/// Draws the style, and the head of an arrow.
+pub(crate) fn draw_head(drawing: Drawing) -> Result<Drawing, AllocError>
     ensures { IfOk result (λ after. DrawsSome drawing after) }
 {
-    let titled = draw_words(drawing, Element::Title, title)?;
-    let styled = draw_words(titled, Element::Style, STYLE)?;
+    let styled = draw_words(drawing, Element::Style, STYLE)?;
     let defined = styled.start(Element::Definitions, &[])?;
     let marked = draw_marker(defined)?;
     marked.end()

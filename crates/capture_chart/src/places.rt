@@ -40,7 +40,7 @@ pub(crate) fn row_place(row: usize) -> u32
 
 /// The place of a lane of a connection, by its number.
 pub(crate) fn lane_place(lane: usize) -> u32
-    ensures { result ≡ spec.count_place FIRST_LANE LANE lane }
+    ensures { result ≡ spec.lane_place lane }
 {
     count_place(FIRST_LANE, LANE, lane)
 }

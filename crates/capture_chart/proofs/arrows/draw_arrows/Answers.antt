@@ -1,11 +1,11 @@
 use Rattle.std.proofs.Common.{map}
 use Rattle.capture_chart.specs.Marks.{marking}
 use Rattle.capture_chart.specs.Shown.{shown}
-use Rattle.capture_chart.proofs.Drawings.{all_arrows, arrows_more, no_arrows}
+use Rattle.capture_chart.proofs.Drawings.{all_arrows, arrows_more, draws_nothing}
 use Rattle.capture_chart.proofs.arrows.draw_arrows.Goals as goal
 
 pub loop-row-init : goal.loop-row-init
-loop-row-init c = no_arrows (marking c.args.marks) c.args.lanes.now (map shown c.args.arrows.now) c.args.drawing
+loop-row-init c = draws_nothing c.args.drawing
 
 pub loop-row-preserved : goal.loop-row-preserved
 loop-row-preserved c =
