@@ -89,7 +89,7 @@ group_is class mark is =
 pub arrow_drawn : {E : Type 0} (r : Result Drawn E) (a opened titled described tied shot seen : Drawn) (start title : List ℕ) (arrow : Worded) (place : Place)
     → opened ≡ record { octets = a.octets ++ start; unclosed = a.unclosed ++ Group ∷ [] } → start ≡ group_octets place.mark
     → Draws opened titled (element_octets Title title) → title ≡ title_text place.mark arrow.shows → Draws titled described (element_octets Description arrow.words)
-    → Draws described tied (tie_octets place) → Draws tied shot (shaft_octets arrow.shows.course place) → Draws shot seen (label_octets (ROUTER + 8, place.row - 4) arrow.words) → Ends r seen
+    → Draws described tied (tie_octets place) → Draws tied shot (shaft_octets arrow.shows.course place) → Draws shot seen (label_octets (ROUTER + 8, place.row - 4) arrow.label) → Ends r seen
     → IfOk r (λ after. Draws a after (arrow_octets place arrow))
 unfolding arrow_octets
 arrow_drawn r a opened titled described tied shot seen start title arrow place is start_is first title_is second third fourth fifth ends =
@@ -97,7 +97,7 @@ arrow_drawn r a opened titled described tied shot seen start title arrow place i
     let told = element_octets Description arrow.words in
     let tie = tie_octets place in
     let shaft = shaft_octets arrow.shows.course place in
-    let label = label_octets (ROUTER + 8, place.row - 4) arrow.words in
+    let label = label_octets (ROUTER + 8, place.row - 4) arrow.label in
     let inside = heads ++ (told ++ (tie ++ (shaft ++ label))) in
     let draws : Draws opened seen inside =
     draws_then opened titled seen heads _ first

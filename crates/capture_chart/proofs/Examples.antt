@@ -89,10 +89,10 @@ lanes : lanes_of (one ∷ other ∷ one ∷ []) ≡ 7 ∷ 4 ∷ []
 unfolding one other
 lanes = refl
 
-first_lane : connection_place (7 ∷ 4 ∷ []) 7 ≡ 340
+first_lane : connection_place (7 ∷ 4 ∷ []) 7 ≡ 360
 first_lane = refl
 
-second_lane : connection_place (7 ∷ 4 ∷ []) 4 ≡ 620
+second_lane : connection_place (7 ∷ 4 ∷ []) 4 ≡ 520
 second_lane = refl
 
 -- the router's, where a connection has no lane
@@ -103,7 +103,7 @@ second_row : row_place 1 ≡ 88
 second_row = refl
 
 -- the delivery is in the first row of the two
-carried_first : carried_place (7 ∷ 4 ∷ []) (one ∷ other ∷ []) (Some 10) ≡ Some (340, 60)
+carried_first : carried_place (7 ∷ 4 ∷ []) (one ∷ other ∷ []) (Some 10) ≡ Some (360, 60)
 unfolding one other
 carried_first = refl
 
@@ -124,7 +124,7 @@ a_label = refl
 
 -- two lanes of connections, and the router's
 three_lanes : all_lanes 90 (7 ∷ 4 ∷ [])
-    ≡ lane_octets 90 60 (codes "router") ++ (lane_octets 90 340 (connection_words 7) ++ (lane_octets 90 620 (connection_words 4) ++ []))
+    ≡ lane_octets 90 60 (codes "router") ++ (lane_octets 90 360 (connection_words 7) ++ (lane_octets 90 520 (connection_words 4) ++ []))
 three_lanes = refl
 
 fourth_name : connection_words 4 ≡ codes "connection 4"
@@ -132,13 +132,13 @@ unfolding digits
 fourth_name = refl
 
 here : Place
-here = record { lane = 340; row = 60; carried = None; mark = Plain }
+here = record { lane = 360; row = 60; carried = None; mark = Plain }
 
-to_router : shaft_octets ToRouter here ≡ line_octets (codes "shaft") (340, 60) (60, 60)
+to_router : shaft_octets ToRouter here ≡ line_octets (codes "shaft") (360, 60) (60, 60)
 unfolding here
 to_router = refl
 
-to_client : shaft_octets ToClient here ≡ line_octets (codes "shaft") (60, 60) (340, 60)
+to_client : shaft_octets ToClient here ≡ line_octets (codes "shaft") (60, 60) (360, 60)
 unfolding here
 to_client = refl
 
@@ -152,27 +152,31 @@ untied = refl
 tied : tie_octets (record { lane = 620; row = 88; carried = Some (340, 60); mark = Plain }) ≡ line_octets (codes "carries") (200, 60) (340, 88)
 tied = refl
 
--- an arrow with this line
-ending_worded : List ℕ → Worded
-ending_worded words = record { shows = ending_arrow; words = words }
+-- an arrow with this line and this label
+ending_worded : List ℕ → List ℕ → Worded
+ending_worded words label = record { shows = ending_arrow; words = words; label = label }
 
--- its title, its line, its shaft, and its line again
-an_arrow : arrow_octets here (ending_worded (codes "a"))
+-- its title, its line, its shaft, and its label
+an_arrow : arrow_octets here (ending_worded (codes "a") (codes "b"))
     ≡ group_octets Plain
     ++ (element_octets Title (codes "3 connection 7 to router: end")
-    ++ (element_octets Description (codes "a") ++ ([] ++ (line_octets (codes "shaft") (340, 60) (60, 60) ++ (label_octets (68, 56) (codes "a") ++ end_octets Group)))))
+    ++ (element_octets Description (codes "a") ++ ([] ++ (line_octets (codes "shaft") (360, 60) (60, 60) ++ (label_octets (68, 56) (codes "b") ++ end_octets Group)))))
 unfolding arrow_octets here ending_worded ending_arrow title_text digits
 an_arrow = refl
 
-other_words : arrow_octets here (ending_worded (codes "a")) ≡ arrow_octets here (ending_worded (codes "b")) → ⊥
+other_words : arrow_octets here (ending_worded (codes "a") (codes "b")) ≡ arrow_octets here (ending_worded (codes "b") (codes "b")) → ⊥
 unfolding arrow_octets here ending_worded ending_arrow title_text group_octets start_octets end_octets chars digits encode
 other_words is = let f : ◌≡◌ {A = ℕ} 97 98 = ap (λ (octets : List ℕ). get_or octets 68 0) is in omega arith
 
+other_label : arrow_octets here (ending_worded (codes "a") (codes "a")) ≡ arrow_octets here (ending_worded (codes "a") (codes "b")) → ⊥
+unfolding arrow_octets here ending_worded ending_arrow title_text group_octets start_octets end_octets line_octets label_octets chars digits encode
+other_label is = let f : ◌≡◌ {A = ℕ} 97 98 = ap (λ (octets : List ℕ). get_or octets 152 0) is in omega arith
+
 -- each stands in a row of its own, in order
-two_arrows : (words : List ℕ) → arrows_octets marks (7 ∷ 4 ∷ []) (one ∷ other ∷ []) 0 (record { shows = one; words = words } ∷ record { shows = other; words = words } ∷ [])
-    ≡ arrow_octets (place_at marks (7 ∷ 4 ∷ []) (one ∷ other ∷ []) 0 one) (record { shows = one; words = words })
-    ++ (arrow_octets (place_at marks (7 ∷ 4 ∷ []) (one ∷ other ∷ []) 1 other) (record { shows = other; words = words }) ++ [])
-two_arrows words = refl
+two_arrows : (words label : List ℕ) → arrows_octets marks (7 ∷ 4 ∷ []) (one ∷ other ∷ []) 0 (record { shows = one; words = words; label = label } ∷ record { shows = other; words = words; label = label } ∷ [])
+    ≡ arrow_octets (place_at marks (7 ∷ 4 ∷ []) (one ∷ other ∷ []) 0 one) (record { shows = one; words = words; label = label })
+    ++ (arrow_octets (place_at marks (7 ∷ 4 ∷ []) (one ∷ other ∷ []) 1 other) (record { shows = other; words = words; label = label }) ++ [])
+two_arrows words label = refl
 
 -- ---- documents
 
@@ -181,14 +185,14 @@ no_marks = record { refused = None; compared = [] }
 
 -- a document without arrows, with this title and height, and lanes down to this bottom
 bare_document : List ℕ → ℕ → ℕ → List ℕ
-bare_document title height bottom = (start_of title 620 height ++ ([] ++ (all_lanes bottom [] ++ []))) ++ root_end
+bare_document title height bottom = (start_of title 360 height ++ ([] ++ (all_lanes bottom [] ++ []))) ++ root_end
 
 a_document : HasArrows (codes "t") no_marks [] (bare_document (codes "t") 60 60)
 unfolding bare_document
 a_document = record { looks = []; parts = refl }
 
 -- how it looks stands in front of the lanes
-looking : (looks : List ℕ) → HasArrows (codes "t") no_marks [] ((start_of (codes "t") 620 60 ++ (looks ++ (all_lanes 60 [] ++ []))) ++ root_end)
+looking : (looks : List ℕ) → HasArrows (codes "t") no_marks [] ((start_of (codes "t") 360 60 ++ (looks ++ (all_lanes 60 [] ++ []))) ++ root_end)
 looking looks = record { looks = looks; parts = refl }
 
 another_title : HasArrows (codes "u") no_marks [] (bare_document (codes "t") 60 60) → ⊥
@@ -205,31 +209,31 @@ too_long a b c d more long is =
     omega (arith, long, ap length is, length-append (a ++ b) c, length-append a b, length-append (a ++ (more ++ d)) c, length-append a (more ++ d), length-append more d)
 
 -- lanes that go further down than the arrows do
-ending_elsewhere : (looks : List ℕ) → bare_document (codes "t") 60 88 ≡ (start_of (codes "t") 620 60 ++ (looks ++ (all_lanes 60 [] ++ []))) ++ root_end → ⊥
+ending_elsewhere : (looks : List ℕ) → bare_document (codes "t") 60 88 ≡ (start_of (codes "t") 360 60 ++ (looks ++ (all_lanes 60 [] ++ []))) ++ root_end → ⊥
 unfolding bare_document root_octets start_octets end_octets line_octets label_octets chars digits encode
 ending_elsewhere [] is = let f : ◌≡◌ {A = ℕ} 56 54 = ap (λ (octets : List ℕ). get_or octets 163 0) is in omega arith
 ending_elsewhere (x ∷ xs) is =
     let less : length ([] ++ (all_lanes 88 [] ++ [])) ≡ 87 = refl in
     let more : length (all_lanes 60 [] ++ []) ≡ 87 = refl in
-    too_long (start_of (codes "t") 620 60) ([] ++ (all_lanes 88 [] ++ [])) root_end (all_lanes 60 [] ++ []) (x ∷ xs) (omega (arith, less, more)) is
+    too_long (start_of (codes "t") 360 60) ([] ++ (all_lanes 88 [] ++ [])) root_end (all_lanes 60 [] ++ []) (x ∷ xs) (omega (arith, less, more)) is
 
 another_bottom : HasArrows (codes "t") no_marks [] (bare_document (codes "t") 60 88) → ⊥
 another_bottom h = ending_elsewhere h.looks h.parts
 
 -- a document of one arrow
 one_arrow : List ℕ → List ℕ
-one_arrow groups = (start_of (codes "t") 900 88 ++ ([] ++ (all_lanes 88 (7 ∷ []) ++ groups))) ++ root_end
+one_arrow groups = (start_of (codes "t") 520 88 ++ ([] ++ (all_lanes 88 (7 ∷ []) ++ groups))) ++ root_end
 
-with_arrow : HasArrows (codes "t") no_marks (ending_worded (codes "a") ∷ []) (one_arrow (arrow_octets here (ending_worded (codes "a")) ++ []))
+with_arrow : HasArrows (codes "t") no_marks (ending_worded (codes "a") (codes "b") ∷ []) (one_arrow (arrow_octets here (ending_worded (codes "a") (codes "b")) ++ []))
 unfolding one_arrow ending_worded ending_arrow here no_marks
 with_arrow = record { looks = []; parts = refl }
 
 -- it is left out
-left_out : HasArrows (codes "t") no_marks (ending_worded (codes "a") ∷ []) (one_arrow []) → ⊥
+left_out : HasArrows (codes "t") no_marks (ending_worded (codes "a") (codes "b") ∷ []) (one_arrow []) → ⊥
 unfolding one_arrow ending_worded ending_arrow arrow_octets title_text group_octets start_octets end_octets line_octets label_octets chars digits encode no_marks
 left_out h =
     let lanes = all_lanes 88 (7 ∷ []) in
-    let arrow = arrow_octets (place_at no_marks (7 ∷ []) (ending_arrow ∷ []) 0 ending_arrow) (ending_worded (codes "a")) in
+    let arrow = arrow_octets (place_at no_marks (7 ∷ []) (ending_arrow ∷ []) 0 ending_arrow) (ending_worded (codes "a") (codes "b")) in
     let less : length ([] ++ (lanes ++ [])) ≡ 183 = refl in
     let more : length (lanes ++ (arrow ++ [])) ≡ 349 = refl in
-    too_long (start_of (codes "t") 900 88) ([] ++ (lanes ++ [])) root_end (lanes ++ (arrow ++ [])) h.looks (omega (arith, less, more)) h.parts
+    too_long (start_of (codes "t") 520 88) ([] ++ (lanes ++ [])) root_end (lanes ++ (arrow ++ [])) h.looks (omega (arith, less, more)) h.parts

@@ -84,10 +84,10 @@ shaft_octets Beside place = []
 unfoldable pub group_octets : Mark → List ℕ
 group_octets mark = encode_utf8_all (start_text (record { name = codes "g"; attributes = record { name = codes "class"; value = pieces_of (chars (class_of mark)) } ∷ [] }))
 
--- an arrow at a place: a group with the arrow's title, its words as its description, both lines, and the same words at its place
+-- an arrow at a place: a group with the arrow's title, its words as its description, both lines, and its label beside it
 unfoldable pub arrow_octets : Place → Worded → List ℕ
 arrow_octets place arrow = group_octets place.mark
-    ++ (element_octets Title (title_text place.mark arrow.shows) ++ (element_octets Description arrow.words ++ (tie_octets place ++ (shaft_octets arrow.shows.course place ++ (label_octets (ROUTER + 8, place.row - 4) arrow.words ++ end_octets Group)))))
+    ++ (element_octets Title (title_text place.mark arrow.shows) ++ (element_octets Description arrow.words ++ (tie_octets place ++ (shaft_octets arrow.shows.course place ++ (label_octets (ROUTER + 8, place.row - 4) arrow.label ++ end_octets Group)))))
 
 -- the arrows from a row on of a chart that shows all these, in order, each once
 abbrev pub arrows_octets : Marking → List ℕ → List Shown → ℕ → List Worded → List ℕ
@@ -96,13 +96,13 @@ arrows_octets marks lanes all row (arrow ∷ rest) = arrow_octets (place_at mark
 
 -- ---- documents
 
--- one row more than there are arrows
+-- where one arrow more than there are would stand
 abbrev pub height_of : List Shown → ℕ
 height_of arrows = row_place (length arrows)
 
--- room for one lane more than there are
+-- where one lane more than there are would stand
 abbrev pub width_of : List ℕ → ℕ
-width_of lanes = lane_place (length lanes + 1)
+width_of lanes = lane_place (length lanes)
 
 -- the start of a document of this size, with this title
 abbrev pub start_of : List ℕ → ℕ → ℕ → List ℕ

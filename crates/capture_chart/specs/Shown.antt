@@ -86,13 +86,14 @@ shown arrow = record { number = arrow.number; connection = arrow.connection; cou
 abbrev pub arrows_of : Chart → List Shown
 arrows_of chart = map shown chart.arrows.items
 
--- an arrow with the line of its record
+-- an arrow with the line of its record, and what stands beside it
 pub record Worded : Type 0 where
   pub shows : Shown
   pub words : List ℕ
+  pub label : List ℕ
 
 abbrev pub worded : Arrow → Worded
-worded arrow = record { shows = shown arrow; words = string_bytes arrow.words }
+worded arrow = record { shows = shown arrow; words = string_bytes arrow.words; label = string_bytes arrow.label }
 
 -- the arrows of a chart with their words, in order
 abbrev pub worded_of : Chart → List Worded

@@ -1,5 +1,6 @@
 //! An arrow of a chart.
 
+use crate::label::label_of;
 use crate::marks::Mark;
 use crate::topic::{Course, Topic, course_of, topic_of};
 use capture_view::{LinkTold, RecordView};
@@ -23,6 +24,8 @@ pub struct Arrow {
     pub carried: Option<u64>,
     /// The line of the record.
     pub words: String,
+    /// What stands beside the arrow: the number of the record, its performative, and the fields that matter most.
+    pub label: String,
 }
 
 impl Arrow {
@@ -50,6 +53,7 @@ impl Arrow {
             topic: topic_of(view.happened),
             carried: carried_by(view.note),
             words,
+            label: label_of(alloc, view)?,
         })
     }
 

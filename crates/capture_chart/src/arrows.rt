@@ -51,7 +51,7 @@ fn draw_arrow(
     let tied = draw_tie(described, place)?;
     let shot = draw_shaft(tied, arrow.course, place)?;
     let at = (ROUTER + 8, place.row.saturating_sub(4));
-    let labelled = draw_label(shot, at, arrow.words.as_str())?;
+    let labelled = draw_label(shot, at, arrow.label.as_str())?;
     labelled.end()
 }
 

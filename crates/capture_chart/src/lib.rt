@@ -3,11 +3,11 @@
 //! A `Chart` takes records one after the other, those that are to be shown, and has an arrow for each of them, in order: its
 //! number, its connection, whether the frame goes to the router or to the client, and which performative its octets are.
 //! `Chart::draw` gives the document, well-formed by the grammar of XML (`svg_text`): one lane for the router, one for each
-//! connection, and a group for each arrow with its title, the record's line in words, and the arrow; from a delivery that
+//! connection, and a group for each arrow with its title, the record's line in words, a short label, and the arrow; from a delivery that
 //! comes in to each transfer that carries it goes a thin line, where both are shown. Records may be marked: the one that is
 //! refused, and those that it is compared with.
 //!
-//! In reading order: `topic`, `marks`, `arrow`, `chart`; `places` is where lanes and rows stand; `parts` are elements of several calls;
+//! In reading order: `topic`, `marks`, `label`, `arrow`, `chart`; `places` is where lanes and rows stand; `parts` are elements of several calls;
 //! `arrows`, `head`, `lanes`, `draw`.
 #![tactic(auto)]
 
@@ -16,6 +16,7 @@ mod arrows;
 mod chart;
 mod draw;
 mod head;
+mod label;
 mod lanes;
 mod marks;
 mod parts;

@@ -9,12 +9,12 @@ use crate::arrow::Arrow;
 use crate::marks::{Mark, Marks};
 use std::alloc::{AllocError, Global};
 
-/// The place of the router's lane.
+/// The place of the router's lane. The labels of arrows stand beside it, in front of the lanes of connections.
 pub(crate) const ROUTER: u32 = 60;
 /// The place of the first lane of a connection.
-pub(crate) const FIRST_LANE: u32 = 340;
-/// From one lane to the next.
-pub(crate) const LANE: u32 = 280;
+pub(crate) const FIRST_LANE: u32 = 360;
+/// From one lane to the next, which has room for the name of a connection.
+pub(crate) const LANE: u32 = 160;
 /// The place of the first row.
 pub(crate) const TOP: u32 = 60;
 /// From one row to the next.

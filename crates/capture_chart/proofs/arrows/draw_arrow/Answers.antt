@@ -13,7 +13,7 @@ returns c =
     subst (λ (w : List ℕ). Draws c.in_ok-titled.titled c.in_ok-described.described (element_octets Description w)) c.as_str-2.ensures.value c.in_ok-described.ensures in
     let placed : Draws c.in_ok-shot.shot c.in_ok-labelled.labelled (label_octets (ROUTER + 8, c.args.place.row - 4) c.as_str-3.result.now) =
     subst (λ (n : ℕ). Draws c.in_ok-shot.shot c.in_ok-labelled.labelled (label_octets (ROUTER + 8, n) c.as_str-3.result.now)) c.saturating_sub.ensures c.in_ok-labelled.ensures in
-    let labelled : Draws c.in_ok-shot.shot c.in_ok-labelled.labelled (label_octets (ROUTER + 8, c.args.place.row - 4) arrow.words) =
+    let labelled : Draws c.in_ok-shot.shot c.in_ok-labelled.labelled (label_octets (ROUTER + 8, c.args.place.row - 4) arrow.label) =
     subst (λ (w : List ℕ). Draws c.in_ok-shot.shot c.in_ok-labelled.labelled (label_octets (ROUTER + 8, c.args.place.row - 4) w)) c.as_str-3.ensures.value placed in
     arrow_drawn c.end.result c.args.drawing c.in_ok-opened.opened c.in_ok-titled.titled c.in_ok-described.described c.in_ok-tied.tied c.in_ok-shot.shot c.in_ok-labelled.labelled
     _ _ arrow c.args.place c.in_ok-opened.ensures (group_is c.class.result c.args.place.mark c.class.ensures) c.in_ok-titled.ensures (c.as_str.ensures.value ∙ c.in_ok-title.ensures)

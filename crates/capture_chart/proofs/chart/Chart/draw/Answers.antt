@@ -1,4 +1,4 @@
-use Rattle.std.proofs.Common.{◌≡◌, ◌+◌, List, ℕ, ap, arith, length, map, subst, ◌∙◌}
+use Rattle.std.proofs.Common.{◌≡◌, List, ℕ, ap, arith, length, map, subst, ◌∙◌}
 use Rattle.std.specs.Prelude.{IfOk}
 use Rattle.std.specs.String.{string_bytes}
 use Rattle.capture_chart.specs.declared.arrow.Arrow.{Arrow}
@@ -23,5 +23,5 @@ returns-clause-arrows c =
     subst (λ (all : List Arrow). IfOk c.finish.result (λ text. HasArrows c.args.title.now marks (map worded all) (string_bytes text))) c.as_slice-arrows.ensures.value
     (document_drawn string_bytes c.finish.result c.args.title.now marks arrows lanes c.lane_place-width.result height
     c.in_ok-started.started c.in_ok-titled.titled c.in_ok-headed.headed c.in_ok-ruled.ruled c.in_ok-drawn.drawn
-    c.in_ok-lanes.ensures (c.lane_place-width.ensures ∙ ap (λ (n : ℕ). lane_place (n + 1)) (c.len.ensures ∙ long)) c.row_place-height.ensures
+    c.in_ok-lanes.ensures (c.lane_place-width.ensures ∙ ap lane_place (c.len.ensures ∙ long)) c.row_place-height.ensures
     c.in_ok-started.ensures c.in_ok-titled.ensures c.in_ok-headed.ensures ruled drawn c.finish.ensures.text)
