@@ -148,7 +148,7 @@ all_arrows marks lanes all a b arrows i end h = subst (λ (xs : List Arrow). Dra
 
 -- ---- documents
 
-shown_worded : (arrows : List Arrow) → shown_in (map worded arrows) ≡ map shown arrows
+pub shown_worded : (arrows : List Arrow) → shown_in (map worded arrows) ≡ map shown arrows
 shown_worded [] = refl
 shown_worded (x ∷ xs) = ap (λ (t : List Shown). shown x ∷ t) (shown_worded xs)
 

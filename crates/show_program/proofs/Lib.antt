@@ -1,3 +1,4 @@
 pub mod RunLemmas
 pub mod WordLemmas
+pub mod Charting
 mod WordExamples

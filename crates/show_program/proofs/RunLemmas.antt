@@ -16,7 +16,7 @@ use Rattle.show_program.specs.declared.words.Words.{Words}
 use Rattle.show_program.specs.Run.{ExplainsInput, IsRunOn, ShowsInput, Tells, TellsEnd, TellsSome, is_whole, tail_of}
 use Rattle.program_ends.specs.Source.{path_of}
 use Rattle.show_program.specs.declared.words.Mode.{Mode}
-use Rattle.show_program.specs.Words.{AnswersWords, AsksWhy, IsAudit, IsPlain, is_why, packets_of}
+use Rattle.show_program.specs.Words.{AnswersWords, AsksWhy, IsAudit, IsPlain, chart_of, is_why, packets_of}
 use Rattle.audit_core.specs.declared.verdict.Verdict.TheVariants as verdicts
 use Rattle.audit_core.specs.Verdict.{AnswersRead}
 
@@ -78,17 +78,18 @@ refused_told before after status is told some low =
 -- the parser took the words, and the source that they ask for was shown
 pub shown_run : (words : List (List ℕ)) (asked : Words) (mode : Mode) (held before after : Option (List ℕ)) (status : ℕ)
     → AnswersWords words (Ok asked) → asked.mode ≡ Some mode
-    → (path_of asked.source ≡ None → is_why mode ≡ false → status ≢ 74 → status ≢ 5 → ShowsInput held before after status)
-    → (is_why mode ≡ false → status ≢ 74 → status ≢ 5 → TellsSome before after status)
-    → (packets_of mode ≡ None → status ≢ 5)
+    → (path_of asked.source ≡ None → is_why mode ≡ false → status ≢ 74 → status ≢ 5 → status ≢ 6 → ShowsInput held before after status)
+    → (is_why mode ≡ false → status ≢ 74 → status ≢ 5 → status ≢ 6 → TellsSome before after status)
+    → (packets_of mode ≡ None → chart_of mode ≡ None → status ≢ 5)
+    → (chart_of mode ≡ None → status ≢ 6)
     → IsRunOn words held before after status
-shown_run [] asked mode held before after status answer is input told unasked =
+shown_run [] asked mode held before after status answer is input told unasked few =
     let plain : IsPlain (Some mode) = subst IsPlain is answer.1 in
-    λ written. input answer.0 plain.1 written (unasked plain.0)
-shown_run (word ∷ []) asked mode held before after status answer is input told unasked = λ plain written.
+    λ written. input answer.0 plain.2 written (unasked plain.0 plain.1) (few plain.1)
+shown_run (word ∷ []) asked mode held before after status answer is input told unasked few = λ plain written.
     let one : IsPlain (Some mode) = subst IsPlain is (answer plain).1 in
-    told one.1 written (unasked one.0)
-shown_run (first ∷ second ∷ more) asked mode held before after status answer is input told unasked = λ plain plain'. absurd (answer plain plain')
+    told one.2 written (unasked one.0 one.1) (few one.1)
+shown_run (first ∷ second ∷ more) asked mode held before after status answer is input told unasked few = λ plain plain'. absurd (answer plain plain')
 
 -- the parser took words that ask for several modes: they are no plain ones
 pub several_run : (words : List (List ℕ)) (asked : Words) (held before after : Option (List ℕ)) (status : ℕ)

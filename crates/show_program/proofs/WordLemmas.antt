@@ -31,11 +31,15 @@ packets-none : first_of (codes "pcapng") (matches_of command_line []) ≡ None
 unfolding clap_on_literals
 packets-none = refl
 
+chart-none : first_of (codes "chart") (matches_of command_line []) ≡ None
+unfolding clap_on_literals
+chart-none = refl
+
 audit-none : one_of (codes "why") (matches_of command_line []) ≡ Some (codes "false")
 unfolding clap_on_literals
 audit-none = refl
 
--- the word that asks for an audit: no fault, no file, and no packets
+-- the word that asks for an audit: no fault, no file, and neither packets nor a chart
 fault_of-why : fault_of command_line (codes "--why" ∷ []) ≡ []
 unfolding clap_on_literals
 fault_of-why = refl
@@ -47,6 +51,10 @@ file-why = refl
 packets-why : first_of (codes "pcapng") (matches_of command_line (codes "--why" ∷ [])) ≡ None
 unfolding clap_on_literals
 packets-why = refl
+
+chart-why : first_of (codes "chart") (matches_of command_line (codes "--why" ∷ [])) ≡ None
+unfolding clap_on_literals
+chart-why = refl
 
 audit-why : one_of (codes "why") (matches_of command_line (codes "--why" ∷ [])) ≡ Some (codes "true")
 unfolding clap_on_literals
@@ -69,6 +77,10 @@ packets-one : (word : List ℕ) → is_option word ≡ false → first_of (codes
 unfolding clap_on_literals
 packets-one word plain = rw (dashes-plain word plain, strip_byte-plain word plain, strip_byte-plain word plain) refl
 
+chart-one : (word : List ℕ) → is_option word ≡ false → first_of (codes "chart") (matches_of command_line (word ∷ [])) ≡ None
+unfolding clap_on_literals
+chart-one word plain = rw (dashes-plain word plain, strip_byte-plain word plain, strip_byte-plain word plain) refl
+
 audit-one : (word : List ℕ) → is_option word ≡ false → one_of (codes "why") (matches_of command_line (word ∷ [])) ≡ Some (codes "false")
 unfolding clap_on_literals
 audit-one word plain = rw (dashes-plain word plain, strip_byte-plain word plain, strip_byte-plain word plain) refl
@@ -90,11 +102,12 @@ fault_of-more first second more plain plain' =
 -- the parser took the words, and this was read with the file that it met
 pub answers_taken : (words : List (List ℕ)) (asked : Words) → fault_of command_line words ≡ []
     → path_of asked.source ≡ path_asked (first_of (codes "FILE") (matches_of command_line words))
-    → (first_of (codes "pcapng") (matches_of command_line words) ≡ None → one_of (codes "why") (matches_of command_line words) ≡ Some (codes "false") → IsPlain asked.mode)
+    → (first_of (codes "pcapng") (matches_of command_line words) ≡ None → first_of (codes "chart") (matches_of command_line words) ≡ None
+    → one_of (codes "why") (matches_of command_line words) ≡ Some (codes "false") → IsPlain asked.mode)
     → AnswersWords words (Ok asked)
-answers_taken [] asked taken met is = (met ∙ ap path_asked file-none, is packets-none audit-none)
+answers_taken [] asked taken met is = (met ∙ ap path_asked file-none, is packets-none chart-none audit-none)
 answers_taken (word ∷ []) asked taken met is = λ plain.
-    (met ∙ ap path_asked (file-one word plain) ∙ asked-plain word plain, is (packets-one word plain) (audit-one word plain))
+    (met ∙ ap path_asked (file-one word plain) ∙ asked-plain word plain, is (packets-one word plain) (chart-one word plain) (audit-one word plain))
 answers_taken (first ∷ second ∷ more) asked taken met is = λ plain plain'.
     let clash : [] ≡ UnknownArgument ∷ [] = sym taken ∙ fault_of-more first second more plain plain' in cc
 
@@ -110,13 +123,15 @@ answers_refused (first ∷ second ∷ more) error kind = λ plain plain'.
 -- the parser took the word that asks for an audit, and this was read
 pub why_taken : (words : List (List ℕ)) (source : Source) (mode : Option Mode) → words ≡ codes "--why" ∷ []
     → path_of source ≡ path_asked (first_of (codes "FILE") (matches_of command_line words))
-    → (first_of (codes "pcapng") (matches_of command_line words) ≡ None → one_of (codes "why") (matches_of command_line words) ≡ Some (codes "true")
+    → (first_of (codes "pcapng") (matches_of command_line words) ≡ None → first_of (codes "chart") (matches_of command_line words) ≡ None
+    → one_of (codes "why") (matches_of command_line words) ≡ Some (codes "true")
     → one_of (codes "summary") (matches_of command_line words) ≡ Some (codes "false") → IsAudit mode)
     → (path_of source ≡ None) × IsAudit mode
 why_taken words source mode are met audited = (
   met ∙ ap (λ ws. path_asked (first_of (codes "FILE") (matches_of command_line ws))) are ∙ ap path_asked file-why,
   audited
       (ap (λ ws. first_of (codes "pcapng") (matches_of command_line ws)) are ∙ packets-why)
+      (ap (λ ws. first_of (codes "chart") (matches_of command_line ws)) are ∙ chart-why)
       (ap (λ ws. one_of (codes "why") (matches_of command_line ws)) are ∙ audit-why)
       (ap (λ ws. one_of (codes "summary") (matches_of command_line ws)) are ∙ summary-why),
 )

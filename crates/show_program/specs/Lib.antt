@@ -1,2 +1,4 @@
 pub mod Words
+pub mod Asked
+pub mod Charts
 pub mod Run

@@ -45,10 +45,21 @@ TellsAlone before after status = (ending : Ending) × TellsEnd before after endi
 abbrev pub no_packets : List ℕ
 no_packets = codes "packets not written" ++ 10 ∷ []
 
--- the statuses of the endings, of packets that can't be written, of a fault of the words and of an output that can't be
--- written (own format)
+-- that a chart could not be written, and that more records are asked for than it may have (own format)
+abbrev pub no_chart : List ℕ
+no_chart = codes "chart not written" ++ 10 ∷ []
+
+abbrev pub too_many : List ℕ
+too_many = codes "more than 2000 records for a chart: --from, --to, --connection, --link, --delivery choose" ++ 10 ∷ []
+
+-- a line tells that the file could not be written that was asked for
+abbrev pub TellsNoFile : Option (List ℕ) → Option (List ℕ) → Type 0
+TellsNoFile before after = Appends before after no_packets ⊎ Appends before after no_chart
+
+-- the statuses of the endings, of a file that can't be written, of too many records for a chart, of a fault of the words and
+-- of an output that can't be written (own format)
 abbrev pub IsStatus : ℕ → Type 0
-IsStatus status = (status ≤ 5) ⊎ (status ≡ 64) ⊎ (status ≡ 74)
+IsStatus status = (status ≤ 6) ⊎ (status ≡ 64) ⊎ (status ≡ 74)
 
 -- an ending is told, which is that of all the octets that the reader is known to give
 pub record ShowsInput (held before after : Option (List ℕ)) (status : ℕ) : Type 0 where

@@ -9,7 +9,7 @@ use Rattle.clap.specs.declared.error.kind.ErrorKind.TheVariants.{OutOfMemory, Un
 use Rattle.program_ends.specs.Words.{is_option}
 use Rattle.program_ends.specs.Source.{path_of}
 use Rattle.show_program.specs.declared.words.Mode.{Mode}
-use Rattle.show_program.specs.declared.words.Mode.TheVariants.{Lines, Summary, Why, Packets}
+use Rattle.show_program.specs.declared.words.Mode.TheVariants.{Lines, Summary, Why, Packets, Chart}
 use Rattle.show_program.specs.declared.words.Words.{Words}
 
 -- the file that packets are asked for in (own format)
@@ -18,6 +18,15 @@ packets_of Lines = None
 packets_of Summary = None
 packets_of Why = None
 packets_of (Packets path) = Some path.now
+packets_of (Chart path) = None
+
+-- the file that a chart is asked for in (own format)
+abbrev pub chart_of : Mode → Option (List ℕ)
+chart_of Lines = None
+chart_of Summary = None
+chart_of Why = None
+chart_of (Packets path) = None
+chart_of (Chart path) = Some path.now
 
 -- whether the capture is to be audited (own format)
 abbrev pub is_why : Mode → Bool
@@ -25,6 +34,7 @@ is_why Lines = false
 is_why Summary = false
 is_why Why = true
 is_why (Packets path) = false
+is_why (Chart path) = false
 
 -- whether one table is shown (own format)
 abbrev pub is_table : Mode → Bool
@@ -32,27 +42,28 @@ is_table Lines = false
 is_table Summary = true
 is_table Why = false
 is_table (Packets path) = false
+is_table (Chart path) = false
 
--- one mode is asked for, and neither packets nor an audit (own format)
+-- one mode is asked for, and neither packets nor a chart nor an audit (own format)
 abbrev pub IsPlain : Option Mode → Type 0
 IsPlain None = ⊥
-IsPlain (Some mode) = (packets_of mode ≡ None) × (is_why mode ≡ false)
+IsPlain (Some mode) = (packets_of mode ≡ None) × (chart_of mode ≡ None) × (is_why mode ≡ false)
 
 -- an audit is asked for, and no other mode (own format)
 abbrev pub IsAudit : Option Mode → Type 0
 IsAudit None = ⊥
 IsAudit (Some mode) = is_why mode ≡ true
 
--- of packets, an audit and a summary more than one is asked for (own format)
-abbrev pub are_several : Bool → Bool → Bool → Bool
-are_several packets audited summary = packets && (audited || summary) || audited && summary
+-- of packets, a chart, an audit and a summary more than one is asked for (own format)
+abbrev pub are_several : Bool → Bool → Bool → Bool → Bool
+are_several packets chart audited summary = (packets && (chart || (audited || summary))) || ((chart && (audited || summary)) || (audited && summary))
 
 -- there is a mode just where not more than one is asked for (own format)
 abbrev pub IsOne : Bool → Option Mode → Type 0
 IsOne several None = several ≡ true
 IsOne several (Some mode) = several ≡ false
 
--- the words ask for this source, and neither for packets nor for an audit, want of memory aside (own format)
+-- the words ask for this source, and neither for packets nor for a chart nor an audit, want of memory aside (own format)
 abbrev pub AsksFor : Option (List ℕ) → Result Words Error → Type 0
 AsksFor path result = MatchResult result
     (λ words. (path_of words.source ≡ path) × IsPlain words.mode)
@@ -69,8 +80,8 @@ abbrev pub IsMistake : Result Words Error → Type 0
 IsMistake result = MatchResult result (λ words. ⊥)
     (λ error. (kind_of error ≡ OutOfMemory) ⊎ (kind_of error ≡ UnknownArgument))
 
--- no word asks for standard input and one word that is no option for the file that it names, and neither for packets or an
--- audit; two such are a mistake
+-- no word asks for standard input and one word that is no option for the file that it names, and neither for packets nor for
+-- a chart or an audit; two such are a mistake
 abbrev pub AnswersWords : List (List ℕ) → Result Words Error → Type 0
 AnswersWords [] result = AsksFor None result
 AnswersWords (word ∷ []) result = is_option word ≡ false → AsksFor (Some word) result
@@ -114,8 +125,11 @@ choosing_command =
 abbrev pub packets_argument : Rule
 packets_argument = asking_argument (codes "pcapng") String
 
+abbrev pub chart_argument : Rule
+chart_argument = asking_argument (codes "chart") String
+
 -- the command line, as the parser reads it (own format)
 abbrev pub command_line : App
 command_line =
     let shown = with_rule (with_rule choosing_command (flag_argument (codes "wide"))) (flag_argument (codes "summary")) in
-    with_rule (with_rule shown (flag_argument (codes "why"))) packets_argument
+    with_rule (with_rule (with_rule shown (flag_argument (codes "why"))) packets_argument) chart_argument

@@ -1,21 +1,26 @@
 //! What the program that shows captures in words does with its own words: it reads a capture from the file that they name,
-//! or from standard input, and writes a line for each record; or one table, or why the capture is not accepted, or packets
-//! to a new file.
+//! or from standard input, and writes a line for each record; or one table, or why the capture is not accepted, or packets or
+//! a chart to a new file.
 //!
 //! The exit status tells whether the capture is whole (`Ending::status`), or the verdict. What was read in front of a fault is
 //! shown, and then the line of the fault. A mistake in the words gives the parser's text on standard error alone, and status 64. The
 //! modules, in reading order:
 //!
 //! - `words`: what the words of the command line ask for
+//! - `asked`: which records are asked for
 //! - `lines`, `table`: the two ways in which records are shown
 //! - `telling`: what is told behind what was shown
 //! - `packets`: a capture as packets in a file
+//! - `charted`, `charts`: the records that are asked for as a chart, and in a file
 //! - `why`: a capture, audited
 //! - `run`: a run over any words, reader and writers
 //!
 //! Another way to show a capture is a variant of `Mode`, its word in `words`, and its arm in `run::show_input`.
 #![tactic(auto)]
 
+mod asked;
+mod charted;
+mod charts;
 mod lines;
 mod packets;
 mod run;
@@ -24,4 +29,5 @@ mod telling;
 mod why;
 mod words;
 
+pub use charted::{Drawn, NoChart, draw_capture};
 pub use run::run_words;

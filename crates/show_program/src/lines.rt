@@ -1,6 +1,7 @@
 //! A line for each record that is asked for.
 
-use capture_view::{Choice, Names, RecordView, Trail, Traits};
+use crate::asked::Asked;
+use capture_view::{Choice, RecordView};
 use capture_words::{Page, View};
 use std::alloc::{AllocError, Global};
 
@@ -14,12 +15,10 @@ enum Shown {
     Some,
 }
 
-/// The records that are asked for, and what has to be known of those before for their lines.
+/// The records that are asked for, in lines.
 #[derive(Drop)]
 pub struct Lines<'a> {
-    choice: Choice<'a>,
-    names: Names,
-    trail: Option<Trail>,
+    asked: Asked<'a>,
     shown: Shown,
 }
 
@@ -27,44 +26,29 @@ impl<'a> Lines<'a> {
     /// Shows the records that `choice` asks for.
     pub fn new(alloc: Global, choice: Choice<'a>) -> Lines<'a> {
         Lines {
-            choice,
-            names: Names::new(alloc),
-            trail: choice.delivery.map(|delivery| Trail::new(alloc, delivery)),
+            asked: Asked::new(alloc, choice),
             shown: Shown::NoRecord,
         }
     }
 
-    /// Appends the line of a record, if it is asked for, and says whether it is.
-    fn put(
-        &self,
-        view: &RecordView<'_>,
-        is_of_delivery: bool,
-        page: &mut Page,
-    ) -> Result<bool, AllocError> {
-        let link = self.names.named_by(view);
-        let traits = Traits {
-            number: view.number,
-            connection: view.connection,
-            link: link.map(|told| told.name),
-            is_of_delivery,
-        };
-        if !self.choice.shows(&traits) {
-            return Ok(false);
-        }
-        page.put_record(view, link, self.names.has_session_of(view))?;
-        Ok(true)
+    /// Appends the line of a record.
+    fn put(&self, view: &RecordView<'_>, page: &mut Page) -> Result<(), AllocError> {
+        let link = self.asked.link_of(view);
+        page.put_record(view, link, self.asked.has_session_of(view))
     }
 }
 
 impl View for Lines<'_> {
     ghost use Rattle.capture_view.specs.Tables.{StandsFor};
 
-    ghost agrees = { λ lines past. StandsFor lines.names past };
+    ghost agrees = { λ lines past. StandsFor lines.asked.names past };
 
     fn take(&mut self, view: &RecordView<'_>, page: &mut Page) -> Result<(), AllocError> {
-        let is_of_delivery = follow(&mut self.trail, view)?;
-        self.names.take(view)?;
-        self.shown = match (self.put(view, is_of_delivery, page)?, self.shown) {
+        let is_asked = self.asked.take(view)?;
+        if is_asked {
+            self.put(view, page)?;
+        }
+        self.shown = match (is_asked, self.shown) {
             (true, _) => Shown::Some,
             (false, Shown::NoRecord) => Shown::NoLine,
             (false, shown) => shown,
@@ -79,13 +63,5 @@ impl View for Lines<'_> {
             Shown::NoLine => page.put("no such records\n"),
             Shown::Some => Ok(()),
         }
-    }
-}
-
-/// Whether the record is about the delivery that is asked for.
-fn follow(trail: &mut Option<Trail>, view: &RecordView<'_>) -> Result<bool, AllocError> {
-    match trail {
-        Some(trail) => trail.take(view),
-        None => Ok(false),
     }
 }

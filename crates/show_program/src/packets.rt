@@ -5,7 +5,7 @@ ghost use Rattle.std.specs.Io.KnownBytes.{Appends};
 ghost use Rattle.capture_words.specs.Shown.{EndsText};
 ghost use Rattle.show_program.specs.Run.{ShowsInput, TellsAlone, no_packets};
 
-use crate::telling::{NO_PACKETS, tell, tell_no_packets};
+use crate::telling::{NO_FILE, tell, tell_no_packets};
 use capture_packets::{NotPacked, pack_capture};
 use capture_words::Ending;
 use program_ends::NOT_WRITTEN;
@@ -25,10 +25,10 @@ pub fn write_packets<F: Files, R: Read, O: Write>(
 ) -> u8
 where
     R: Drop,
-    ensures shown { result ≢ NOT_WRITTEN → result ≢ NO_PACKETS → ShowsInput (R.remaining input) (O.contents out.old) (O.contents out.new) result }
-    ensures alone { result ≢ NOT_WRITTEN → result ≢ NO_PACKETS → TellsAlone (O.contents out.old) (O.contents out.new) result }
-    ensures packets { result ≡ NO_PACKETS → Appends (O.contents out.old) (O.contents out.new) no_packets }
-    ensures status { (result ≤ NO_PACKETS) ⊎ (result ≡ NOT_WRITTEN) }
+    ensures shown { result ≢ NOT_WRITTEN → result ≢ NO_FILE → ShowsInput (R.remaining input) (O.contents out.old) (O.contents out.new) result }
+    ensures alone { result ≢ NOT_WRITTEN → result ≢ NO_FILE → TellsAlone (O.contents out.old) (O.contents out.new) result }
+    ensures packets { result ≡ NO_FILE → Appends (O.contents out.old) (O.contents out.new) no_packets }
+    ensures status { (result ≤ NO_FILE) ⊎ (result ≡ NOT_WRITTEN) }
 {
     match pack_file(files, alloc, path, input) {
         Ok(ending) => tell(&ending, out),

@@ -4,14 +4,15 @@ ghost use Rattle.std.specs.Prelude.{◌≡◌, ◌≢◌, ◌<◌, ◌≤◌, �
 ghost use Rattle.capture_words.specs.declared.ending.Ending.TheVariants.{NoMemory, Unreadable};
 ghost use Rattle.std.specs.Io.KnownBytes.{Appends};
 ghost use Rattle.program_ends.specs.Growth.{IsRefusedGrowth};
-ghost use Rattle.show_program.specs.Run.{ExplainsInput, ExplainsSome, IsRunOn, IsStatus, ShowsInput, TellsSome, no_packets};
+ghost use Rattle.show_program.specs.Run.{ExplainsInput, ExplainsSome, IsRunOn, IsStatus, ShowsInput, TellsNoFile, TellsSome, too_many};
 ghost use Rattle.program_ends.specs.Source.{path_of};
-ghost use Rattle.show_program.specs.Words.{is_why, packets_of};
+ghost use Rattle.show_program.specs.Words.{chart_of, is_why, packets_of};
 
+use crate::charts::write_chart;
 use crate::lines::Lines;
 use crate::packets::write_packets;
 use crate::table::Table;
-use crate::telling::{NO_PACKETS, tell};
+use crate::telling::{NO_FILE, TOO_MANY, tell};
 use crate::why::show_why;
 use crate::words::{Mode, Words};
 use capture_words::{Ending, NotWritten, Page, View, show_capture};
@@ -23,9 +24,10 @@ use std::rt::Files;
 use std::{fs, io};
 
 /// Shows the capture that `words`, those behind the program's name, ask for: the file that they name, or `input`. Writes
-/// it to `out`, behind it the line of a fault, and answers the exit status. Where packets are asked for they go to the file
-/// that is named, and the line of a fault alone to `out`; `NO_PACKETS` tells that they could not be written. Where it is asked
-/// why the capture is not accepted, the line of the auditor's verdict goes to `out`, and behind it the explanation.
+/// it to `out`, behind it the line of a fault, and answers the exit status. Where packets or a chart are asked for they go to
+/// the file that is named, and the line of a fault alone to `out`; `NO_FILE` tells that it could not be written, and `TOO_MANY`
+/// that more records are asked for than a chart may have. Where it is asked why the capture is not accepted, the line of the
+/// auditor's verdict goes to `out`, and behind it the explanation.
 ///
 /// A fault of the words is told on `err` alone, with `WORDS_FAULT`; the help goes to `out`, with status 0. Where `out`
 /// fails the status is `NOT_WRITTEN`, and nothing is said of what stands there. Where it is watched, `err` has a line of
@@ -48,9 +50,15 @@ pub fn run_words<F: Files, S: AsStr, R: Read, O: Write, E: Write>(
     // Statuses 1 to 4 come only with a line that has that status: of a fault, behind what was shown, or of a verdict, and then
     // the explanation stands behind it.
     ensures told { 0 < result → result ≤ 4 → TellsSome (O.contents out.old) (O.contents out.new) result ⊎ ExplainsSome (O.contents out.old) (O.contents out.new) result }
-    ensures packets { result ≡ NO_PACKETS → Appends (O.contents out.old) (O.contents out.new) no_packets }
+
+    // Status 5 comes only with a line that tells that the file could not be written, and 6 with that of too many records for a chart.
+    ensures unmade { result ≡ NO_FILE → TellsNoFile (O.contents out.old) (O.contents out.new) }
+    ensures many { result ≡ TOO_MANY → Appends (O.contents out.old) (O.contents out.new) too_many }
+
+    // A mistake in the words is told on standard error alone, and where nobody watches nothing else is told there.
     ensures mistake { result ≡ WORDS_FAULT → out.new ≡ out.old }
     ensures quiet { is_watched ≡ false → result ≢ WORDS_FAULT → err.new ≡ err.old }
+    // There is no other status.
     ensures status { IsStatus result }
 {
     match Words::read(alloc, words) {
@@ -69,7 +77,7 @@ fn tell_modes<E: Write>(err: &mut E) -> u8
     // The status tells the fault, whether or not its text could be written.
     let _ = writeln!(
         err,
-        "error: one of --pcapng, --why and --summary may be given"
+        "error: one of --pcapng, --chart, --why and --summary may be given"
     );
     WORDS_FAULT
 }
@@ -85,17 +93,19 @@ fn show_source<F: Files, R: Read, O: Write, E: Write>(
     out: &mut O,
     err: &mut E,
 ) -> u8
-    ensures input { path_of words.entry.source ≡ None → is_why mode.entry ≡ false → result ≢ NOT_WRITTEN → result ≢ NO_PACKETS
+    ensures input { path_of words.entry.source ≡ None → is_why mode.entry ≡ false → result ≢ NOT_WRITTEN → result ≢ NO_FILE → result ≢ TOO_MANY
         → ShowsInput (R.remaining input.old) (O.contents out.old) (O.contents out.new) result }
     ensures explained { path_of words.entry.source ≡ None → is_why mode.entry ≡ true → result ≢ NOT_WRITTEN
         → ExplainsInput (R.remaining input.old) (O.contents out.old) (O.contents out.new) result }
-    ensures told { is_why mode.entry ≡ false → result ≢ NOT_WRITTEN → result ≢ NO_PACKETS → TellsSome (O.contents out.old) (O.contents out.new) result }
-    ensures either { result ≢ NOT_WRITTEN → result ≢ NO_PACKETS
+    ensures told { is_why mode.entry ≡ false → result ≢ NOT_WRITTEN → result ≢ NO_FILE → result ≢ TOO_MANY → TellsSome (O.contents out.old) (O.contents out.new) result }
+    ensures either { result ≢ NOT_WRITTEN → result ≢ NO_FILE → result ≢ TOO_MANY
         → TellsSome (O.contents out.old) (O.contents out.new) result ⊎ ExplainsSome (O.contents out.old) (O.contents out.new) result }
-    ensures unasked { packets_of mode.entry ≡ None → result ≢ NO_PACKETS }
-    ensures packets { result ≡ NO_PACKETS → Appends (O.contents out.old) (O.contents out.new) no_packets }
+    ensures unasked { packets_of mode.entry ≡ None → chart_of mode.entry ≡ None → result ≢ NO_FILE }
+    ensures unmade { result ≡ NO_FILE → TellsNoFile (O.contents out.old) (O.contents out.new) }
+    ensures few { chart_of mode.entry ≡ None → result ≢ TOO_MANY }
+    ensures many { result ≡ TOO_MANY → Appends (O.contents out.old) (O.contents out.new) too_many }
     ensures quiet { is_watched ≡ false → err.new ≡ err.old }
-    ensures status { (result ≤ NO_PACKETS) ⊎ (result ≡ NOT_WRITTEN) }
+    ensures status { (result ≤ TOO_MANY) ⊎ (result ≡ NOT_WRITTEN) }
 {
     match words.source {
         Source::StandardInput => show_input(files, alloc, words, mode, is_watched, input, out, err),
@@ -131,13 +141,15 @@ fn show_input<F: Files, R: Read, O: Write, E: Write>(
 ) -> u8
 where
     R: Drop,
-    ensures shown { is_why mode.entry ≡ false → result ≢ NOT_WRITTEN → result ≢ NO_PACKETS
+    ensures shown { is_why mode.entry ≡ false → result ≢ NOT_WRITTEN → result ≢ NO_FILE → result ≢ TOO_MANY
         → ShowsInput (R.remaining input) (O.contents out.old) (O.contents out.new) result }
     ensures explained { is_why mode.entry ≡ true → result ≢ NOT_WRITTEN → ExplainsInput (R.remaining input) (O.contents out.old) (O.contents out.new) result }
-    ensures unasked { packets_of mode.entry ≡ None → result ≢ NO_PACKETS }
-    ensures packets { result ≡ NO_PACKETS → Appends (O.contents out.old) (O.contents out.new) no_packets }
+    ensures unasked { packets_of mode.entry ≡ None → chart_of mode.entry ≡ None → result ≢ NO_FILE }
+    ensures unmade { result ≡ NO_FILE → TellsNoFile (O.contents out.old) (O.contents out.new) }
+    ensures few { chart_of mode.entry ≡ None → result ≢ TOO_MANY }
+    ensures many { result ≡ TOO_MANY → Appends (O.contents out.old) (O.contents out.new) too_many }
     ensures quiet { is_watched ≡ false → err.new ≡ err.old }
-    ensures status { (result ≤ NO_PACKETS) ⊎ (result ≡ NOT_WRITTEN) }
+    ensures status { (result ≤ TOO_MANY) ⊎ (result ≡ NOT_WRITTEN) }
 {
     let mut page = Page::new(alloc, words.width);
     match mode {
@@ -151,6 +163,7 @@ where
         }
         Mode::Why => show_why(alloc, input, out),
         Mode::Packets(path) => write_packets(files, alloc, path, input, out),
+        Mode::Chart(path) => write_chart(files, alloc, words, path, input, out),
     }
 }
 

@@ -3,14 +3,17 @@
 ghost use Rattle.std.specs.Prelude.{◌≡◌, ◌≢◌, ◌⊎◌};
 ghost use Rattle.capture_words.specs.Ending.{status_of};
 ghost use Rattle.std.specs.Io.KnownBytes.{Appends};
-ghost use Rattle.show_program.specs.Run.{Tells, TellsEnd, is_whole, no_packets};
+ghost use Rattle.show_program.specs.Run.{Tells, TellsEnd, is_whole, no_chart, no_packets, too_many};
 
 use capture_words::Ending;
 use program_ends::{NOT_WRITTEN, tell_line};
 use std::io::Write;
 
-/// The exit status where packets could not be written.
-pub const NO_PACKETS: u8 = 5;
+/// The exit status where the file could not be written to which packets or a chart are to go.
+pub const NO_FILE: u8 = 5;
+
+/// The exit status where more records are asked for than a chart may have.
+pub const TOO_MANY: u8 = 6;
 
 /// Writes the line of a fault to `out`, and answers the status; or `NOT_WRITTEN` where `out` fails, and then nothing is said
 /// of what stands there. A whole capture has no line.
@@ -39,10 +42,31 @@ fn is_whole(ending: &Ending) -> bool
     matches!(ending, Ending::Whole)
 }
 
-/// Writes to `out` that packets could not be written, and answers `NO_PACKETS`; or `NOT_WRITTEN` where `out` fails.
+/// Writes to `out` that packets could not be written, and answers `NO_FILE`; or `NOT_WRITTEN` where `out` fails.
 pub fn tell_no_packets<O: Write>(out: &mut O) -> u8
     ensures told { result ≢ NOT_WRITTEN → Appends (O.contents out.old) (O.contents out.new) no_packets }
-    ensures status { (result ≡ NO_PACKETS) ⊎ (result ≡ NOT_WRITTEN) }
+    ensures status { (result ≡ NO_FILE) ⊎ (result ≡ NOT_WRITTEN) }
 {
-    tell_line(&"packets not written", NO_PACKETS, out)
+    tell_line(&"packets not written", NO_FILE, out)
+}
+
+/// Writes to `out` that a chart could not be written, and answers `NO_FILE`; or `NOT_WRITTEN` where `out` fails.
+pub fn tell_no_chart<O: Write>(out: &mut O) -> u8
+    ensures told { result ≢ NOT_WRITTEN → Appends (O.contents out.old) (O.contents out.new) no_chart }
+    ensures status { (result ≡ NO_FILE) ⊎ (result ≡ NOT_WRITTEN) }
+{
+    tell_line(&"chart not written", NO_FILE, out)
+}
+
+/// Writes to `out` that more records are asked for than a chart may have, and answers `TOO_MANY`; or `NOT_WRITTEN` where `out`
+/// fails.
+pub fn tell_too_many<O: Write>(out: &mut O) -> u8
+    ensures told { result ≢ NOT_WRITTEN → Appends (O.contents out.old) (O.contents out.new) too_many }
+    ensures status { (result ≡ TOO_MANY) ⊎ (result ≡ NOT_WRITTEN) }
+{
+    tell_line(
+        &"more than 2000 records for a chart: --from, --to, --connection, --link, --delivery choose",
+        TOO_MANY,
+        out,
+    )
 }

@@ -2,7 +2,7 @@
 
 ghost use Rattle.std.specs.Prelude.{◌≡◌, false, IfOk};
 ghost use Rattle.clap.specs.Words.{app_of, rule_of};
-ghost use Rattle.show_program.specs.Words.{asking_argument, bare_command, command_line, flag_argument};
+ghost use Rattle.show_program.specs.Words.{asking_argument, bare_command, choosing_command, command_line, flag_argument};
 
 use capture_view::Choice;
 use clap::builder::ValueParser;
@@ -22,6 +22,8 @@ pub enum Mode<'a> {
     Why,
     /// As packets, in a new file of this path.
     Packets(&'a str),
+    /// As a chart of the records that are asked for, in a new file of this path.
+    Chart(&'a str),
 }
 
 /// What is asked for.
@@ -40,22 +42,30 @@ const WIDTH: usize = 32;
 
 impl<'a> Mode<'a> {
     ghost use Rattle.std.specs.Prelude.{◌≡◌, false, true, None, IfSome, is_some, option_map};
-    ghost use Rattle.show_program.specs.Words.{IsAudit, IsOne, IsPlain, are_several, is_table, is_why, packets_of};
+    ghost use Rattle.show_program.specs.Words.{IsAudit, IsOne, IsPlain, are_several, chart_of, is_table, is_why, packets_of};
 
-    /// The mode that the path of packets, and the flags of an audit and of a summary ask for; none where these are several.
-    fn of_words(packets: Option<&'a str>, is_audited: bool, is_summary: bool) -> Option<Mode<'a>>
-        ensures one { IsOne (are_several (is_some packets.entry) is_audited is_summary) result }
+    /// The mode that the paths of packets and of a chart, and the flags of an audit and of a summary ask for; none where these
+    /// are several.
+    fn of_words(
+        packets: Option<&'a str>,
+        chart: Option<&'a str>,
+        is_audited: bool,
+        is_summary: bool,
+    ) -> Option<Mode<'a>>
+        ensures one { IsOne (are_several (is_some packets.entry) (is_some chart.entry) is_audited is_summary) result }
         ensures packets { IfSome result (λ mode. packets_of mode ≡ option_map (λ path. path.now) packets.entry) }
+        ensures chart { IfSome result (λ mode. chart_of mode ≡ option_map (λ path. path.now) chart.entry) }
         ensures audit { IfSome result (λ mode. is_why mode ≡ is_audited) }
         ensures summary { IfSome result (λ mode. is_table mode ≡ is_summary) }
-        ensures plain { option_map (λ path. path.now) packets.entry ≡ None → is_audited ≡ false → IsPlain result }
-        ensures audited { option_map (λ path. path.now) packets.entry ≡ None → is_audited ≡ true → is_summary ≡ false → IsAudit result }
+        ensures plain { option_map (λ path. path.now) packets.entry ≡ None → option_map (λ path. path.now) chart.entry ≡ None → is_audited ≡ false → IsPlain result }
+        ensures audited { option_map (λ path. path.now) packets.entry ≡ None → option_map (λ path. path.now) chart.entry ≡ None → is_audited ≡ true → is_summary ≡ false → IsAudit result }
     {
-        match (packets, is_audited, is_summary) {
-            (Some(path), false, false) => Some(Mode::Packets(path)),
-            (None, true, false) => Some(Mode::Why),
-            (None, false, true) => Some(Mode::Summary),
-            (None, false, false) => Some(Mode::Lines),
+        match (packets, chart, is_audited, is_summary) {
+            (Some(path), None, false, false) => Some(Mode::Packets(path)),
+            (None, Some(path), false, false) => Some(Mode::Chart(path)),
+            (None, None, true, false) => Some(Mode::Why),
+            (None, None, false, true) => Some(Mode::Summary),
+            (None, None, false, false) => Some(Mode::Lines),
             _ => None,
         }
     }
@@ -75,7 +85,12 @@ impl<'a> Words<'a> {
         let source = Source::of_word(matches.get_str("FILE"));
         let is_audited = matches.get_flag("why");
         let is_summary = matches.get_flag("summary");
-        let mode = Mode::of_words(matches.get_str("pcapng"), is_audited, is_summary);
+        let mode = Mode::of_words(
+            matches.get_str("pcapng"),
+            matches.get_str("chart"),
+            is_audited,
+            is_summary,
+        );
         let choice = Choice {
             from: matches.get_one("from"),
             to: matches.get_one("to"),
@@ -99,20 +114,51 @@ follow the channel, the performative with those of its fields that are read and 
 the link or the session that it names, and what the record notes: which delivery a transfer carries, or why an outcome is told.
 
 Without --why the whole capture is read, whatever is asked for. Status 0: it is whole. 2: malformed. 3: no memory. \
-4: unreadable. 5: the packets could not be written. 64: a mistake in the words. 74: standard output could not be written.
+4: unreadable. 5: OUT could not be written. 6: more records than a chart may have. 64: a mistake in the words. 74: standard \
+output could not be written.
 
 With --why the first line and the status are those of amqp_audit: 0 accepted, 1 refused, or 2, 3 or 4 as above. Behind the \
 line stand the record that is refused, what the clause asks, and each thing that it compares, with the records of the links, \
 deliveries, windows and credits; or what was expected where the capture is malformed. Nothing behind that is read.
 
-Of --pcapng, --why and --summary one may be given. Which records are shown they do not change: each is of the whole capture.
+Of --pcapng, --chart, --why and --summary one may be given. But for --chart each is of the whole capture, whichever records \
+are asked for.
 
-Packets are those of all records, whatever else is asked for. Where the capture has a fault they are those of the whole \
-records in front of it.";
+A chart is an SVG: a lane for the router and one for each connection, and for each record that is asked for an arrow. It has \
+2000 records at most; where more are asked for there is no file.
+
+Packets and charts are those of the whole records in front of a fault where the capture has one.";
 
 /// The command line: a file, which records, and how they are shown.
 fn command_line<'a>(alloc: Global) -> Result<Command<'a>, AllocError>
     ensures { IfOk result (λ command. app_of command ≡ command_line) }
+{
+    let wide = flag(alloc, "wide").help(
+        "Shows texts and octets whole; else, and with --why, they are cut at 32 characters",
+    );
+    let summary = flag(alloc, "summary").help(
+        "Shows one table of the whole capture instead of its records",
+    );
+    let why = flag(alloc, "why").help(
+        "Audits the capture, and says why it is not accepted instead of its records",
+    );
+    let pcapng = asking(alloc, "pcapng", ValueParser::string(), "OUT").help(
+        "Writes the whole capture as packets to OUT, which must not exist, and shows nothing",
+    );
+    let chart = asking(alloc, "chart", ValueParser::string(), "OUT").help(
+        "Draws the records that are asked for as a chart to OUT, which must not exist, and shows nothing",
+    );
+    choosing_command(alloc)?
+        .arg(wide)?
+        .arg(summary)?
+        .arg(why)?
+        .arg(pcapng)?
+        .arg(chart)
+}
+
+/// The command with a file, and what says which records.
+fn choosing_command<'a>(alloc: Global) -> Result<Command<'a>, AllocError>
+    ensures { IfOk result (λ command. app_of command ≡ choosing_command) }
 {
     let file = Arg::new(alloc, "FILE").action(ArgAction::Set).help(
         "The capture to show; standard input where there is none, or for -",
@@ -128,29 +174,13 @@ fn command_line<'a>(alloc: Global) -> Result<Command<'a>, AllocError>
     let delivery = asking(alloc, "delivery", value_parser!(u64), "N").help(
         "Records about the delivery from a client whose first transfer is record N",
     );
-    let wide = flag(alloc, "wide").help(
-        "Shows texts and octets whole; else, and with --why, they are cut at 32 characters",
-    );
-    let summary = flag(alloc, "summary").help(
-        "Shows one table of the whole capture instead of its records",
-    );
-    let why = flag(alloc, "why").help(
-        "Audits the capture, and says why it is not accepted instead of its records",
-    );
-    let pcapng = asking(alloc, "pcapng", ValueParser::string(), "OUT").help(
-        "Writes the whole capture as packets to OUT, which must not exist, and shows nothing",
-    );
     bare_command(alloc)
         .arg(file)?
         .arg(from)?
         .arg(to)?
         .arg(connection)?
         .arg(link)?
-        .arg(delivery)?
-        .arg(wide)?
-        .arg(summary)?
-        .arg(why)?
-        .arg(pcapng)
+        .arg(delivery)
 }
 
 /// The command without its arguments.

@@ -22,6 +22,10 @@ where
         "show" => show(rt, case, &mut left)?,
         "router" => route(rt, case.words_from(0), &mut left),
         "octets" => write_octets(rt, case, &mut left)?,
+        "text" => {
+            let text = fs::read_to_string(rt, case.word(0))?;
+            left.out.write_all(text.as_bytes())?;
+        }
         "remove" => {
             // Nothing is to be said where it is not there.
             let _ = fs::remove_file(rt, case.word(0));

@@ -4,7 +4,7 @@ use Rattle.show_program.proofs.run.run_words.Goals as goal
 
 pub returns-in-Some-clause-run : goal.returns-in-Some-clause-run
 returns-in-Some-clause-run g c =
-    shown_run (map g.S.AsStr.text c.args.words.now) c.in-Ok.words _ _ _ _ _ c.in-Ok.ensures.plain c.in-Some.is c.show_source.ensures.input c.show_source.ensures.told c.show_source.ensures.unasked
+    shown_run (map g.S.AsStr.text c.args.words.now) c.in-Ok.words _ _ _ _ _ c.in-Ok.ensures.plain c.in-Some.is c.show_source.ensures.input c.show_source.ensures.told c.show_source.ensures.unasked c.show_source.ensures.few
 
 pub returns-in-Some-clause-explained : goal.returns-in-Some-clause-explained
 returns-in-Some-clause-explained g c = λ are written.

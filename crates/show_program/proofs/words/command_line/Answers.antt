@@ -1,10 +1,9 @@
 use Rattle.std.proofs.Common.{ap, ap₂, codes, ◌≡◌, ◌∙◌}
 use Rattle.std.proofs.lemmas.Result.{IfOk-weaker}
-use Rattle.std.specs.Prelude.{Bool, Some}
-use Rattle.clap.specs.Words.{Rule, rule_of, with_rule}
+use Rattle.std.specs.Prelude.{Bool}
+use Rattle.clap.specs.Words.{rule_of, with_rule}
 use Rattle.clap.specs.declared.builder.arg.Arg.{Arg}
-use Rattle.clap.specs.declared.builder.ArgAction.TheVariants.{Set}
-use Rattle.show_program.specs.Words.{asking_argument, connection_argument, file_argument, flag_argument, link_argument, number_argument, packets_argument}
+use Rattle.show_program.specs.Words.{asking_argument, chart_argument, flag_argument, packets_argument}
 use Rattle.show_program.proofs.words.command_line.Goals as goal
 
 abbrev is_global : Arg → Bool
@@ -12,30 +11,15 @@ is_global argument = argument.global
 
 pub returns : goal.returns
 returns c =
-    let file_is : rule_of c.help-file.result ≡ file_argument =
-    ap rule_of c.help-file.ensures ∙ ap rule_of c.action.ensures ∙ ap (λ (r : Rule). record r { action = Some Set }) c.new.ensures.rule in
-    let from_is : rule_of c.help-from.result ≡ number_argument (codes "from") =
-    ap rule_of c.help-from.ensures ∙ (c.asking.ensures.rule ∙ ap (asking_argument (codes "from")) c.value_parser.ensures) in
-    let to_is : rule_of c.help-to.result ≡ number_argument (codes "to") =
-    ap rule_of c.help-to.ensures ∙ (c.asking-2.ensures.rule ∙ ap (asking_argument (codes "to")) c.value_parser-2.ensures) in
-    let connection_is : rule_of c.help-connection.result ≡ connection_argument =
-    ap rule_of c.help-connection.ensures ∙ (c.asking-3.ensures.rule ∙ ap (asking_argument (codes "connection")) c.value_parser-3.ensures) in
-    let link_is : rule_of c.help-link.result ≡ link_argument =
-    ap rule_of c.help-link.ensures ∙ (c.asking-4.ensures.rule ∙ ap (asking_argument (codes "link")) c.string.ensures) in
-    let delivery_is : rule_of c.help-delivery.result ≡ number_argument (codes "delivery") =
-    ap rule_of c.help-delivery.ensures ∙ (c.asking-5.ensures.rule ∙ ap (asking_argument (codes "delivery")) c.value_parser-4.ensures) in
     let wide_is : rule_of c.help-wide.result ≡ flag_argument (codes "wide") = ap rule_of c.help-wide.ensures ∙ c.flag.ensures.rule in
     let summary_is : rule_of c.help-summary.result ≡ flag_argument (codes "summary") = ap rule_of c.help-summary.ensures ∙ c.flag-2.ensures.rule in
-    let with_file = c.in_ok-arg.ensures.shape (ap is_global c.help-file.ensures ∙ ap is_global c.action.ensures ∙ c.new.ensures.optional.1) ∙ ap₂ with_rule c.bare_command.ensures file_is in
-    let with_from = c.in_ok-arg-2.ensures.shape (ap is_global c.help-from.ensures ∙ c.asking.ensures.local) ∙ ap₂ with_rule with_file from_is in
-    let with_to = c.in_ok-arg-3.ensures.shape (ap is_global c.help-to.ensures ∙ c.asking-2.ensures.local) ∙ ap₂ with_rule with_from to_is in
-    let with_connection = c.in_ok-arg-4.ensures.shape (ap is_global c.help-connection.ensures ∙ c.asking-3.ensures.local) ∙ ap₂ with_rule with_to connection_is in
-    let with_link = c.in_ok-arg-5.ensures.shape (ap is_global c.help-link.ensures ∙ c.asking-4.ensures.local) ∙ ap₂ with_rule with_connection link_is in
-    let with_delivery = c.in_ok-arg-6.ensures.shape (ap is_global c.help-delivery.ensures ∙ c.asking-5.ensures.local) ∙ ap₂ with_rule with_link delivery_is in
-    let with_wide = c.in_ok-arg-7.ensures.shape (ap is_global c.help-wide.ensures ∙ c.flag.ensures.local) ∙ ap₂ with_rule with_delivery wide_is in
-    let with_summary = c.in_ok-arg-8.ensures.shape (ap is_global c.help-summary.ensures ∙ c.flag-2.ensures.local) ∙ ap₂ with_rule with_wide summary_is in
     let why_is : rule_of c.help-why.result ≡ flag_argument (codes "why") = ap rule_of c.help-why.ensures ∙ c.flag-3.ensures.rule in
-    let with_why = c.in_ok-arg-9.ensures.shape (ap is_global c.help-why.ensures ∙ c.flag-3.ensures.local) ∙ ap₂ with_rule with_summary why_is in
     let packets_is : rule_of c.help-pcapng.result ≡ packets_argument =
-    ap rule_of c.help-pcapng.ensures ∙ (c.asking-6.ensures.rule ∙ ap (asking_argument (codes "pcapng")) c.string-2.ensures) in
-    IfOk-weaker c.arg-10.result _ _ (λ command adds. adds.shape (ap is_global c.help-pcapng.ensures ∙ c.asking-6.ensures.local) ∙ ap₂ with_rule with_why packets_is) c.arg-10.ensures
+    ap rule_of c.help-pcapng.ensures ∙ (c.asking.ensures.rule ∙ ap (asking_argument (codes "pcapng")) c.string.ensures) in
+    let chart_is : rule_of c.help-chart.result ≡ chart_argument =
+    ap rule_of c.help-chart.ensures ∙ (c.asking-2.ensures.rule ∙ ap (asking_argument (codes "chart")) c.string-2.ensures) in
+    let with_wide = c.in_ok-arg.ensures.shape (ap is_global c.help-wide.ensures ∙ c.flag.ensures.local) ∙ ap₂ with_rule c.in_ok-choosing_command.ensures wide_is in
+    let with_summary = c.in_ok-arg-2.ensures.shape (ap is_global c.help-summary.ensures ∙ c.flag-2.ensures.local) ∙ ap₂ with_rule with_wide summary_is in
+    let with_why = c.in_ok-arg-3.ensures.shape (ap is_global c.help-why.ensures ∙ c.flag-3.ensures.local) ∙ ap₂ with_rule with_summary why_is in
+    let with_packets = c.in_ok-arg-4.ensures.shape (ap is_global c.help-pcapng.ensures ∙ c.asking.ensures.local) ∙ ap₂ with_rule with_why packets_is in
+    IfOk-weaker c.arg-5.result _ _ (λ command adds. adds.shape (ap is_global c.help-chart.ensures ∙ c.asking-2.ensures.local) ∙ ap₂ with_rule with_packets chart_is) c.arg-5.ensures

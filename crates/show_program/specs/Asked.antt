@@ -1,0 +1,30 @@
+-- Which records are asked for, by the records so far, the newest first (own format).
+use Rattle.std.specs.Prelude.{◌≡◌, ℕ, Bool, List, [], ◌∷◌, ◌++◌, Option, Some, None, IfSome, IsTrue, if◌then◌else◌, option_and_then, option_map}
+use Rattle.capture_view.specs.declared.choice.Choice.{Choice}
+use Rattle.capture_view.specs.Choice.{IsInRange, IsOnConnection}
+use Rattle.capture_view.specs.Told.{LinkText}
+use Rattle.capture_view.specs.Named.{key_of, link_named}
+use Rattle.capture_view.specs.Viewed.{Viewed}
+use Rattle.capture_chart.specs.Shown.{Shown, shown_of}
+
+-- the name of the link that a record names, by the records up to it
+abbrev pub link_name : List Viewed → Viewed → Option (List ℕ)
+link_name now view = option_map (λ (link : LinkText). link.name) (option_and_then (link_named now) (key_of view))
+
+-- a record meets each test but that of a delivery, by the records up to it
+pub record Meets (choice : Choice) (now : List Viewed) (view : Viewed) : Type 0 where
+  pub range : IsInRange choice view.number
+  pub connection : IsOnConnection choice view.connection
+  pub link : IfSome choice.link (λ asked. link_name now view ≡ Some asked.now)
+
+-- a record that is asked for meets these tests; where no delivery is asked for, each that meets them is asked for
+pub record IsAnswer (choice : Choice) (now : List Viewed) (view : Viewed) (is_asked : Bool) : Type 0 where
+  pub met : IsTrue is_asked → Meets choice now view
+  pub all : choice.delivery ≡ None → Meets choice now view → IsTrue is_asked
+
+-- arrows are those of the records that are asked for, in order, each once
+abbrev pub AreAsked : Choice → List Viewed → List Shown → Type 0
+AreAsked choice [] arrows = arrows ≡ []
+AreAsked choice (view ∷ past) arrows =
+    (is_asked : Bool) × (before : List Shown) × IsAnswer choice (view ∷ past) view is_asked × AreAsked choice past before
+    × (arrows ≡ (if is_asked then before ++ shown_of view ∷ [] else before))

@@ -1,0 +1,165 @@
+//! The records that are asked for, as a chart.
+
+ghost use Rattle.std.specs.Prelude.{◌≡◌, false, None, IfOk, IfSome};
+ghost use Rattle.std.specs.String.{string_bytes};
+ghost use Rattle.capture_form.specs.Laws.{records_behind};
+ghost use Rattle.capture_form.specs.Reader.{fault_of, left_of, offset_of};
+ghost use Rattle.capture_form.specs.Reading.{reading};
+ghost use Rattle.capture_words.specs.Shown.{EndsRecords, EndsText};
+ghost use Rattle.capture_words.specs.Taken.{TakesAll};
+ghost use Rattle.svg_text.specs.Drawn.{IsSvg};
+ghost use Rattle.show_program.specs.Charts.{DrawsAsked, HasAsked};
+
+use crate::asked::Asked;
+use capture_chart::{Chart, ChartFault, Marks};
+use capture_form::Reader;
+use capture_view::{Choice, RecordView, view_of};
+use capture_words::Ending;
+use std::alloc::{AllocError, Global};
+use std::io::Read;
+
+/// The records that are asked for, with an arrow each.
+#[derive(Drop)]
+struct Charted<'a> {
+    asked: Asked<'a>,
+    chart: Chart,
+    /// More were asked for than a chart may have.
+    is_full: bool,
+}
+
+/// A chart, drawn.
+#[derive(Debug, Drop)]
+pub struct Drawn {
+    /// The document.
+    pub text: String,
+    /// How the reading of the capture ended.
+    pub ending: Ending,
+}
+
+/// Why there is no chart.
+#[derive(Clone, Copy, Debug, PartialEq, Eq)]
+pub enum NoChart {
+    /// More records are asked for than it may have.
+    TooMany,
+    /// Memory was refused to draw it.
+    Memory,
+}
+
+impl Charted<'_> {
+    ghost use Rattle.std.specs.Prelude.{◌≡◌, ◌∷◌, ◌++◌, [], false, OnOk, if◌then◌else◌};
+    ghost use Rattle.capture_view.specs.declared.choice.Choice.{Choice};
+    ghost use Rattle.capture_view.specs.Viewed.{viewed};
+    ghost use Rattle.capture_words.specs.Taken.{TakesOneMore};
+    ghost use Rattle.capture_chart.specs.Shown.{arrows_of, shown_of};
+
+    /// Takes one record more. After an error an arrow may be missing.
+    fn take(&mut self, view: &RecordView<'_>) -> Result<(), AllocError>
+        ensures { OnOk result ((choice : Choice) → TakesOneMore (HasAsked choice) self.old self.new (viewed view.now)) }
+    {
+        let is_asked = self.asked.take(view)?;
+        self.add(view, is_asked)?;
+        Ok(())
+    }
+
+    /// Adds the arrow of a record that is asked for, or notes that it would be one too many.
+    fn add(&mut self, view: &RecordView<'_>, is_asked: bool) -> Result<(), AllocError>
+        ensures asked { self.new.asked ≡ self.old.asked }
+        ensures few { OnOk result (self.new.is_full ≡ false → self.old.is_full ≡ false) }
+        ensures arrows { OnOk result (self.new.is_full ≡ false → arrows_of self.new.chart ≡ (if is_asked then arrows_of self.old.chart ++ shown_of (viewed view.now) ∷ [] else arrows_of self.old.chart)) }
+    {
+        if !is_asked {
+            return Ok(());
+        }
+        if self.is_full {
+            return Ok(());
+        }
+        let (link, has_session) = (self.asked.link_of(view), self.asked.has_session_of(view));
+        match self.chart.take(view, link, has_session) {
+            Ok(()) => Ok(()),
+            Err(ChartFault::Full) => {
+                self.is_full = true;
+                Ok(())
+            }
+            Err(ChartFault::Memory) => Err(AllocError),
+        }
+    }
+}
+
+/// The chart of the records that are asked for, of the capture that is read, under this title. All of it is read; where it
+/// has a fault the chart is that of the whole records in front of it.
+///
+/// # Errors
+///
+/// More records are asked for than a chart may have, or it could not be drawn.
+pub fn draw_capture<R: Read>(
+    alloc: Global,
+    title: &str,
+    choice: Choice<'_>,
+    input: R,
+) -> Result<Drawn, NoChart>
+where
+    R: Drop,
+    // The ending is that of the octets, read as the text of a capture.
+    ensures ending { IfOk result (λ drawn. IfSome (R.remaining input) (λ octets. EndsText octets drawn.ending)) }
+    // What is drawn is an SVG.
+    ensures document { IfOk result (λ drawn. IsSvg (string_bytes drawn.text)) }
+    // Under the title it has the arrows of the records that are asked for, in order, each once, and none of them is marked.
+    ensures arrows { IfOk result (λ drawn. DrawsAsked title.now choice.entry (R.remaining input) drawn.ending (string_bytes drawn.text)) }
+{
+    let asked = Asked::new(alloc, choice);
+    let chart = Chart::new(alloc);
+    let mut charted = Charted {
+        asked,
+        chart,
+        is_full: false,
+    };
+    let ending = read_all(alloc, input, &mut charted);
+    if charted.is_full {
+        return Err(NoChart::TooMany);
+    }
+    let marks = Marks {
+        refused: None,
+        compared: &[],
+    };
+    match charted.chart.draw(title, marks) {
+        Ok(text) => Ok(Drawn { text, ending }),
+        Err(_) => Err(NoChart::Memory),
+    }
+}
+
+/// Takes the records of the capture that is read, and says how its reading ended.
+fn read_all<R: Read>(alloc: Global, input: R, charted: &mut Charted<'_>) -> Ending
+where
+    R: Drop,
+    ensures ending { IfSome (R.remaining input) (λ octets. EndsText octets result) }
+    ensures taken { IfSome (R.remaining input) (λ octets. TakesAll (HasAsked charted.old.asked.choice) (reading octets).records result charted.old charted.new) }
+{
+    match Reader::start(alloc, input) {
+        Ok((_, records)) => take_records(records, charted),
+        Err(fault) => Ending::from(fault),
+    }
+}
+
+/// Takes the records that are read.
+fn take_records<R: Read>(records: Reader<R>, charted: &mut Charted<'_>) -> Ending
+where
+    R: Drop,
+    requires { fault_of records ≡ None }
+    ensures ending { IfSome (left_of R.remaining records) (λ left. EndsRecords (offset_of records) left result) }
+    ensures taken { IfSome (left_of R.remaining records) (λ left. TakesAll (HasAsked charted.old.asked.choice) (records_behind (offset_of records) left).records result charted.old charted.new) }
+{
+    let mut records = records;
+    for number in 0..u64::MAX {
+        match records.next_record() {
+            Ok(Some(entry)) => {
+                let Ok(()) = charted.take(&view_of(number, &entry)) else {
+                    return Ending::NoMemory;
+                };
+            }
+            Ok(None) => return Ending::Whole,
+            Err(fault) => return Ending::from(fault),
+        }
+    }
+    // A reader gives fewer records.
+    Ending::Unreadable(0)
+}
