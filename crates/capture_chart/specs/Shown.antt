@@ -86,7 +86,7 @@ shown arrow = record { number = arrow.number; connection = arrow.connection; cou
 abbrev pub arrows_of : Chart → List Shown
 arrows_of chart = map shown chart.arrows.items
 
--- an arrow with the line of its record, and what stands beside it
+-- an arrow with its words, which describe it, and what stands beside it
 pub record Worded : Type 0 where
   pub shows : Shown
   pub words : List ℕ

@@ -24,8 +24,8 @@ impl Chart {
         // It is well-formed, and an SVG.
         ensures document { IfOk result (λ text. IsSvg (string_bytes text)) }
         // It begins with this title, and is large enough for what it has: the lanes of the arrows' connections and that of the
-        // router, and each arrow, in order and once, with its title, the line of its record, its label, where it runs, its mark,
-        // and from which delivery.
+        // router, and each arrow, in order and once, with its title, its words as they were given, its label, where it runs,
+        // its mark, and from which delivery.
         ensures arrows { IfOk result (λ text. HasArrows title.now (marking marks.entry) (worded_of self.now) (string_bytes text)) }
     {
         let arrows = self.arrows.as_slice();

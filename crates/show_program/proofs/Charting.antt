@@ -1,5 +1,5 @@
 -- Records that are asked for, one by one, and the chart that has their arrows.
-use Rattle.std.proofs.Common.{◌≡◌, ◌∙◌, ap, sym, subst, refl, ℕ, Bool, true, false, Bor, List, [], ◌∷◌, ◌++◌, Option, None, Some}
+use Rattle.std.proofs.Common.{◌≡◌, ◌∙◌, ap, sym, subst, refl, ℕ, Bool, false, Bor, List, [], ◌∷◌, ◌++◌, Option, None, Some}
 use Rattle.std.specs.Prelude.{◌↔◌, IfSome, IsTrue, if◌then◌else◌, option_map}
 use Rattle.capture_form.specs.declared.records.Record.{Record}
 use Rattle.capture_form.specs.Reading.{reading}
@@ -13,11 +13,11 @@ use Rattle.capture_view.specs.Tables.{StandsFor}
 use Rattle.capture_view.specs.Tables as tables
 use Rattle.capture_words.specs.declared.ending.Ending.{Ending}
 use Rattle.capture_words.specs.declared.ending.Ending.TheVariants.{Whole, Malformed, NoMemory, Unreadable}
-use Rattle.capture_words.specs.Taken.{TakesAll, TakesOneMore, views_of}
+use Rattle.capture_words.specs.Taken.{TakesAll, TakesOneMore}
 use Rattle.capture_chart.specs.Shown.{Shown, arrows_of, shown_of}
 use Rattle.show_program.specs.declared.asked.Asked.{Asked}
 use Rattle.show_program.specs.declared.charted.Charted.{Charted}
-use Rattle.show_program.specs.Asked.{AreAsked, IsAnswer, Meets, link_name}
+use Rattle.show_program.specs.Asked.{IsAnswer, link_name}
 use Rattle.show_program.specs.Charts.{AreAskedOf, HasAsked}
 
 -- ---- tests

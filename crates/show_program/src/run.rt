@@ -4,7 +4,7 @@ ghost use Rattle.std.specs.Prelude.{◌≡◌, ◌≢◌, ◌<◌, ◌≤◌, �
 ghost use Rattle.capture_words.specs.declared.ending.Ending.TheVariants.{NoMemory, Unreadable};
 ghost use Rattle.std.specs.Io.KnownBytes.{Appends};
 ghost use Rattle.program_ends.specs.Growth.{IsRefusedGrowth};
-ghost use Rattle.show_program.specs.Run.{ExplainsInput, ExplainsSome, IsRunOn, IsStatus, ShowsInput, TellsNoFile, TellsSome, too_many};
+ghost use Rattle.show_program.specs.Run.{ExplainsInput, ExplainsSome, IsRunOn, IsStatus, ShowsInput, TellsNoFile, TellsSome, no_chart, no_packets, too_many};
 ghost use Rattle.program_ends.specs.Source.{path_of};
 ghost use Rattle.show_program.specs.Words.{chart_of, is_why, packets_of};
 
@@ -101,6 +101,8 @@ fn show_source<F: Files, R: Read, O: Write, E: Write>(
     ensures either { result ≢ NOT_WRITTEN → result ≢ NO_FILE → result ≢ TOO_MANY
         → TellsSome (O.contents out.old) (O.contents out.new) result ⊎ ExplainsSome (O.contents out.old) (O.contents out.new) result }
     ensures unasked { packets_of mode.entry ≡ None → chart_of mode.entry ≡ None → result ≢ NO_FILE }
+    ensures packets { chart_of mode.entry ≡ None → result ≡ NO_FILE → Appends (O.contents out.old) (O.contents out.new) no_packets }
+    ensures chart { packets_of mode.entry ≡ None → result ≡ NO_FILE → Appends (O.contents out.old) (O.contents out.new) no_chart }
     ensures unmade { result ≡ NO_FILE → TellsNoFile (O.contents out.old) (O.contents out.new) }
     ensures few { chart_of mode.entry ≡ None → result ≢ TOO_MANY }
     ensures many { result ≡ TOO_MANY → Appends (O.contents out.old) (O.contents out.new) too_many }
@@ -145,6 +147,8 @@ where
         → ShowsInput (R.remaining input) (O.contents out.old) (O.contents out.new) result }
     ensures explained { is_why mode.entry ≡ true → result ≢ NOT_WRITTEN → ExplainsInput (R.remaining input) (O.contents out.old) (O.contents out.new) result }
     ensures unasked { packets_of mode.entry ≡ None → chart_of mode.entry ≡ None → result ≢ NO_FILE }
+    ensures packets { chart_of mode.entry ≡ None → result ≡ NO_FILE → Appends (O.contents out.old) (O.contents out.new) no_packets }
+    ensures chart { packets_of mode.entry ≡ None → result ≡ NO_FILE → Appends (O.contents out.old) (O.contents out.new) no_chart }
     ensures unmade { result ≡ NO_FILE → TellsNoFile (O.contents out.old) (O.contents out.new) }
     ensures few { chart_of mode.entry ≡ None → result ≢ TOO_MANY }
     ensures many { result ≡ TOO_MANY → Appends (O.contents out.old) (O.contents out.new) too_many }

@@ -266,7 +266,7 @@ fn first_anycast_row<'a, P: Outcomes<'a>>(
     }
 }
 
-/// The first row that applies to a delivery, and what it tells. The decision is asked for once.
+/// A row that applies to a delivery, and what it tells; none where no row does. The decision is asked for once.
 pub fn first_row<'a, P: Outcomes<'a>>(
     past: &P,
     rules: &[Rule],
