@@ -1,5 +1,5 @@
 -- Connections with known answers.
-use Rattle.std.proofs.Common.{◌≡◌, ℕ, true, false, List, [], ◌∷◌, ◌++◌, Some, None, Ok, Err, refl, inl}
+use Rattle.std.proofs.Common.{◌≡◌, ℕ, Bool, true, false, List, [], ◌∷◌, ◌++◌, Some, None, Ok, Err, refl, inl}
 use Rattle.capture_form.specs.declared.records.What.{What}
 use Rattle.capture_form.specs.declared.records.What.TheVariants as happened
 use Rattle.route_items.specs.declared.fault.StepFault.TheVariants.{Full}
@@ -8,11 +8,15 @@ use Rattle.stream_reading.specs.declared.step.Event.TheVariants.{SaslHeader, Ano
 use Rattle.stream_reading.specs.Steps.{Ahead, StepText}
 use Rattle.amqp_frames.specs.Reading.{frame_at, headed_frame, sized_frame, whole_frame}
 use Rattle.amqp_perf.specs.declared.fault.PerfFault.TheVariants.{NotPerformative}
-use Rattle.amqp_perf.specs.Meaning.{AClose, AnEnd}
+use Rattle.amqp_perf.specs.Meaning.{AClose, AnEnd, AnOpen}
 use Rattle.conn_engine.specs.declared.fault.EngineFault.TheVariants as faults
 use Rattle.conn_engine.specs.declared.place.Loss.TheVariants.{Untold, Told, Refused}
 use Rattle.conn_engine.specs.declared.place.Place.TheVariants.{Reading, Closing, Over}
-use Rattle.conn_engine.specs.Closing.{close_after, close_left, is_close, is_close_read, place_given}
+use Rattle.conn_engine.specs.Closing.{place_given}
+use Rattle.conn_engine.specs.Marks.{first_at, left_of, marks_after, no_marks}
+use Rattle.conn_engine.specs.Said.{is_close, is_close_said, is_open, is_open_said, said_read, time_out_said}
+use Rattle.conn_engine.specs.Silence.{empty_frame, is_due, patience, silence_after, silence_given, no_silence, time_out_after}
+use Rattle.conn_engine.specs.declared.silence.Silence.{Silence}
 use Rattle.conn_engine.specs.Feeding.{and_fed, extent_after, items_at_fault, place_after}
 use Rattle.conn_engine.specs.Serving.{EndsAt, Whole, Part, items_at_loss, items_of}
 use Rattle.conn_engine.specs.Taking.{is_loss_due}
@@ -103,17 +107,23 @@ due_once = refl
 due_once_though_refused : is_loss_due Open (Over Refused) ≡ false
 due_once_though_refused = refl
 
--- ---- closes
+-- ---- opens and closes
 
 -- a frame is a close by its body, and only where it is of AMQP
-a_close : is_close_read (Ok (AClose None, [])) ≡ true
+a_close : is_close_said (said_read (Ok (AClose None, []))) ≡ true
 a_close = refl
 
-an_end : is_close_read (Ok (AnEnd None, [])) ≡ false
+an_end : is_close_said (said_read (Ok (AnEnd None, []))) ≡ false
 an_end = refl
 
-no_performative : is_close_read (Err NotPerformative) ≡ false
+no_performative : is_close_said (said_read (Err NotPerformative)) ≡ false
 no_performative = refl
+
+an_open : is_open_said (said_read (Ok (AnOpen (record { container_id = []; max_frame_size = None; channel_max = None; idle_time_out = None }), []))) ≡ true
+an_open = refl
+
+no_open : is_open_said (said_read (Ok (AClose None, []))) ≡ false
+no_open = refl
 
 a_sasl_frame : is_close (0 ∷ 0 ∷ 0 ∷ 12 ∷ 2 ∷ 1 ∷ 0 ∷ 0 ∷ 0 ∷ 83 ∷ 24 ∷ 69 ∷ []) ≡ false
 unfolding whole_frame frame_at sized_frame headed_frame
@@ -123,15 +133,21 @@ no_frame : is_close (1 ∷ 2 ∷ []) ≡ false
 unfolding whole_frame frame_at
 no_frame = refl
 
-no_close : close_after None 5 ((1 ∷ 2 ∷ []) ∷ []) ≡ None
+no_close : marks_after no_marks 5 ((1 ∷ 2 ∷ []) ∷ []) ≡ no_marks
 unfolding whole_frame frame_at
 no_close = refl
 
-close_kept : close_after (Some 3) 5 ((1 ∷ 2 ∷ []) ∷ []) ≡ Some 3
-close_kept = refl
+first_found : first_at (λ frame. true) None 5 (1 ∷ 2 ∷ []) ≡ Some 7
+first_found = refl
 
-left_of_it : close_left (Some 29) 20 ≡ Some 9
+first_kept : first_at (λ frame. true) (Some 3) 5 (1 ∷ 2 ∷ []) ≡ Some 3
+first_kept = refl
+
+left_of_it : left_of (Some 29) 20 ≡ Some 9
 left_of_it = refl
+
+given_whole : left_of (Some 9) 20 ≡ Some 0
+given_whole = refl
 
 not_given_yet : place_given Reading (Some 9) 8 ≡ Reading
 not_given_yet = refl
@@ -144,3 +160,66 @@ still_over = refl
 
 none_to_give : place_given Closing None 9 ≡ Closing
 none_to_give = refl
+
+-- ---- signs of life
+
+asks_for_a_second : time_out_said (said_read (Ok (AnOpen (record { container_id = []; max_frame_size = None; channel_max = None; idle_time_out = Some 1000 }), []))) ≡ Some 1000
+asks_for_a_second = refl
+
+asks_for_none : time_out_said (said_read (Ok (AnOpen (record { container_id = []; max_frame_size = None; channel_max = None; idle_time_out = None }), []))) ≡ Some 0
+asks_for_none = refl
+
+-- the first open counts
+first_open_counts : time_out_after (Some 1000) (record { event = AmqpFrame; octets = 1 ∷ [] } ∷ []) ≡ Some 1000
+first_open_counts = refl
+
+half_a_second : patience (Some 1000) ≡ Some 500
+half_a_second = refl
+
+half_rounded_down : patience (Some 3) ≡ Some 1
+half_rounded_down = refl
+
+one_at_least : patience (Some 1) ≡ Some 1
+one_at_least = refl
+
+bears_all : patience (Some 0) ≡ None
+bears_all = refl
+
+has_not_said : patience None ≡ None
+has_not_said = refl
+
+-- a time-out of one second: the ticks of the moments 0, 499 and 500, then eight octets given, and those of 600, 1099 and 1100
+abbrev at_0 : Silence
+at_0 = silence_after no_silence false 0
+
+abbrev at_500 : Silence
+at_500 = silence_given (silence_after (silence_after at_0 false 499) true 500) 8
+
+abbrev at_600 : Silence
+at_600 = silence_after at_500 false 600
+
+first_tick : is_due no_silence true 500 0 ≡ false
+first_tick = refl
+
+not_at_499 : is_due at_0 true 500 499 ≡ false
+not_at_499 = refl
+
+due_at_500 : is_due (silence_after at_0 false 499) true 500 500 ≡ true
+due_at_500 = refl
+
+given_since : is_due at_500 true 500 600 ≡ false
+given_since = refl
+
+not_at_1099 : is_due at_600 true 500 1099 ≡ false
+not_at_1099 = refl
+
+due_at_1100 : is_due (silence_after at_600 false 1099) true 500 1100 ≡ true
+due_at_1100 = refl
+
+-- not while something waits
+not_while_it_waits : is_due at_0 false 500 500 ≡ false
+not_while_it_waits = refl
+
+-- a moment below the kept one counts as that one
+went_back : silence_after at_500 false 400 ≡ record { since = Some 500; is_broken = false }
+went_back = refl

@@ -13,11 +13,15 @@ use Rattle.conn_engine.specs.declared.fault.EngineFault.TheVariants as faults
 use Rattle.conn_engine.specs.declared.place.Loss.TheVariants.{Untold, Told, Refused}
 use Rattle.conn_engine.specs.declared.place.Place.{Place}
 use Rattle.conn_engine.specs.declared.place.Place.TheVariants.{Reading, Closing, Over}
-use Rattle.conn_engine.specs.Closing.{close_left, over_of, place_given}
+use Rattle.conn_engine.specs.Closing.{over_of, place_given}
+use Rattle.conn_engine.specs.Marks.{marks_left}
+use Rattle.conn_engine.specs.Silence.{silence_given, time_out_after}
 use Rattle.conn_engine.specs.Serving.{Connection, EndsAt, EndsOver, HasFed, and_unkept, items_of}
 use Rattle.conn_engine.specs.Feeding.{AfterPiece, AfterSteps, FedAt, StopsFor, Talk, Went, and_fed, and_piece, place_after, place_at_fault, talk_of, items_at_fault}
 use Rattle.conn_engine.specs.Taking.{AfterLoss, is_loss_due}
+use Rattle.conn_engine.specs.Ticking.{AfterTick, patience_of, ticked}
 use Rattle.conn_engine.proofs.Going.{follow_all, items_all, octets_all}
+use Rattle.conn_engine.proofs.TimeOuts.{time_out_on}
 
 -- ---- steps behind others
 
@@ -88,6 +92,7 @@ fed_on before after fed piece last said h none kept went ends = record {
   last = last;
   follows = steps_on fed h.unkept piece h.steps went.steps before.ahead after.ahead kept h.follows went.parts went.follow;
   items = items_on before.items after.items h.steps went.steps h.last last none h.items went.items;
+  time_out = time_out_on None before.time_out after.time_out h.steps went.steps h.time_out went.time_out;
   ends = ends;
 }
 
@@ -118,6 +123,7 @@ fed_unkept before after fed piece h none same place =
       last = h.last;
       follows = subst (λ (a : Ahead). IsAfter (fed ++ piece) h.steps (and_unkept a (h.unkept ++ piece))) (sym ahead) (piece_unkept fed h.unkept piece h.steps before.ahead h.follows);
       items = ap (λ (t : Talk). t.items) same ∙ h.items;
+      time_out = ap (λ (t : Talk). t.time_out) same ∙ h.time_out;
       ends = subst (λ (p : Place). EndsAt p after.ahead (h.unkept ++ piece) h.last) (sym place) (ends_over after.ahead (h.unkept ++ piece) h.last none);
     }
 
@@ -136,6 +142,7 @@ fed_closing before fed piece h place = record {
   last = h.last;
   follows = piece_unkept fed h.unkept piece h.steps before.ahead h.follows;
   items = h.items;
+  time_out = h.time_out;
   ends = subst (λ (p : Place). EndsAt p before.ahead (h.unkept ++ piece) h.last) (sym place) (subst (λ (p : Place). EndsAt p before.ahead h.unkept h.last) place h.ends);
 }
 
@@ -166,28 +173,29 @@ ends_given place None n ahead unkept last ends = ends
 ends_given place (Some end) n ahead unkept last ends = ends_by place (nat_le end n) ahead unkept last ends
 
 -- one whose items and octets ahead are the same
-pub fed_elsewhere : (before after : Connection) (fed : List ℕ) (h : HasFed before fed) → after.items ≡ before.items → after.ahead ≡ before.ahead
+pub fed_elsewhere : (before after : Connection) (fed : List ℕ) (h : HasFed before fed) → after.items ≡ before.items → after.ahead ≡ before.ahead → after.time_out ≡ before.time_out
     → EndsAt after.place before.ahead h.unkept h.last → HasFed after fed
-fed_elsewhere before after fed h items ahead ends = record {
+fed_elsewhere before after fed h items ahead time_out ends = record {
   steps = h.steps;
   unkept = h.unkept;
   last = h.last;
   follows = subst (λ (a : Ahead). IsAfter fed h.steps (and_unkept a h.unkept)) (sym ahead) h.follows;
   items = items ∙ h.items;
+  time_out = time_out ∙ h.time_out;
   ends = subst (λ (a : Ahead). EndsAt after.place a h.unkept h.last) (sym ahead) ends;
 }
 
 -- the first octets that waited were given
 pub fed_first : (before after : Connection) (fed : List ℕ) (n : ℕ)
-    → after ≡ record before { waiting = drop n before.waiting; close = close_left before.close n; place = place_given before.place before.close n } → HasFed before fed → HasFed after fed
+    → after ≡ record before { waiting = drop n before.waiting; marks = marks_left before.marks n; place = place_given before.place before.marks.closed n; silence = silence_given before.silence n } → HasFed before fed → HasFed after fed
 fed_first before after fed n is h = subst (λ (c : Connection). HasFed c fed) (sym is)
-    (fed_elsewhere before (record before { waiting = drop n before.waiting; close = close_left before.close n; place = place_given before.place before.close n }) fed h refl refl
-    (ends_given before.place before.close n before.ahead h.unkept h.last h.ends))
+    (fed_elsewhere before (record before { waiting = drop n before.waiting; marks = marks_left before.marks n; place = place_given before.place before.marks.closed n; silence = silence_given before.silence n }) fed h refl refl refl
+    (ends_given before.place before.marks.closed n before.ahead h.unkept h.last h.ends))
 
 -- frames were taken
-pub fed_refilled : (before after : Connection) (fed : List ℕ) → after ≡ record before { frames = after.frames; waiting = after.waiting; is_idle = after.is_idle; close = after.close } → HasFed before fed → HasFed after fed
+pub fed_refilled : (before after : Connection) (fed : List ℕ) → after ≡ record before { frames = after.frames; waiting = after.waiting; is_idle = after.is_idle; marks = after.marks } → HasFed before fed → HasFed after fed
 fed_refilled before after fed same h = subst (λ (c : Connection). HasFed c fed) (sym same)
-    (fed_elsewhere before (record before { frames = after.frames; waiting = after.waiting; is_idle = after.is_idle; close = after.close }) fed h refl refl h.ends)
+    (fed_elsewhere before (record before { frames = after.frames; waiting = after.waiting; is_idle = after.is_idle; marks = after.marks }) fed h refl refl refl h.ends)
 
 -- a loss that the router was told, or did not take
 told_over : (place : Place) (phase : Phase) (ahead : Ahead) (unkept : List ℕ) (last : List What) → is_loss_due phase place ≡ true → EndsAt place ahead unkept last → EndsOver ahead Untold last
@@ -220,6 +228,7 @@ fed_told idle before fed h ends = record {
   last = h.last ++ happened.Lost ∷ [];
   follows = h.follows;
   items = ap (λ (t : List What). t ++ happened.Lost ∷ []) h.items ∙ append_assoc (items_of h.steps) h.last (happened.Lost ∷ []);
+  time_out = h.time_out;
   ends = ends_told before.ahead h.last ends;
 }
 
@@ -229,10 +238,20 @@ fed_lost true before after fed (Ok done) due did h =
     subst (λ (c : Connection). HasFed c fed) (sym did) (fed_told after.is_idle before fed h (told_over before.place before.ahead.phase before.ahead h.unkept h.last due h.ends))
 fed_lost true before after fed (Err fault) due did h =
     subst (λ (c : Connection). HasFed c fed) (sym did.0)
-    (fed_elsewhere before (record before { is_idle = after.is_idle; place = Over Refused }) fed h refl refl (ends_refused before.ahead h.last (told_over before.place before.ahead.phase before.ahead h.unkept h.last due h.ends)))
+    (fed_elsewhere before (record before { is_idle = after.is_idle; place = Over Refused }) fed h refl refl refl (ends_refused before.ahead h.last (told_over before.place before.ahead.phase before.ahead h.unkept h.last due h.ends)))
 fed_lost false before after fed result due did h =
     subst (λ (c : Connection). HasFed c fed) (sym did.1)
-    (fed_elsewhere before (record before { place = over_of before.place }) fed h refl refl (ends_over_of before.place before.ahead h.unkept h.last h.ends))
+    (fed_elsewhere before (record before { place = over_of before.place }) fed h refl refl refl (ends_over_of before.place before.ahead h.unkept h.last h.ends))
 
 pub fed_gone : (before after : Connection) (fed : List ℕ) (result : Result Unit EngineFault) → AfterLoss (is_loss_due before.ahead.phase before.place) before after result → HasFed before fed → HasFed after fed
 fed_gone before after fed result did h = fed_lost (is_loss_due before.ahead.phase before.place) before after fed result refl did h
+
+-- a tick
+ticked_fed : (bears : Option ℕ) (moment : ℕ) (before after : Connection) (fed : List ℕ) {E : Type 0} (result : Result Bool E) → AfterTick bears moment before after result → HasFed before fed → HasFed after fed
+ticked_fed None moment before after fed result did h = subst (λ (c : Connection). HasFed c fed) (sym did.1) h
+ticked_fed (Some bears) moment before after fed (Ok is_placed) did h =
+    subst (λ (c : Connection). HasFed c fed) (sym did.1) (fed_elsewhere before (ticked is_placed moment before) fed h refl refl refl h.ends)
+ticked_fed (Some bears) moment before after fed (Err fault) did h = subst (λ (c : Connection). HasFed c fed) (sym did.1) h
+
+pub fed_ticked : {E : Type 0} (moment : ℕ) (before after : Connection) (fed : List ℕ) (result : Result Bool E) → AfterTick (patience_of before) moment before after result → HasFed before fed → HasFed after fed
+fed_ticked moment before after fed result did h = ticked_fed (patience_of before) moment before after fed result did h

@@ -1,8 +1,7 @@
 -- What was given, behind a call more.
-use Rattle.std.proofs.Common.{◌≡◌, ◌≢◌, ℕ, ◌⊎◌, Bool, true, false, List, [], ◌∷◌, ◌++◌, take, drop, refl, sym, ap, ◌∙◌, subst, inl, inr, append_assoc, Option, Some, None, Result, Ok, Err, nat_le, if◌then◌else◌}
+use Rattle.std.proofs.Common.{◌≡◌, ◌≢◌, ℕ, ◌+◌, ◌⊎◌, Bool, true, false, ◌&&◌, not, is_some, is_none, length, List, [], ◌∷◌, ◌++◌, take, drop, refl, sym, ap, ◌∙◌, subst, inl, inr, append_assoc, Option, Some, None, Result, Ok, Err, nat_le, if◌then◌else◌}
 use Rattle.std.specs.List.{concat}
 use Rattle.std.proofs.lemmas.List.{append-nil, take-append-drop}
-use Rattle.std.proofs.lemmas.List.Folds.{concat-append}
 use Rattle.capture_form.specs.declared.records.What.{What}
 use Rattle.capture_form.specs.declared.records.What.TheVariants as happened
 use Rattle.stream_reading.specs.declared.step.Event.{Event}
@@ -18,12 +17,19 @@ use Rattle.conn_engine.specs.declared.place.Loss.{Loss}
 use Rattle.conn_engine.specs.declared.place.Loss.TheVariants.{Untold, Told, Refused}
 use Rattle.conn_engine.specs.declared.place.Place.{Place}
 use Rattle.conn_engine.specs.declared.place.Place.TheVariants.{Reading, Closing, Over}
-use Rattle.conn_engine.specs.Closing.{close_left, over_of, place_given}
+use Rattle.conn_engine.specs.declared.marks.Marks.{Marks}
+use Rattle.conn_engine.specs.Closing.{is_over, over_of, place_given}
+use Rattle.conn_engine.specs.Lacing.{IsPut}
+use Rattle.conn_engine.specs.Marks.{marks_after, marks_left}
+use Rattle.conn_engine.specs.Silence.{empty_frame, is_asked, patience, silence_given}
 use Rattle.conn_engine.specs.Serving.{Connection, Extent, Whole, Part, HasGiven, SaysAt, SaysLast, and_unkept}
 use Rattle.conn_engine.specs.Feeding.{AfterPiece, AfterSteps, FedAt, ItemRefused, StopsFor, Talk, Went, and_fed, and_piece, extent_after, place_after, place_at_fault, talk_of}
 use Rattle.conn_engine.specs.Taking.{AfterLoss, Refilled, is_loss_due}
+use Rattle.conn_engine.specs.Ticking.{AfterTick, and_tick, is_given, patience_of, ticked}
 use Rattle.conn_engine.proofs.Going.{answers_all}
 use Rattle.conn_engine.proofs.FedOn.{piece_unkept, steps_on}
+use Rattle.conn_engine.proofs.LacedOn.{put_asked, put_empty, put_frames, put_left, unlaced}
+use Rattle.conn_engine.proofs.TimeOuts.{asks_on}
 
 -- ---- where frames are due, nothing else is answered
 
@@ -80,18 +86,15 @@ unsaid_behind given waiting answers unsaid more said frames none no_more no_said
     ap (λ (t : List ℕ). given ++ (waiting ++ (t ++ said))) no_more ∙ ap (λ (t : List ℕ). given ++ (waiting ++ t)) no_said ∙ ap (λ (t : List ℕ). given ++ t) (append-nil waiting) ∙ was
     ∙ ap (λ (t : List ℕ). (answers ++ t) ++ frames) none ∙ ap (λ (t : List ℕ). t ++ frames) (ap (λ (t : List ℕ). t ++ []) (sym (append-nil answers) ∙ ap (λ (t : List ℕ). answers ++ t) (sym no_more)) ∙ ap (λ (t : List ℕ). (answers ++ more) ++ t) (sym no_said))
 
-no_frames : (frames : List (List ℕ)) → frames ≡ [] → concat frames ≡ []
-no_frames frames none = ap (λ (t : List (List ℕ)). concat t) none
-
-pub octets_on : (given waiting unsaid said : List ℕ) (steps more : List StepText) (frames : List (List ℕ)) (phase next : Phase) → unsaid ≡ [] → MayFollow phase more next → (phase ≡ Open → said ≡ [])
-    → (phase ≡ Open) ⊎ (frames ≡ []) → given ++ waiting ≡ (answers_to steps ++ unsaid) ++ concat frames
-    → given ++ (waiting ++ (answers_to more ++ said)) ≡ (answers_to (steps ++ more) ++ said) ++ concat frames
-octets_on given waiting unsaid said steps more frames phase next none follow silent (inl is) was =
-    unsaid_behind given waiting (answers_to steps) unsaid (answers_to more) said (concat frames) none (frames_unanswered phase next more is follow) (silent is) was
-    ∙ ap (λ (t : List ℕ). (t ++ said) ++ concat frames) (sym (answers_all steps more))
-octets_on given waiting unsaid said steps more frames phase next none follow silent (inr is) was =
-    said_behind given waiting (answers_to steps) unsaid (answers_to more) said (concat frames) none (no_frames frames is) was
-    ∙ ap (λ (t : List ℕ). (t ++ said) ++ concat frames) (sym (answers_all steps more))
+pub octets_on : (given waiting unsaid said : List ℕ) (steps more : List StepText) (frames : List (List ℕ)) (put : List ℕ) (phase next : Phase) → unsaid ≡ [] → MayFollow phase more next → (phase ≡ Open → said ≡ [])
+    → (phase ≡ Open) ⊎ (frames ≡ []) → (frames ≡ [] → put ≡ []) → given ++ waiting ≡ (answers_to steps ++ unsaid) ++ put
+    → given ++ (waiting ++ (answers_to more ++ said)) ≡ (answers_to (steps ++ more) ++ said) ++ put
+octets_on given waiting unsaid said steps more frames put phase next none follow silent (inl is) unput was =
+    unsaid_behind given waiting (answers_to steps) unsaid (answers_to more) said put none (frames_unanswered phase next more is follow) (silent is) was
+    ∙ ap (λ (t : List ℕ). (t ++ said) ++ put) (sym (answers_all steps more))
+octets_on given waiting unsaid said steps more frames put phase next none follow silent (inr is) unput was =
+    said_behind given waiting (answers_to steps) unsaid (answers_to more) said put none (unput is) was
+    ∙ ap (λ (t : List ℕ). (t ++ said) ++ put) (sym (answers_all steps more))
 
 pub behind_on : (phase next : Phase) (steps : List StepText) (frames frames_then : List (List ℕ)) → MayFollow phase steps next → frames_then ≡ frames → (phase ≡ Open) ⊎ (frames ≡ []) → (next ≡ Open) ⊎ (frames_then ≡ [])
 behind_on phase next steps frames frames_then follow same (inl is) = inl (open_stays phase next steps is follow)
@@ -127,81 +130,91 @@ stop_says extent faults.Memory ahead last said (none, inr is) = inr (item_last a
 
 -- ---- a feed
 
-given_on : (extent extent_then : Extent) (before after : Connection) (fed given piece : List ℕ) (last : List What) (said : List ℕ) (h : HasGiven extent before fed given) → h.said ≡ [] → h.unkept ≡ []
-    → after.frames ≡ before.frames → Went (and_piece (talk_of before) piece) (talk_of after) last said → (after.ahead.phase ≡ Open → said ≡ []) → SaysAt extent_then after.place after.ahead [] said
-    → HasGiven extent_then after (fed ++ piece) given
-given_on extent extent_then before after fed given piece last said h none kept frames went silent says = record {
+-- what was put is the same where frames and marks are
+pub put_on : (before after : Connection) (ticks : ℕ) (put : List ℕ) → after.frames ≡ before.frames → after.marks ≡ before.marks → (is_asked before.time_out ≡ true → is_asked after.time_out ≡ true)
+    → IsPut before.frames before.marks (is_asked before.time_out) ticks put → IsPut after.frames after.marks (is_asked after.time_out) ticks put
+put_on before after ticks put frames marks still is =
+    subst (λ (f : List (List ℕ)). IsPut f after.marks (is_asked after.time_out) ticks put) (sym frames)
+    (subst (λ (m : Marks). IsPut before.frames m (is_asked after.time_out) ticks put) (sym marks) (put_asked before.frames before.marks (is_asked before.time_out) (is_asked after.time_out) ticks put still is))
+
+given_on : (extent extent_then : Extent) (before after : Connection) (fed given piece : List ℕ) (last : List What) (said : List ℕ) (ticks : ℕ) (h : HasGiven extent before fed given ticks) → h.said ≡ [] → h.unkept ≡ []
+    → after.frames ≡ before.frames → after.marks ≡ before.marks → Went (and_piece (talk_of before) piece) (talk_of after) last said → (after.ahead.phase ≡ Open → said ≡ []) → SaysAt extent_then after.place after.ahead [] said
+    → HasGiven extent_then after (fed ++ piece) given ticks
+given_on extent extent_then before after fed given piece last said ticks h none kept frames marks went silent says = record {
   steps = h.steps ++ went.steps;
   unkept = [];
   said = said;
+  put = h.put;
   follows = steps_on fed h.unkept piece h.steps went.steps before.ahead after.ahead kept h.follows went.parts went.follow;
   octets =
       ap (λ (t : List ℕ). given ++ t) went.waiting
-      ∙ octets_on given before.waiting h.said said h.steps went.steps before.frames before.ahead.phase after.ahead.phase none went.follow
-      (λ is. silent (open_stays before.ahead.phase after.ahead.phase went.steps is went.follow)) h.behind h.octets
-      ∙ ap (λ (t : List (List ℕ)). (answers_to (h.steps ++ went.steps) ++ said) ++ concat t) (sym frames);
+      ∙ octets_on given before.waiting h.said said h.steps went.steps before.frames h.put before.ahead.phase after.ahead.phase none went.follow
+      (λ is. silent (open_stays before.ahead.phase after.ahead.phase went.steps is went.follow)) h.behind (λ is. unlaced before.frames ticks h.put is h.is_put.laced) h.octets;
+  is_put = put_on before after ticks h.put frames marks (asks_on before.time_out after.time_out went.steps went.time_out) h.is_put;
   says = says;
   behind = behind_on before.ahead.phase after.ahead.phase went.steps before.frames after.frames went.follow frames h.behind;
 }
 
-given_stopped : (extent : Extent) (before after : Connection) (fed given piece : List ℕ) (fault : EngineFault) (last : List What) (said : List ℕ) (h : HasGiven extent before fed given) → h.said ≡ [] → h.unkept ≡ []
-    → after.frames ≡ before.frames → Went (and_piece (talk_of before) piece) (talk_of after) last said → StopsFor fault after.ahead last said → after.place ≡ place_after (Err fault) after.ahead.phase
-    → HasGiven (extent_after extent (Err fault)) after (fed ++ piece) given
-given_stopped extent before after fed given piece fault last said h none kept frames went stops place =
-    given_on extent (extent_after extent (Err fault)) before after fed given piece last said h none kept frames went (λ is. stop_unsaid fault after.ahead last said is stops)
+given_stopped : (extent : Extent) (before after : Connection) (fed given piece : List ℕ) (fault : EngineFault) (last : List What) (said : List ℕ) (ticks : ℕ) (h : HasGiven extent before fed given ticks) → h.said ≡ [] → h.unkept ≡ []
+    → after.frames ≡ before.frames → after.marks ≡ before.marks → Went (and_piece (talk_of before) piece) (talk_of after) last said → StopsFor fault after.ahead last said → after.place ≡ place_after (Err fault) after.ahead.phase
+    → HasGiven (extent_after extent (Err fault)) after (fed ++ piece) given ticks
+given_stopped extent before after fed given piece fault last said ticks h none kept frames marks went stops place =
+    given_on extent (extent_after extent (Err fault)) before after fed given piece last said ticks h none kept frames marks went (λ is. stop_unsaid fault after.ahead last said is stops)
     (subst (λ (p : Place). SaysAt (extent_after extent (Err fault)) p after.ahead [] said) (sym place) (stop_says extent fault after.ahead last said stops))
 
-given_steps : (extent : Extent) (before after : Connection) (fed given piece : List ℕ) (result : Result Unit EngineFault) (h : HasGiven extent before fed given) → h.said ≡ [] → h.unkept ≡ []
-    → after.frames ≡ before.frames → AfterSteps (and_piece (talk_of before) piece) (talk_of after) result → after.place ≡ place_after result after.ahead.phase
-    → HasGiven (extent_after extent result) after (and_fed result fed piece) given
-given_steps extent before after fed given piece (Ok done) h none kept frames did place =
-    given_on extent extent before after fed given piece [] [] h none kept frames did.0 (λ is. refl) (subst (λ (p : Place). SaysAt extent p after.ahead [] []) (sym place) (refl, refl, did.1))
-given_steps extent before after fed given piece (Err faults.HeaderRefused) h none kept frames did place = given_stopped extent before after fed given piece faults.HeaderRefused did.0 did.1 h none kept frames did.2 did.3 place
-given_steps extent before after fed given piece (Err faults.Frame) h none kept frames did place = given_stopped extent before after fed given piece faults.Frame did.0 did.1 h none kept frames did.2 did.3 place
-given_steps extent before after fed given piece (Err (faults.Port fault)) h none kept frames did place = given_stopped extent before after fed given piece (faults.Port fault) did.0 did.1 h none kept frames did.2 did.3 place
-given_steps extent before after fed given piece (Err faults.Over) h none kept frames did place = absurd did.3
-given_steps extent before after fed given piece (Err faults.SaslRefused) h none kept frames did place = given_stopped extent before after fed given piece faults.SaslRefused did.0 did.1 h none kept frames did.2 did.3 place
-given_steps extent before after fed given piece (Err faults.Memory) h none kept frames did place = given_stopped extent before after fed given piece faults.Memory did.0 did.1 h none kept frames did.2 did.3 place
+given_steps : (extent : Extent) (before after : Connection) (fed given piece : List ℕ) (result : Result Unit EngineFault) (ticks : ℕ) (h : HasGiven extent before fed given ticks) → h.said ≡ [] → h.unkept ≡ []
+    → after.frames ≡ before.frames → after.marks ≡ before.marks → AfterSteps (and_piece (talk_of before) piece) (talk_of after) result → after.place ≡ place_after result after.ahead.phase
+    → HasGiven (extent_after extent result) after (and_fed result fed piece) given ticks
+given_steps extent before after fed given piece (Ok done) ticks h none kept frames marks did place =
+    given_on extent extent before after fed given piece [] [] ticks h none kept frames marks did.0 (λ is. refl) (subst (λ (p : Place). SaysAt extent p after.ahead [] []) (sym place) (refl, refl, did.1))
+given_steps extent before after fed given piece (Err faults.HeaderRefused) ticks h none kept frames marks did place = given_stopped extent before after fed given piece faults.HeaderRefused did.0 did.1 ticks h none kept frames marks did.2 did.3 place
+given_steps extent before after fed given piece (Err faults.Frame) ticks h none kept frames marks did place = given_stopped extent before after fed given piece faults.Frame did.0 did.1 ticks h none kept frames marks did.2 did.3 place
+given_steps extent before after fed given piece (Err (faults.Port fault)) ticks h none kept frames marks did place = given_stopped extent before after fed given piece (faults.Port fault) did.0 did.1 ticks h none kept frames marks did.2 did.3 place
+given_steps extent before after fed given piece (Err faults.Over) ticks h none kept frames marks did place = absurd did.3
+given_steps extent before after fed given piece (Err faults.SaslRefused) ticks h none kept frames marks did place = given_stopped extent before after fed given piece faults.SaslRefused did.0 did.1 ticks h none kept frames marks did.2 did.3 place
+given_steps extent before after fed given piece (Err faults.Memory) ticks h none kept frames marks did place = given_stopped extent before after fed given piece faults.Memory did.0 did.1 ticks h none kept frames marks did.2 did.3 place
 
 -- an engine whose octets ahead, those that wait, and frames are the same
-pub given_elsewhere : (extent extent_then : Extent) (before after : Connection) (fed fed_then given unkept : List ℕ) (h : HasGiven extent before fed given) → after.ahead ≡ before.ahead → after.waiting ≡ before.waiting
-    → after.frames ≡ before.frames → IsAfter fed_then h.steps (and_unkept before.ahead unkept) → SaysAt extent_then after.place before.ahead unkept h.said → HasGiven extent_then after fed_then given
-given_elsewhere extent extent_then before after fed fed_then given unkept h ahead waiting frames follows says = record {
+pub given_elsewhere : (extent extent_then : Extent) (before after : Connection) (fed fed_then given unkept : List ℕ) (ticks : ℕ) (h : HasGiven extent before fed given ticks) → after.ahead ≡ before.ahead → after.waiting ≡ before.waiting
+    → after.frames ≡ before.frames → after.marks ≡ before.marks → after.time_out ≡ before.time_out → IsAfter fed_then h.steps (and_unkept before.ahead unkept) → SaysAt extent_then after.place before.ahead unkept h.said → HasGiven extent_then after fed_then given ticks
+given_elsewhere extent extent_then before after fed fed_then given unkept ticks h ahead waiting frames marks time_out follows says = record {
   steps = h.steps;
   unkept = unkept;
   said = h.said;
+  put = h.put;
   follows = subst (λ (a : Ahead). IsAfter fed_then h.steps (and_unkept a unkept)) (sym ahead) follows;
-  octets = ap (λ (t : List ℕ). given ++ t) waiting ∙ h.octets ∙ ap (λ (t : List (List ℕ)). (answers_to h.steps ++ h.said) ++ concat t) (sym frames);
+  octets = ap (λ (t : List ℕ). given ++ t) waiting ∙ h.octets;
+  is_put = put_on before after ticks h.put frames marks (λ is. ap is_asked time_out ∙ is) h.is_put;
   says = subst (λ (a : Ahead). SaysAt extent_then after.place a unkept h.said) (sym ahead) says;
   behind = behind_on before.ahead.phase after.ahead.phase [] before.frames after.frames (ap (λ (a : Ahead). a.phase) ahead) frames h.behind;
 }
 
-given_piece : (extent : Extent) (before after : Connection) (fed given piece : List ℕ) (result : Result Unit EngineFault) (h : HasGiven extent before fed given) → h.said ≡ [] → h.unkept ≡ []
-    → after.frames ≡ before.frames → AfterPiece (talk_of before) (talk_of after) piece result → after.place ≡ place_after result after.ahead.phase
-    → HasGiven (extent_after extent result) after (and_fed result fed piece) given
-given_piece extent before after fed given piece result h none kept frames (inl did) place = given_steps extent before after fed given piece result h none kept frames did place
-given_piece extent before after fed given piece result h none kept frames (inr (is, same)) place =
+given_piece : (extent : Extent) (before after : Connection) (fed given piece : List ℕ) (result : Result Unit EngineFault) (ticks : ℕ) (h : HasGiven extent before fed given ticks) → h.said ≡ [] → h.unkept ≡ []
+    → after.frames ≡ before.frames → after.marks ≡ before.marks → AfterPiece (talk_of before) (talk_of after) piece result → after.place ≡ place_after result after.ahead.phase
+    → HasGiven (extent_after extent result) after (and_fed result fed piece) given ticks
+given_piece extent before after fed given piece result ticks h none kept frames marks (inl did) place = given_steps extent before after fed given piece result ticks h none kept frames marks did place
+given_piece extent before after fed given piece result ticks h none kept frames marks (inr (is, same)) place =
     let over : after.place ≡ Over Untold = place ∙ ap (λ (r : Result Unit EngineFault). place_after r after.ahead.phase) is in
-    subst (λ (r : Result Unit EngineFault). HasGiven (extent_after extent r) after (and_fed r fed piece) given) (sym is)
-    (given_elsewhere extent Part before after fed (fed ++ piece) given (h.unkept ++ piece) h (ap (λ (t : Talk). t.ahead) same) (ap (λ (t : Talk). t.waiting) same) frames
+    subst (λ (r : Result Unit EngineFault). HasGiven (extent_after extent r) after (and_fed r fed piece) given ticks) (sym is)
+    (given_elsewhere extent Part before after fed (fed ++ piece) given (h.unkept ++ piece) ticks h (ap (λ (t : Talk). t.ahead) same) (ap (λ (t : Talk). t.waiting) same) frames marks (ap (λ (t : Talk). t.time_out) same)
     (piece_unkept fed h.unkept piece h.steps before.ahead h.follows)
     (subst (λ (p : Place). SaysAt Part p before.ahead (h.unkept ++ piece) h.said) (sym over) (inl none)))
 
-given_closing : (extent : Extent) (before : Connection) (fed given piece : List ℕ) (h : HasGiven extent before fed given) → before.place ≡ Closing → HasGiven extent before (fed ++ piece) given
-given_closing extent before fed given piece h place =
-    given_elsewhere extent extent before before fed (fed ++ piece) given (h.unkept ++ piece) h refl refl refl (piece_unkept fed h.unkept piece h.steps before.ahead h.follows)
+given_closing : (extent : Extent) (before : Connection) (fed given piece : List ℕ) (ticks : ℕ) (h : HasGiven extent before fed given ticks) → before.place ≡ Closing → HasGiven extent before (fed ++ piece) given ticks
+given_closing extent before fed given piece ticks h place =
+    given_elsewhere extent extent before before fed (fed ++ piece) given (h.unkept ++ piece) ticks h refl refl refl refl refl (piece_unkept fed h.unkept piece h.steps before.ahead h.follows)
     (subst (λ (p : Place). SaysAt extent p before.ahead (h.unkept ++ piece) h.said) (sym place) (subst (λ (p : Place). SaysAt extent p before.ahead h.unkept h.said) place h.says))
 
-pub given_at : (place : Place) (extent : Extent) (before after : Connection) (fed given piece : List ℕ) (result : Result Unit EngineFault) → before.place ≡ place → after.frames ≡ before.frames
-    → FedAt place before after piece result → HasGiven extent before fed given → HasGiven (extent_after extent result) after (and_fed result fed piece) given
-given_at Reading extent before after fed given piece result at frames did h =
+pub given_at : (place : Place) (extent : Extent) (before after : Connection) (fed given piece : List ℕ) (ticks : ℕ) (result : Result Unit EngineFault) → before.place ≡ place → after.frames ≡ before.frames → after.marks ≡ before.marks
+    → FedAt place before after piece result → HasGiven extent before fed given ticks → HasGiven (extent_after extent result) after (and_fed result fed piece) given ticks
+given_at Reading extent before after fed given piece ticks result at frames marks did h =
     let says = subst (λ (p : Place). SaysAt extent p before.ahead h.unkept h.said) at h.says in
-    given_piece extent before after fed given piece result h says.0 says.1 frames did.0 did.1
-given_at Closing extent before after fed given piece result at frames did h =
-    subst (λ (r : Result Unit EngineFault). HasGiven (extent_after extent r) after (and_fed r fed piece) given) (sym did.0)
-    (subst (λ (c : Connection). HasGiven extent c (fed ++ piece) given) (sym did.1) (given_closing extent before fed given piece h at))
-given_at (Over loss) extent before after fed given piece result at frames did h =
-    subst (λ (r : Result Unit EngineFault). HasGiven (extent_after extent r) after (and_fed r fed piece) given) (sym did.0) (subst (λ (c : Connection). HasGiven extent c fed given) (sym did.1) h)
+    given_piece extent before after fed given piece result ticks h says.0 says.1 frames marks did.0 did.1
+given_at Closing extent before after fed given piece ticks result at frames marks did h =
+    subst (λ (r : Result Unit EngineFault). HasGiven (extent_after extent r) after (and_fed r fed piece) given ticks) (sym did.0)
+    (subst (λ (c : Connection). HasGiven extent c (fed ++ piece) given ticks) (sym did.1) (given_closing extent before fed given piece ticks h at))
+given_at (Over loss) extent before after fed given piece ticks result at frames marks did h =
+    subst (λ (r : Result Unit EngineFault). HasGiven (extent_after extent r) after (and_fed r fed piece) given ticks) (sym did.0) (subst (λ (c : Connection). HasGiven extent c fed given ticks) (sym did.1) h)
 
 -- ---- the other calls
 
@@ -226,39 +239,50 @@ says_given extent place None n ahead unkept said is = is
 says_given extent place (Some end) n ahead unkept said is = says_by extent place (nat_le end n) ahead unkept said is
 
 -- the first octets that waited were given
-pub given_first : (extent : Extent) (before after : Connection) (fed given : List ℕ) (n : ℕ)
-    → after ≡ record before { waiting = drop n before.waiting; close = close_left before.close n; place = place_given before.place before.close n }
-    → HasGiven extent before fed given → HasGiven extent after fed (given ++ take n before.waiting)
-given_first extent before after fed given n is h = subst (λ (c : Connection). HasGiven extent c fed (given ++ take n before.waiting)) (sym is) (record {
+pub given_first : (extent : Extent) (before after : Connection) (fed given : List ℕ) (n ticks : ℕ)
+    → after ≡ record before { waiting = drop n before.waiting; marks = marks_left before.marks n; place = place_given before.place before.marks.closed n; silence = silence_given before.silence n }
+    → HasGiven extent before fed given ticks → HasGiven extent after fed (given ++ take n before.waiting) ticks
+given_first extent before after fed given n ticks is h = subst (λ (c : Connection). HasGiven extent c fed (given ++ take n before.waiting) ticks) (sym is) (record {
   steps = h.steps;
   unkept = h.unkept;
   said = h.said;
+  put = h.put;
   follows = h.follows;
   octets = append_assoc given (take n before.waiting) (drop n before.waiting) ∙ ap (λ (t : List ℕ). given ++ t) (take-append-drop n before.waiting) ∙ h.octets;
-  says = says_given extent before.place before.close n before.ahead h.unkept h.said h.says;
+  is_put = put_left before.frames before.marks (is_asked before.time_out) ticks n h.put h.is_put;
+  says = says_given extent before.place before.marks.closed n before.ahead h.unkept h.said h.says;
   behind = h.behind;
 })
 
 -- the device is gone
-given_lost : (due : Bool) (extent : Extent) (before after : Connection) (fed given : List ℕ) (result : Result Unit EngineFault) → AfterLoss due before after result → HasGiven extent before fed given → HasGiven extent after fed given
-given_lost true extent before after fed given (Ok done) did h =
-    subst (λ (c : Connection). HasGiven extent c fed given) (sym did)
-    (given_elsewhere extent extent before (record before { items = before.items ++ happened.Lost ∷ []; is_idle = after.is_idle; place = Over Told }) fed fed given h.unkept h refl refl refl h.follows
+given_lost : (due : Bool) (extent : Extent) (before after : Connection) (fed given : List ℕ) (ticks : ℕ) (result : Result Unit EngineFault) → AfterLoss due before after result → HasGiven extent before fed given ticks → HasGiven extent after fed given ticks
+given_lost true extent before after fed given ticks (Ok done) did h =
+    subst (λ (c : Connection). HasGiven extent c fed given ticks) (sym did)
+    (given_elsewhere extent extent before (record before { items = before.items ++ happened.Lost ∷ []; is_idle = after.is_idle; place = Over Told }) fed fed given h.unkept ticks h refl refl refl refl refl h.follows
     (says_over extent before.place Told before.ahead h.unkept h.said h.says))
-given_lost true extent before after fed given (Err fault) did h =
-    subst (λ (c : Connection). HasGiven extent c fed given) (sym did.0)
-    (given_elsewhere extent extent before (record before { is_idle = after.is_idle; place = Over Refused }) fed fed given h.unkept h refl refl refl h.follows
+given_lost true extent before after fed given ticks (Err fault) did h =
+    subst (λ (c : Connection). HasGiven extent c fed given ticks) (sym did.0)
+    (given_elsewhere extent extent before (record before { is_idle = after.is_idle; place = Over Refused }) fed fed given h.unkept ticks h refl refl refl refl refl h.follows
     (says_over extent before.place Refused before.ahead h.unkept h.said h.says))
-given_lost false extent before after fed given result did h =
-    subst (λ (c : Connection). HasGiven extent c fed given) (sym did.1)
-    (given_elsewhere extent extent before (record before { place = over_of before.place }) fed fed given h.unkept h refl refl refl h.follows
+given_lost false extent before after fed given ticks result did h =
+    subst (λ (c : Connection). HasGiven extent c fed given ticks) (sym did.1)
+    (given_elsewhere extent extent before (record before { place = over_of before.place }) fed fed given h.unkept ticks h refl refl refl refl refl h.follows
     (says_over_of extent before.place before.ahead h.unkept h.said h.says))
 
-pub given_gone : (extent : Extent) (before after : Connection) (fed given : List ℕ) (result : Result Unit EngineFault) → AfterLoss (is_loss_due before.ahead.phase before.place) before after result
-    → HasGiven extent before fed given → HasGiven extent after fed given
-given_gone extent before after fed given result did h = given_lost (is_loss_due before.ahead.phase before.place) extent before after fed given result did h
+pub given_gone : (extent : Extent) (before after : Connection) (fed given : List ℕ) (ticks : ℕ) (result : Result Unit EngineFault) → AfterLoss (is_loss_due before.ahead.phase before.place) before after result
+    → HasGiven extent before fed given ticks → HasGiven extent after fed given ticks
+given_gone extent before after fed given ticks result did h = given_lost (is_loss_due before.ahead.phase before.place) extent before after fed given ticks result did h
 
 -- frames were taken
+pub put_refilled : (before after : Connection) (ticks : ℕ) (put : List ℕ) (filled : Refilled before after) → is_asked after.time_out ≡ is_asked before.time_out
+    → IsPut before.frames before.marks (is_asked before.time_out) ticks put → IsPut after.frames after.marks (is_asked after.time_out) ticks (put ++ concat filled.took.more)
+put_refilled before after ticks put filled asked is =
+    let more = filled.took.more in
+    subst (λ (f : List (List ℕ)). IsPut f after.marks (is_asked after.time_out) ticks (put ++ concat more)) (sym filled.took.given)
+    (subst (λ (m : Marks). IsPut (before.frames ++ more) m (is_asked after.time_out) ticks (put ++ concat more)) (sym filled.took.marked)
+    (subst (λ (a : Bool). IsPut (before.frames ++ more) (marks_after before.marks (length before.waiting) more) a ticks (put ++ concat more)) (sym asked)
+    (put_frames before.frames more before.marks (is_asked before.time_out) ticks (length before.waiting) put is)))
+
 pub is_open : (phase : Phase) → (phase ≡ Open) ⊎ (phase ≢ Open)
 is_open FirstHeader = inr (λ is. cc)
 is_open Exchange = inr (λ is. cc)
@@ -270,20 +294,86 @@ refilled_behind phase frames frames_then closed (inl is) behind = inl is
 refilled_behind phase frames frames_then closed (inr not_open) (inl is) = inl is
 refilled_behind phase frames frames_then closed (inr not_open) (inr none) = inr (closed not_open ∙ none)
 
-pub given_refilled : (extent : Extent) (before after : Connection) (fed given : List ℕ) → Refilled before after → after ≡ record before { frames = after.frames; waiting = after.waiting; is_idle = after.is_idle; close = after.close }
-    → HasGiven extent before fed given → HasGiven extent after fed given
-given_refilled extent before after fed given filled same h =
+pub given_refilled : (extent : Extent) (before after : Connection) (fed given : List ℕ) (ticks : ℕ) → Refilled before after → after ≡ record before { frames = after.frames; waiting = after.waiting; is_idle = after.is_idle; marks = after.marks }
+    → HasGiven extent before fed given ticks → HasGiven extent after fed given ticks
+given_refilled extent before after fed given ticks filled same h =
     let more = filled.took.more in
     let ahead : before.ahead ≡ after.ahead = ap (λ (c : Connection). c.ahead) (sym same) in
     record {
       steps = h.steps;
       unkept = h.unkept;
       said = h.said;
+      put = h.put ++ concat more;
       follows = subst (λ (a : Ahead). IsAfter fed h.steps (and_unkept a h.unkept)) ahead h.follows;
       octets =
           ap (λ (t : List ℕ). given ++ t) filled.took.put ∙ sym (append_assoc given before.waiting (concat more)) ∙ ap (λ (t : List ℕ). t ++ concat more) h.octets
-          ∙ append_assoc (answers_to h.steps ++ h.said) (concat before.frames) (concat more)
-          ∙ ap (λ (t : List ℕ). (answers_to h.steps ++ h.said) ++ t) (sym (concat-append before.frames more) ∙ ap (λ (t : List (List ℕ)). concat t) (sym filled.took.given));
+          ∙ append_assoc (answers_to h.steps ++ h.said) h.put (concat more);
+      is_put = put_refilled before after ticks h.put filled (ap (λ (c : Connection). is_asked c.time_out) same) h.is_put;
       says = subst (λ (p : Place). SaysAt extent p after.ahead h.unkept h.said) (ap (λ (c : Connection). c.place) (sym same)) (subst (λ (a : Ahead). SaysAt extent before.place a h.unkept h.said) ahead h.says);
       behind = subst (λ (a : Ahead). (a.phase ≡ Open) ⊎ (after.frames ≡ [])) ahead (refilled_behind before.ahead.phase before.frames after.frames filled.closed (is_open before.ahead.phase) h.behind);
     }
+
+-- ---- a tick
+
+-- what holds where it may place an empty frame: an open was taken and no close, and the client asks
+bears_by : (opened closed over : Bool) (time_out : Option ℕ) (bears : ℕ) → (if opened && closed && over then patience time_out else None) ≡ Some bears
+    → (opened ≡ true) × (closed ≡ true) × (is_asked time_out ≡ true)
+bears_by true true true time_out bears is = (refl, refl, ap (λ (o : Option ℕ). is_some o) is)
+bears_by true true false time_out bears is = absurd cc
+bears_by true false over time_out bears is = absurd cc
+bears_by false closed over time_out bears is = absurd cc
+
+opened_given : (opened : Option ℕ) → is_given opened ≡ true → is_some opened ≡ true
+opened_given None is = absurd cc
+opened_given (Some left) is = refl
+
+unclosed : (closed : Option ℕ) → is_none closed ≡ true → is_some closed ≡ false
+unclosed None is = refl
+unclosed (Some end) is = absurd cc
+
+pub put_ticked : (c : Connection) (bears ticks : ℕ) (put : List ℕ) → patience_of c ≡ Some bears → IsPut c.frames c.marks (is_asked c.time_out) ticks put
+    → IsPut c.frames c.marks (is_asked c.time_out) (ticks + 1) (put ++ empty_frame)
+put_ticked c bears ticks put is h =
+    let why = bears_by (is_given c.marks.opened) (is_none c.marks.closed) (not (is_over c.place)) c.time_out bears is in
+    put_empty c.frames c.marks (is_asked c.time_out) ticks put (opened_given c.marks.opened why.0) (unclosed c.marks.closed why.1) why.2 h
+
+given_placed : (extent : Extent) (before : Connection) (fed given : List ℕ) (bears moment ticks : ℕ) → patience_of before ≡ Some bears → HasGiven extent before fed given ticks
+    → HasGiven extent (ticked true moment before) fed given (ticks + 1)
+given_placed extent before fed given bears moment ticks is h = record {
+  steps = h.steps;
+  unkept = h.unkept;
+  said = h.said;
+  put = h.put ++ empty_frame;
+  follows = h.follows;
+  octets = sym (append_assoc given before.waiting empty_frame) ∙ ap (λ (t : List ℕ). t ++ empty_frame) h.octets ∙ append_assoc (answers_to h.steps ++ h.said) h.put empty_frame;
+  is_put = put_ticked before bears ticks h.put is h.is_put;
+  says = h.says;
+  behind = h.behind;
+}
+
+given_silent : (extent : Extent) (before : Connection) (fed given : List ℕ) (moment ticks : ℕ) → HasGiven extent before fed given ticks → HasGiven extent (ticked false moment before) fed given ticks
+given_silent extent before fed given moment ticks h = record {
+  steps = h.steps;
+  unkept = h.unkept;
+  said = h.said;
+  put = h.put;
+  follows = h.follows;
+  octets = ap (λ (t : List ℕ). given ++ t) (append-nil before.waiting) ∙ h.octets;
+  is_put = h.is_put;
+  says = h.says;
+  behind = h.behind;
+}
+
+ticked_given : {E : Type 0} (bears : Option ℕ) (extent : Extent) (moment : ℕ) (before after : Connection) (fed given : List ℕ) (ticks : ℕ) (result : Result Bool E) → patience_of before ≡ bears
+    → AfterTick bears moment before after result → HasGiven extent before fed given ticks → HasGiven extent after fed given (and_tick result ticks)
+ticked_given None extent moment before after fed given ticks result is did h =
+    subst (λ (n : ℕ). HasGiven extent after fed given n) (ap (λ r. and_tick r ticks) (sym did.0)) (subst (λ (c : Connection). HasGiven extent c fed given ticks) (sym did.1) h)
+ticked_given (Some bears) extent moment before after fed given ticks (Ok true) is did h =
+    subst (λ (c : Connection). HasGiven extent c fed given (ticks + 1)) (sym did.1) (given_placed extent before fed given bears moment ticks is h)
+ticked_given (Some bears) extent moment before after fed given ticks (Ok false) is did h =
+    subst (λ (c : Connection). HasGiven extent c fed given ticks) (sym did.1) (given_silent extent before fed given moment ticks h)
+ticked_given (Some bears) extent moment before after fed given ticks (Err fault) is did h = subst (λ (c : Connection). HasGiven extent c fed given ticks) (sym did.1) h
+
+pub given_ticked : {E : Type 0} (extent : Extent) (moment : ℕ) (before after : Connection) (fed given : List ℕ) (ticks : ℕ) (result : Result Bool E) → AfterTick (patience_of before) moment before after result
+    → HasGiven extent before fed given ticks → HasGiven extent after fed given (and_tick result ticks)
+given_ticked extent moment before after fed given ticks result did h = ticked_given (patience_of before) extent moment before after fed given ticks result refl did h

@@ -1,5 +1,5 @@
 -- Steps that an engine takes from the front of what is ahead.
-use Rattle.std.proofs.Common.{◌≡◌, ℕ, ◌<◌, List, [], ◌∷◌, ◌++◌, length, take, drop, refl, sym, ap, ◌∙◌, subst, inl, inr, append_assoc, arith, true, Ok}
+use Rattle.std.proofs.Common.{◌≡◌, ℕ, ◌<◌, List, [], ◌∷◌, ◌++◌, length, take, drop, refl, sym, ap, ◌∙◌, subst, inl, inr, append_assoc, arith, Option, true, Ok}
 use Rattle.std.proofs.lemmas.List.{append-nil, length-append}
 use Rattle.std.proofs.Math.Seq.{drop-append_seam, take-append_seam}
 use Rattle.std.proofs.lemmas.Grind.{flat_map-append}
@@ -18,6 +18,8 @@ use Rattle.stream_reading.specs.Steps.{Ahead, MayFollow, StepText, answers_to, o
 use Rattle.conn_engine.specs.declared.fault.EngineFault.{EngineFault}
 use Rattle.conn_engine.specs.declared.fault.EngineFault.TheVariants as faults
 use Rattle.conn_engine.specs.Serving.{items_in, items_of}
+use Rattle.conn_engine.specs.Silence.{time_out_at}
+use Rattle.conn_engine.proofs.TimeOuts.{time_out_on}
 use Rattle.conn_engine.specs.Feeding.{AfterStep, FaultTold, ItemRefused, Stopped, StepRefused, StopsFor, Talk, ToldMore, talk, Went, engine_fault, items_at_fault}
 
 -- ---- one after the other
@@ -41,7 +43,7 @@ regrouped a b c d = simp (append_assoc, append-nil)
 
 -- no step
 pub went_none : (t : Talk) → Went t t [] []
-went_none t = record { steps = []; parts = refl; follow = refl; items = sym (append-nil t.items); waiting = sym (append-nil t.waiting) }
+went_none t = record { steps = []; parts = refl; follow = refl; items = sym (append-nil t.items); waiting = sym (append-nil t.waiting); time_out = refl }
 
 -- some, and then others
 pub went_on : (before mid after : Talk) (last : List What) (said : List ℕ) → Went before mid [] [] → Went mid after last said → Went before after last said
@@ -59,6 +61,7 @@ went_on before mid after last said first then = record {
       then.waiting ∙ ap (λ (t : List ℕ). t ++ (answers_to then.steps ++ said)) first.waiting
       ∙ regrouped before.waiting (answers_to first.steps) (answers_to then.steps) said
       ∙ ap (λ (t : List ℕ). before.waiting ++ (t ++ said)) (sym (answers_all first.steps then.steps));
+  time_out = time_out_on before.time_out mid.time_out after.time_out first.steps then.steps first.time_out then.time_out;
 }
 
 pub stopped_on : (before mid after : Talk) (fault : EngineFault) → Went before mid [] [] → Stopped mid after fault → Stopped before after fault
@@ -74,21 +77,22 @@ pub front_is : (octets front : List ℕ) → BeginsWith octets front → take (l
 front_is octets front begins = ap (λ (t : List ℕ). take (length front) t) begins.1 ∙ take-append_seam front begins.0
 
 -- a step that was taken, told and answered
-pub went_step : (items items_then : List What) (ahead : Ahead) (waiting waiting_then : List ℕ) (event : Event) (octets : List ℕ)
+pub went_step : (items items_then : List What) (ahead : Ahead) (waiting waiting_then : List ℕ) (time_out : Option ℕ) (event : Event) (octets : List ℕ)
     → MayStand ahead.phase event octets → BeginsWith ahead.octets octets → items_then ≡ items ++ items_in event octets → waiting_then ≡ waiting ++ answer_to event
-    → Went (talk items ahead waiting) (talk items_then (record { phase = phase_after event; octets = drop (length octets) ahead.octets }) waiting_then) [] []
-went_step items items_then ahead waiting waiting_then event octets stands begins told answered = record {
+    → Went (talk items ahead waiting time_out) (talk items_then (record { phase = phase_after event; octets = drop (length octets) ahead.octets }) waiting_then (time_out_at time_out event octets)) [] []
+went_step items items_then ahead waiting waiting_then time_out event octets stands begins told answered = record {
   steps = record { event = event; octets = octets } ∷ [];
   parts = behind_front ahead.octets octets begins ∙ ap (λ (t : List ℕ). t ++ drop (length octets) ahead.octets) (sym (append-nil octets));
   follow = (stands, refl);
   items = told ∙ ap (λ (t : List What). items ++ t) (sym (append-nil (items_in event octets ++ []) ∙ append-nil (items_in event octets)));
   waiting = answered ∙ ap (λ (t : List ℕ). waiting ++ t) (sym (append-nil (answer_to event ++ []) ∙ append-nil (answer_to event)));
+  time_out = refl;
 }
 
 -- nothing was taken, and this was told and said
-pub went_last : (items items_then : List What) (ahead : Ahead) (waiting waiting_then : List ℕ) (last : List What) (said : List ℕ) → items_then ≡ items ++ last → waiting_then ≡ waiting ++ said
-    → Went (talk items ahead waiting) (talk items_then ahead waiting_then) last said
-went_last items items_then ahead waiting waiting_then last said told answered = record { steps = []; parts = refl; follow = refl; items = told; waiting = answered }
+pub went_last : (items items_then : List What) (ahead : Ahead) (waiting waiting_then : List ℕ) (time_out : Option ℕ) (last : List What) (said : List ℕ) → items_then ≡ items ++ last → waiting_then ≡ waiting ++ said
+    → Went (talk items ahead waiting time_out) (talk items_then ahead waiting_then time_out) last said
+went_last items items_then ahead waiting waiting_then time_out last said told answered = record { steps = []; parts = refl; follow = refl; items = told; waiting = answered; time_out = refl }
 
 -- a step has octets
 longer : (a b c d : List ℕ) (x y : ℕ) → 0 < length (a ++ (x ∷ y ∷ []) ++ b ++ c ++ d)
@@ -125,13 +129,16 @@ shorter : (octets front : List ℕ) → BeginsWith octets front → 0 < length f
 shorter octets front begins long = omega (arith, long, ap length (behind_front octets front begins) ∙ length-append front (drop (length front) octets))
 
 -- what was done with a step
-pub took_step : (items items_then : List What) (ahead after : Ahead) (waiting waiting_then : List ℕ) (event : Event) (octets : List ℕ)
+pub took_step : (items items_then : List What) (ahead after : Ahead) (waiting waiting_then : List ℕ) (time_out time_out_then : Option ℕ) (event : Event) (octets : List ℕ)
     → MayStand ahead.phase event octets → BeginsWith ahead.octets octets → items_then ≡ items ++ items_in event octets → waiting_then ≡ waiting ++ answer_to event
-    → after ≡ record { phase = phase_after event; octets = drop (length octets) ahead.octets }
-    → AfterStep (talk items ahead waiting) (talk items_then after waiting_then) (Ok true)
-took_step items items_then ahead after waiting waiting_then event octets stands begins told answered is =
-    subst (λ (a : Ahead). AfterStep (talk items ahead waiting) (talk items_then a waiting_then) (Ok true)) (sym is)
-    (went_step items items_then ahead waiting waiting_then event octets stands begins told answered, shorter ahead.octets octets begins (step_long ahead.phase event octets stands))
+    → time_out_then ≡ time_out_at time_out event octets → after ≡ record { phase = phase_after event; octets = drop (length octets) ahead.octets }
+    → AfterStep (talk items ahead waiting time_out) (talk items_then after waiting_then time_out_then) (Ok true)
+took_step items items_then ahead after waiting waiting_then time_out time_out_then event octets stands begins told answered kept is =
+    subst (λ (a : Ahead). AfterStep (talk items ahead waiting time_out) (talk items_then a waiting_then time_out_then) (Ok true)) (sym is) (
+      subst (λ (t : Option ℕ). Went (talk items ahead waiting time_out) (talk items_then (record { phase = phase_after event; octets = drop (length octets) ahead.octets }) waiting_then t) [] []) (sym kept)
+          (went_step items items_then ahead waiting waiting_then time_out event octets stands begins told answered),
+      shorter ahead.octets octets begins (step_long ahead.phase event octets stands),
+    )
 
 -- ---- why no further one is taken
 
@@ -149,18 +156,18 @@ item_refused ahead SaslHeader octets stands begins is = absurd cc
 item_refused ahead AnonymousInit octets stands begins is = absurd cc
 
 -- a step that was answered, or not, and not told
-pub step_refused : (items items_then : List What) (ahead : Ahead) (waiting waiting_then : List ℕ) (event : Event) (octets : List ℕ) (fault : EngineFault)
-    → MayStand ahead.phase event octets → BeginsWith ahead.octets octets → items_then ≡ items → StepRefused event waiting waiting_then fault → Stopped (talk items ahead waiting) (talk items_then ahead waiting_then) fault
-step_refused items items_then ahead waiting waiting_then event octets (faults.Port fault) stands begins same refused =
-    ([], answer_to event, went_last items items_then ahead waiting waiting_then [] (answer_to event) (same ∙ sym (append-nil items)) refused.1, (refl, item_refused ahead event octets stands begins refused.0))
-step_refused items items_then ahead waiting waiting_then event octets faults.Memory stands begins same (inl is) =
-    ([], [], went_last items items_then ahead waiting waiting_then [] [] (same ∙ sym (append-nil items)) (is ∙ sym (append-nil waiting)), (refl, inl refl))
-step_refused items items_then ahead waiting waiting_then event octets faults.Memory stands begins same (inr refused) =
-    ([], answer_to event, went_last items items_then ahead waiting waiting_then [] (answer_to event) (same ∙ sym (append-nil items)) refused.1, (refl, inr (item_refused ahead event octets stands begins refused.0)))
-step_refused items items_then ahead waiting waiting_then event octets faults.HeaderRefused stands begins same refused = absurd refused
-step_refused items items_then ahead waiting waiting_then event octets faults.Frame stands begins same refused = absurd refused
-step_refused items items_then ahead waiting waiting_then event octets faults.Over stands begins same refused = absurd refused
-step_refused items items_then ahead waiting waiting_then event octets faults.SaslRefused stands begins same refused = absurd refused
+pub step_refused : (items items_then : List What) (ahead : Ahead) (waiting waiting_then : List ℕ) (time_out : Option ℕ) (event : Event) (octets : List ℕ) (fault : EngineFault)
+    → MayStand ahead.phase event octets → BeginsWith ahead.octets octets → items_then ≡ items → StepRefused event waiting waiting_then fault → Stopped (talk items ahead waiting time_out) (talk items_then ahead waiting_then time_out) fault
+step_refused items items_then ahead waiting waiting_then time_out event octets (faults.Port fault) stands begins same refused =
+    ([], answer_to event, went_last items items_then ahead waiting waiting_then time_out [] (answer_to event) (same ∙ sym (append-nil items)) refused.1, (refl, item_refused ahead event octets stands begins refused.0))
+step_refused items items_then ahead waiting waiting_then time_out event octets faults.Memory stands begins same (inl is) =
+    ([], [], went_last items items_then ahead waiting waiting_then time_out [] [] (same ∙ sym (append-nil items)) (is ∙ sym (append-nil waiting)), (refl, inl refl))
+step_refused items items_then ahead waiting waiting_then time_out event octets faults.Memory stands begins same (inr refused) =
+    ([], answer_to event, went_last items items_then ahead waiting waiting_then time_out [] (answer_to event) (same ∙ sym (append-nil items)) refused.1, (refl, inr (item_refused ahead event octets stands begins refused.0)))
+step_refused items items_then ahead waiting waiting_then time_out event octets faults.HeaderRefused stands begins same refused = absurd refused
+step_refused items items_then ahead waiting waiting_then time_out event octets faults.Frame stands begins same refused = absurd refused
+step_refused items items_then ahead waiting waiting_then time_out event octets faults.Over stands begins same refused = absurd refused
+step_refused items items_then ahead waiting waiting_then time_out event octets faults.SaslRefused stands begins same refused = absurd refused
 
 -- a fault of the stream that was told and said
 pub fault_stops : (phase : Phase) (octets : List ℕ) (fault : StreamFault) → IsRefused phase octets fault → StopsFor (engine_fault fault) (record { phase = phase; octets = octets }) (items_at_fault phase) (answer_to_fault fault)
@@ -203,7 +210,7 @@ fault_told ahead fault faults.Frame last said is told = stops_as ahead fault fau
 fault_told ahead fault faults.Over last said is told = stops_as ahead fault faults.Over last said is told.0 told.1 told.2
 fault_told ahead fault faults.SaslRefused last said is told = stops_as ahead fault faults.SaslRefused last said is told.0 told.1 told.2
 
-pub fault_stopped : (items items_then : List What) (ahead : Ahead) (waiting waiting_then : List ℕ) (fault : StreamFault) (answered : EngineFault) → IsRefused ahead.phase ahead.octets fault
-    → ToldMore items items_then waiting waiting_then (λ last said. FaultTold ahead.phase fault last said answered) → Stopped (talk items ahead waiting) (talk items_then ahead waiting_then) answered
-fault_stopped items items_then ahead waiting waiting_then fault answered is told =
-    (told.0, told.1, went_last items items_then ahead waiting waiting_then told.0 told.1 told.2 told.3, fault_told ahead fault answered told.0 told.1 is told.4)
+pub fault_stopped : (items items_then : List What) (ahead : Ahead) (waiting waiting_then : List ℕ) (time_out : Option ℕ) (fault : StreamFault) (answered : EngineFault) → IsRefused ahead.phase ahead.octets fault
+    → ToldMore items items_then waiting waiting_then (λ last said. FaultTold ahead.phase fault last said answered) → Stopped (talk items ahead waiting time_out) (talk items_then ahead waiting_then time_out) answered
+fault_stopped items items_then ahead waiting waiting_then time_out fault answered is told =
+    (told.0, told.1, went_last items items_then ahead waiting waiting_then time_out told.0 told.1 told.2 told.3, fault_told ahead fault answered told.0 told.1 is told.4)

@@ -1,5 +1,5 @@
 -- What a feed does to what an engine keeps.
-use Rattle.std.specs.Prelude.{◌≡◌, ℕ, ◌<◌, ◌≤◌, ◌⊎◌, Bool, true, false, List, [], ◌∷◌, ◌++◌, length, Result, Ok, Err, ⊤}
+use Rattle.std.specs.Prelude.{◌≡◌, ℕ, ◌<◌, ◌≤◌, ◌⊎◌, Bool, true, false, List, [], ◌∷◌, ◌++◌, length, Option, Result, Ok, Err, ⊤}
 use Rattle.flow_counts.specs.declared.profile.TheConstants.{MAX_FRAME_SIZE}
 use Rattle.capture_form.specs.declared.records.What.{What}
 use Rattle.capture_form.specs.declared.records.What.TheVariants as happened
@@ -17,6 +17,7 @@ use Rattle.conn_engine.specs.declared.place.Loss.TheVariants.{Untold}
 use Rattle.conn_engine.specs.declared.place.Place.{Place}
 use Rattle.conn_engine.specs.declared.place.Place.TheVariants.{Reading, Closing, Over}
 use Rattle.conn_engine.specs.Serving.{Connection, Extent, Part, and_unkept, items_of}
+use Rattle.conn_engine.specs.Silence.{time_out_after}
 
 -- the fault that a stream's is
 abbrev pub engine_fault : StreamFault → EngineFault
@@ -74,13 +75,14 @@ pub record Talk : Type 0 where
   pub items : List What
   pub ahead : Ahead
   pub waiting : List ℕ
+  pub time_out : Option ℕ
 
-abbrev pub talk : List What → Ahead → List ℕ → Talk
-talk items ahead waiting = record { items = items; ahead = ahead; waiting = waiting }
+abbrev pub talk : List What → Ahead → List ℕ → Option ℕ → Talk
+talk items ahead waiting time_out = record { items = items; ahead = ahead; waiting = waiting; time_out = time_out }
 
 -- a piece was fed
 abbrev pub and_piece : Talk → List ℕ → Talk
-and_piece t piece = record { items = t.items; ahead = and_unkept t.ahead piece; waiting = t.waiting }
+and_piece t piece = record { items = t.items; ahead = and_unkept t.ahead piece; waiting = t.waiting; time_out = t.time_out }
 
 -- steps were taken from the front of what was ahead, each told and answered, and this was told and said behind them
 pub record Went (before after : Talk) (last : List What) (said : List ℕ) : Type 0 where
@@ -89,6 +91,7 @@ pub record Went (before after : Talk) (last : List What) (said : List ℕ) : Typ
   pub follow : MayFollow before.ahead.phase steps after.ahead.phase
   pub items : after.items ≡ before.items ++ (items_of steps ++ last)
   pub waiting : after.waiting ≡ before.waiting ++ (answers_to steps ++ said)
+  pub time_out : after.time_out ≡ time_out_after before.time_out steps
 
 -- the router did not take what is ahead: a frame or that octets are none, or, behind its answer, the AMQP header
 abbrev pub ItemRefused : Ahead → List ℕ → Type 0
@@ -138,7 +141,7 @@ place_after (Err faults.Frame) phase = place_at_fault phase
 place_after (Err fault) phase = Over Untold
 
 abbrev pub talk_of : Connection → Talk
-talk_of c = talk c.items c.ahead c.waiting
+talk_of c = talk c.items c.ahead c.waiting c.time_out
 
 -- what a feed did, by where the engine was
 abbrev pub FedAt : Place → Connection → Connection → List ℕ → Result Unit EngineFault → Type 0

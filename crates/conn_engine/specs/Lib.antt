@@ -1,6 +1,11 @@
 pub mod Device
+pub mod Said
+pub mod Marks
+pub mod Silence
+pub mod Lacing
 pub mod Giving
 pub mod Serving
 pub mod Feeding
 pub mod Closing
 pub mod Taking
+pub mod Ticking

@@ -1,6 +1,6 @@
 -- What an engine of one connection has told the router and has given, by all octets that it was fed.
-use Rattle.std.specs.Prelude.{Bool, ◌≡◌, ℕ, ◌⊎◌, List, [], ◌∷◌, ◌++◌, Option}
-use Rattle.std.specs.List.{flat_map, concat}
+use Rattle.std.specs.Prelude.{Bool, ◌≡◌, ℕ, ◌⊎◌, List, [], ◌∷◌, ◌++◌, Option, None}
+use Rattle.std.specs.List.{flat_map}
 use Rattle.capture_form.specs.declared.records.What.{What}
 use Rattle.capture_form.specs.declared.records.What.TheVariants as happened
 use Rattle.stream_reading.specs.declared.step.Phase.TheVariants.{Open}
@@ -14,10 +14,15 @@ use Rattle.conn_engine.specs.declared.place.Loss.{Loss}
 use Rattle.conn_engine.specs.declared.place.Loss.TheVariants.{Untold, Told, Refused}
 use Rattle.conn_engine.specs.declared.place.Place.{Place}
 use Rattle.conn_engine.specs.declared.place.Place.TheVariants.{Reading, Closing, Over}
+use Rattle.conn_engine.specs.declared.marks.Marks.{Marks}
+use Rattle.conn_engine.specs.declared.silence.Silence.{Silence}
+use Rattle.conn_engine.specs.Lacing.{IsPut}
+use Rattle.conn_engine.specs.Silence.{is_asked, time_out_after}
 
 -- a connection, as contracts see its engine: the items and frames of its port, the octets that were fed and are of no
 -- step that was taken, those that wait to be given, whether the port may have had no frame more when it was asked last,
--- how many octets that wait are up to the end of a close, and where it is
+-- where the first open and the first close of the port end among those that wait, where it is, the idle-time-out of the
+-- client's open, once it came, and how long nothing was given
 pub record Connection : Type 0 where
   pub number : ℕ
   pub items : List What
@@ -25,8 +30,10 @@ pub record Connection : Type 0 where
   pub ahead : Ahead
   pub waiting : List ℕ
   pub is_idle : Bool
-  pub close : Option ℕ
+  pub marks : Marks
   pub place : Place
+  pub time_out : Option ℕ
+  pub silence : Silence
 
 -- ---- the items of a stream
 
@@ -70,13 +77,14 @@ EndsAt (Over loss) ahead unkept last = EndsOver ahead loss last
 
 -- These octets were fed. The items are those of all of them, until it is over: Opened at the AMQP header, In for each
 -- frame behind it, Broken where the octets stop being frames, and nothing behind that. Then they are the first of
--- these, and Lost once where the router was told so.
+-- these, and Lost once where the router was told so. The idle-time-out is that of the first open among the frames.
 pub record HasFed (c : Connection) (fed : List ℕ) : Type 0 where
   pub steps : List StepText
   pub unkept : List ℕ
   pub last : List What
   pub follows : IsAfter fed steps (and_unkept c.ahead unkept)
   pub items : c.items ≡ items_of steps ++ last
+  pub time_out : c.time_out ≡ time_out_after None steps
   pub ends : EndsAt c.place c.ahead unkept last
 
 -- ---- the octets given
@@ -102,13 +110,16 @@ SaysAt extent Closing ahead unkept said = (said ≡ []) × (ahead.phase ≡ Open
 SaysAt Extent.Whole (Over loss) ahead unkept said = SaysLast ahead unkept said
 SaysAt Extent.Part (Over loss) ahead unkept said = (said ≡ []) ⊎ SaysLast ahead unkept said
 
--- These octets were fed, and those given. The octets given and those that wait are the answers to what was fed, and then
--- the frames of the port, in order; where memory was refused, the first answers.
-pub record HasGiven (extent : Extent) (c : Connection) (fed given : List ℕ) : Type 0 where
+-- These octets were fed, and those given, and so many ticks placed an empty frame. The octets given and those that wait are
+-- the answers to what was fed, and then the frames of the port, in order, with these empty ones between them; where memory
+-- was refused, the first answers.
+pub record HasGiven (extent : Extent) (c : Connection) (fed given : List ℕ) (ticks : ℕ) : Type 0 where
   pub steps : List StepText
   pub unkept : List ℕ
   pub said : List ℕ
+  pub put : List ℕ
   pub follows : IsAfter fed steps (and_unkept c.ahead unkept)
-  pub octets : given ++ c.waiting ≡ (answers_to steps ++ said) ++ concat c.frames
+  pub octets : given ++ c.waiting ≡ (answers_to steps ++ said) ++ put
+  pub is_put : IsPut c.frames c.marks (is_asked c.time_out) ticks put
   pub says : SaysAt extent c.place c.ahead unkept said
   pub behind : (c.ahead.phase ≡ Open) ⊎ (c.frames ≡ [])

@@ -1,5 +1,5 @@
 -- What an engine takes from its port, and tells it at the end.
-use Rattle.std.specs.Prelude.{◌≡◌, ◌≢◌, ℕ, ◌<◌, ◌≤◌, ◌^◌, ◌⊎◌, Bool, true, false, List, [], ◌∷◌, ◌++◌, length, Option, Result, Ok, Err, IsOk}
+use Rattle.std.specs.Prelude.{◌≡◌, ◌≢◌, ℕ, ◌<◌, ◌≤◌, ◌^◌, ◌⊎◌, Bool, true, false, List, [], ◌∷◌, ◌++◌, length, Result, Ok, Err, IsOk}
 use Rattle.std.specs.List.{concat}
 use Rattle.capture_form.specs.declared.records.What.TheVariants as happened
 use Rattle.stream_reading.specs.declared.step.Phase.{Phase}
@@ -10,24 +10,26 @@ use Rattle.conn_engine.specs.declared.place.Loss.{Loss}
 use Rattle.conn_engine.specs.declared.place.Loss.TheVariants.{Untold, Told, Refused}
 use Rattle.conn_engine.specs.declared.place.Place.{Place}
 use Rattle.conn_engine.specs.declared.place.Place.TheVariants.{Reading, Closing, Over}
-use Rattle.conn_engine.specs.Closing.{close_at, close_after, over_of}
+use Rattle.conn_engine.specs.declared.marks.Marks.{Marks}
+use Rattle.conn_engine.specs.Closing.{over_of}
+use Rattle.conn_engine.specs.Marks.{marks_at, marks_after}
 use Rattle.conn_engine.specs.Feeding.{ItemFault}
 use Rattle.conn_engine.specs.Serving.{Connection}
 
--- a port gave frames more, which stand behind what waited, and this is where the first close ends
-pub record TookFrames (frames frames_then : List (List ℕ)) (waiting waiting_then : List ℕ) (close close_then : Option ℕ) : Type 0 where
+-- a port gave frames more, which stand behind what waited, and this is where the first open and the first close end
+pub record TookFrames (frames frames_then : List (List ℕ)) (waiting waiting_then : List ℕ) (marks marks_then : Marks) : Type 0 where
   pub more : List (List ℕ)
   pub given : frames_then ≡ frames ++ more
   pub put : waiting_then ≡ waiting ++ concat more
-  pub marked : close_then ≡ close_after close (length waiting) more
+  pub marked : marks_then ≡ marks_after marks (length waiting) more
 
 -- a port was asked for a frame from a record's number on: it gave one, and the next is asked for from a higher number,
 -- or none
-abbrev pub TookFrame : (frames frames_then : List (List ℕ)) (waiting waiting_then : List ℕ) (close close_then : Option ℕ) (next next_then : ℕ) → Bool → Type 0
-TookFrame frames frames_then waiting waiting_then close close_then next next_then true =
-    (frame : List ℕ) × (frames_then ≡ frames ++ frame ∷ []) × (waiting_then ≡ waiting ++ frame) × (close_then ≡ close_at close (length waiting) frame) × (next < next_then) × (next_then < 2 ^ 64)
-TookFrame frames frames_then waiting waiting_then close close_then next next_then false =
-    (frames_then ≡ frames) × (waiting_then ≡ waiting) × (close_then ≡ close) × (next_then ≡ next)
+abbrev pub TookFrame : (frames frames_then : List (List ℕ)) (waiting waiting_then : List ℕ) (marks marks_then : Marks) (next next_then : ℕ) → Bool → Type 0
+TookFrame frames frames_then waiting waiting_then marks marks_then next next_then true =
+    (frame : List ℕ) × (frames_then ≡ frames ++ frame ∷ []) × (waiting_then ≡ waiting ++ frame) × (marks_then ≡ marks_at marks (length waiting) frame) × (next < next_then) × (next_then < 2 ^ 64)
+TookFrame frames frames_then waiting waiting_then marks marks_then next next_then false =
+    (frames_then ≡ frames) × (waiting_then ≡ waiting) × (marks_then ≡ marks) × (next_then ≡ next)
 
 -- enough octets wait, or the port may have had no frame more when it was asked
 abbrev pub IsRefilled : Bool → List ℕ → Type 0
@@ -35,7 +37,7 @@ IsRefilled is_idle waiting = (ENOUGH_OCTETS ≤ length waiting) ⊎ (is_idle ≡
 
 -- what taking frames changed of a connection: before the AMQP header was accepted, nothing
 pub record Refilled (before after : Connection) : Type 0 where
-  pub took : TookFrames before.frames after.frames before.waiting after.waiting before.close after.close
+  pub took : TookFrames before.frames after.frames before.waiting after.waiting before.marks after.marks
   pub closed : before.ahead.phase ≢ Open → after.frames ≡ before.frames
 
 -- the router is still to be told of a loss: it was told that the connection is open, and of no loss

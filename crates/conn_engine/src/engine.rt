@@ -1,18 +1,23 @@
 //! The engine of one connection.
 
-ghost use Rattle.std.specs.Prelude.{◌≡◌, ◌≤◌, ◌++◌, ℕ, List, [], length, take, drop, None, OnOk};
+ghost use Rattle.std.specs.Prelude.{◌≡◌, ◌≤◌, ◌++◌, ℕ, List, [], length, take, drop, None, Some, OnOk};
 ghost use Rattle.stream_reading.specs.declared.step.Phase.TheVariants.{FirstHeader, Open};
 ghost use Rattle.conn_engine.specs.declared.place.Place.TheVariants.{Reading};
-ghost use Rattle.conn_engine.specs.Closing.{close_left, is_over, place_given};
+ghost use Rattle.conn_engine.specs.Closing.{is_over, place_given};
+ghost use Rattle.conn_engine.specs.Marks.{no_marks, marks_left};
+ghost use Rattle.conn_engine.specs.Silence.{no_silence, silence_given};
 ghost use Rattle.conn_engine.specs.Serving.{Extent, HasFed, HasGiven};
 ghost use Rattle.conn_engine.specs.Feeding.{FedAt, and_fed, extent_after, place_after};
 ghost use Rattle.conn_engine.specs.Taking.{AfterLoss, IsRefilled, Refilled, is_loss_due, loss_of};
+ghost use Rattle.conn_engine.specs.Ticking.{AfterTick, and_tick, patience_of};
 
 use crate::fault::EngineFault;
 use crate::feeding::{submit, take_piece};
+use crate::marks::Marks;
 use crate::output::Output;
 use crate::place::{Loss, Place};
 use crate::port::Port;
+use crate::silence::{EMPTY_FRAME, Silence, patience};
 use crate::taking::take_frames;
 use route_items::Item;
 use std::alloc::{AllocError, Global};
@@ -35,9 +40,12 @@ pub struct Engine<P: Port> {
     output: Output,
     /// The number of the record from which on the router is asked for its next frame.
     next: u64,
-    /// How many of the octets that wait are up to the end of the first close, if a close was taken.
-    close: Option<usize>,
+    /// Where the router's open and its close end among the octets that wait.
+    marks: Marks,
     place: Place,
+    /// The idle-time-out of the client's open, in milliseconds, once it came; 0 where it has none.
+    time_out: Option<u32>,
+    silence: Silence,
 }
 
 impl<P: Port> Model for Engine<P> {
@@ -46,7 +54,7 @@ impl<P: Port> Model for Engine<P> {
 
     ghost Value = { Connection };
 
-    ghost view = { λ e. record { number = P.connection e.port; items = P.items e.port; frames = P.frames e.port; ahead = e.reader; waiting = e.output; is_idle = P.is_idle e.port; close = e.close; place = e.place } };
+    ghost view = { λ e. record { number = P.connection e.port; items = P.items e.port; frames = P.frames e.port; ahead = e.reader; waiting = e.output; is_idle = P.is_idle e.port; marks = e.marks; place = e.place; time_out = e.time_out; silence = e.silence } };
 
     ghost invariant = { λ e. e.connection ≡ P.connection e.port };
 }
@@ -55,9 +63,9 @@ impl<P: Port> Engine<P> {
     /// The engine of the connection of this number, of which no octet has come yet. The port is of the same connection.
     pub fn new(alloc: Global, connection: u32, port: P) -> Engine<P>
         requires { connection ≡ P.connection port }
-        ensures value { result ≡ record { number = connection; items = P.items port; frames = P.frames port; ahead = record { phase = FirstHeader; octets = [] }; waiting = []; is_idle = P.is_idle port; close = None; place = Reading } }
+        ensures value { result ≡ record { number = connection; items = P.items port; frames = P.frames port; ahead = record { phase = FirstHeader; octets = [] }; waiting = []; is_idle = P.is_idle port; marks = no_marks; place = Reading; time_out = None; silence = no_silence } }
         ensures fed { P.items port ≡ [] → HasFed result [] }
-        ensures given { (extent : Extent) → P.frames port ≡ [] → HasGiven extent result [] [] }
+        ensures given { (extent : Extent) → P.frames port ≡ [] → HasGiven extent result [] [] 0 }
     {
         Engine {
             connection,
@@ -65,8 +73,10 @@ impl<P: Port> Engine<P> {
             reader: StreamReader::new(alloc),
             output: Output::new(alloc),
             next: 0,
-            close: None,
+            marks: Marks::new(),
             place: Place::Reading,
+            time_out: None,
+            silence: Silence::new(),
         }
     }
 
@@ -79,11 +89,12 @@ impl<P: Port> Engine<P> {
         ensures did { FedAt self.old.place self.old self.new piece.now result }
         ensures number { self.new.number ≡ self.old.number }
         ensures frames { self.new.frames ≡ self.old.frames }
-        ensures close { self.new.close ≡ self.old.close }
+        ensures marks { self.new.marks ≡ self.old.marks }
+        ensures silence { self.new.silence ≡ self.old.silence }
         // Whatever was fed before, now this piece was fed too.
         ensures fed { (fed : List ℕ) → HasFed self.old fed → HasFed self.new (and_fed result fed piece.now) }
-        ensures given { (extent : Extent) (fed given : List ℕ) → HasGiven extent self.old fed given
-            → HasGiven (extent_after extent result) self.new (and_fed result fed piece.now) given }
+        ensures given { (extent : Extent) (fed given : List ℕ) (ticks : ℕ) → HasGiven extent self.old fed given ticks
+            → HasGiven (extent_after extent result) self.new (and_fed result fed piece.now) given ticks }
     {
         match self.place {
             Place::Reading => self.read_piece(piece),
@@ -98,13 +109,15 @@ impl<P: Port> Engine<P> {
         ensures did { FedAt Reading self.old self.new piece.now result }
         ensures number { self.new.number ≡ self.old.number }
         ensures frames { self.new.frames ≡ self.old.frames }
-        ensures close { self.new.close ≡ self.old.close }
+        ensures marks { self.new.marks ≡ self.old.marks }
+        ensures silence { self.new.silence ≡ self.old.silence }
     {
         let taken = take_piece(
             self.connection,
             &mut self.port,
             &mut self.reader,
             &mut self.output,
+            &mut self.time_out,
             piece,
         );
         self.place = place_after(taken, self.reader.phase());
@@ -121,10 +134,10 @@ impl<P: Port> Engine<P> {
         ensures took { Refilled self.old self.new }
         // Where the connection is open, the port was asked until it had none or enough octets wait.
         ensures all { OnOk result (self.old.ahead.phase ≡ Open → IsRefilled self.new.is_idle self.new.waiting) }
-        ensures same { self.new ≡ record self.old { frames = self.new.frames; waiting = self.new.waiting; is_idle = self.new.is_idle; close = self.new.close } }
+        ensures same { self.new ≡ record self.old { frames = self.new.frames; waiting = self.new.waiting; is_idle = self.new.is_idle; marks = self.new.marks } }
         // Whatever was fed and given before, is so still.
         ensures fed { (fed : List ℕ) → HasFed self.old fed → HasFed self.new fed }
-        ensures given { (extent : Extent) (fed given : List ℕ) → HasGiven extent self.old fed given → HasGiven extent self.new fed given }
+        ensures given { (extent : Extent) (fed given : List ℕ) (ticks : ℕ) → HasGiven extent self.old fed given ticks → HasGiven extent self.new fed given ticks }
     {
         self.take_due_frames()
     }
@@ -134,7 +147,7 @@ impl<P: Port> Engine<P> {
         ensures took { Refilled self.old self.new }
         // Where the connection is open, the port was asked until it had none or enough octets wait.
         ensures all { OnOk result (self.old.ahead.phase ≡ Open → IsRefilled self.new.is_idle self.new.waiting) }
-        ensures same { self.new ≡ record self.old { frames = self.new.frames; waiting = self.new.waiting; is_idle = self.new.is_idle; close = self.new.close } }
+        ensures same { self.new ≡ record self.old { frames = self.new.frames; waiting = self.new.waiting; is_idle = self.new.is_idle; marks = self.new.marks } }
     {
         if self.reader.phase() != Phase::Open {
             return Ok(());
@@ -143,7 +156,7 @@ impl<P: Port> Engine<P> {
             &mut self.port,
             &mut self.output,
             &mut self.next,
-            &mut self.close,
+            &mut self.marks,
         )
     }
 
@@ -158,15 +171,75 @@ impl<P: Port> Engine<P> {
     #[tactic(auto, using(crate::proofs::FedOn::fed_first, crate::proofs::GivenOn::given_first))]
     pub fn gave(&mut self, n: usize)
         requires { n ≤ length self.old.waiting }
-        ensures value { self.new ≡ record self.old { waiting = drop n self.old.waiting; close = close_left self.old.close n; place = place_given self.old.place self.old.close n } }
+        ensures value { self.new ≡ record self.old { waiting = drop n self.old.waiting; marks = marks_left self.old.marks n; place = place_given self.old.place self.old.marks.closed n; silence = silence_given self.old.silence n } }
         // Whatever was fed and given before, now these octets were given too.
         ensures fed { (fed : List ℕ) → HasFed self.old fed → HasFed self.new fed }
-        ensures given { (extent : Extent) (fed given : List ℕ) → HasGiven extent self.old fed given
-            → HasGiven extent self.new fed (given ++ take n self.old.waiting) }
+        ensures given { (extent : Extent) (fed given : List ℕ) (ticks : ℕ) → HasGiven extent self.old fed given ticks
+            → HasGiven extent self.new fed (given ++ take n self.old.waiting) ticks }
     {
         self.output.gave(n);
-        self.place = place_given(self.place, self.close, n);
-        self.close = close_left(self.close, n);
+        self.place = place_given(self.place, self.marks.closed, n);
+        self.marks = self.marks.left(n);
+        self.silence = self.silence.given(n);
+    }
+
+    /// Is told the moment, in milliseconds, and places an empty frame where the client would else hear nothing for half of the
+    /// idle-time-out of its open. It says whether it did. A moment before one that was told counts as that one.
+    ///
+    /// Nothing comes of it where the client's open has no idle-time-out, before an open of the router was given, behind its
+    /// close, and once the engine is over.
+    ///
+    /// # Errors
+    ///
+    /// Where the memory for the frame is refused; nothing has changed then.
+    #[tactic(auto, using(crate::proofs::FedOn::fed_ticked, crate::proofs::GivenOn::given_ticked))]
+    pub fn tick(&mut self, moment: u64) -> Result<bool, AllocError>
+        ensures did { AfterTick (patience_of self.old) moment self.old self.new result }
+        // Whatever was fed and given before, is so still; one tick more may have placed an empty frame.
+        ensures fed { (fed : List ℕ) → HasFed self.old fed → HasFed self.new fed }
+        ensures given { (extent : Extent) (fed given : List ℕ) (ticks : ℕ) → HasGiven extent self.old fed given ticks
+            → HasGiven extent self.new fed given (and_tick result ticks) }
+    {
+        self.keep_alive(moment)
+    }
+
+    /// Places an empty frame, if the client is to hear one at this moment.
+    fn keep_alive(&mut self, moment: u64) -> Result<bool, AllocError>
+        ensures { AfterTick (patience_of self.old) moment self.old self.new result }
+    {
+        match self.patience() {
+            Some(patience) => self.end_silence(patience, moment),
+            None => Ok(false),
+        }
+    }
+
+    /// The silence that the client bears now, in milliseconds, if it is to hear anything.
+    fn patience(&self) -> Option<u64>
+        ensures { result ≡ patience_of self.now }
+    {
+        if self.marks.is_open_given() && self.marks.closed.is_none() && !self.place.is_over() {
+            patience(self.time_out)
+        } else {
+            None
+        }
+    }
+
+    /// Places an empty frame, if the client has borne such a silence.
+    fn end_silence(&mut self, patience: u64, moment: u64) -> Result<bool, AllocError>
+        ensures { AfterTick (Some patience) moment self.old self.new result }
+    {
+        let is_clear = self.output.waiting().is_empty();
+        if !self.silence.is_due(is_clear, patience, moment) {
+            self.silence = self.silence.after(false, moment);
+            return Ok(false);
+        }
+        match self.output.put(&EMPTY_FRAME) {
+            Ok(()) => {
+                self.silence = self.silence.after(true, moment);
+                Ok(true)
+            }
+            Err(fault) => Err(fault),
+        }
     }
 
     /// The device is gone. The router is told so at the first call, if it was told that the connection is open; the
@@ -180,7 +253,14 @@ impl<P: Port> Engine<P> {
         ensures did { AfterLoss (is_loss_due self.old.ahead.phase self.old.place) self.old self.new result }
         // Whatever was fed and given before, is so still.
         ensures fed { (fed : List ℕ) → HasFed self.old fed → HasFed self.new fed }
-        ensures given { (extent : Extent) (fed given : List ℕ) → HasGiven extent self.old fed given → HasGiven extent self.new fed given }
+        ensures given { (extent : Extent) (fed given : List ℕ) (ticks : ℕ) → HasGiven extent self.old fed given ticks → HasGiven extent self.new fed given ticks }
+    {
+        self.end()
+    }
+
+    /// Tells the router of the loss, if it is to be told, and goes on no more.
+    fn end(&mut self) -> Result<(), EngineFault>
+        ensures { AfterLoss (is_loss_due self.old.ahead.phase self.old.place) self.old self.new result }
     {
         if !self.place.is_loss_due(self.reader.phase()) {
             self.place = self.place.over();
@@ -230,16 +310,6 @@ fn place_given(place: Place, close: Option<usize>, n: usize) -> Place
     match close {
         Some(end) => { if end <= n { place.over() } else { place } }
         None => place,
-    }
-}
-
-/// How many of the octets that still wait are up to the end of the first close.
-fn close_left(close: Option<usize>, n: usize) -> Option<usize>
-    ensures { result ≡ close_left close n }
-{
-    match close {
-        Some(end) => Some(end.saturating_sub(n)),
-        None => None,
     }
 }
 

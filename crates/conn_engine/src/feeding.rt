@@ -10,11 +10,12 @@ ghost use Rattle.conn_engine.specs.Feeding.{talk, items_at_fault, ItemFault, IsS
 use crate::fault::EngineFault;
 use crate::output::Output;
 use crate::port::{Port, PortFault};
+use crate::silence::time_out_at;
 use route_items::Item;
 use stream_reading::{Event, Phase, Step, StreamFault, StreamReader, answer_to, answer_to_fault};
 
 /// Takes the next octets of a stream, and each step that is whole then, in order: it is answered, and the router is
-/// told of it. The port holds in between.
+/// told of it; the idle-time-out of the first open is kept. The port holds in between.
 ///
 /// # Errors
 ///
@@ -24,10 +25,11 @@ pub(crate) fn take_piece<P: Port>(
     port: &mut P,
     reader: &mut StreamReader,
     output: &mut Output,
+    time_out: &mut Option<u32>,
     piece: &[u8],
 ) -> Result<(), EngineFault>
     requires own { connection ≡ P.connection port.old }
-    ensures told { AfterPiece (talk (P.items port.old) reader.old output.old) (talk (P.items port.new) reader.new output.new) piece.now result }
+    ensures told { AfterPiece (talk (P.items port.old) reader.old output.old time_out.old) (talk (P.items port.new) reader.new output.new time_out.new) piece.now result }
     ensures frames { P.frames port.new ≡ P.frames port.old }
     ensures connection { P.connection port.new ≡ P.connection port.old }
 {
@@ -35,7 +37,7 @@ pub(crate) fn take_piece<P: Port>(
         return Err(EngineFault::Memory);
     };
     port.hold();
-    let taken = take_steps(connection, port, reader, output);
+    let taken = take_steps(connection, port, reader, output, time_out);
     port.rest();
     taken
 }
@@ -46,14 +48,15 @@ fn take_steps<P: Port>(
     port: &mut P,
     reader: &mut StreamReader,
     output: &mut Output,
+    time_out: &mut Option<u32>,
 ) -> Result<(), EngineFault>
     requires own { connection ≡ P.connection port.old }
-    ensures told { AfterSteps (talk (P.items port.old) reader.old output.old) (talk (P.items port.new) reader.new output.new) result }
+    ensures told { AfterSteps (talk (P.items port.old) reader.old output.old time_out.old) (talk (P.items port.new) reader.new output.new time_out.new) result }
     ensures frames { P.frames port.new ≡ P.frames port.old }
     ensures connection { P.connection port.new ≡ P.connection port.old }
 {
     loop {
-        match take_step(connection, port, reader, output) {
+        match take_step(connection, port, reader, output, time_out) {
             Ok(true) => {}
             Ok(false) => return Ok(()),
             Err(fault) => return Err(fault),
@@ -67,9 +70,10 @@ fn take_step<P: Port>(
     port: &mut P,
     reader: &mut StreamReader,
     output: &mut Output,
+    time_out: &mut Option<u32>,
 ) -> Result<bool, EngineFault>
     requires own { connection ≡ P.connection port.old }
-    ensures told { AfterStep (talk (P.items port.old) reader.old output.old) (talk (P.items port.new) reader.new output.new) result }
+    ensures told { AfterStep (talk (P.items port.old) reader.old output.old time_out.old) (talk (P.items port.new) reader.new output.new time_out.new) result }
     ensures frames { P.frames port.new ≡ P.frames port.old }
     ensures connection { P.connection port.new ≡ P.connection port.old }
 {
@@ -79,8 +83,10 @@ fn take_step<P: Port>(
         Ok(Some(step)) => {
             let event = step.event;
             let len = step.octets.len();
+            let time_out_then = time_out_at(*time_out, event, step.octets);
             match hand_on(connection, port, output, step) {
                 Ok(()) => {
+                    *time_out = time_out_then;
                     reader.took(event, len);
                     Ok(true)
                 }

@@ -88,6 +88,9 @@ pub trait Gate {
     fn failures(&self) -> u64
         ensures { result ≡ failed self.now };
 
+    /// The moment, in milliseconds from some start; 0 where a clock fails. The contract says nothing of it.
+    fn now(&self) -> u64;
+
     ghost follows_itself: { (gate : Self) → follows gate gate };
 
     ghost follows_on: { (first second third : Self) → follows first second → follows second third → follows first third };

@@ -3,16 +3,20 @@
 //!
 //! An engine is fed the octets that a device delivers, and tells the router what they are. It takes the router's frames,
 //! and gives the octets that the device is to take (`Output`). It touches neither a device nor a clock, and waits for
-//! nothing.
+//! nothing: moments are handed to it, and where a client is to hear something before so much time has passed, it gives an empty
+//! frame.
 #![tactic(auto)]
 
 mod engine;
 mod fault;
 mod feeding;
 mod gate;
+mod marks;
 mod output;
 mod place;
 mod port;
+mod said;
+mod silence;
 mod taking;
 
 pub use engine::Engine;

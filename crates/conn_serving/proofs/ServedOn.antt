@@ -1,6 +1,5 @@
 -- What holds of a gate and its engine, behind a call more.
-use Rattle.std.proofs.Common.{◌≡◌, ℕ, ◌≤◌, ◌⊎◌, Bool, true, false, List, [], ◌∷◌, ◌++◌, take, drop, length, refl, sym, ap, ◌∙◌, subst, inl, inr, None, Result, Ok, Err, OnOk}
-use Rattle.std.specs.List.{concat}
+use Rattle.std.proofs.Common.{◌≡◌, ℕ, ◌≤◌, ◌⊎◌, Bool, true, false, List, [], ◌∷◌, ◌++◌, take, drop, length, refl, sym, ap, ◌∙◌, subst, inl, inr, Option, None, Result, Ok, Err, OnOk}
 use Rattle.capture_form.specs.declared.records.What.{What}
 use Rattle.stream_reading.specs.declared.step.Phase.TheVariants.{FirstHeader}
 use Rattle.stream_reading.specs.Steps.{Ahead}
@@ -8,21 +7,25 @@ use Rattle.conn_engine.specs.declared.fault.EngineFault.{EngineFault}
 use Rattle.conn_engine.specs.declared.place.Loss.TheVariants.{Untold, Told, Refused}
 use Rattle.conn_engine.specs.declared.place.Place.{Place}
 use Rattle.conn_engine.specs.declared.place.Place.TheVariants.{Reading, Closing, Over}
-use Rattle.conn_engine.specs.Closing.{close_left, is_over, place_given}
+use Rattle.conn_engine.specs.Closing.{is_over, place_given}
+use Rattle.conn_engine.specs.Marks.{marks_left, no_marks}
+use Rattle.conn_engine.specs.Silence.{is_asked, no_silence, silence_given, time_out_after}
 use Rattle.conn_engine.specs.Device.{KeepsTold, TellsMore}
 use Rattle.conn_engine.specs.Feeding.{FedAt}
+use Rattle.conn_engine.specs.Lacing.{IsLaced}
 use Rattle.conn_engine.specs.Serving.{Connection}
 use Rattle.conn_engine.specs.Taking.{AfterLoss, Refilled, is_loss_due}
+use Rattle.conn_engine.specs.Ticking.{AfterTick, patience_of}
 use Rattle.conn_serving.specs.declared.serving.Status.{Status}
 use Rattle.conn_serving.specs.declared.serving.Status.TheVariants.{Open}
 use Rattle.conn_serving.specs.declared.serving.Turn.{Turn}
 use Rattle.conn_serving.specs.declared.serving.Motion.{Motion}
 use Rattle.conn_serving.specs.declared.serving.Motion.TheVariants as motions
 use Rattle.conn_serving.specs.Served.{HasCause, IsOpen, IsOverFor, IsServed, LineHolds, status_after, stop_of}
-use Rattle.conn_serving.proofs.Serves.{serving_fed, serving_given, serving_gone, serving_new, serving_refilled}
+use Rattle.conn_serving.proofs.Serves.{serving_fed, serving_given, serving_gone, serving_new, serving_refilled, serving_ticked}
 
 pub open_new : {G : Type 0} (Delivered Took : G → List ℕ → Type 0) (gate : G) (number : ℕ) (idle : Bool) (items : List What) (frames : List (List ℕ)) (e : Connection) (taken : List ℕ)
-    → e ≡ record { number = number; items = items; frames = frames; ahead = record { phase = FirstHeader; octets = [] }; waiting = []; is_idle = idle; close = None; place = Reading }
+    → e ≡ record { number = number; items = items; frames = frames; ahead = record { phase = FirstHeader; octets = [] }; waiting = []; is_idle = idle; marks = no_marks; place = Reading; time_out = None; silence = no_silence }
     → items ≡ [] → frames ≡ [] → taken ≡ [] → Delivered gate [] → Took gate [] → IsOpen Delivered Took gate e taken
 open_new Delivered Took gate number idle items frames e taken is no_items no_frames none delivered took = subst (IsOpen Delivered Took gate e) (sym none) (record {
   octets = [];
@@ -37,7 +40,7 @@ pub open_kept : {G : Type 0} (Delivered Took : G → List ℕ → Type 0) (gate 
 open_kept Delivered Took gate later e taken delivered took h = record { octets = h.octets; delivered = delivered h.octets h.delivered; took = took taken h.took; serving = h.serving }
 
 pub open_refilled : {G : Type 0} (Delivered Took : G → List ℕ → Type 0) (gate : G) (before after : Connection) (taken : List ℕ) → Refilled before after
-    → after ≡ record before { frames = after.frames; waiting = after.waiting; is_idle = after.is_idle; close = after.close } → IsOpen Delivered Took gate before taken → IsOpen Delivered Took gate after taken
+    → after ≡ record before { frames = after.frames; waiting = after.waiting; is_idle = after.is_idle; marks = after.marks } → IsOpen Delivered Took gate before taken → IsOpen Delivered Took gate after taken
 open_refilled Delivered Took gate before after taken filled same h = record {
   octets = h.octets;
   delivered = h.delivered;
@@ -45,10 +48,20 @@ open_refilled Delivered Took gate before after taken filled same h = record {
   serving = serving_refilled before after h.octets taken filled same h.serving;
 }
 
+-- the engine was told the moment
+pub open_ticked : {E : Type 0} {G : Type 0} (Delivered Took : G → List ℕ → Type 0) (gate : G) (moment : ℕ) (before after : Connection) (taken : List ℕ) (result : Result Bool E)
+    → AfterTick (patience_of before) moment before after result → IsOpen Delivered Took gate before taken → IsOpen Delivered Took gate after taken
+open_ticked Delivered Took gate moment before after taken result did h = record {
+  octets = h.octets;
+  delivered = h.delivered;
+  took = h.took;
+  serving = serving_ticked moment before after h.octets taken result did h.serving;
+}
+
 -- it took octets
 pub open_written : {G : Type 0} (Delivered Took : G → List ℕ → Type 0) (gate later : G) (before after : Connection) (taken all : List ℕ) (n : ℕ) → KeepsTold Delivered gate later
     → TellsMore Took (take n before.waiting) gate later → all ≡ taken ++ take n before.waiting
-    → after ≡ record before { waiting = drop n before.waiting; close = close_left before.close n; place = place_given before.place before.close n }
+    → after ≡ record before { waiting = drop n before.waiting; marks = marks_left before.marks n; place = place_given before.place before.marks.closed n; silence = silence_given before.silence n }
     → IsOpen Delivered Took gate before taken → IsOpen Delivered Took later after all
 open_written Delivered Took gate later before after taken all n delivered took is same h = subst (IsOpen Delivered Took later after) (sym is) (record {
   octets = h.octets;
@@ -59,13 +72,13 @@ open_written Delivered Took gate later before after taken all n delivered took i
 
 -- it delivered octets, which were fed
 pub open_fed : {G : Type 0} (Delivered Took : G → List ℕ → Type 0) (gate later : G) (before after : Connection) (piece taken : List ℕ) (result : Result Unit EngineFault) → TellsMore Delivered piece gate later
-    → KeepsTold Took gate later → is_over before.place ≡ false → FedAt before.place before after piece result → after.frames ≡ before.frames → after.close ≡ before.close → stop_of result ≡ None
+    → KeepsTold Took gate later → is_over before.place ≡ false → FedAt before.place before after piece result → after.frames ≡ before.frames → after.marks ≡ before.marks → stop_of result ≡ None
     → IsOpen Delivered Took gate before taken → IsOpen Delivered Took later after taken
-open_fed Delivered Took gate later before after piece taken result delivered took going did frames close goes h = record {
+open_fed Delivered Took gate later before after piece taken result delivered took going did frames marks goes h = record {
   octets = h.octets ++ piece;
   delivered = delivered h.octets h.delivered;
   took = took taken h.took;
-  serving = serving_fed before after h.octets piece taken result going did frames close goes h.serving;
+  serving = serving_fed before after h.octets piece taken result going did frames marks goes h.serving;
 }
 
 -- why an engine is over
@@ -97,8 +110,14 @@ served_gone Delivered Took ended gate later before after taken result why did go
       stream = h.serving.stream;
       items_are = told.0;
       took = took taken h.took;
+      put = h.serving.put;
+      written = record {
+        count = h.serving.ticks;
+        laced = subst (λ (t : List (List ℕ)). IsLaced t h.serving.ticks h.serving.put) (sym told.1) h.serving.is_put.laced;
+        quiet = subst (λ (t : Option ℕ). (h.serving.ticks ≡ 0) ⊎ (is_asked t ≡ true)) h.serving.time_out h.serving.is_put.quiet;
+      };
       waiting = before.waiting;
-      given = h.serving.given ∙ ap (λ (t : List (List ℕ)). h.serving.answers ++ concat t) (sym told.1);
+      given = h.serving.given;
       cause = subst (λ (t : List (List ℕ)). HasCause (ended later) before.ahead t before.waiting) (sym told.1) (cause before.place (ended gate) (ended later) before.ahead before.frames before.waiting same why h.serving.over);
     }
 

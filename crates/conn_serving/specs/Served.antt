@@ -1,6 +1,6 @@
 -- What a device and its engine come to, turn by turn.
 use Rattle.std.specs.Prelude.{◌≡◌, ℕ, ◌⊎◌, Bool, true, List, [], ◌∷◌, ◌++◌, Option, Some, None, Result, Ok, Err}
-use Rattle.std.specs.List.{concat, list_any}
+use Rattle.std.specs.List.{list_any}
 use Rattle.capture_form.specs.declared.records.What.{What}
 use Rattle.stream_reading.specs.declared.step.Phase.TheVariants as phases
 use Rattle.stream_reading.specs.Steps.{Ahead}
@@ -9,8 +9,10 @@ use Rattle.conn_engine.specs.declared.fault.EngineFault.TheVariants as faults
 use Rattle.conn_engine.specs.declared.place.Loss.TheVariants.{Untold, Told, Refused}
 use Rattle.conn_engine.specs.declared.place.Place.{Place}
 use Rattle.conn_engine.specs.declared.place.Place.TheVariants.{Reading, Closing, Over}
-use Rattle.conn_engine.specs.Closing.{is_close}
+use Rattle.conn_engine.specs.Lacing.{IsPut}
+use Rattle.conn_engine.specs.Said.{is_close}
 use Rattle.conn_engine.specs.Serving.{Connection}
+use Rattle.conn_engine.specs.Silence.{is_asked, time_out_after}
 use Rattle.conn_serving.specs.declared.serving.Status.{Status}
 use Rattle.conn_serving.specs.declared.serving.Status.TheVariants.{Open, Ended, Failed}
 use Rattle.conn_serving.specs.declared.serving.Stop.{Stop}
@@ -19,18 +21,13 @@ use Rattle.conn_serving.specs.declared.serving.Turn.{Turn}
 use Rattle.conn_serving.specs.declared.serving.Turn.TheVariants as turns
 use Rattle.conn_serving.specs.declared.serving.Motion.{Motion}
 use Rattle.conn_serving.specs.declared.serving.Motion.TheVariants.{Moved, Still, Gone}
-use Rattle.conn_serving.specs.Streams.{IsStopped, IsStream, IsTurnedAway, IsUnfinished, loss_at}
+use Rattle.conn_serving.specs.Streams.{IsStopped, IsStream, IsTurnedAway, IsUnfinished, IsWritten, loss_at}
 
 -- ---- an engine that serves
 
 -- a close is among the frames
 abbrev pub HasClose : List (List ℕ) → Type 0
 HasClose frames = list_any is_close frames ≡ true
-
--- where the end of a close is marked, there is one
-abbrev pub MarksClose : Option ℕ → List (List ℕ) → Type 0
-MarksClose None frames = Unit {0}
-MarksClose (Some end) frames = HasClose frames
 
 -- why an engine is over, if it is: the client was turned away, or a close was given
 abbrev pub IsOverFor : Place → Ahead → List (List ℕ) → Type 0
@@ -41,15 +38,18 @@ IsOverFor (Over Told) ahead frames = ⊥
 IsOverFor (Over Refused) ahead frames = ⊥
 
 -- these octets were fed to an engine, and a device took these: its items are those of all octets fed, and the octets that
--- were taken and those that wait are the answers to these and then its frames
+-- were taken and those that wait are the answers to these and then its frames, with empty ones between them
 pub record IsServing (e : Connection) (octets taken : List ℕ) : Type 0 where
   pub answers : List ℕ
   pub stream : IsStream octets e.ahead e.items answers
   pub reads : e.place ≡ Reading → IsUnfinished e.ahead stream.behind stream.told stream.said
   pub closes : e.place ≡ Closing → IsStopped e.ahead stream.told stream.said
-  pub given : taken ++ e.waiting ≡ answers ++ concat e.frames
+  pub put : List ℕ
+  pub given : taken ++ e.waiting ≡ answers ++ put
+  pub ticks : ℕ
+  pub is_put : IsPut e.frames e.marks (is_asked e.time_out) ticks put
+  pub time_out : e.time_out ≡ time_out_after None stream.steps
   pub behind : (e.ahead.phase ≡ phases.Open) ⊎ (e.frames ≡ [])
-  pub marked : MarksClose e.close e.frames
   pub over : IsOverFor e.place e.ahead e.frames
 
 -- ---- a gate and its engine
@@ -67,7 +67,8 @@ abbrev pub HasCause : Bool → Ahead → List (List ℕ) → List ℕ → Type 0
 HasCause has_ended ahead frames waiting = (has_ended ≡ true) ⊎ IsTurnedAway ahead ⊎ (HasClose frames × (waiting ≡ []))
 
 -- What came of a connection: the items are those of all that its gate delivered, and the loss, where it was opened; what the
--- gate took, and what waits, is the answers and then the frames that it was given
+-- gate took, and what waits, is the answers and then the frames that it was given, with empty ones between them where the
+-- client asks for these
 pub record IsServed {G : Type 0} (Delivered Took : G → List ℕ → Type 0) (ended : G → Bool) (gate : G) (items : List What) (frames : List (List ℕ)) (taken : List ℕ) : Type 0 where
   pub octets : List ℕ
   pub delivered : Delivered gate octets
@@ -77,8 +78,10 @@ pub record IsServed {G : Type 0} (Delivered Took : G → List ℕ → Type 0) (e
   pub stream : IsStream octets ahead told answers
   pub items_are : items ≡ told ++ loss_at ahead.phase
   pub took : Took gate taken
+  pub put : List ℕ
+  pub written : IsWritten stream.steps frames put
   pub waiting : List ℕ
-  pub given : taken ++ waiting ≡ answers ++ concat frames
+  pub given : taken ++ waiting ≡ answers ++ put
   pub cause : HasCause (ended gate) ahead frames waiting
 
 -- what holds of a line, by how far it is

@@ -1,6 +1,6 @@
 -- What a client's octets come to, from the first one on: the items that the router is told of them, and what is answered
 -- before the frames.
-use Rattle.std.specs.Prelude.{◌≡◌, ◌≢◌, ℕ, ◌⊎◌, List, [], ◌∷◌, ◌++◌}
+use Rattle.std.specs.Prelude.{◌≡◌, ◌≢◌, ℕ, ◌⊎◌, true, List, [], ◌∷◌, ◌++◌, None}
 use Rattle.capture_form.specs.declared.records.What.{What}
 use Rattle.capture_form.specs.declared.records.What.TheVariants as happened
 use Rattle.stream_reading.specs.declared.step.Phase.{Phase}
@@ -10,6 +10,8 @@ use Rattle.stream_reading.specs.Stream.{IsLess, IsRefused, answer_to_fault}
 use Rattle.stream_reading.specs.Steps.{Ahead, IsAfter, StepText, answers_to}
 use Rattle.conn_engine.specs.Serving.{and_unkept, items_of}
 use Rattle.conn_engine.specs.Feeding.{items_at_fault}
+use Rattle.conn_engine.specs.Lacing.{IsLaced}
+use Rattle.conn_engine.specs.Silence.{is_asked, time_out_after}
 
 -- too few octets are left for a further step; nothing is told or said of them
 abbrev pub IsUnfinished : Ahead → List ℕ → List What → List ℕ → Type 0
@@ -34,6 +36,13 @@ pub record IsStream (octets : List ℕ) (ahead : Ahead) (items : List What) (ans
   pub ends : IsUnfinished ahead behind told said ⊎ IsStopped ahead told said
   pub items_are : items ≡ items_of steps ++ told
   pub answers_are : answers ≡ answers_to steps ++ said
+
+-- What is written to a client behind the answers to these steps: the frames, in order and each once, and empty ones between
+-- them, of which there are none where the client's open does not ask for them.
+pub record IsWritten (steps : List StepText) (frames : List (List ℕ)) (octets : List ℕ) : Type 0 where
+  pub count : ℕ
+  pub laced : IsLaced frames count octets
+  pub quiet : (count ≡ 0) ⊎ (is_asked (time_out_after None steps) ≡ true)
 
 -- the client was turned away: it sent something else where a header or a SASL exchange was due
 abbrev pub IsTurnedAway : Ahead → Type 0

@@ -84,7 +84,6 @@ pub fn serve<G: Gate, P: Port>(
 }
 
 /// Takes frames for the gate, and moves what octets can be moved now.
-#[tactic(auto, using(crate::proofs::ServedOn::open_refilled))]
 fn advance<G: Gate, P: Port>(
     gate: &mut G,
     engine: &mut Engine<P>,
@@ -97,8 +96,27 @@ fn advance<G: Gate, P: Port>(
     ensures follows { G.follows gate.old gate.new }
     ensures number { engine.new.number ≡ engine.old.number }
 {
-    match engine.refill() {
+    match take_frames(gate, engine, taken) {
         Ok(()) => move_octets(gate, engine, taken, buffer),
+        Err(stop) => Err(stop),
+    }
+}
+
+/// Takes frames for the gate, and tells the engine the moment, which may place an empty one where there are none. The octets
+/// that were taken stand here for the contract alone.
+fn take_frames<G: Gate, P: Port>(
+    gate: &G,
+    engine: &mut Engine<P>,
+    _taken: &Vec<u8>,
+) -> Result<(), Stop>
+    ensures holds { OnOk result (IsOpen G.delivered G.took gate.now engine.old _taken.now.items → IsOpen G.delivered G.took gate.now engine.new _taken.now.items) }
+    ensures number { engine.new.number ≡ engine.old.number }
+{
+    let Ok(()) = engine.refill() else {
+        return Err(Stop::Memory);
+    };
+    match engine.tick(gate.now()) {
+        Ok(_) => Ok(()),
         Err(_) => Err(Stop::Memory),
     }
 }
@@ -189,7 +207,6 @@ fn read_in<G: Gate, P: Port>(
 /// # Errors
 ///
 /// `Memory` or `Core`, where the router did not take it.
-#[tactic(auto, using(crate::proofs::ServedOn::served_gone))]
 fn end<G: Gate, P: Port>(gate: &mut G, engine: &mut Engine<P>, taken: &Vec<u8>) -> Result<(), Stop>
     requires { (G.has_ended gate.old ≡ true) ⊎ ((is_over engine.old.place ≡ true) × (engine.old.waiting ≡ [])) }
     ensures holds { OnOk result (IsOpen G.delivered G.took gate.old engine.old taken.now.items → IsServed G.delivered G.took G.has_ended gate.new engine.new.items engine.new.frames taken.now.items) }

@@ -3,7 +3,6 @@ use Rattle.std.proofs.Common.{◌≡◌, ℕ, ◌+◌, Bool, List, [], ◌∷◌
 use mathlib.Core.List.{reverse}
 use Rattle.std.specs.List.{concat}
 use Rattle.std.proofs.lemmas.List.{reverse-append, take-append-drop}
-use Rattle.std.proofs.lemmas.List.Folds.{concat-append}
 use Rattle.capture_form.specs.declared.records.Record.{Record}
 use Rattle.core_exchange.specs.declared.seat.Seat.{Seat}
 use Rattle.core_exchange.specs.Seats.{Begins, SeatAgrees, SeatsAgree, frames_of, inputs_on, outs_on}
@@ -11,12 +10,24 @@ use Rattle.conn_workers.specs.declared.report.ConnReport.{ConnReport}
 use Rattle.conn_serving.specs.Served.{IsServed}
 use Rattle.conn_workers.specs.Lines.{IsDone, IsFrom}
 use Rattle.conn_workers.specs.Reports.{AreReported, IsReported}
+use Rattle.conn_engine.specs.Lacing.{IsLaced}
+use Rattle.conn_engine.proofs.LacedOn.{laced_frames}
+use Rattle.conn_serving.specs.Streams.{IsWritten}
+use Rattle.stream_reading.specs.Steps.{StepText}
 
--- frames that begin others, in octets
-concat_begins : (xs ys : List (List ℕ)) → Begins xs ys → concat ys ≡ concat xs ++ concat (drop (length xs) ys)
-concat_begins xs ys b =
-    ap (λ (t : List (List ℕ)). concat t) (sym (take-append-drop (length xs) ys)) ∙ concat-append (take (length xs) ys) (drop (length xs) ys)
-    ∙ ap (λ (t : List (List ℕ)). concat t ++ concat (drop (length xs) ys)) (sym b)
+-- frames that begin others
+begins_parts : (xs ys : List (List ℕ)) → Begins xs ys → xs ++ drop (length xs) ys ≡ ys
+begins_parts xs ys b = ap (λ (t : List (List ℕ)). t ++ drop (length xs) ys) b ∙ take-append-drop (length xs) ys
+
+-- what was written of them, and the others behind it
+written_on : (steps : List StepText) (xs ys : List (List ℕ)) (octets : List ℕ) → Begins xs ys → IsWritten steps xs octets → IsWritten steps ys (octets ++ concat (drop (length xs) ys))
+written_on steps xs ys octets b is = record {
+  count = is.count;
+  laced =
+      subst (λ (t : List (List ℕ)). IsLaced t is.count (octets ++ concat (drop (length xs) ys))) (begins_parts xs ys b)
+      (laced_frames xs (drop (length xs) ys) is.count octets is.laced);
+  quiet = is.quiet;
+}
 
 agree_split : (records : List Record) (ys : List Seat) (s : Seat) (k : ℕ) → SeatsAgree records k (ys ++ s ∷ []) → SeatsAgree records k ys × SeatAgrees records (k + length ys) s
 agree_split records [] s k h = (tt, subst (λ (n : ℕ). SeatAgrees records n s) (omega arith) h.0)
@@ -43,10 +54,10 @@ told gates Follows Delivered Took ended records k frames r served conn from item
       frames = frames;
       written = written;
       served = served;
+      put = served.put ++ rest;
+      all = written_on served.stream.steps frames (outs_on k records) served.put written served.written;
       left = served.waiting ++ rest;
-      given =
-          sym (append_assoc r.taken.items served.waiting rest) ∙ ap (λ (t : List ℕ). t ++ rest) served.given ∙ append_assoc served.answers (concat frames) rest
-          ∙ ap (λ (t : List ℕ). served.answers ++ t) (sym (concat_begins frames (outs_on k records) written));
+      given = sym (append_assoc r.taken.items served.waiting rest) ∙ ap (λ (t : List ℕ). t ++ rest) served.given ∙ append_assoc served.answers served.put rest;
     }
 
 -- a gate that was shut and a seat that agrees make a report

@@ -1,6 +1,5 @@
 -- What a run reports.
 use Rattle.std.specs.Prelude.{◌≡◌, ℕ, ◌+◌, Bool, true, List, [], ◌∷◌, ◌++◌, length}
-use Rattle.std.specs.List.{concat}
 use Rattle.capture_form.specs.declared.records.Record.{Record}
 use Rattle.capture_form.specs.Rules.{RuleText}
 use Rattle.capture_form.specs.Text.{Trace}
@@ -8,12 +7,13 @@ use Rattle.core_exchange.specs.Captures.{IsOfCore}
 use Rattle.core_exchange.specs.Seats.{Begins, inputs_on, outs_on, owned_below}
 use Rattle.conn_workers.specs.declared.report.ConnReport.{ConnReport}
 use Rattle.conn_serving.specs.Served.{IsServed}
+use Rattle.conn_serving.specs.Streams.{IsWritten}
 use Rattle.conn_workers.specs.Lines.{IsFrom}
 
 module _ {G : Type 0} (gates : List G) (Follows : G → G → Type 0) (Delivered Took : G → List ℕ → Type 0) (ended : G → Bool) where
   -- Connection k of a capture: its gate was given at that place and has ended, or its engine was over. Its inputs are the
   -- items of what the gate delivered up to then, and the loss, where it was opened. What the gate took begins the answers and
-  -- then all frames that were written to it.
+  -- then all frames that were written to it, with empty ones between them where the client asks for these.
   pub record IsReported (records : List Record) (k : ℕ) (report : ConnReport G) : Type 0 where
     pub conn : report.conn ≡ k
     pub from : IsFrom gates Follows k report.gate
@@ -21,8 +21,10 @@ module _ {G : Type 0} (gates : List G) (Follows : G → G → Type 0) (Delivered
     pub frames : List (List ℕ)
     pub written : Begins frames (outs_on k records)
     pub served : IsServed Delivered Took ended report.gate report.items.items frames report.taken.items
+    pub put : List ℕ
+    pub all : IsWritten served.stream.steps (outs_on k records) put
     pub left : List ℕ
-    pub given : report.taken.items ++ left ≡ served.answers ++ concat (outs_on k records)
+    pub given : report.taken.items ++ left ≡ served.answers ++ put
 
   -- the reports are those of connections k and up
   abbrev pub AreReported : List Record → ℕ → List (ConnReport G) → Type 0

@@ -22,6 +22,8 @@ module _ {G : Type 0} (gates : List G) (Follows : G → G → Type 0) (Delivered
       answers = told.0.served.answers;
       stream = told.0.served.stream;
       items_are = told.0.served.items_are;
+      put = told.0.put;
+      all = told.0.all;
       left = told.0.left;
       given = told.0.given;
     },

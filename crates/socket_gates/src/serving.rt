@@ -16,6 +16,7 @@ use std::io::ErrorKind;
 use std::net::{Net, SocketAddr};
 use std::sync::Wait;
 use std::thread::Threads;
+use std::time::Clock;
 
 #[tactic(auto, using(crate::proofs::Listing::served_run))]
 /// Serves so many connections at an address to their ends, by so many workers, over one core of these rules that takes
@@ -26,7 +27,7 @@ use std::thread::Threads;
 /// # Errors
 ///
 /// As `RunFault` says. `Device` too where the address can not be listened at, or the system refuses a poll.
-pub fn serve<'a, R: Threads + Wait + Net + Sync>(
+pub fn serve<'a, R: Threads + Wait + Net + Clock + Sync>(
     rt: &'a R,
     alloc: Global,
     addr: SocketAddr,

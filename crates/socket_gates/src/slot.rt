@@ -10,6 +10,7 @@ use mio::net::{TcpListener, TcpStream};
 use std::alloc::Global;
 use std::io::ErrorKind;
 use std::sync::{Arc, Mutex, Wait};
+use std::time::{Clock, Duration};
 use std::{io, mem};
 
 /// Where a slot is.
@@ -134,7 +135,7 @@ impl<R: Wait> Slot<R> {
     }
 }
 
-impl<R: Wait> Gate for Slot<R> {
+impl<R: Wait + Clock> Gate for Slot<R> {
     ghost use Rattle.std.specs.Prelude.{⊤};
 
     ghost delivered = { λ slot octets. ⊤ };
@@ -239,9 +240,23 @@ impl<R: Wait> Gate for Slot<R> {
         self.failed
     }
 
+    fn now(&self) -> u64 {
+        match self.rt.monotonic() {
+            Ok(time) => whole_millis(time),
+            Err(_) => 0,
+        }
+    }
+
     ghost follows_itself = { λ slot. tt };
 
     ghost follows_on = { λ first second third before then. tt };
+}
+
+/// The whole milliseconds of a time, or as many as can be counted.
+fn whole_millis(time: Duration) -> u64 {
+    time.as_secs()
+        .saturating_mul(1000)
+        .saturating_add(time.subsec_millis() as u64)
 }
 
 /// The system's numbers for no memory left, for no descriptors left, in all and in this process, and for no room for sockets.

@@ -79,6 +79,10 @@ impl Bench {
             ["waits"] => self.names.of(self.engine.give()),
             ["gave", count] => self.gave(number(count)),
             ["gone"] => taken(alloc, self.engine.gone()),
+            ["tick", moment] => match self.engine.tick(number(moment) as u64) {
+                Ok(placed) => format!(in alloc; "{placed}"),
+                Err(_) => "no memory".to_string(alloc),
+            },
             ["over"] => format!(in alloc; "{}", self.engine.is_over()),
             ["items"] => self.items(),
             _ => "no such line".to_string(alloc),

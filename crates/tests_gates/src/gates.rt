@@ -8,6 +8,7 @@ use std::alloc::{AllocError, AllocGlobal, Global};
 use std::io::{Read, Write};
 use std::net::{Ipv4Addr, Net, SocketAddr, TcpStream};
 use std::sync::Wait;
+use std::time::Clock;
 use std::{io, str};
 
 /// How often a call is made again that has nothing to do yet.
@@ -22,7 +23,7 @@ const BLOCKS: u32 = 100_000;
 /// Opens so many slots of so many workers at a free port, and does with them and their clients what the steps say.
 pub fn play<R>(rt: &R, subject: &Step<'_>, steps: &[&str]) -> io::Result<()>
 where
-    R: Wait + Net<Stream = TcpStream> + Print + AllocGlobal,
+    R: Wait + Net<Stream = TcpStream> + Clock + Print + AllocGlobal,
 {
     let listener = TcpListener::bind(rt, SocketAddr::from((Ipv4Addr::LOCALHOST, 0)))?;
     let addr = listener.local_addr()?;

@@ -22,6 +22,7 @@ use std::io;
 use std::net::{Net, TcpStream};
 use std::sync::Wait;
 use std::thread::Threads;
+use std::time::Clock;
 use step::Step;
 
 fn main(rt: HostRuntime) -> io::Result<()> {
@@ -40,7 +41,7 @@ fn main(rt: HostRuntime) -> io::Result<()> {
 /// Plays a script of this subject.
 fn play<R>(rt: &R, subject: &Step<'_>, steps: &[&str]) -> io::Result<()>
 where
-    R: Threads + Wait + Net<Stream = TcpStream> + Sync + Print + AllocGlobal,
+    R: Threads + Wait + Net<Stream = TcpStream> + Clock + Sync + Print + AllocGlobal,
 {
     match subject.verb {
         "lives" => inputs::play_lives(rt, steps),

@@ -25,6 +25,7 @@ use std::net::Net;
 use std::rt::Files;
 use std::sync::Wait;
 use std::thread::Threads;
+use std::time::Clock;
 use std::{fs, io};
 
 fn main(rt: HostRuntime) -> io::Result<()> {
@@ -38,7 +39,7 @@ fn main(rt: HostRuntime) -> io::Result<()> {
 /// Plays the cases of a file.
 fn play_all<R>(rt: &R, text: &str) -> io::Result<()>
 where
-    R: Files + Print + AllocGlobal + Threads + Wait + Net + Sync,
+    R: Files + Print + AllocGlobal + Threads + Wait + Net + Clock + Sync,
 {
     for line in text.lines() {
         if line.is_empty() || line.starts_with('#') {

@@ -9,12 +9,13 @@ use std::net::Net;
 use std::rt::Files;
 use std::sync::Wait;
 use std::thread::Threads;
+use std::time::Clock;
 use std::{fs, io};
 
 /// What the run leaves that the case asks for.
 pub fn left_by<R>(rt: &R, case: &Case<'_>) -> io::Result<Left>
 where
-    R: Files + AllocGlobal + Threads + Wait + Net + Sync,
+    R: Files + AllocGlobal + Threads + Wait + Net + Clock + Sync,
 {
     let mut left = Left::new(rt.alloc(), case);
     match case.kind {
@@ -68,7 +69,7 @@ fn show<R: Files + AllocGlobal>(rt: &R, case: &Case<'_>, left: &mut Left) -> io:
 }
 
 /// The router.
-fn route<R: Files + AllocGlobal + Threads + Wait + Net + Sync>(
+fn route<R: Files + AllocGlobal + Threads + Wait + Net + Clock + Sync>(
     rt: &R,
     words: &[&str],
     left: &mut Left,

@@ -218,6 +218,10 @@ impl Gate for Client {
         self.failures
     }
 
+    fn now(&self) -> u64 {
+        0
+    }
+
     ghost use Rattle.std.proofs.Common.{refl, ◌∙◌};
 
     ghost follows_itself = { λ client. refl };

@@ -1,9 +1,8 @@
 use Rattle.conn_serving.specs.Served.{IsOpen}
-use Rattle.conn_serving.proofs.ServedOn.{on_ok_behind, open_refilled}
+use Rattle.conn_serving.proofs.ServedOn.{on_ok_behind}
 use Rattle.conn_serving.proofs.serving.advance.Goals as goal
 
 pub returns-in-Ok-clause-holds : goal.returns-in-Ok-clause-holds
 returns-in-Ok-clause-holds g c =
     on_ok_behind (IsOpen g.G.Gate.delivered g.G.Gate.took c.move_octets.new.gate c.move_octets.new.engine c.move_octets.new.taken.items) c.move_octets.result
-    (open_refilled g.G.Gate.delivered g.G.Gate.took c.args.gate.now c.args.engine.now c.refill.new.self c.args.taken.now.items c.refill.ensures.took c.refill.ensures.same)
-    c.move_octets.ensures.holds
+    c.in-Ok.ensures.holds c.move_octets.ensures.holds
