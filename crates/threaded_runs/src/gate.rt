@@ -42,6 +42,8 @@ pub struct Pace {
     pub patience: u64,
     /// Whether its device fails where it is waited for.
     pub breaks: bool,
+    /// So many milliseconds pass from one look at its clock to the next.
+    pub passes: u64,
 }
 
 /// A client that keeps to its script.
@@ -60,6 +62,8 @@ pub struct Client {
     shuts: u64,
     late_calls: u64,
     failures: u64,
+    /// What its clock shows next.
+    moment: AtomicU64,
     mine: Arc<Post, Global>,
     theirs: Arc<Post, Global>,
     ghost within: { at ≤ length stream.items },
@@ -100,6 +104,7 @@ impl Client {
             shuts: 0,
             late_calls: 0,
             failures: 0,
+            moment: AtomicU64::new(0),
             mine,
             theirs,
         }
@@ -219,7 +224,7 @@ impl Gate for Client {
     }
 
     fn now(&self) -> u64 {
-        0
+        self.moment.fetch_add(self.pace.passes, Ordering::SeqCst)
     }
 
     ghost use Rattle.std.proofs.Common.{refl, ◌∙◌};

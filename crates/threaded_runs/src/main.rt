@@ -23,7 +23,7 @@ use audit_core::{Verdict, audit_bytes};
 use capture_form::{Capture, Distribution, Rule, write_capture};
 use clients::Part;
 use gate::{LOOKS, PATIENCE, Pace, stream_of};
-use script::{BEGINS_LATE, CONSUMER, OPENS_LATE, PRODUCER, STRANGER, STRANGERS, Script};
+use script::{BEGINS_LATE, CONSUMER, OPENS_LATE, PRODUCER, QUIET, STRANGER, STRANGERS, Script};
 use served::{LIMIT, Served, serve_two};
 use shared::share_core;
 use std::alloc::{AllocError, Global};
@@ -43,6 +43,7 @@ const ONE_BY_ONE: Pace = Pace {
     meets: false,
     patience: LOOKS,
     breaks: false,
+    passes: 0,
 };
 
 /// One that waits a little.
@@ -53,6 +54,7 @@ const IN_HASTE: Pace = Pace {
     meets: false,
     patience: 200,
     breaks: false,
+    passes: 0,
 };
 
 fn main(rt: HostRuntime) -> ExitCode {
@@ -66,6 +68,7 @@ fn run_all<R: Threads + Wait + Sync + Print>(rt: &R, alloc: Global) -> io::Resul
     share(rt, alloc)?;
     exchange(rt, alloc)?;
     take_turns(rt, alloc)?;
+    listen(rt, alloc)?;
     vanish(rt, alloc)?;
     trouble(rt, alloc)?;
     stop(rt, alloc)
@@ -118,6 +121,18 @@ fn take_turns<R: Threads + Wait + Sync + Print>(rt: &R, alloc: Global) -> io::Re
     let second = part(alloc, OPENS_LATE, pace)?;
     let served = serve_two(rt, alloc, 1, LIMIT, &rules, first, second)?;
     println!(rt; "one worker, in turns: {}", told(alloc, &served)?)
+}
+
+/// Two clients that wait for signs of life, with clocks that move, and with clocks that stand still.
+fn listen<R: Threads + Wait + Sync + Print>(rt: &R, alloc: Global) -> io::Result<()> {
+    let rules = rules(alloc, false)?;
+    for (passes, name) in [(90, "signs of life"), (0, "clocks that stand still")] {
+        let pace = Pace { passes, ..IN_HASTE };
+        let (first, second) = (part(alloc, QUIET, pace)?, part(alloc, QUIET, pace)?);
+        let served = serve_two(rt, alloc, 1, LIMIT, &rules, first, second)?;
+        println!(rt; "{name}: {}", told(alloc, &served)?)?;
+    }
+    Ok(())
 }
 
 /// The exchange, where one of both is gone behind any octet.

@@ -133,6 +133,28 @@ pub const OPENS_LATE: Script = Script {
     wanted: 44,
 };
 
+/// It asks for signs of life each second, says its close only when it has heard three of them, and ends behind the answer.
+pub const QUIET: Script = Script {
+    turns: &[
+        Turn {
+            octets: AMQP_HEADER,
+            taken: 0,
+            others: 0,
+        },
+        Turn {
+            octets: QUIET_OPEN,
+            taken: 8,
+            others: 0,
+        },
+        Turn {
+            octets: CLOSE,
+            taken: 68,
+            others: 0,
+        },
+    ],
+    wanted: 80,
+};
+
 /// It says all that it has at once.
 pub const STRANGER: Script = Script {
     turns: &[Turn {
@@ -160,6 +182,9 @@ pub const AMQP_HEADER: &[u8] = b"AMQP\x00\x01\x00\x00";
 const PRODUCER_OPEN: &[u8] = b"\x00\x00\x00\x11\x02\x00\x00\x00\x00\x53\x10\xc0\x04\x01\xa1\x01p";
 
 const CONSUMER_OPEN: &[u8] = b"\x00\x00\x00\x11\x02\x00\x00\x00\x00\x53\x10\xc0\x04\x01\xa1\x01c";
+
+const QUIET_OPEN: &[u8] =
+    b"\x00\x00\x00\x19\x02\x00\x00\x00\x00\x53\x10\xc0\x0c\x05\xa1\x01s\x40\x40\x40\x70\x00\x00\x03\xe8";
 
 const BEGIN: &[u8] =
     b"\x00\x00\x00\x14\x02\x00\x00\x00\x00\x53\x11\xc0\x07\x04\x40\x43\x52\x64\x52\x64";
