@@ -6,7 +6,7 @@ use Rattle.trace_events.specs.Words.{is_some_and}
 use Rattle.trace_events.specs.Event.{Incoming}
 use Rattle.audit_held.specs.Held.{Held, says_arriving, says_waiting}
 use Rattle.number_groups.specs.Ids.{same_id}
-use Rattle.audit_held.specs.Grouped.{AreGrouped, IsPut, marks_of, unmarked, is_of_link, is_of_session, has_id, is_for}
+use Rattle.audit_held.specs.Grouped.{AreGrouped, IsMarked, IsPut, marks_of, unmarked, is_of_link, is_of_session, has_id, is_for}
 use Rattle.audit_held.specs.declared.groups.HeldGroups.{HeldGroups}
 use Rattle.audit_held.specs.declared.groups.Marks.{Marks}
 
@@ -86,4 +86,23 @@ module _ (d : Incoming) (groups later : HeldGroups) (kept behind : ℕ → Optio
         ∙ (regrouped (is_for address) (λ x. says_waiting x.fate) d old new was is (d.number == n) (kept n) _ (grouped.waiting address n) (here n)
         ∙ ap (λ o. is_some_and o (λ x. is_for address x.delivery && says_waiting x.fate)) (sym (moved n))));
     numbered = λ n. numbered-by n (grouped.numbered n);
+  }
+
+-- what is kept of a delivery stands where its marks say
+module _ (d : Incoming) (groups : HeldGroups) (kept : ℕ → Option Held) (old : Option Held) (was : IsOf d old) (at : kept d.number ≡ old) where
+  of-mark : (key : Incoming → Bool) (mark : Held → Bool) (f : Marks → Bool) → f unmarked ≡ false → ((x : Held) → f (marks_of x) ≡ mark x) → key d ≡ true
+      → (g : Bool) → g ≡ is_some_and (kept d.number) (λ x. key x.delivery && mark x) → g ≡ f (marks old)
+  of-mark key mark f none some on g is = is ∙ (ap (λ o. is_some_and o (λ x. key x.delivery && mark x)) at ∙ by old was)
+    where
+      by : (o : Option Held) → IsOf d o → is_some_and o (λ x. key x.delivery && mark x) ≡ f (marks o)
+      by None of = sym none
+      by (Some x) of = ap (λ y. key y && mark x) of ∙ (ap (λ b. b && mark x) on ∙ sym (some x))
+
+  pub grouped-marked : AreGrouped groups kept → IsMarked d (marks old) groups
+  grouped-marked grouped = record {
+    arriving = λ link on. of-mark (is_of_link link) (λ x. says_arriving x.fate) (λ m. m.is_arriving) refl (λ x. refl) on _ (grouped.arriving link d.number);
+    undecided = λ link on. of-mark (is_of_link link) (λ x. x.is_undecided) (λ m. m.is_undecided) refl (λ x. refl) on _ (grouped.undecided link d.number);
+    of_session = λ session on. of-mark (is_of_session session) (λ x. x.is_undecided) (λ m. m.is_undecided) refl (λ x. refl) on _ (grouped.of_session session d.number);
+    in_use = λ key on. of-mark (has_id key.session key.id) (λ x. x.is_undecided) (λ m. m.is_undecided) refl (λ x. refl) on _ (grouped.in_use key d.number);
+    waiting = λ address on. of-mark (is_for address) (λ x. says_waiting x.fate) (λ m. m.is_waiting) refl (λ x. refl) on _ (grouped.waiting address d.number);
   }

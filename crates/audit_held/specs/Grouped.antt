@@ -1,5 +1,5 @@
 -- Which of the deliveries that are kept stand in which group.
-use Rattle.std.specs.Prelude.{◌≡◌, ℕ, Bool, false, ◌&&◌, List, Option, IfSome, bytes_eq, nat_eq, if◌then◌else◌, ◌==◌}
+use Rattle.std.specs.Prelude.{◌≡◌, ℕ, Bool, true, false, ◌&&◌, List, Option, IfSome, bytes_eq, nat_eq, if◌then◌else◌, ◌==◌}
 use Rattle.number_groups.specs.Groups.{is_member}
 use Rattle.number_groups.specs.OctetGroups as octets
 use Rattle.trace_events.specs.Words.{is_number, is_some_and}
@@ -39,6 +39,14 @@ pub record AreGrouped (groups : HeldGroups) (kept : ℕ → Option Held) : Type 
   pub in_use : (at : IdOn) (n : ℕ) → is_member same_id groups.in_use at n ≡ is_some_and (kept n) (λ x. has_id at.session at.id x.delivery && x.is_undecided)
   pub waiting : (address : List ℕ) (n : ℕ) → octets.is_member groups.waiting address n ≡ is_some_and (kept n) (λ x. is_for address x.delivery && says_waiting x.fate)
   pub numbered : (n : ℕ) → IfSome (kept n) (λ x. x.delivery.number ≡ n)
+
+-- the delivery stands where the marks say
+pub record IsMarked (d : Incoming) (marks : Marks) (groups : HeldGroups) : Type 0 where
+  pub arriving : (link : ℕ) → is_of_link link d ≡ true → is_member nat_eq groups.arriving link d.number ≡ marks.is_arriving
+  pub undecided : (link : ℕ) → is_of_link link d ≡ true → is_member nat_eq groups.undecided link d.number ≡ marks.is_undecided
+  pub of_session : (session : ℕ) → is_of_session session d ≡ true → is_member nat_eq groups.of_session session d.number ≡ marks.is_undecided
+  pub in_use : (at : IdOn) → has_id at.session at.id d ≡ true → is_member same_id groups.in_use at d.number ≡ marks.is_undecided
+  pub waiting : (address : List ℕ) → is_for address d ≡ true → octets.is_member groups.waiting address d.number ≡ marks.is_waiting
 
 -- the delivery is put where the marks say, and no other moves
 pub record IsPut (d : Incoming) (marks : Marks) (earlier later : HeldGroups) : Type 0 where

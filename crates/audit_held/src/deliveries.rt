@@ -100,7 +100,8 @@ impl Deliveries {
         ensures refused { OnErr result (is_some (incoming_begun (event_view event.now)) ≡ true) }
     {
         if let Some(held) = HeldDelivery::begin(self.alloc, rules, event, has_consumer)? {
-            self.groups.put(&held.delivery(), Marks::of(&held, true))?;
+            self.groups
+                .put(&held.delivery(), Marks::none(), Marks::of(&held, true))?;
             self.entries.insert(event.number, held)?;
         }
         Ok(())
@@ -126,8 +127,10 @@ impl Deliveries {
         let Some(held) = self.entries.get_mut(&number) else {
             return Ok(());
         };
+        let before = Marks::of(held, true);
         let stays = held.take(rules, event, has_consumer)?;
-        self.groups.put(&held.delivery(), Marks::of(held, stays))?;
+        self.groups
+            .put(&held.delivery(), before, Marks::of(held, stays))?;
         if !stays {
             self.entries.swap_remove(&number);
         }
