@@ -2,8 +2,8 @@
 use Rattle.std.proofs.Common.{◌≡◌, refl, sym, ap, subst, ◌∙◌, ◌<◌, ◌^◌, ℕ, List, [], ◌∷◌, ◌++◌, length, None}
 use Rattle.capture_form.specs.declared.records.Record.{Record}
 use Rattle.capture_form.specs.Rules.{RuleText}
-use Rattle.trace_events.specs.Event.{Event, Moment}
-use Rattle.trace_events.specs.History.{judge, history, moment_of}
+use Rattle.trace_events.specs.Event.{Event}
+use Rattle.trace_events.specs.History.{judge, history}
 use Rattle.trace_clauses.specs.Clauses.{first_broken}
 use Rattle.trace_clauses.specs.Verdict.{tally_of}
 use Rattle.trace_clauses.specs.declared.tally.Tally.{Tally}
@@ -16,16 +16,6 @@ use Rattle.audit_ledger.specs.Ledger.{broken_behind}
 module _ (rules : List RuleText) (records : List Record) (r : Record) where
   abbrev past : List Event
   past = history rules records
-
-  -- the event says what happened
-  read : (judge rules past r).moment ≡ moment_of r.what
-  read = refl
-
-  -- an event like it, at the moment that was read, is it
-  pub same-event : (e : Event) (moment : Moment) → moment ≡ moment_of r.what → e ≡ judge rules past r → (record e { moment = moment }) ≡ judge rules past r
-  same-event e moment is same =
-      ap (λ (x : Event). let y : Event = record x { moment = moment } in y) same
-      ∙ ap (λ (m : Moment). let y : Event = record (judge rules past r) { moment = m } in y) is
 
   -- the record's event, by which the tables are moved
   pub lawful-next : (e : Event) → e ≡ judge rules past r → first_broken rules past ≡ None → broken_behind rules records r ≡ None → IsLawfulNext rules records r e

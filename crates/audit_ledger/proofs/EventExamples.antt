@@ -3,16 +3,16 @@ use Rattle.std.proofs.Common.{◌≡◌, refl, sym, ap, ◌∙◌, ℕ, true, fa
 use Rattle.amqp_frames.specs.Writing.{frame_octets}
 use Rattle.amqp_frames.specs.Reading.{whole_frame, frame_at, sized_frame, headed_frame}
 use Rattle.amqp_perf.proofs.Opened.{read, written}
-use Rattle.pairing_cert.specs.declared.note.Note.TheVariants as notes
 use Rattle.trace_events.specs.Frame.{frame_read}
-use Rattle.trace_events.specs.Event.{Event, Link, Incoming, Outgoing, Opened, Lost}
+use Rattle.trace_events.specs.Event.{Event, Link, Incoming, Outgoing}
 use Rattle.trace_events.specs.History.{judge}
 use Rattle.trace_clauses.specs.declared.clause.Clause.TheVariants.{L1, L2}
 use Rattle.trace_clauses.specs.Written.{spoken_octets, written_open}
 use Rattle.trace_clauses.proofs.Captures.{opened}
 use Rattle.trace_clauses.proofs.Made.{write}
 use Rattle.audit_ledger.specs.HeldEvents.{has_parts, facts_of, parts_of, event_of}
-use Rattle.audit_ledger.specs.NextEvents.{IsRead, IsAnswer}
+use Rattle.audit_ledger.specs.NextEvents.{IsAnswer, IsHeldAnswer}
+use Rattle.audit_ledger.specs.declared.not_entered.NotEntered.TheVariants.{Broken, Memory}
 
 -- ---- memory is asked for the link alone, for either delivery alone, and for nothing else
 
@@ -32,20 +32,6 @@ no_part = refl
 -- an event is its facts, its parts and its moment
 whole_again : (e : Event) → event_of (facts_of e) (parts_of e) e.moment ≡ e
 whole_again e = refl
-
--- ---- a record that was read
-
-as_read : IsRead (opened 3) 3 Opened notes.None
-as_read = (refl, refl, refl)
-
-on_another_connection : IsRead (opened 3) 4 Opened notes.None → ⊥
-on_another_connection h = let never : ◌≡◌ {A = ℕ} 4 3 = h.0 in absurd cc
-
-at_another_moment : IsRead (opened 3) 3 Lost notes.None → ⊥
-at_another_moment h = let never : Lost ≡ Opened = h.1 in absurd cc
-
-with_another_note : IsRead (opened 3) 3 Opened (notes.Pair 0) → ⊥
-with_another_note h = let never : notes.Pair 0 ≡ notes.None = h.2 in absurd cc
 
 -- ---- the answer to a first record
 
@@ -68,3 +54,20 @@ broken_otherwise h = let never : Some L1 ≡ Some L2 = sym broken_first ∙ h in
 
 broken_and_taken : IsAnswer [] [] (write 0 written_open) (Ok (judge [] [] (write 0 written_open))) → ⊥
 broken_and_taken h = let never : Some L1 ≡ None = sym broken_first ∙ h.1 in absurd cc
+
+-- ---- what is held of it, and why nothing is
+
+held_unbroken : IsHeldAnswer [] [] (opened 0) (judge [] [] (opened 0)) (Ok tt)
+held_unbroken = unbroken
+
+another_is_held : IsHeldAnswer [] [] (opened 0) (record (judge [] [] (opened 0)) { number = 1 }) (Ok tt) → ⊥
+another_is_held = under_another_number
+
+refused_by_its_clause : (held : Event) → IsHeldAnswer [] [] (write 0 written_open) held (Err (Broken L1))
+refused_by_its_clause held = broken_first
+
+refused_by_another : (held : Event) → IsHeldAnswer [] [] (write 0 written_open) held (Err (Broken L2)) → ⊥
+refused_by_another held = broken_otherwise
+
+refused_for_memory : (held : Event) → IsHeldAnswer [] [] (write 0 written_open) held (Err Memory)
+refused_for_memory held = tt

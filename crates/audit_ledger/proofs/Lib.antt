@@ -1,4 +1,5 @@
 mod Entered
+mod HeldAnswers
 mod UnopenedRecords
 pub mod NextAnswers
 mod EventExamples

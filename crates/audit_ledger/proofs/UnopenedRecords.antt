@@ -1,23 +1,20 @@
 -- The event of a record, before what it opens is filled in: the law is asked of it there.
-use Rattle.std.proofs.Common.{◌≡◌, sym, ap, subst, ◌∙◌, ℕ, List, length}
-use Rattle.pairing_cert.specs.declared.note.Note.{Note}
+use Rattle.std.proofs.Common.{◌≡◌, sym, ap, subst, ◌∙◌, List, length}
 use Rattle.capture_form.specs.declared.records.Record.{Record}
 use Rattle.capture_form.specs.Rules.{RuleText}
-use Rattle.trace_events.specs.Event.{Event, Moment}
+use Rattle.trace_events.specs.Event.{Event}
 use Rattle.trace_events.specs.Session.{StandsLive}
 use Rattle.trace_events.specs.Link.{NamesLive}
-use Rattle.trace_events.specs.History.{moment_of, opened, judge, judge_unopened}
+use Rattle.trace_events.specs.History.{moment_of, opened, judge}
 use Rattle.trace_events.proofs.Standing.{placed-stands}
 use Rattle.trace_clauses.specs.Clauses.{broken_clause}
 use Rattle.trace_clauses.proofs.LiveLinks.{placed-names}
 use Rattle.trace_clauses.proofs.Unopened.{broken-unopened}
-use Rattle.audit_ledger.specs.NextEvents.{IsRead, unopened}
+use Rattle.audit_ledger.specs.NextEvents.{unopened}
 
--- what is judged of a connection, a moment and a note is judged of the record that has them
-pub read-unopened : (rules : List RuleText) (past : List Event) (r : Record) (c : ℕ) (m : Moment) (note : Note) → IsRead r c m note → judge_unopened rules past c m note ≡ unopened rules past r
-read-unopened rules past r c m note read =
-    ap (λ n. judge_unopened rules past n m note) read.0
-    ∙ (ap (λ (x : Moment). judge_unopened rules past r.connection x note) read.1 ∙ ap (λ (x : Note). judge_unopened rules past r.connection (moment_of r.what) x) read.2)
+-- an event like it, at the moment that was read, is it
+pub at-moment : (rules : List RuleText) (past : List Event) (r : Record) (e : Event) → e ≡ judge rules past r → (record e { moment = moment_of r.what }) ≡ judge rules past r
+at-moment rules past r e same = ap (λ (x : Event). let y : Event = record x { moment = moment_of r.what } in y) same
 
 module _ (rules : List RuleText) (past : List Event) (r : Record) (e : Event) (is : e ≡ unopened rules past r) where
   pub stands-live : StandsLive e past

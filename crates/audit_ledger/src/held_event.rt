@@ -1,6 +1,6 @@
 //! An event that is kept, but for its moment, with addresses of its own: what it borrowed them from may then be moved by it.
 
-ghost use Rattle.std.specs.Prelude.{◌≡◌, IfOk, OnErr, true};
+ghost use Rattle.std.specs.Prelude.{◌≡◌, OnOk, OnErr, true};
 ghost use Rattle.audit_ledger.specs.HeldEvents.{facts_of, parts_of, has_parts, held_event_view};
 ghost use Rattle.trace_events.specs.Event as law;
 ghost use Rattle.trace_values.specs.View.{event_view, moment_view};
@@ -26,6 +26,20 @@ pub struct HeldFacts {
 }
 
 impl HeldFacts {
+    /// Those of no record.
+    fn none() -> HeldFacts {
+        HeldFacts {
+            number: 0,
+            connection: 0,
+            note: Note::None,
+            session: None,
+            told: None,
+            settled: None,
+            is_heard: false,
+            fault: None,
+        }
+    }
+
     fn new(event: &Event) -> HeldFacts
         ensures { result ≡ facts_of (event_view event.now) }
     {
@@ -50,19 +64,25 @@ pub struct HeldEvent {
 }
 
 impl HeldEvent {
-    /// A copy of it.
+    /// The place for one: of no record yet. It takes no memory.
+    pub fn new() -> HeldEvent {
+        HeldEvent {
+            facts: HeldFacts::none(),
+            parts: HeldParts::new(),
+        }
+    }
+
+    /// Keeps this event in the place of the one before.
     ///
     /// # Errors
     ///
-    /// Memory was refused, for the address of a link; the event has one, or a delivery.
-    pub fn new(alloc: Global, event: &Event) -> Result<HeldEvent, AllocError>
-        ensures copied { IfOk result (λ own. (moment : law.Moment) → held_event_view own moment ≡ record (event_view event.now) { moment = moment }) }
+    /// Memory was refused, for the address of a link; the event has one, or a delivery. Then what is kept may be of neither.
+    pub fn keep(&mut self, alloc: Global, event: &Event) -> Result<(), AllocError>
+        ensures copied { OnOk result ((moment : law.Moment) → held_event_view self.new moment ≡ record (event_view event.now) { moment = moment }) }
         ensures refused { OnErr result (has_parts (parts_of (event_view event.now)) ≡ true) }
     {
-        Ok(HeldEvent {
-            facts: HeldFacts::new(event),
-            parts: HeldParts::new(alloc, event)?,
-        })
+        self.facts = HeldFacts::new(event);
+        self.parts.keep(alloc, event)
     }
 
     /// The event, with this moment, and with the addresses lent.

@@ -1,6 +1,6 @@
 //! The link of an event and the deliveries that its transfer begins or goes on with, kept: with addresses of their own.
 
-ghost use Rattle.std.specs.Prelude.{◌≡◌, IfOk, OnErr, is_some, true, option_map};
+ghost use Rattle.std.specs.Prelude.{◌≡◌, IfOk, OnOk, OnErr, is_some, true, option_map};
 ghost use Rattle.audit_ledger.specs.HeldEvents.{parts_of, has_parts, held_incoming_view, held_outgoing_view, held_parts_view};
 ghost use Rattle.audit_tables.specs.HeldViews.{held_link_view};
 ghost use Rattle.trace_values.specs.View.{event_view, incoming_view, link_view, outgoing_view};
@@ -139,20 +139,28 @@ fn held_outgoing(
 }
 
 impl HeldParts {
-    /// Copies of those of the event.
+    /// None of them.
+    pub(crate) fn new() -> HeldParts {
+        HeldParts {
+            link: None,
+            incoming: None,
+            outgoing: None,
+        }
+    }
+
+    /// Copies of those of the event, in the place of those before.
     ///
     /// # Errors
     ///
-    /// Memory was refused, for the address of a link; the event has one, or a delivery.
-    pub(crate) fn new(alloc: Global, event: &Event) -> Result<HeldParts, AllocError>
-        ensures value { IfOk result (λ own. held_parts_view own ≡ parts_of (event_view event.now)) }
+    /// Memory was refused, for the address of a link; the event has one, or a delivery. Then some may be those before.
+    pub(crate) fn keep(&mut self, alloc: Global, event: &Event) -> Result<(), AllocError>
+        ensures value { OnOk result (held_parts_view self.new ≡ parts_of (event_view event.now)) }
         ensures refused { OnErr result (has_parts (parts_of (event_view event.now)) ≡ true) }
     {
-        Ok(HeldParts {
-            link: held_link(alloc, event.link)?,
-            incoming: held_incoming(alloc, event.incoming)?,
-            outgoing: held_outgoing(alloc, event.outgoing)?,
-        })
+        self.link = held_link(alloc, event.link)?;
+        self.incoming = held_incoming(alloc, event.incoming)?;
+        self.outgoing = held_outgoing(alloc, event.outgoing)?;
+        Ok(())
     }
 
     /// The link, with the address lent.

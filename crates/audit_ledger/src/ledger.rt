@@ -5,14 +5,14 @@ ghost use Rattle.capture_form.specs.Rules.{RuleText};
 ghost use Rattle.capture_form.specs.declared.records.Record.{Record};
 ghost use Rattle.trace_events.specs.History.{history, moment_of};
 ghost use Rattle.audit_tables.specs.Connections.{IsLawfulNext};
-ghost use Rattle.audit_answers.specs.Tables.{StandFor, entries_of};
+ghost use Rattle.audit_answers.specs.Tables.{AreTables, StandFor, entries_of};
 ghost use Rattle.audit_ledger.specs.HeldEvents.{held_event_view};
 ghost use Rattle.audit_ledger.specs.declared.not_entered.NotEntered.TheVariants.{Memory};
 ghost use Rattle.audit_ledger.specs.Ledger.{IsReason, Stands, broken_behind};
 ghost use Rattle.trace_values.specs.View.{event_view};
 
 use crate::not_entered::NotEntered;
-use crate::{HeldEvent, counted, next_event};
+use crate::{HeldEvent, counted, hold_next};
 use audit_answers::{Looked, Tables};
 use capture_form::{Record, Rule};
 use std::alloc::{AllocError, Global};
@@ -25,6 +25,8 @@ pub struct Ledger {
     alloc: Global,
     tables: Tables,
     tally: Tally,
+    // The event of the record that is entered.
+    held: HeldEvent,
 }
 
 impl Ledger {
@@ -40,6 +42,7 @@ impl Ledger {
                 deliveries: 0,
                 outcomes: 0,
             },
+            held: HeldEvent::new(),
         }
     }
 
@@ -79,44 +82,55 @@ impl Ledger {
         ensures reason { IfErr result (λ why. (records : List Record) → Stands rules.now self.old records → IsReason rules.now records entry.now why) }
         ensures same { IfErr result (λ why. why ≢ Memory → self.new ≡ self.old) }
     {
-        let held = self.judged(rules, entry)?;
-        let event = made_again(&held, entry);
-        self.follow(rules, &event)?;
-        Ok(())
-    }
-
-    /// The event, of a next record with which the capture is lawful, follows those so far.
-    fn follow(&mut self, rules: &[Rule], event: &Event) -> Result<(), AllocError>
-        ensures { OnOk result (self.old.tally.records < 2 ^ 63 → (records : List Record) (r : Record) → IsLawfulNext rules.now records r (event_view event.now) →
-            Stands rules.now self.old records → Stands rules.now self.new (records ++ r ∷ [])) }
-    {
-        self.tables.take(rules, event)?;
-        self.tally = counted(self.tally, event);
-        Ok(())
-    }
-
-    /// The event of the record, kept but for its moment.
-    fn judged<'a>(&'a self, rules: &[Rule], entry: &'a Record) -> Result<HeldEvent, NotEntered>
-        ensures lawful { IfOk result (λ held. (records : List Record) → Stands rules.now self.now records →
-            IsLawfulNext rules.now records entry.now (held_event_view held (moment_of entry.now.what))) }
-        ensures met { OnOk result ((records : List Record) → Stands rules.now self.now records → broken_behind rules.now records entry.now ≡ None) }
-        ensures reason { IfErr result (λ why. (records : List Record) → Stands rules.now self.now records → IsReason rules.now records entry.now why) }
-    {
-        let looked = self.tables.looked();
         let number = self.tally.records;
-        let moment = Moment::of(&entry.what);
-        match next_event(
-            &looked,
+        hold_event(
+            &mut self.held,
+            self.alloc,
+            &self.tables,
             rules,
             number,
-            entry.connection,
-            &moment,
-            entry.note,
-        ) {
-            Ok(event) => Ok(HeldEvent::new(self.alloc, &event)?),
-            Err(clause) => Err(NotEntered::Broken(clause)),
-        }
+            entry,
+        )?;
+        self.follow(rules, entry)?;
+        Ok(())
     }
+
+    /// The record, of which the event is held and with which the capture is lawful, follows those so far.
+    fn follow(&mut self, rules: &[Rule], entry: &Record) -> Result<(), AllocError>
+        ensures { OnOk result (self.old.tally.records < 2 ^ 63 → (records : List Record) →
+            IsLawfulNext rules.now records entry.now (held_event_view self.old.held (moment_of entry.now.what)) →
+            Stands rules.now self.old records → Stands rules.now self.new (records ++ entry.now ∷ [])) }
+    {
+        let event = made_again(&self.held, entry);
+        self.tables.take(rules, &event)?;
+        self.tally = counted(self.tally, &event);
+        Ok(())
+    }
+}
+
+/// The event of the record, which has this number behind those of the tables, is held, but for its moment.
+///
+/// # Errors
+///
+/// The first clause that it breaks; then what is held stays. Or memory was refused; then what is held may be of no record.
+fn hold_event<'a>(
+    held: &mut HeldEvent,
+    alloc: Global,
+    tables: &'a Tables,
+    rules: &[Rule],
+    number: u64,
+    entry: &'a Record,
+) -> Result<(), NotEntered>
+    ensures lawful { OnOk result ((records : List Record) → AreTables rules.now tables.now (history rules.now records) → number ≡ length (history rules.now records) →
+        IsLawfulNext rules.now records entry.now (held_event_view held.new (moment_of entry.now.what))) }
+    ensures met { OnOk result ((records : List Record) → AreTables rules.now tables.now (history rules.now records) → number ≡ length (history rules.now records) →
+        broken_behind rules.now records entry.now ≡ None) }
+    ensures reason { IfErr result (λ why. (records : List Record) → AreTables rules.now tables.now (history rules.now records) → number ≡ length (history rules.now records) →
+        IsReason rules.now records entry.now why) }
+    ensures same { IfErr result (λ why. why ≢ Memory → held.new ≡ held.old) }
+{
+    let looked = tables.looked();
+    hold_next(held, alloc, &looked, rules, number, entry)
 }
 
 /// The event of the record, of what was kept of it.

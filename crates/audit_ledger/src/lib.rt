@@ -24,7 +24,7 @@ mod tallied;
 
 pub use held_event::{HeldEvent, HeldFacts};
 pub use held_parts::{HeldIncoming, HeldOutgoing, HeldParts};
-pub use judging::next_event;
+pub use judging::hold_next;
 pub use ledger::Ledger;
 pub use not_entered::NotEntered;
 pub use tallied::counted;

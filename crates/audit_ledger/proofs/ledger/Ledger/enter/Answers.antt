@@ -1,10 +1,16 @@
-use Rattle.std.proofs.Common.{sym, subst}
-use Rattle.trace_events.specs.Event.{Event}
-use Rattle.audit_tables.specs.Connections.{IsLawfulNext}
+use Rattle.std.proofs.Common.{ap}
+use Rattle.std.proofs.lemmas.Result.{err_from_is_err_and}
+use Rattle.trace_clauses.specs.declared.tally.Tally.{Tally}
 use Rattle.audit_ledger.proofs.ledger.Ledger.enter.Goals as goal
+
+pub returns-clause-met : goal.returns-clause-met
+returns-clause-met c = λ records stands. c.in_ok-hold_event.ensures.met records stands.0 (ap (λ (x : Tally). x.records) stands.1)
 
 pub returns-clause-entered : goal.returns-clause-entered
 returns-clause-entered c = λ records stands.
-    let rules = c.args.rules.now in
-    let r = c.args.entry.now in
-    c.in_ok-follow.ensures c.requires.few records r (subst (λ (e : Event). IsLawfulNext rules records r e) (sym c.made_again-event.ensures) (c.in_ok-held.ensures.lawful records stands)) stands
+    c.in_ok-follow.ensures c.requires.few records (c.in_ok-hold_event.ensures.lawful records stands.0 (ap (λ (x : Tally). x.records) stands.1)) stands
+
+pub returns-in_err-hold_event-clause-reason : goal.returns-in_err-hold_event-clause-reason
+returns-in_err-hold_event-clause-reason c =
+    let p = err_from_is_err_and c.from_residual.result c.from_residual.ensures.1 in
+    rw (p.1, p.2) (λ records stands. c.in_err-hold_event.ensures.reason records stands.0 (ap (λ (x : Tally). x.records) stands.1))

@@ -1,11 +1,16 @@
+use Rattle.std.proofs.Common.{sym, subst}
+use Rattle.trace_events.specs.Event.{Event}
 use Rattle.trace_events.specs.History.{history}
 use Rattle.trace_values.specs.View.{event_view}
+use Rattle.audit_tables.specs.Connections.{IsLawfulNext}
 use Rattle.audit_ledger.proofs.Entered.{few, longer}
 use Rattle.audit_ledger.proofs.ledger.Ledger.follow.Goals as goal
 
 pub returns : goal.returns
-returns c = λ lt records r next stands.
+returns c = λ lt records held stands.
     let rules = c.args.rules.now in
     let past = history rules records in
-    longer rules records r c.take.new.self c.counted-self.result (event_view c.args.event.now) next.0 (c.in_ok-take.ensures records r next stands.0)
+    let r = c.args.entry.now in
+    let next = subst (λ (e : Event). IsLawfulNext rules records r e) (sym c.made_again-event.ensures) held in
+    longer rules records r c.take.new.self c.counted-self.result (event_view c.made_again-event.result) next.0 (c.in_ok-take.ensures records r next stands.0)
     (c.counted-self.ensures past stands.1 (few rules records r c.args.self.now.tally stands.1 lt))
