@@ -1,5 +1,5 @@
 -- One record more, behind those for which the books stand.
-use Rattle.std.proofs.Common.{◌≡◌, refl, sym, ap, subst, ◌∙◌, ℕ, List, [], ◌∷◌, ◌++◌, length, None, Result, Ok, Err, IfOk}
+use Rattle.std.proofs.Common.{◌≡◌, refl, sym, ap, subst, ◌∙◌, ℕ, List, [], ◌∷◌, ◌++◌, length, None, Result, Ok, Err, IfOk, OnOk}
 use Rattle.capture_form.specs.declared.records.Record.{Record}
 use Rattle.capture_form.specs.Rules.{RuleText}
 use Rattle.trace_events.specs.Event.{Event, Moment}
@@ -30,7 +30,7 @@ module _ (rules : List RuleText) (records : List Record) (r : Record) where
   pub numbered : (number : ℕ) → number ≡ length records → number ≡ length past
   numbered number is = is ∙ sym (length-history rules records)
 
--- of what was answered, one thing is so because another is
-pub if_ok : {A E : Type 0} {P Q : A → Type 0} (result : Result A E) → IfOk result P → ((x : A) → P x → Q x) → IfOk result Q
-if_ok (Ok x) is so = so x is
-if_ok (Err e) is so = tt
+-- where something was answered, one thing is so because another is
+pub on_ok : {A E P Q : Type 0} (result : Result A E) → OnOk result P → (P → Q) → OnOk result Q
+on_ok (Ok x) is so = so is
+on_ok (Err e) is so = tt

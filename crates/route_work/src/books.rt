@@ -19,8 +19,8 @@ use audit_answers::{Looked, Tables};
 use audit_ledger::HeldEvent;
 use capture_form::{Record, Rule};
 use std::alloc::{AllocError, Global};
-use trace_judge::judge;
-use trace_values::Event;
+use trace_judge::{judge_unopened_moment, open};
+use trace_values::{Event, Moment};
 
 /// The tables of the records so far, and what is due behind them.
 #[derive(Drop)]
@@ -51,23 +51,27 @@ impl<D: Dues> Books<D> {
         self.tables.looked()
     }
 
-    /// The event of the next record, which breaks no clause and has this number: a copy but for its moment.
+    /// The event of the next record, which breaks no clause and has this number, is held, but for its moment.
     ///
     /// # Errors
     ///
-    /// Where memory is refused.
-    pub fn judged(
-        &self,
+    /// Where memory is refused; then what is held may be of no record.
+    pub fn judge<'a>(
+        &'a self,
+        held: &mut HeldEvent,
         rules: &[Rule],
         number: u64,
-        entry: &Record,
-    ) -> Result<HeldEvent, AllocError>
-        ensures { IfOk result (λ held. (records : List Record) → AreBooks D.has_all rules.now self.now records → number ≡ length records →
-            IsUnbroken rules.now records entry.now → IsLawfulNext rules.now records entry.now (held_event_view held (moment_of entry.now.what))) }
+        entry: &'a Record,
+    ) -> Result<(), AllocError>
+        ensures { OnOk result ((records : List Record) → AreBooks D.has_all rules.now self.now records → number ≡ length records →
+            IsUnbroken rules.now records entry.now → IsLawfulNext rules.now records entry.now (held_event_view held.new (moment_of entry.now.what))) }
     {
         let looked = self.tables.looked();
-        let event = judge(&looked, rules, number, entry);
-        HeldEvent::new(self.alloc, &event)
+        let (connection, note) = (entry.connection, entry.note);
+        let moment = Moment::of(&entry.what);
+        let mut event = judge_unopened_moment(&looked, rules, number, connection, &moment, note);
+        open(&looked, &mut event);
+        held.keep(self.alloc, &event)
     }
 
     /// The event of a next record follows those so far.
