@@ -108,6 +108,7 @@ impl UnsentCopies {
     }
 
     /// The earliest unsent copy of the link of this number, if it may be sent a delivery.
+    #[inline(never)]
     fn copy_due<'t>(
         &mut self,
         number: u64,

@@ -225,6 +225,7 @@ fn served<'a>(event: &Event<'a>, before: &Looked<'_>) -> Option<&'a [u8]>
 }
 
 /// The link of this number, at its place, where it may be given more credit.
+#[inline(never)]
 fn credit_due<'t>(
     number: u64,
     place: Option<Place>,

@@ -137,6 +137,7 @@ fn asks_drain(event: &Event) -> bool
 }
 
 /// The link of this number, where its drain may be answered.
+#[inline(never)]
 fn drain_due<'t>(number: u64, rules: &[Rule], looked: &Looked<'t>) -> Option<Link<'t>>
     ensures due { IfSome result (λ link. (past : Events) → AreOf rules.now looked.now past → IsDrainable rules.now (link_view link) past) }
     ensures found { (past : Events) → AreOf rules.now looked.now past → (l : law.Link) → l.number ≡ number → IsDrainable rules.now l past →

@@ -156,6 +156,7 @@ fn granted(event: &Event) -> Option<u64>
 }
 
 /// The part that is due on the link of this number.
+#[inline(never)]
 fn part_due<'t>(number: u64, looked: &Looked<'t>) -> Option<DuePart<'t>>
     ensures due { IfSome result (λ part. (rules : List RuleText) (past : Events) → AreOf rules looked.now past → IsDuePart part past) }
     ensures found { (rules : List RuleText) (past : Events) → AreOf rules looked.now past → (l : law.Link) → l.number ≡ number → IsStill l past →

@@ -84,6 +84,7 @@ fn lowered(event: &Event, before: &Looked<'_>) -> Option<Session>
 }
 
 /// The live session of the candidate's channel, where it is the candidate and lacks window.
+#[inline(never)]
 fn lacking(candidate: Session, looked: &Looked<'_>) -> Option<Session>
     ensures due { IfSome result (λ s. (rules : List RuleText) (past : Events) → AreOf rules looked.now past → IsLacking s past) }
     ensures found { (rules : List RuleText) (past : Events) → AreOf rules looked.now past → IsLacking candidate past → result ≡ Some candidate }

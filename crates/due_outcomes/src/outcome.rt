@@ -27,6 +27,7 @@ pub struct DueOutcome<'t> {
 }
 
 /// The outcome of the delivery of the number, if one is to be told.
+#[inline(never)]
 pub(crate) fn outcome_of<'t>(
     rules: &[Rule],
     looked: &Looked<'t>,

@@ -113,6 +113,7 @@ impl Unsettled {
     }
 
     /// The delivery of the number is no candidate, and if it is settled, not found any more.
+    #[inline(never)]
     fn forget(&mut self, number: u64, entry: Option<&SentDelivery>)
         ensures left { (n : ℕ) → has self.new.candidates n ≡ (has self.old.candidates n && not (number == n)) }
         ensures shorter { has self.old.candidates number ≡ true → count_of self.new.candidates < count_of self.old.candidates }

@@ -206,6 +206,7 @@ impl Untold {
     }
 
     /// The delivery is no candidate, and not found any more by what is over of it.
+    #[inline(never)]
     fn forget(&mut self, looked: &Looked<'_>, number: u64)
         ensures left { (n : ℕ) → has self.new.candidates n ≡ (has self.old.candidates n && not (number == n)) }
         ensures shorter { has self.old.candidates number ≡ true → count_of self.new.candidates < count_of self.old.candidates }

@@ -107,6 +107,7 @@ impl Waiting {
     }
 
     /// What is due at the address of this index. Where nothing is, it goes, and the last one takes its place.
+    #[inline(never)]
     fn look<'t>(
         &mut self,
         index: usize,
