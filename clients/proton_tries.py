@@ -302,7 +302,42 @@ class Bare(OneByOne):
     options = {"sasl_enabled": False}
 
 
-TRIES = [Outcomes, OneByOne, Drains, Large, Multicast, Replies, ComeAndGo, Nameless, Bare]
+class Idle(Try):
+    """A connection that asks for signs of life each half second stays through ten of them in which nothing is said."""
+
+    options = {"heartbeat": 0.5}
+    wanted = ["still there", "a"]
+
+    def begin(self, event):
+        self.receiver = event.container.create_receiver(self.connection, "idle")
+        self.receiver.flow(1)
+        event.reactor.schedule(5, Then(self.speak))
+
+    def speak(self, event):
+        self.said.append("still there")
+        self.sender = event.container.create_sender(self.connection, "idle")
+
+    def on_sendable(self, event):
+        if event.sender.credit and len(self.said) == 1:
+            event.sender.send(Message(body="a"))
+
+    def on_message(self, event):
+        self.said.append(event.message.body)
+        self.accept(event.delivery)
+        self.end()
+
+
+class Then:
+    """Goes on after some seconds."""
+
+    def __init__(self, go_on):
+        self.go_on = go_on
+
+    def on_timer_task(self, event):
+        self.go_on(event)
+
+
+TRIES = [Outcomes, OneByOne, Drains, Large, Multicast, Replies, ComeAndGo, Nameless, Bare, Idle]
 
 
 def main():

@@ -73,9 +73,9 @@ async def pass_on(source, sink):
 class Line:
     """A connection with one session and its links, which gives up after some seconds."""
 
-    def __init__(self, bridge, auth=None):
+    def __init__(self, bridge, auth=None, **words):
         self.bridge, self.end = bridge, time.monotonic() + SECONDS
-        self.connection = uamqp.Connection("localhost", auth or SASLAnonymous(**bridge.words()))
+        self.connection = uamqp.Connection("localhost", auth or SASLAnonymous(**bridge.words()), **words)
         self.session = uamqp.Session(self.connection, incoming_window=100, outgoing_window=100)
         self.links, self.prefetching, self.sent, self.told = [], [], [], {}
 
@@ -287,6 +287,19 @@ def refused(bridge):
             return [error.condition.name]
 
 
+def idle(bridge):
+    """A connection that asks for signs of life each half second stays through ten of them in which nothing is said."""
+    said = []
+    with Line(bridge, idle_timeout=500) as line:
+        words = {"prefetch": 5, "send_settle_mode": SenderSettleMode.Settled}
+        line.receiver("idle", lambda message: said.append(body_of(message)), **words)
+        rest = time.monotonic() + 5
+        line.until(lambda: time.monotonic() > rest)
+        line.send(line.sender("idle"), b"body")
+        line.until(lambda: said)
+        return said + line.all_told()
+
+
 def with_password(bridge):
     """A client that wants SASL PLAIN ends the connection, since the router offers ANONYMOUS alone."""
     with Line(bridge, SASLPlain(username="user", password="word", **bridge.words())) as line:
@@ -336,6 +349,7 @@ TRIES = [
     (settled_to_receiver, 1, [b"body", "accepted"]),
     (gone, 1, ["not accepted: []"]),
     (refused, 1, ["ResourceLimitExceeded"]),
+    (idle, 1, [b"body", "accepted"]),
     (with_password, 1, ["no connection"]),
     (clients, 2, [True, {"SendComplete"}]),
 ]
