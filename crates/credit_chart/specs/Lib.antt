@@ -1,0 +1,6 @@
+-- specs/Lib.antt
+pub mod Levels
+pub mod Thinning
+pub mod Places
+pub mod Paths
+pub mod Curves

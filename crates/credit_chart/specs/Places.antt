@@ -1,0 +1,45 @@
+-- Where columns and values stand, in pixels (own choice).
+use Rattle.std.specs.Prelude.{ℕ, ◌+◌, ◌-◌, ◌*◌, ◌/◌, ◌^◌, min}
+use Rattle.credit_chart.specs.declared.level.Quantity.{Quantity}
+use Rattle.credit_chart.specs.declared.level.Quantity.TheVariants.{Credit, Window, Waiting, Draining}
+use Rattle.credit_chart.specs.declared.scale.Scale.{Scale}
+use Rattle.credit_chart.specs.declared.scale.TheConstants.{COLUMNS, LEFT}
+
+-- a number of 32 bits, which stops at the largest
+abbrev pub most : ℕ → ℕ
+most n = min n (2 ^ 32 - 1)
+
+-- ---- columns
+
+-- for how many records each column stands, of this many; how many columns there are; and from one to the next
+abbrev pub span_of : ℕ → ℕ
+span_of records = records / COLUMNS + 1
+
+abbrev pub count_of : ℕ → ℕ
+count_of records = records / span_of records + 1
+
+abbrev pub scale_of : ℕ → Scale
+scale_of records = record { span = span_of records; count = count_of records; step = most (COLUMNS / count_of records) }
+
+abbrev pub place_of : Scale → ℕ → ℕ
+place_of scale column = most (LEFT + most (scale.step * most column))
+
+-- ---- values
+
+-- where the lowest value of a panel stands
+abbrev pub bottom_of : Quantity → ℕ
+bottom_of Credit = 200
+bottom_of Window = 380
+bottom_of Waiting = 440
+bottom_of Draining = 490
+
+-- how far above that the highest one stands
+abbrev pub height_of : Quantity → ℕ
+height_of Credit = 130
+height_of Window = 130
+height_of Waiting = 10
+height_of Draining = 10
+
+-- where a value stands, if this is the highest one
+abbrev pub row_of : Quantity → ℕ → ℕ → ℕ
+row_of quantity top value = bottom_of quantity - most (value * height_of quantity / top)

@@ -1,0 +1,2 @@
+-- specs/Lib.antt
+pub mod Parts
