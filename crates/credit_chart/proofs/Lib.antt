@@ -1,0 +1,3 @@
+-- proofs/Lib.antt
+pub mod Extents
+pub mod Drawing

@@ -17,9 +17,9 @@ with_value None value = record { low = value; high = value }
 with_value (Some extent) value = record { low = min extent.low value; high = max extent.high value }
 
 -- with what stood at one record more
-abbrev pub with_record : Quantity → Option Extent → Option Level → Option Extent
-with_record quantity extent None = extent
-with_record quantity extent (Some level) = Some (with_value extent (value_of quantity level))
+abbrev pub with_found : Quantity → Option Extent → Option Level → Option Extent
+with_found quantity extent None = extent
+with_found quantity extent (Some level) = Some (with_value extent (value_of quantity level))
 
 -- both, of these values and those that come
 abbrev pub extent_on : Option Extent → List ℕ → Option Extent

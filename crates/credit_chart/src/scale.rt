@@ -15,6 +15,7 @@ pub(crate) const RIGHT: u32 = 1040;
 pub(crate) const BELOW: u32 = 520;
 /// How wide and how high a document is.
 pub(crate) const WIDTH: u32 = 1080;
+
 pub(crate) const HEIGHT: u32 = 540;
 
 /// Where the lowest value of a panel stands.

@@ -1,7 +1,7 @@
 //! Of the records for which a column stands, the lowest and the highest value.
 
 ghost use Rattle.std.specs.Prelude.{◌≡◌, ◌*◌, ◌≤◌, drop, take};
-ghost use Rattle.credit_chart.specs.Thinning.{IsColumn, extent_of, values_of, with_record, with_value};
+ghost use Rattle.credit_chart.specs.Thinning.{IsColumn, extent_of, values_of, with_found, with_value};
 ghost use Rattle.credit_chart.specs.Thinning as spec;
 
 use crate::level::{Level, Quantity};
@@ -37,21 +37,17 @@ pub(crate) fn extent_of(quantity: Quantity, levels: &[Option<Level>]) -> Option<
     ensures kept { IsColumn (values_of quantity levels.now) result }
 {
     let mut extent = None;
-    for record in levels {
-        extent = with_record(quantity, extent, *record);
+    for found in levels {
+        extent = with_found(quantity, extent, *found);
     }
     extent
 }
 
 /// Both, with what stood at one record more.
-fn with_record(
-    quantity: Quantity,
-    extent: Option<Extent>,
-    record: Option<Level>,
-) -> Option<Extent>
-    ensures { result ≡ with_record quantity extent record }
+fn with_found(quantity: Quantity, extent: Option<Extent>, found: Option<Level>) -> Option<Extent>
+    ensures { result ≡ with_found quantity extent found }
 {
-    match record {
+    match found {
         Some(level) => Some(with_value(extent, quantity.value_of(level))),
         None => extent,
     }
