@@ -1,3 +1,4 @@
 -- proofs/Lib.antt
 pub mod Extents
 pub mod Drawing
+pub mod Examples
