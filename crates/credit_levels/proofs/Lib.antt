@@ -1,0 +1,2 @@
+-- proofs/Lib.antt
+pub mod Places

@@ -1,0 +1,3 @@
+-- specs/Lib.antt
+pub mod Pick
+pub mod Levels

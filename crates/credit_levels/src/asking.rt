@@ -1,0 +1,93 @@
+//! What stands at a place, asked of whoever can tell of the past.
+
+ghost use Rattle.capture_form.specs.Rules.{RuleText};
+ghost use Rattle.std.specs.Prelude.{List, ◌≡◌, ◌==◌, IfSome, option_map};
+ghost use Rattle.trace_events.specs.History.{moment_of};
+ghost use Rattle.trace_events.specs.Link.{IsLiveLink, is_consumer, live_link};
+ghost use Rattle.trace_events.specs.Words.{is_some_and, where_passes};
+ghost use Rattle.trace_values.specs.View.{Events, link_view};
+ghost use Rattle.credit_levels.specs.Levels as spec;
+
+use crate::pick::{Pick, Place};
+use capture_form::{Record, Rule};
+use credit_chart::Level;
+use trace_judge::{Counts, Inputs};
+use trace_values::{Link, Moment};
+
+/// The link that stands at a place, if it lives.
+pub(crate) fn link_at<'a, P: Inputs<'a>>(past: &P, place: Place) -> Option<Link<'a>>
+    ensures value { (rules : List RuleText) (history : Events) → P.stands_for past.now rules history → option_map link_view result ≡ spec.link_at place history }
+    ensures live { (rules : List RuleText) (history : Events) → P.stands_for past.now rules history → IfSome (option_map link_view result) (λ l. IsLiveLink l history) }
+{
+    of_number(link_on(past, place), place.number)
+}
+
+/// The link that lives on the handle of a place.
+fn link_on<'a, P: Inputs<'a>>(past: &P, place: Place) -> Option<Link<'a>>
+    ensures value { (rules : List RuleText) (history : Events) → P.stands_for past.now rules history →
+        option_map link_view result ≡ live_link place.connection place.channel place.handle history }
+    ensures live { (rules : List RuleText) (history : Events) → P.stands_for past.now rules history → IfSome (option_map link_view result) (λ l. IsLiveLink l history) }
+{
+    match past.live_session(place.connection, place.channel) {
+        Some(session) => past.session_link(session, place.handle),
+        None => None,
+    }
+}
+
+/// The link, if it is the one of this number.
+fn of_number<'a>(link: Option<Link<'a>>, number: u64) -> Option<Link<'a>>
+    ensures { option_map link_view result ≡ where_passes (λ l. l.number == number) (option_map link_view link.entry) }
+{
+    match link {
+        Some(link) => {
+            if link.number == number {
+                Some(link)
+            } else {
+                None
+            }
+        }
+        None => None,
+    }
+}
+
+/// Where the link stands that opened with the last record, of this number, if it is one of a consumer that is picked.
+pub(crate) fn opened<'a, P: Inputs<'a>>(
+    past: &P,
+    pick: &Pick<'_>,
+    number: u64,
+    entry: &Record,
+) -> Option<Place>
+    ensures { (rules : List RuleText) (history : Events) → P.stands_for past.now rules history →
+        result ≡ spec.opened pick.now number entry.now.connection (moment_of entry.now.what) history }
+{
+    let moment = Moment::of(&entry.what);
+    let place = pick.attached(number, entry.connection, &moment)?;
+    is_consumers(link_at(past, place)).then_some(place)
+}
+
+/// There is a link, and it is a consumer's.
+fn is_consumers(link: Option<Link<'_>>) -> bool
+    ensures { result ≡ is_some_and (option_map link_view link.entry) is_consumer }
+{
+    match link {
+        Some(link) => link.is_consumer(),
+        None => false,
+    }
+}
+
+/// What stands at a place, if a link lives there.
+pub(crate) fn level_at<'a, P: Inputs<'a> + Counts>(
+    past: &P,
+    rules: &[Rule],
+    place: Place,
+) -> Option<Level>
+    ensures { (history : Events) → P.stands_for past.now rules.now history → result ≡ spec.level_at rules.now place history }
+{
+    let link = link_at(past, place)?;
+    Some(Level {
+        credit: past.link_credit(&link),
+        window: past.session_window(link.session),
+        has_waiting: past.has_waiting(rules, link.address),
+        is_draining: past.is_draining(&link),
+    })
+}

@@ -1,0 +1,72 @@
+//! The levels of the records so far.
+
+use crate::asking::{level_at, opened};
+use crate::pick::{Pick, Place};
+use capture_form::{Record, Rule};
+use credit_chart::Level;
+use std::alloc::{AllocError, Global};
+use trace_judge::{Counts, Inputs};
+
+/// What stood behind each record so far, of the link that is picked.
+#[derive(Drop)]
+pub struct Levels<'p> {
+    pick: Pick<'p>,
+    place: Option<Place>,
+    levels: Vec<Option<Level>>,
+}
+
+impl<'p> Levels<'p> {
+    ghost use Rattle.capture_form.specs.Rules.{RuleText};
+    ghost use Rattle.std.specs.Prelude.{List, ◌≡◌, ◌∷◌, [], OnOk, length};
+    ghost use Rattle.trace_events.specs.History.{judge};
+    ghost use Rattle.trace_values.specs.View.{Events};
+    ghost use Rattle.credit_levels.specs.declared.pick.Pick.{Pick};
+    ghost use Rattle.credit_levels.specs.Levels.{AreOf, chosen, levels_of};
+
+    /// No records yet.
+    pub fn new(alloc: Global, pick: Pick<'p>) -> Levels<'p>
+        ensures { (rules : List RuleText) → AreOf pick.entry rules result [] }
+    {
+        Levels {
+            pick,
+            place: None,
+            levels: Vec::new(alloc),
+        }
+    }
+
+    /// Where the link stands that is picked, if one has opened.
+    pub fn place(&self) -> Option<Place>
+        ensures { (pick : Pick) (rules : List RuleText) (history : Events) → AreOf pick rules self.now history → result ≡ chosen pick history }
+    {
+        self.place
+    }
+
+    /// What stood behind each record, where that link lived.
+    pub fn levels(&self) -> &[Option<Level>]
+        ensures { (pick : Pick) (rules : List RuleText) (history : Events) → AreOf pick rules self.now history → result.now ≡ levels_of pick rules history }
+    {
+        self.levels.as_slice()
+    }
+
+    /// Takes what stands behind one record more, of this number.
+    pub fn take<'a, P: Inputs<'a> + Counts>(
+        &mut self,
+        past: &P,
+        rules: &[Rule],
+        number: u64,
+        entry: &Record,
+    ) -> Result<(), AllocError>
+        ensures { OnOk result ((pick : Pick) (history : Events) → number ≡ length history → P.stands_for past.now rules.now (judge rules.now history entry.now ∷ history) →
+            AreOf pick rules.now self.old history → AreOf pick rules.now self.new (judge rules.now history entry.now ∷ history)) }
+    {
+        if self.place.is_none() {
+            self.place = opened(past, &self.pick, number, entry);
+        }
+        let level = match self.place {
+            Some(place) => level_at(past, rules, place),
+            None => None,
+        };
+        self.levels.push(level)?;
+        Ok(())
+    }
+}

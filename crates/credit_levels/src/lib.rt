@@ -1,0 +1,18 @@
+//! What stands behind each record of a capture, of a consumer's link: the levels that `credit_chart` draws, by whoever can tell of
+//! the records so far (`trace_judge`).
+//!
+//! `Levels` is handed each record once it stands in the past, and asks that for the credit of the link, the window of its session,
+//! whether a delivery waits at its address and whether its client drains it; each answer is the law's number behind the records so
+//! far (`trace_events`). The link is the first of a consumer that opens, of those that are picked.
+//!
+//! - `pick`: which link, and where it stands;
+//! - `asking`: what stands there, asked of the past;
+//! - `levels`: the levels of the records so far.
+#![tactic(auto)]
+
+mod asking;
+mod levels;
+mod pick;
+
+pub use levels::Levels;
+pub use pick::{Pick, Place};
