@@ -1,2 +1,3 @@
 -- proofs/Lib.antt
 pub mod Places
+pub mod Examples
