@@ -1,9 +1,8 @@
--- Drawings that have something more.
-use Rattle.std.proofs.Common.{◌≡◌, ℕ, ◌+◌, ◌-◌, ◌<◌, ◌≤◌, List, [], ◌∷◌, ◌++◌, length, map, take, get_or, arith, suc, Result, Ok, Err, refl, sym, subst, ap, ◌∙◌, append_assoc, append-nil}
+-- Arrows and charts, drawn part by part.
+use Rattle.std.proofs.Common.{◌≡◌, ℕ, ◌+◌, ◌-◌, ◌<◌, ◌≤◌, List, [], ◌∷◌, ◌++◌, length, map, take, get_or, arith, suc, Result, refl, sym, subst, ap, ◌∙◌, append_assoc, append-nil}
 use Rattle.std.proofs.lemmas.List.{length-map, length-take, map_more, take_all}
 use Rattle.std.proofs.lemmas.Result.{IfOk-weaker}
 use Rattle.std.specs.Prelude.{IfOk}
-use Rattle.svg_text.specs.declared.element.Element.{Element}
 use Rattle.svg_text.specs.declared.element.Element.TheVariants.{Description, Group, Title}
 use Rattle.svg_text.specs.declared.attribute.Attribute.{Attribute}
 use Rattle.svg_text.specs.declared.attribute.Name.TheVariants.{Class}
@@ -15,6 +14,7 @@ use Rattle.svg_text.specs.Drawn.{Drawn, end_octets, root_end, root_octets, start
 use Rattle.std.specs.Prelude.{codes}
 use Rattle.std.specs.Borrow.{Bor}
 use Rattle.std.specs.Str.{chars, encode_utf8_all}
+use Rattle.svg_parts.proofs.Drawings.{Ends, closed, draws_then}
 use Rattle.capture_chart.specs.declared.marks.Mark.{Mark}
 use Rattle.capture_chart.specs.Marks.{Marking, class_of}
 use Rattle.capture_chart.specs.declared.arrow.Arrow.{Arrow}
@@ -22,57 +22,8 @@ use Rattle.capture_chart.specs.Shown.{Shown, Worded, shown, shown_in, title_text
 use Rattle.capture_chart.specs.declared.places.Place.{Place}
 use Rattle.capture_chart.specs.declared.places.TheConstants.{ROUTER}
 use Rattle.capture_chart.specs.Places.{lanes_of, place_at, row_place}
-use Rattle.capture_chart.specs.Drawn.{Draws, DrawsSome, HasArrows, all_lanes, arrow_octets, arrows_octets, chart_octets, element_octets, group_octets, height_of, label_octets, shaft_octets, start_of, tie_octets, width_of}
-
--- ---- one behind the other
-
-pub draws_then : (a b c : Drawn) (m n : List ℕ) → Draws a b m → Draws b c n → Draws a c (m ++ n)
-draws_then a b c m n h k = record {
-  octets = k.octets ∙ ap (λ (t : List ℕ). t ++ n) h.octets ∙ append_assoc a.octets m n;
-  unclosed = k.unclosed ∙ h.unclosed;
-}
-
-pub some_of : (a b : Drawn) (m : List ℕ) → Draws a b m → DrawsSome a b
-some_of a b m h = record { more = m; draws = h }
-
-pub some_then : (a b c : Drawn) → DrawsSome a b → DrawsSome b c → DrawsSome a c
-some_then a b c h k = record { more = h.more ++ k.more; draws = draws_then a b c h.more k.more h.draws k.draws }
-
-pub if_some_then : {E : Type 0} (r : Result Drawn E) (a b : Drawn) → DrawsSome a b → IfOk r (λ c. DrawsSome b c) → IfOk r (λ c. DrawsSome a c)
-if_some_then (Ok c) a b h k = some_then a b c h k
-if_some_then (Err e) a b h k = tt
-
--- what was written
-pub written : (a b : Drawn) (m : List ℕ) → b ≡ record { octets = a.octets ++ m; unclosed = a.unclosed } → Draws a b m
-written a b m is = record { octets = ap (λ (d : Drawn). d.octets) is; unclosed = ap (λ (d : Drawn). d.unclosed) is }
-
--- ---- elements
-
--- an element that was opened, and closed behind what stands in it
-abbrev pub Ends : {E : Type 0} → Result Drawn E → Drawn → Type 0
-Ends r inner = (before : List Element) (element : Element) → inner.unclosed ≡ before ++ element ∷ []
-    → IfOk r (λ after. after ≡ record { octets = inner.octets ++ end_octets element; unclosed = before })
-
-four_assoc : (a b c d : List ℕ) → ((a ++ b) ++ c) ++ d ≡ a ++ (b ++ (c ++ d))
-four_assoc a b c d = simp append_assoc
-
-pub closed : {E : Type 0} (r : Result Drawn E) (a opened inner : Drawn) (element : Element) (start inside : List ℕ)
-    → opened ≡ record { octets = a.octets ++ start; unclosed = a.unclosed ++ element ∷ [] } → Draws opened inner inside → Ends r inner
-    → IfOk r (λ after. Draws a after (start ++ (inside ++ end_octets element)))
-closed r a opened inner element start inside is draws ends =
-    IfOk-weaker r _ _ (λ after ended. record {
-      octets = ap (λ (d : Drawn). d.octets) ended
-          ∙ ap (λ (t : List ℕ). t ++ end_octets element) (draws.octets ∙ ap (λ (d : Drawn). d.octets ++ inside) is)
-          ∙ four_assoc a.octets start inside (end_octets element);
-      unclosed = ap (λ (d : Drawn). d.unclosed) ended;
-    })
-    (ends a.unclosed element (draws.unclosed ∙ ap (λ (d : Drawn). d.unclosed) is))
-
-pub closed_some : {E : Type 0} (r : Result Drawn E) (a opened inner : Drawn) (element : Element) (start : List ℕ)
-    → opened ≡ record { octets = a.octets ++ start; unclosed = a.unclosed ++ element ∷ [] } → DrawsSome opened inner → Ends r inner
-    → IfOk r (λ after. DrawsSome a after)
-closed_some r a opened inner element start is some ends =
-    IfOk-weaker r _ _ (λ after draws. some_of a after _ draws) (closed r a opened inner element start some.more is some.draws ends)
+use Rattle.svg_parts.specs.Parts.{Draws, DrawsSome, element_octets, label_octets}
+use Rattle.capture_chart.specs.Drawn.{HasArrows, all_lanes, arrow_octets, arrows_octets, chart_octets, group_octets, height_of, shaft_octets, start_of, tie_octets, width_of}
 
 -- ---- arrows
 
@@ -121,9 +72,6 @@ arrows_push marks lanes all row (x ∷ xs) arrow =
     ∙ ap (λ (n : ℕ). arrows_octets marks lanes all (row + 1) xs ++ arrow_octets (place_at marks lanes all n arrow.shows) arrow)
     (let e : (row + 1) + length xs ≡ row + suc (length xs) = omega arith in e))
     ∙ sym (append_assoc first (arrows_octets marks lanes all (row + 1) xs) _)
-
-pub draws_nothing : (a : Drawn) → Draws a a []
-draws_nothing a = record { octets = sym (append-nil a.octets); unclosed = refl }
 
 -- one arrow more
 pub arrows_more : (marks : Marking) (lanes : List ℕ) (all : List Shown) (a b c : Drawn) (arrows : List Arrow) (i : ℕ) (arrow : Arrow) (place : Place) → i < length arrows → arrow ≡ get_or arrows i arrow
@@ -192,13 +140,3 @@ document_drawn text_of r title marks arrows lanes width height started titled he
           ∙ ap (λ (t : List ℕ). t ++ root_end) octets
           ∙ ap (λ (s : List Shown). (start_of title (width_of (lanes_of s)) (height_of s) ++ (looks.more ++ chart_octets marks s (map worded arrows))) ++ root_end) (sym shows);
     }) end
-
--- ---- calls that may fail
-
-pub if_draws : {E : Type 0} (r : Result Drawn E) (a : Drawn) (m : List ℕ) → IfOk r (λ b. b ≡ record { octets = a.octets ++ m; unclosed = a.unclosed }) → IfOk r (λ b. Draws a b m)
-if_draws (Ok b) a m is = written a b m is
-if_draws (Err e) a m is = tt
-
-pub if_draws_then : {E : Type 0} (r : Result Drawn E) (a b : Drawn) (m n : List ℕ) → Draws a b m → IfOk r (λ c. Draws b c n) → IfOk r (λ c. Draws a c (m ++ n))
-if_draws_then (Ok c) a b m n h k = draws_then a b c m n h k
-if_draws_then (Err e) a b m n h k = tt

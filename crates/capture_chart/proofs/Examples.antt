@@ -20,7 +20,8 @@ use Rattle.capture_chart.specs.declared.marks.Mark.TheVariants.{Compared, Plain,
 use Rattle.capture_chart.specs.Marks.{Marking, mark_of}
 use Rattle.capture_chart.specs.Shown.{Shown, Worded, shown_of, title_text}
 use Rattle.capture_chart.specs.Places.{carried_place, connection_place, lanes_of, place_at, row_place}
-use Rattle.capture_chart.specs.Drawn.{HasArrows, all_lanes, arrow_octets, arrows_octets, connection_words, element_octets, group_octets, label_octets, lane_octets, line_octets, shaft_octets, start_of, tie_octets}
+use Rattle.svg_parts.specs.Parts.{element_octets, label_octets, line_octets}
+use Rattle.capture_chart.specs.Drawn.{HasArrows, all_lanes, arrow_octets, arrows_octets, connection_words, group_octets, lane_octets, shaft_octets, start_of, tie_octets}
 
 -- ---- what is shown
 

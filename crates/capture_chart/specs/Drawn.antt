@@ -1,11 +1,11 @@
 -- What is drawn of a chart.
 use Rattle.std.specs.Prelude.{◌≡◌, ℕ, ◌+◌, ◌-◌, List, [], ◌∷◌, ◌++◌, length, codes, decimal, Option, Some, None}
 use Rattle.std.specs.Str.{chars, encode_utf8_all}
-use Rattle.svg_text.specs.declared.element.Element.{Element}
-use Rattle.svg_text.specs.declared.element.Element.TheVariants.{Description, Group, Text, Title}
-use Rattle.svg_text.specs.Grammar.{Tag, empty_text, start_text}
+use Rattle.svg_text.specs.declared.element.Element.TheVariants.{Description, Group, Title}
+use Rattle.svg_text.specs.Grammar.{start_text}
 use Rattle.svg_text.specs.Escaping.{pieces_of}
-use Rattle.svg_text.specs.Drawn.{Drawn, end_octets, root_end, root_octets, start_octets, text_octets}
+use Rattle.svg_text.specs.Drawn.{end_octets, root_end, root_octets}
+use Rattle.svg_parts.specs.Parts.{element_octets, label_octets, line_octets}
 use Rattle.capture_chart.specs.declared.places.TheConstants.{ROUTER}
 use Rattle.capture_chart.specs.declared.places.Place.{Place}
 use Rattle.capture_chart.specs.declared.topic.Course.{Course}
@@ -14,37 +14,6 @@ use Rattle.capture_chart.specs.declared.marks.Mark.{Mark}
 use Rattle.capture_chart.specs.Marks.{Marking, class_of}
 use Rattle.capture_chart.specs.Shown.{Shown, Worded, shown_in, title_text}
 use Rattle.capture_chart.specs.Places.{between, lane_place, lanes_of, place_at, row_place}
-
--- ---- elements
-
--- an element with a text in it
-abbrev pub element_octets : Element → List ℕ → List ℕ
-element_octets element text = start_octets element [] ++ (text_octets (chars text) ++ end_octets element)
-
--- a line of this class
-abbrev pub line_tag : List ℕ → ℕ × ℕ → ℕ × ℕ → Tag
-line_tag class from to = record {
-  name = codes "line";
-  attributes = record { name = codes "class"; value = pieces_of (chars class) }
-      ∷ record { name = codes "x1"; value = pieces_of (decimal from.0) }
-      ∷ record { name = codes "y1"; value = pieces_of (decimal from.1) }
-      ∷ record { name = codes "x2"; value = pieces_of (decimal to.0) }
-      ∷ record { name = codes "y2"; value = pieces_of (decimal to.1) }
-      ∷ [];
-}
-
-unfoldable pub line_octets : List ℕ → ℕ × ℕ → ℕ × ℕ → List ℕ
-line_octets class from to = encode_utf8_all (empty_text (line_tag class from to) ++ 10 ∷ [])
-
--- words at a place
-abbrev pub label_tag : ℕ × ℕ → Tag
-label_tag at = record {
-  name = codes "text";
-  attributes = record { name = codes "x"; value = pieces_of (decimal at.0) } ∷ record { name = codes "y"; value = pieces_of (decimal at.1) } ∷ [];
-}
-
-unfoldable pub label_octets : ℕ × ℕ → List ℕ → List ℕ
-label_octets at words = encode_utf8_all (start_text (label_tag at)) ++ (text_octets (chars words) ++ end_octets Text)
 
 -- ---- lanes
 
@@ -117,15 +86,3 @@ chart_octets marks all arrows = all_lanes (height_of all) (lanes_of all) ++ arro
 pub record HasArrows (title : List ℕ) (marks : Marking) (arrows : List Worded) (octets : List ℕ) : Type 0 where
   pub looks : List ℕ
   pub parts : octets ≡ (start_of title (width_of (lanes_of (shown_in arrows))) (height_of (shown_in arrows)) ++ (looks ++ chart_octets marks (shown_in arrows) arrows)) ++ root_end
-
--- ---- drawings
-
--- a drawing has octets more, and as many elements open
-pub record Draws (before after : Drawn) (more : List ℕ) : Type 0 where
-  pub octets : after.octets ≡ before.octets ++ more
-  pub unclosed : after.unclosed ≡ before.unclosed
-
--- it has something more
-pub record DrawsSome (before after : Drawn) : Type 0 where
-  pub more : List ℕ
-  pub draws : Draws before after more

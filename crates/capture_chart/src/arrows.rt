@@ -3,14 +3,15 @@
 ghost use Rattle.std.specs.Prelude.{◌≡◌, IfOk, map};
 ghost use Rattle.capture_chart.specs.Marks.{marking};
 ghost use Rattle.capture_chart.specs.Shown.{shown, worded};
-ghost use Rattle.capture_chart.specs.Drawn.{Draws, arrow_octets, arrows_octets, shaft_octets, tie_octets};
+ghost use Rattle.svg_parts.specs.Parts.{Draws};
+ghost use Rattle.capture_chart.specs.Drawn.{arrow_octets, arrows_octets, shaft_octets, tie_octets};
 
 use crate::arrow::Arrow;
 use crate::marks::Marks;
-use crate::parts::{draw_label, draw_line, draw_words};
 use crate::places::{Place, ROUTER, between, place_at};
 use crate::topic::Course;
 use std::alloc::{AllocError, Global};
+use svg_parts::{draw_label, draw_line, draw_words};
 use svg_text::{Attribute, Drawing, Element, Name, Value};
 
 /// Draws each arrow, in order.

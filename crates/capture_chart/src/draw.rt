@@ -5,9 +5,9 @@ use crate::chart::Chart;
 use crate::head::draw_head;
 use crate::lanes::draw_lanes;
 use crate::marks::Marks;
-use crate::parts::draw_words;
 use crate::places::{lane_place, lanes_of, row_place};
 use std::alloc::AllocError;
+use svg_parts::draw_words;
 use svg_text::{Drawing, Element};
 
 impl Chart {

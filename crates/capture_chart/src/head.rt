@@ -1,10 +1,10 @@
 //! What stands between the title and the lanes.
 
 ghost use Rattle.std.specs.Prelude.{◌≡◌, IfOk};
-ghost use Rattle.capture_chart.specs.Drawn.{DrawsSome};
+ghost use Rattle.svg_parts.specs.Parts.{DrawsSome};
 
-use crate::parts::draw_words;
 use std::alloc::AllocError;
+use svg_parts::draw_words;
 use svg_text::{Attribute, Drawing, Element, Name, Value};
 
 /// How it looks, in light and dark.

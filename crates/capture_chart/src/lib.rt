@@ -7,7 +7,7 @@
 //! comes in to each transfer that carries it goes a thin line, where both are shown. Records may be marked: the one that is
 //! refused, and those that it is compared with.
 //!
-//! In reading order: `topic`, `marks`, `label`, `arrow`, `chart`; `places` is where lanes and rows stand; `parts` are elements of several calls;
+//! In reading order: `topic`, `marks`, `label`, `arrow`, `chart`; `places` is where lanes and rows stand;
 //! `arrows`, `head`, `lanes`, `draw`.
 #![tactic(auto)]
 
@@ -19,7 +19,6 @@ mod head;
 mod label;
 mod lanes;
 mod marks;
-mod parts;
 mod places;
 mod topic;
 

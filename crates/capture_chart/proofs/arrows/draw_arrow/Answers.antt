@@ -2,7 +2,7 @@ use Rattle.std.proofs.Common.{List, ℕ, ◌+◌, ◌-◌, subst, ◌∙◌}
 use Rattle.svg_text.specs.declared.element.Element.TheVariants.{Description}
 use Rattle.capture_chart.specs.declared.places.TheConstants.{ROUTER}
 use Rattle.capture_chart.specs.Shown.{Worded, worded}
-use Rattle.capture_chart.specs.Drawn.{Draws, element_octets, label_octets}
+use Rattle.svg_parts.specs.Parts.{Draws, element_octets, label_octets}
 use Rattle.capture_chart.proofs.Drawings.{arrow_drawn, group_is}
 use Rattle.capture_chart.proofs.arrows.draw_arrow.Goals as goal
 

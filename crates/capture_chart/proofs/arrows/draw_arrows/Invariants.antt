@@ -1,7 +1,8 @@
 use Rattle.std.proofs.Common.{map, take}
 use Rattle.capture_chart.specs.Marks.{marking}
 use Rattle.capture_chart.specs.Shown.{shown, worded}
-use Rattle.capture_chart.specs.Drawn.{Draws, arrows_octets}
+use Rattle.svg_parts.specs.Parts.{Draws}
+use Rattle.capture_chart.specs.Drawn.{arrows_octets}
 use Rattle.capture_chart.proofs.arrows.draw_arrows.Given as goal
 
 abbrev pub invariant-loop-row : goal.invariant-loop-row

@@ -1,7 +1,8 @@
 use Rattle.std.proofs.Common.{◌++◌, take}
 use Rattle.std.specs.Prelude.{codes}
 use Rattle.capture_chart.specs.declared.places.TheConstants.{ROUTER}
-use Rattle.capture_chart.specs.Drawn.{Draws, lane_octets, lanes_octets}
+use Rattle.svg_parts.specs.Parts.{Draws}
+use Rattle.capture_chart.specs.Drawn.{lane_octets, lanes_octets}
 use Rattle.capture_chart.proofs.lanes.draw_lanes.Given as goal
 
 abbrev pub invariant-loop-lane : goal.invariant-loop-lane

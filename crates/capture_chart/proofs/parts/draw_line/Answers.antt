@@ -1,8 +1,0 @@
-use Rattle.svg_text.specs.Drawn.{empty_octets}
-use Rattle.capture_chart.specs.Drawn.{line_octets}
-use Rattle.capture_chart.proofs.Drawings.{if_draws}
-use Rattle.capture_chart.proofs.parts.draw_line.Goals as goal
-
-pub returns : goal.returns
-unfolding empty_octets line_octets
-returns c = if_draws c.empty.result c.args.drawing _ c.empty.ensures
