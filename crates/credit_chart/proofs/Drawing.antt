@@ -18,7 +18,7 @@ use Rattle.credit_chart.specs.declared.level.Level.{Level}
 use Rattle.credit_chart.specs.declared.level.Quantity.{Quantity}
 use Rattle.credit_chart.specs.declared.level.Quantity.TheVariants.{Credit, Draining, Waiting, Window}
 use Rattle.credit_chart.specs.declared.scale.Scale.{Scale}
-use Rattle.credit_chart.specs.declared.scale.TheConstants.{BELOW, HEIGHT, LEFT, RIGHT, WIDTH}
+use Rattle.credit_chart.specs.declared.scale.TheConstants.{ABOVE, BELOW, HEIGHT, LEFT, RIGHT, WIDTH}
 use Rattle.credit_chart.specs.declared.thinning.Extent.{Extent}
 use Rattle.credit_chart.specs.Levels.{class_of, name_of}
 use Rattle.credit_chart.specs.Thinning.{column_of, top_of}
@@ -96,21 +96,24 @@ four_panels r levels a credit window waiting first second third last =
 
 -- ---- documents
 
-pub document_drawn : {A E : Type 0} (text_of : A → List ℕ) (r : Result A E) (title style words : List ℕ) (levels : List (Option Level)) (started titled styled drawn labelled : Drawn)
+pub document_drawn : {A E : Type 0} (text_of : A → List ℕ) (r : Result A E) (title style words : List ℕ) (levels : List (Option Level)) (started titled styled headed drawn labelled : Drawn)
     → started ≡ record { octets = root_octets WIDTH HEIGHT; unclosed = [] } → Draws started titled (element_octets Title title) → Draws titled styled (element_octets Style style)
-    → Draws styled drawn (panels_octets levels) → Draws drawn labelled (label_octets (LEFT, BELOW) words) → words ≡ records_words (length levels)
+    → Draws styled headed (label_octets (LEFT, ABOVE) title)
+    → Draws headed drawn (panels_octets levels) → Draws drawn labelled (label_octets (LEFT, BELOW) words) → words ≡ records_words (length levels)
     → IfOk r (λ text. text_of text ≡ labelled.octets ++ root_end) → IfOk r (λ text. HasCurves title levels (text_of text))
-document_drawn text_of r title style words levels started titled styled drawn labelled is first second third fourth words_is end =
+document_drawn text_of r title style words levels started titled styled headed drawn labelled is first second third fourth fifth words_is end =
     let heads = element_octets Title title in
     let looks = element_octets Style style in
+    let above = label_octets (LEFT, ABOVE) title in
     let panels = panels_octets levels in
-    let draws : Draws started labelled (heads ++ (looks ++ (panels ++ label_octets (LEFT, BELOW) words))) =
+    let draws : Draws started labelled (heads ++ (looks ++ (above ++ (panels ++ label_octets (LEFT, BELOW) words)))) =
     draws_then started titled labelled heads _ first
     (draws_then titled styled labelled looks _ second
-    (draws_then styled drawn labelled panels _ third fourth)) in
+    (draws_then styled headed labelled above _ third
+    (draws_then headed drawn labelled panels _ fourth fifth))) in
     IfOk-weaker r _ _ (λ text is_text. record {
       looks = looks;
       parts = is_text
-          ∙ ap (λ (t : List ℕ). t ++ root_end) (draws.octets ∙ ap (λ (d : Drawn). d.octets ++ (heads ++ (looks ++ (panels ++ label_octets (LEFT, BELOW) words)))) is)
-          ∙ ap (λ (t : List ℕ). (root_octets WIDTH HEIGHT ++ (heads ++ (looks ++ (panels ++ label_octets (LEFT, BELOW) t)))) ++ root_end) words_is;
+          ∙ ap (λ (t : List ℕ). t ++ root_end) (draws.octets ∙ ap (λ (d : Drawn). d.octets ++ (heads ++ (looks ++ (above ++ (panels ++ label_octets (LEFT, BELOW) words))))) is)
+          ∙ ap (λ (t : List ℕ). (root_octets WIDTH HEIGHT ++ (heads ++ (looks ++ (above ++ (panels ++ label_octets (LEFT, BELOW) t))))) ++ root_end) words_is;
     }) end

@@ -10,7 +10,7 @@ use Rattle.svg_parts.specs.Parts.{element_octets, label_octets}
 use Rattle.credit_chart.specs.declared.level.Level.{Level}
 use Rattle.credit_chart.specs.declared.level.Quantity.TheVariants.{Credit, Draining, Waiting, Window}
 use Rattle.credit_chart.specs.declared.scale.Scale.{Scale}
-use Rattle.credit_chart.specs.declared.scale.TheConstants.{BELOW, HEIGHT, LEFT, WIDTH}
+use Rattle.credit_chart.specs.declared.scale.TheConstants.{ABOVE, BELOW, HEIGHT, LEFT, WIDTH}
 use Rattle.credit_chart.specs.Levels.{value_of}
 use Rattle.credit_chart.specs.Thinning.{Spans, extent_of, levels_at, top_of, values_of}
 use Rattle.credit_chart.specs.Places.{count_of, row_of, span_of}
@@ -118,7 +118,7 @@ unfolding digits
 above = refl
 
 a_document : (levels : List (Option Level)) (looks : List ℕ)
-    → HasCurves (codes "t") levels ((root_octets WIDTH HEIGHT ++ (element_octets Title (codes "t") ++ (looks ++ (panels_octets levels ++ label_octets (LEFT, BELOW) (records_words (length levels)))))) ++ root_end)
+    → HasCurves (codes "t") levels ((root_octets WIDTH HEIGHT ++ (element_octets Title (codes "t") ++ (looks ++ (label_octets (LEFT, ABOVE) (codes "t") ++ (panels_octets levels ++ label_octets (LEFT, BELOW) (records_words (length levels))))))) ++ root_end)
 a_document levels looks = record { looks = looks; parts = refl }
 
 -- another title

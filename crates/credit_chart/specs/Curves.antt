@@ -9,7 +9,7 @@ use Rattle.svg_parts.specs.Parts.{element_octets, label_octets, line_octets, pat
 use Rattle.credit_chart.specs.declared.level.Level.{Level}
 use Rattle.credit_chart.specs.declared.level.Quantity.{Quantity}
 use Rattle.credit_chart.specs.declared.level.Quantity.TheVariants.{Credit, Window, Waiting, Draining}
-use Rattle.credit_chart.specs.declared.scale.TheConstants.{BELOW, HEIGHT, LEFT, RIGHT, WIDTH}
+use Rattle.credit_chart.specs.declared.scale.TheConstants.{ABOVE, BELOW, HEIGHT, LEFT, RIGHT, WIDTH}
 use Rattle.credit_chart.specs.Levels.{class_of, name_of}
 use Rattle.credit_chart.specs.Thinning.{top_of}
 use Rattle.credit_chart.specs.Places.{bottom_of, count_of, height_of, scale_of}
@@ -46,9 +46,11 @@ panels_octets levels = panel_octets levels Credit ++ (panel_octets levels Window
 abbrev pub records_words : ℕ → List ℕ
 records_words records = decimal records ++ codes " records, the first on the left"
 
--- octets of a document with this title, the panel of each quantity of these levels, and how many records they are; behind the title
--- stands how it looks
+-- octets of a document with this title, which stands above the panel of each quantity of these levels, and with how many records they
+-- are; behind the title stands how it looks
 pub record HasCurves (title : List ℕ) (levels : List (Option Level)) (octets : List ℕ) : Type 0 where
   pub looks : List ℕ
   pub parts : octets
-      ≡ (root_octets WIDTH HEIGHT ++ (element_octets Title title ++ (looks ++ (panels_octets levels ++ label_octets (LEFT, BELOW) (records_words (length levels)))))) ++ root_end
+      ≡ (root_octets WIDTH HEIGHT
+      ++ (element_octets Title title
+      ++ (looks ++ (label_octets (LEFT, ABOVE) title ++ (panels_octets levels ++ label_octets (LEFT, BELOW) (records_words (length levels))))))) ++ root_end

@@ -9,7 +9,7 @@ ghost use Rattle.credit_chart.specs.Curves.{HasCurves, panels_octets, records_wo
 
 use crate::level::{Level, Quantity};
 use crate::panel::draw_panel;
-use crate::scale::{BELOW, HEIGHT, LEFT, Scale, WIDTH, scale_of};
+use crate::scale::{ABOVE, BELOW, HEIGHT, LEFT, Scale, WIDTH, scale_of};
 use itoa::Buffer;
 use std::alloc::{AllocError, Global};
 use svg_parts::{draw_label, draw_words};
@@ -32,7 +32,7 @@ pub fn draw_levels(
 ) -> Result<String, AllocError>
     // It is well-formed, and an SVG.
     ensures document { IfOk result (λ text. IsSvg (string_bytes text)) }
-    // It begins with this title, and has the curve of each quantity: in each column the lowest and the highest value of the
+    // It begins with this title, which stands above the curve of each quantity: in each column the lowest and the highest value of the
     // records for which it stands.
     ensures curves { IfOk result (λ text. HasCurves title.now levels.now (string_bytes text)) }
 {
@@ -41,7 +41,8 @@ pub fn draw_levels(
     let started = Drawing::new(alloc, WIDTH, HEIGHT)?;
     let titled = draw_words(started, Element::Title, title)?;
     let styled = draw_words(titled, Element::Style, STYLE)?;
-    let drawn = draw_panels(alloc, styled, levels, scale)?;
+    let headed = draw_label(styled, (LEFT, ABOVE), title)?;
+    let drawn = draw_panels(alloc, headed, levels, scale)?;
     let labelled = draw_label(drawn, (LEFT, BELOW), words.as_str())?;
     labelled.finish()
 }

@@ -11,6 +11,8 @@ pub(crate) const COLUMNS: usize = 1000;
 pub(crate) const LEFT: u32 = 40;
 /// The place behind the last one.
 pub(crate) const RIGHT: u32 = 1040;
+/// The place of the title above all panels.
+pub(crate) const ABOVE: u32 = 24;
 /// The place of the words below all panels.
 pub(crate) const BELOW: u32 = 520;
 /// How wide and how high a document is.
