@@ -1,11 +1,13 @@
 -- What is kept of an event, and what judging a next record answers.
-use Rattle.std.proofs.Common.{◌≡◌, refl, sym, ap, ◌∙◌, ℕ, true, false, [], Some, None, Ok, Err}
+use Rattle.std.proofs.Common.{◌≡◌, refl, sym, ap, ◌∙◌, ℕ, List, true, false, [], Some, None, Ok, Err}
 use Rattle.amqp_frames.specs.Writing.{frame_octets}
 use Rattle.amqp_frames.specs.Reading.{whole_frame, frame_at, sized_frame, headed_frame}
 use Rattle.amqp_perf.proofs.Opened.{read, written}
 use Rattle.trace_events.specs.Frame.{frame_read}
 use Rattle.trace_events.specs.Event.{Event, Link, Incoming, Outgoing}
 use Rattle.trace_events.specs.History.{judge}
+use Rattle.capture_form.specs.declared.records.Record.{Record}
+use Rattle.trace_clauses.specs.Clauses.{broken_clause}
 use Rattle.trace_clauses.specs.declared.clause.Clause.TheVariants.{L1, L2}
 use Rattle.trace_clauses.specs.Written.{spoken_octets, written_open}
 use Rattle.trace_clauses.proofs.Captures.{opened}
@@ -69,5 +71,13 @@ refused_by_its_clause held = broken_first
 refused_by_another : (held : Event) → IsHeldAnswer [] [] (write 0 written_open) held (Err (Broken L2)) → ⊥
 refused_by_another held = broken_otherwise
 
-refused_for_memory : (held : Event) → IsHeldAnswer [] [] (write 0 written_open) held (Err Memory)
-refused_for_memory held = tt
+-- memory is asked for a link's address, behind a record that breaks no clause
+module _ (past : List Event) (r : Record) (l : Link) (held : Event) (has : (judge [] past r).link ≡ Some l) where
+  refused_for_memory : broken_clause [] (judge [] past r) past ≡ None → IsHeldAnswer [] past r held (Err Memory)
+  refused_for_memory met = (rw (has) refl, met)
+
+  refused_for_memory_and_broken : broken_clause [] (judge [] past r) past ≡ Some L1 → IsHeldAnswer [] past r held (Err Memory) → ⊥
+  refused_for_memory_and_broken broken h = let never : Some L1 ≡ None = sym broken ∙ h.1 in absurd cc
+
+no_memory_is_asked : (held : Event) → IsHeldAnswer [] [] (opened 0) held (Err Memory) → ⊥
+no_memory_is_asked held h = let never : false ≡ true = h.0 in absurd cc
