@@ -18,7 +18,6 @@ use std::alloc::{AllocError, Global};
 use trace_values::Event;
 
 /// What the records so far have come to.
-#[derive(Drop)]
 pub struct Tables {
     alloc: Global,
     connections: Connections,
@@ -28,6 +27,22 @@ pub struct Tables {
     consumer_links: ConsumerLinks,
     copies: Copies,
     sent: SentDeliveries,
+}
+
+// Written out, and not derived, so that where one is let go the prover need not go through all that it owns.
+impl Drop for Tables {
+    fn drop(self) {
+        let Tables {
+            alloc: _,
+            connections: _,
+            links: _,
+            consumers: _,
+            deliveries: _,
+            consumer_links: _,
+            copies: _,
+            sent: _,
+        } = self;
+    }
 }
 
 impl Tables {

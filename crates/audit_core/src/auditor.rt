@@ -19,12 +19,22 @@ use trace_clauses::Tally;
 pub const MOST_RECORDS: u64 = 9223372036854775807;
 
 /// An auditor of one capture: what the records that it took have come to. It keeps none of them.
-#[derive(Drop)]
 pub struct Auditor {
     rules: Vec<Rule>,
     ledger: Ledger,
     // Why it stopped.
     refusal: Option<Refusal>,
+}
+
+// Written out, and not derived, so that where one is let go the prover need not go through all that it owns.
+impl Drop for Auditor {
+    fn drop(self) {
+        let Auditor {
+            rules: _,
+            ledger: _,
+            refusal: _,
+        } = self;
+    }
 }
 
 impl Auditor {

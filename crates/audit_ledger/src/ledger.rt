@@ -20,13 +20,24 @@ use trace_clauses::Tally;
 use trace_values::{Event, Moment};
 
 /// The tables, with what the records so far hold.
-#[derive(Drop)]
 pub struct Ledger {
     alloc: Global,
     tables: Tables,
     tally: Tally,
     // The event of the record that is entered.
     held: HeldEvent,
+}
+
+// Written out, and not derived, so that where one is let go the prover need not go through all that it owns.
+impl Drop for Ledger {
+    fn drop(self) {
+        let Ledger {
+            alloc: _,
+            tables: _,
+            tally: _,
+            held: _,
+        } = self;
+    }
 }
 
 impl Ledger {

@@ -23,11 +23,21 @@ use trace_judge::{judge_unopened_moment, open};
 use trace_values::{Event, Moment};
 
 /// The tables of the records so far, and what is due behind them.
-#[derive(Drop)]
 pub struct Books<D: Dues> {
     alloc: Global,
     tables: Tables,
     dues: D,
+}
+
+// Written out, and not derived, so that where one is let go the prover need not go through all that it owns.
+impl<D: Dues + Drop> Drop for Books<D> {
+    fn drop(self) {
+        let Books {
+            alloc: _,
+            tables: _,
+            dues: _,
+        } = self;
+    }
 }
 
 impl<D: Dues> Books<D> {

@@ -17,10 +17,19 @@ use std::alloc::{AllocError, Global};
 use trace_values::Event;
 
 /// Outcomes to tell, and deliveries to settle.
-#[derive(Drop)]
 pub struct Telling {
     untold: Untold,
     unsettled: Unsettled,
+}
+
+// Written out, and not derived, so that where one is let go the prover need not go through all that it owns.
+impl Drop for Telling {
+    fn drop(self) {
+        let Telling {
+            untold: _,
+            unsettled: _,
+        } = self;
+    }
 }
 
 impl Telling {

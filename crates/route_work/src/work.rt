@@ -13,11 +13,21 @@ use trace_values::Event;
 
 /// What may be due of a router's work. First it tells what is to be told, then it sends what may be sent, and what links and
 /// sessions lack it gives last.
-#[derive(Drop)]
 pub struct Work {
     telling: Telling,
     sending: Sending,
     flowing: Flowing,
+}
+
+// Written out, and not derived, so that where one is let go the prover need not go through all that it owns.
+impl Drop for Work {
+    fn drop(self) {
+        let Work {
+            telling: _,
+            sending: _,
+            flowing: _,
+        } = self;
+    }
 }
 
 impl Dues for Work {
