@@ -4,8 +4,8 @@
 //! their names, it prints the name and the line of its verdict. `stdout` holds the lines that are expected; they were
 //! worked out by hand. `README.md` says what each capture tells apart.
 //!
-//! Then it damages each of them, as often as its first word says, and counts how many of these captures the auditor and the
-//! plain checker judge alike (`damaged`).
+//! Then it damages each of them, as often as its first word says, by the choices of the seed that its second word says, or
+//! of 42, and counts how many of these captures the auditor and the plain checker judge alike (`damaged`).
 #![tactic(auto)]
 
 ghost use Rattle.std.specs.Prelude.{◌≡◌, ◌++◌, IfOk, IsSorted, codes, string_bytes, string_cmp};
@@ -20,6 +20,9 @@ use damaged::Damage;
 use std::alloc::{AllocError, Global};
 use std::{env, fs, io};
 
+/// Where the choices of the damage begin, if no word says so.
+const SEED: u32 = 42;
+
 fn main(rt: HostRuntime) -> io::Result<()> {
     let alloc = rt.alloc();
     let names = names_of_captures(&rt)?;
@@ -27,19 +30,21 @@ fn main(rt: HostRuntime) -> io::Result<()> {
         let octets = fs::read(&rt, format!(in alloc; "{name}.cap")?)?;
         rt.println(line_on(alloc, name.as_str(), octets.as_slice())?)?;
     }
-    tell_damaged(&rt, names.as_slice(), how_often(&rt)?)
+    let often = number_of(&rt, 1)?.unwrap_or(0);
+    let seed = number_of(&rt, 2)?.unwrap_or(SEED);
+    tell_damaged(&rt, names.as_slice(), often, seed)
 }
 
-/// How often each capture is damaged: the first word, or never.
-fn how_often(rt: &HostRuntime) -> io::Result<u32> {
-    let words: Vec<String> = env::args(rt)?.skip(1).collect(rt.alloc())?;
-    let often = words.first().map(|word| word.as_str().parse::<u32>());
-    Ok(often.and_then(Result::ok).unwrap_or(0))
+/// The word in this place, if it is a number.
+fn number_of(rt: &HostRuntime, place: usize) -> io::Result<Option<u32>> {
+    let words: Vec<String> = env::args(rt)?.skip(place).collect(rt.alloc())?;
+    let number = words.first().map(|word| word.as_str().parse::<u32>());
+    Ok(number.and_then(Result::ok))
 }
 
-/// Writes how many of the damaged captures are judged alike, and how many are not.
-fn tell_damaged(rt: &HostRuntime, names: &[String], often: u32) -> io::Result<()> {
-    let mut damage = Damage::new(42);
+/// Damages each capture so often, and writes how many of what comes of it are judged alike, and how many are not.
+fn tell_damaged(rt: &HostRuntime, names: &[String], often: u32, seed: u32) -> io::Result<()> {
+    let mut damage = Damage::new(u64::from(seed));
     let (mut alike, mut otherwise): (u64, u64) = (0, 0);
     for name in names {
         let octets = fs::read(rt, format!(in rt.alloc(); "{name}.cap")?)?;
