@@ -1,13 +1,23 @@
-//! Draws the captures of the folder that the program runs in, `data/` here, in the order of their names, and texts that
-//! would break a document if they were written as they are. In `names.cap` a client gives its links such names, and sends
-//! octets that are no frames. `stdout` holds what is expected; an independent parser of XML read each document of it, and
-//! found there each text that was handed in.
+//! Draws the captures of the folder that the program runs in, `data/` here, in the order of their names, texts that would
+//! break a document if they were written as they are, and curves of what stood behind the records of captures. In
+//! `names.cap` a client gives its links such names, and sends octets that are no frames. A line of `curves.cases` names a
+//! capture and the consumer's link that is picked of it; in `curves/reopened.cap` that link is drained, detached and opened
+//! again. Of the 1,500 levels of `levels.cases` two share a column, and in some columns one of the two is an extreme.
+//!
+//! `stdout` holds what is expected, of the curves worked out by hand from docs/LAW and docs/FORMATS; an independent parser of
+//! XML read each document of it, and found there each text that was handed in.
+//!
+//! In reading order: `captures`, `texts`, `curves`, `levels`.
 #![tactic(auto)]
 
 mod captures;
+mod curves;
+mod levels;
 mod texts;
 
 use captures::chart_of;
+use curves::tell_curves;
+use levels::tell_levels;
 use std::{fs, io};
 use texts::tell_texts;
 
@@ -20,7 +30,9 @@ fn main(rt: HostRuntime) -> io::Result<()> {
             None => rt.println("no capture, or too many records")?,
         }
     }
-    tell_texts(&rt)
+    tell_texts(&rt)?;
+    tell_curves(&rt)?;
+    tell_levels(&rt)
 }
 
 /// The names of the captures in the folder that the program runs in, in order.

@@ -1,0 +1,38 @@
+//! Levels of more records than a picture has columns, drawn as curves.
+
+use credit_chart::{Level, draw_levels};
+use std::{fs, io};
+
+/// Draws the levels that the lines of `levels.cases` tell.
+pub fn tell_levels(rt: &HostRuntime) -> io::Result<()> {
+    let cases = fs::read_to_string(rt, "levels.cases")?;
+    let mut levels = Vec::new(rt.alloc());
+    for line in cases.lines() {
+        let words: Vec<&str> = line.split_whitespace().collect(rt.alloc())?;
+        match words.as_slice() {
+            [records, "records"] => levels.resize(number(records), None)?,
+            [record, credit, window, waits, drains] => {
+                if let Some(level) = levels.get_mut(number(record)) {
+                    *level = Some(level_of(credit, window, waits, drains));
+                }
+            }
+            _ => rt.println(line)?,
+        }
+    }
+    println!(rt; "== levels")?;
+    rt.print(draw_levels(rt.alloc(), "levels", levels.as_slice())?.as_str())
+}
+
+fn level_of(credit: &str, window: &str, waits: &str, drains: &str) -> Level {
+    Level {
+        credit: credit.parse::<u32>().unwrap_or(0),
+        window: window.parse::<u32>().unwrap_or(0),
+        has_waiting: waits == "yes",
+        is_draining: drains == "yes",
+    }
+}
+
+/// The number of a record, or of records; no word is more than a number of 16 bits.
+fn number(word: &str) -> usize {
+    usize::from(word.parse::<u16>().unwrap_or(0))
+}
