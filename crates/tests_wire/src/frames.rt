@@ -1,7 +1,7 @@
 //! Frames, protocol headers and the frames of a SASL exchange.
 
 use crate::words::{Hex, lent, no_case, number, octets, octets_of_each, parted, word};
-use crate::{performatives, pieces, written};
+use crate::{changed, performatives, pieces, written};
 use amqp_frames::{FrameFault, FrameView, ProtocolHeader, cut_stream, sasl_read};
 use std::alloc::{AllocError, Global};
 use std::io;
@@ -13,6 +13,10 @@ pub(crate) fn answer(alloc: Global, words: &[&str]) -> io::Result<String> {
         "read" => {
             let limit = number(word(rest, 0))?;
             Ok(read(alloc, limit, &octets(alloc, word(rest, 1))?)?)
+        }
+        "change" => {
+            let limit = number(word(rest, 0))?;
+            Ok(changed::told(alloc, limit, &octets(alloc, word(rest, 1))?)?)
         }
         "cut" => cut(alloc, rest),
         "write" => written::in_frames(alloc, rest),

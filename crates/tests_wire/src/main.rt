@@ -7,13 +7,14 @@
 //! - `value`: values (`values`, and `puts` where they are written);
 //! - `performative`: performatives (`performatives`, and `written` where they are written);
 //! - `message`: the address that a message is for (`messages`);
-//! - `frame`, `header`, `sasl`: frames, protocol headers and the frames of a SASL exchange (`frames`, and `pieces` for
-//!   streams of frames that come in pieces);
+//! - `frame`, `header`, `sasl`: frames, protocol headers and the frames of a SASL exchange (`frames`, with
+//!   `changed` for those of which an octet is another, and `pieces` for streams of frames that come in pieces);
 //! - `stream`: the steps of a client's stream (`streams`).
 //!
 //! `words` has what all of them read and print.
 #![tactic(auto)]
 
+mod changed;
 mod frames;
 mod messages;
 mod performatives;
