@@ -44,6 +44,10 @@ pub struct Pace {
     pub breaks: bool,
     /// So many milliseconds pass from one look at its clock to the next.
     pub passes: u64,
+    /// Behind so many octets that it said, the read that would bring the next ones fails.
+    pub read_fails: usize,
+    /// Behind so many octets that it took, the write that brings it more fails.
+    pub write_fails: usize,
 }
 
 /// A client that keeps to its script.
@@ -149,6 +153,11 @@ impl Client {
             || self.theirs.alone.load(Ordering::SeqCst) == 1
     }
 
+    /// Whether a write of these octets fails.
+    fn fails_to_take(&self, octets: &[u8]) -> bool {
+        !octets.is_empty() && self.taken.len() >= self.pace.write_fails
+    }
+
     /// Whether the other client is read too, as far as it asks.
     fn is_met(&self) -> bool {
         !self.pace.meets || meets(&self.mine, &self.theirs)
@@ -168,12 +177,14 @@ impl Gate for Client {
 
     fn read(&mut self, buffer: &mut [u8]) -> Delivered {
         self.note_call();
-        if !self.is_met() && self.failures < u64::MAX {
+        let is_met = self.is_met();
+        let most = self.allowed().saturating_sub(self.at).min(self.pace.most);
+        let fails = !is_met || (most > 0 && self.at >= self.pace.read_fails);
+        if fails && self.failures < u64::MAX {
             self.failures += 1;
             self.has_ended = true;
             return Delivered::Fault;
         }
-        let most = self.allowed().saturating_sub(self.at).min(self.pace.most);
         let n = put_front(self.stream.as_slice(), self.at, most, buffer);
         if n > 0 {
             self.at += n;
@@ -192,6 +203,11 @@ impl Gate for Client {
         self.note_call();
         if !self.pace.takes {
             return Taken::Nothing;
+        }
+        if self.fails_to_take(octets) && self.failures < u64::MAX {
+            self.failures += 1;
+            self.has_ended = true;
+            return Taken::Fault;
         }
         let n = octets.len().min(self.pace.most);
         match self.taken.extend_from_slice(&octets[..n]) {

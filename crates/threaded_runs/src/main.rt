@@ -44,6 +44,8 @@ const ONE_BY_ONE: Pace = Pace {
     patience: LOOKS,
     breaks: false,
     passes: 0,
+    read_fails: usize::MAX,
+    write_fails: usize::MAX,
 };
 
 /// One that waits a little.
@@ -55,6 +57,8 @@ const IN_HASTE: Pace = Pace {
     patience: 200,
     breaks: false,
     passes: 0,
+    read_fails: usize::MAX,
+    write_fails: usize::MAX,
 };
 
 fn main(rt: HostRuntime) -> ExitCode {
@@ -70,6 +74,7 @@ fn run_all<R: Threads + Wait + Sync + Print>(rt: &R, alloc: Global) -> io::Resul
     take_turns(rt, alloc)?;
     listen(rt, alloc)?;
     vanish(rt, alloc)?;
+    fail(rt, alloc)?;
     trouble(rt, alloc)?;
     stop(rt, alloc)
 }
@@ -165,6 +170,99 @@ fn vanish<R: Threads + Wait + Sync + Print>(rt: &R, alloc: Global) -> io::Result
     println!(rt; "gone behind any octet: {tally}")
 }
 
+/// The exchange octet by octet, where each read that brings one, and then each write, of one of both fails in turn. By one
+/// worker nothing depends on how patient the other is, and each of these calls comes.
+fn fail<R: Threads + Wait + Sync + Print>(rt: &R, alloc: Global) -> io::Result<()> {
+    for (workers, patience, name) in [(1, 200, "one worker"), (2, 10_000, "two workers")] {
+        let pace = Pace {
+            patience,
+            ..ONE_BY_ONE
+        };
+        let mut tally = Tally::NONE;
+        for is_first in [true, false] {
+            fail_reads(rt, alloc, workers, pace, is_first, &mut tally)?;
+            fail_writes(rt, alloc, workers, pace, is_first, &mut tally)?;
+        }
+        println!(rt; "{name}, each read and each write fails: {tally}")?;
+        if workers == 1 {
+            println!(rt; "devices that failed: {}", tally.failures)?;
+        }
+    }
+    Ok(())
+}
+
+/// Each read that would bring an octet fails, of the producer or the consumer.
+fn fail_reads<R: Threads + Wait + Sync>(
+    rt: &R,
+    alloc: Global,
+    workers: usize,
+    pace: Pace,
+    is_first: bool,
+    tally: &mut Tally,
+) -> Result<(), AllocError>
+    requires some { 0 < workers }
+    requires few { workers ≤ 64 }
+{
+    let script = if is_first { PRODUCER } else { CONSUMER };
+    for read_fails in 0..stream_of(alloc, script)?.len() {
+        let pace = Pace { read_fails, ..pace };
+        tally.count(alloc, &fail_once(rt, alloc, workers, pace, is_first)?)?;
+    }
+    Ok(())
+}
+
+/// Each write of an octet fails, of the producer or the consumer.
+fn fail_writes<R: Threads + Wait + Sync>(
+    rt: &R,
+    alloc: Global,
+    workers: usize,
+    pace: Pace,
+    is_first: bool,
+    tally: &mut Tally,
+) -> Result<(), AllocError>
+    requires some { 0 < workers }
+    requires few { workers ≤ 64 }
+{
+    let script = if is_first { PRODUCER } else { CONSUMER };
+    for write_fails in 0..script.wanted {
+        let pace = Pace {
+            write_fails,
+            ..pace
+        };
+        tally.count(alloc, &fail_once(rt, alloc, workers, pace, is_first)?)?;
+    }
+    Ok(())
+}
+
+/// The exchange, where the device of the producer or of the consumer fails at this pace, and the other's does not.
+fn fail_once<R: Threads + Wait + Sync>(
+    rt: &R,
+    alloc: Global,
+    workers: usize,
+    pace: Pace,
+    is_first: bool,
+) -> Result<Served, AllocError>
+    requires some { 0 < workers }
+    requires few { workers ≤ 64 }
+{
+    let rules = rules(alloc, false)?;
+    let other = Pace {
+        read_fails: usize::MAX,
+        write_fails: usize::MAX,
+        ..pace
+    };
+    let (first, second) = if is_first {
+        (pace, other)
+    } else {
+        (other, pace)
+    };
+    let (first, second) = (
+        part(alloc, PRODUCER, first)?,
+        part(alloc, CONSUMER, second)?,
+    );
+    serve_two(rt, alloc, workers, LIMIT, &rules, first, second)
+}
+
 /// Clients that speak something else, and clients that take nothing, beside one that keeps to its script.
 fn trouble<R: Threads + Wait + Sync + Print>(rt: &R, alloc: Global) -> io::Result<()> {
     let rules = rules(alloc, false)?;
@@ -222,18 +320,24 @@ fn stop<R: Threads + Wait + Sync + Print>(rt: &R, alloc: Global) -> io::Result<(
 struct Tally {
     accepted: u64,
     others: u64,
+    /// How many devices failed in those that are accepted.
+    failures: u64,
 }
 
 impl Tally {
     const NONE: Tally = Tally {
         accepted: 0,
         others: 0,
+        failures: 0,
     };
 
     fn count(&mut self, alloc: Global, served: &Served) -> Result<(), AllocError> {
         let is_accepted = match served {
-            Served::Report(capture, _) => matches!(audited(alloc, capture)?, Verdict::Accepted(_)),
-            Served::NotAlone | Served::CoreFailed(_) | Served::Fault(_) => false,
+            Served::Report(capture, _, failures) => {
+                self.failures = self.failures.saturating_add(*failures);
+                matches!(audited(alloc, capture)?, Verdict::Accepted(_))
+            }
+            Served::NotAlone | Served::NotLost | Served::CoreFailed(_) | Served::Fault(_) => false,
         };
         let count = if is_accepted {
             &mut self.accepted
@@ -254,7 +358,7 @@ impl fmt::Display for Tally {
 /// What came of a run, as a line.
 fn told(alloc: Global, served: &Served) -> Result<String, AllocError> {
     match served {
-        Served::Report(capture, content) => {
+        Served::Report(capture, content, _) => {
             let verdict = verdict(alloc, capture)?;
             let content = if *content {
                 "both content"
@@ -264,6 +368,7 @@ fn told(alloc: Global, served: &Served) -> Result<String, AllocError> {
             format!(in alloc; "{content}, {verdict}")
         }
         Served::NotAlone => String::from_str(alloc, "called behind its end"),
+        Served::NotLost => String::from_str(alloc, "not lost, or other octets"),
         Served::CoreFailed(capture) => match audited(alloc, capture)? {
             Verdict::Accepted(_) => String::from_str(alloc, "core failed, accepted"),
             _ => String::from_str(alloc, "core failed, not accepted"),

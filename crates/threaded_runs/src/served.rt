@@ -3,9 +3,12 @@
 ghost use Rattle.std.specs.Prelude.{◌<◌, ◌≤◌};
 
 use crate::clients::{Part, two_gates};
+use crate::gate::Client;
+use crate::script::AMQP_HEADER;
 use address_table::Rules;
-use capture_form::Capture;
-use conn_workers::{RunFault, run_workers};
+use capture_form::{Capture, What};
+use conn_engine::Gate;
+use conn_workers::{ConnReport, RunFault, RunReport, run_workers};
 use std::alloc::{AllocError, Global};
 use std::sync::Wait;
 use std::thread::Threads;
@@ -16,10 +19,13 @@ pub const LIMIT: u64 = 1000;
 /// What came of a run.
 #[derive(Drop)]
 pub enum Served {
-    /// The capture, and whether both clients said and took all.
-    Report(Capture, bool),
+    /// The capture, whether both clients said and took all, and how often a device failed.
+    Report(Capture, bool, u64),
     /// A client was not shut once, or was called behind its end.
     NotAlone,
+    /// A device failed, and its connection was opened and is not lost, or the client took something else than the first of
+    /// the router's octets.
+    NotLost,
     /// The core refused a step, and this is its capture.
     CoreFailed(Capture),
     /// Another fault of this number.
@@ -44,15 +50,51 @@ pub fn serve_two<R: Threads + Wait + Sync>(
     requires few { workers ≤ 64 }
 {
     let gates = two_gates(alloc, first, second)?;
-    Ok(match run_workers(rt, alloc, gates, workers, rules, limit) {
-        Ok(report) if report.conns.iter().any(|conn| !conn.gate.is_left_alone()) => {
-            Served::NotAlone
+    match run_workers(rt, alloc, gates, workers, rules, limit) {
+        Ok(report) => outcome_of(alloc, report),
+        Err(RunFault::CoreFailed(capture)) => Ok(Served::CoreFailed(capture)),
+        Err(fault) => Ok(Served::Fault(fault.number())),
+    }
+}
+
+/// What came of a run that came to a report.
+fn outcome_of(alloc: Global, report: RunReport<Client>) -> Result<Served, AllocError> {
+    let (mut is_content, mut failures) = (true, 0u64);
+    for conn in report.conns.iter() {
+        if !conn.gate.is_left_alone() {
+            return Ok(Served::NotAlone);
         }
-        Ok(report) => {
-            let content = report.conns.iter().all(|conn| conn.gate.is_content());
-            Served::Report(report.capture, content)
+        let failed = conn.gate.failures();
+        if failed > 0 && !(is_lost(conn) && is_front(alloc, &report.capture, conn)?) {
+            return Ok(Served::NotLost);
         }
-        Err(RunFault::CoreFailed(capture)) => Served::CoreFailed(capture),
-        Err(fault) => Served::Fault(fault.number()),
-    })
+        is_content &= conn.gate.is_content();
+        failures = failures.saturating_add(failed);
+    }
+    Ok(Served::Report(report.capture, is_content, failures))
+}
+
+/// Whether a connection that was opened is lost at last.
+fn is_lost(conn: &ConnReport<Client>) -> bool {
+    match conn.items.last() {
+        None => true,
+        Some(last) => matches!(last, What::Lost),
+    }
+}
+
+/// Whether a client took the header of AMQP and then the frames that the capture tells to it, or the first octets of these.
+fn is_front(
+    alloc: Global,
+    capture: &Capture,
+    conn: &ConnReport<Client>,
+) -> Result<bool, AllocError> {
+    let mut octets = Vec::from_slice(alloc, AMQP_HEADER)?;
+    for record in capture.records() {
+        if let What::Out(frame) = &record.what
+            && record.connection == conn.conn
+        {
+            octets.extend_from_slice(frame.octets())?;
+        }
+    }
+    Ok(octets.as_slice().starts_with(conn.taken.as_slice()))
 }
