@@ -24,7 +24,7 @@ pub struct Consumers {
 }
 
 /// The consumer's link that the event opens.
-pub(crate) fn opened<'a>(event: &Event<'a>) -> Option<Link<'a>>
+pub(crate) fn opened<'a>(event: &Event<'a, '_>) -> Option<Link<'a>>
     ensures { option_map link_view result ≡ where_passes is_consumer (own_link (event_view event.now)) }
 {
     match event.link {

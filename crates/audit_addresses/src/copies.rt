@@ -40,7 +40,7 @@ pub struct Copies {
 }
 
 /// The delivery of multicast that the event completes.
-pub(crate) fn copied<'a>(rules: &[Rule], event: &Event<'a>) -> Option<Incoming<'a>>
+pub(crate) fn copied<'a>(rules: &[Rule], event: &Event<'a, '_>) -> Option<Incoming<'a>>
     ensures { option_map incoming_view result ≡ copied_by rules.now (event_view event.now) }
 {
     match event.completed_by() {

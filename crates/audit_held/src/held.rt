@@ -417,7 +417,7 @@ impl HeldDelivery {
 }
 
 /// What stands behind the transfer that the event is.
-fn payload_of<'a>(event: &Event<'a>) -> &'a [u8]
+fn payload_of<'a>(event: &Event<'_, 'a>) -> &'a [u8]
     ensures { result.now ≡ law.part_payload (in_spoken (event_view event.now)) }
 {
     match event.in_spoken() {

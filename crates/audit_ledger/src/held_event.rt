@@ -3,13 +3,14 @@
 ghost use Rattle.std.specs.Prelude.{◌≡◌, OnOk, OnErr, true};
 ghost use Rattle.audit_ledger.specs.HeldEvents.{facts_of, parts_of, has_parts, held_event_view};
 ghost use Rattle.trace_events.specs.Event as law;
-ghost use Rattle.trace_values.specs.View.{event_view, moment_view};
+ghost use Rattle.trace_events.specs.History.{moment_of};
+ghost use Rattle.trace_values.specs.View.{event_view};
 
 use crate::held_parts::HeldParts;
 use pairing_cert::Note;
 use std::alloc::{AllocError, Global};
 use trace_events::{Fault, Session};
-use trace_values::{Event, Moment};
+use trace_values::{Event, ReadRecord};
 
 /// What of an event borrows nothing.
 #[doc(hidden)]
@@ -85,15 +86,15 @@ impl HeldEvent {
         self.parts.keep(alloc, event)
     }
 
-    /// The event, with this moment, and with the addresses lent.
-    pub fn event<'e>(&'e self, moment: Moment<'e>) -> Event<'e>
-        ensures { event_view result ≡ held_event_view self.now (moment_view moment.entry) }
+    /// The event, with the moment of this record, and with the addresses lent.
+    pub fn event<'e, 'm>(&'e self, entry: &ReadRecord<'m>) -> Event<'e, 'm>
+        ensures { event_view result ≡ held_event_view self.now (moment_of entry.now.what) }
     {
         let facts = &self.facts;
         Event {
             number: facts.number,
             connection: facts.connection,
-            moment,
+            moment: *entry.moment(),
             note: facts.note,
             session: facts.session,
             link: self.parts.link(),

@@ -10,10 +10,10 @@ ghost use Rattle.trace_values.specs.Known.{CarriesKnown, OpensKnown};
 ghost use Rattle.trace_values.specs.View.{Events};
 
 use crate::{HeldEvent, NotEntered};
-use capture_form::{Record, Rule};
+use capture_form::Rule;
 use std::alloc::Global;
-use trace_judge::{Questions, broken_clause, judge_unopened_moment, open};
-use trace_values::Moment;
+use trace_judge::{Questions, broken_clause, judge_unopened_read, open};
+use trace_values::ReadRecord;
 
 /// The event of the next record, which has this number, is held, but for its moment. The past must be able to tell of what the
 /// event carries and, where it breaks no clause, of what it opens.
@@ -21,13 +21,13 @@ use trace_values::Moment;
 /// # Errors
 ///
 /// The first clause that the record breaks; then what is held stays. Or memory was refused; then what is held may be of no record.
-pub fn hold_next<'a, P: Questions<'a>>(
+pub fn hold_next<'a, 'm: 'a, P: Questions<'a>>(
     held: &mut HeldEvent,
     alloc: Global,
     past: &P,
     rules: &[Rule],
     number: u64,
-    entry: &'a Record,
+    entry: &ReadRecord<'m>,
 ) -> Result<(), NotEntered>
     requires few { P.is_short past.now }
     ensures answer { (history : Events) → P.stands_for past.now rules.now history → number ≡ length history →
@@ -37,9 +37,7 @@ pub fn hold_next<'a, P: Questions<'a>>(
         IsHeldAnswer rules.now history entry.now (held_event_view held.new (moment_of entry.now.what)) result }
     ensures same { IfErr result (λ why. why ≢ Memory → held.new ≡ held.old) }
 {
-    let (connection, note) = (entry.connection, entry.note);
-    let moment = Moment::of(&entry.what);
-    let mut event = judge_unopened_moment(past, rules, number, connection, &moment, note);
+    let mut event = judge_unopened_read(past, rules, number, entry);
     match broken_clause(past, rules, &event) {
         Some(clause) => Err(NotEntered::Broken(clause)),
         None => {

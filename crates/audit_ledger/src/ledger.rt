@@ -9,7 +9,6 @@ ghost use Rattle.audit_answers.specs.Tables.{AreTables, StandFor, entries_of};
 ghost use Rattle.audit_ledger.specs.HeldEvents.{held_event_view};
 ghost use Rattle.audit_ledger.specs.declared.not_entered.NotEntered.TheVariants.{Memory};
 ghost use Rattle.audit_ledger.specs.Ledger.{IsReason, Stands, broken_behind};
-ghost use Rattle.trace_values.specs.View.{event_view};
 
 use crate::not_entered::NotEntered;
 use crate::{HeldEvent, counted, hold_next};
@@ -17,7 +16,7 @@ use audit_answers::{Looked, Tables};
 use capture_form::{Record, Rule};
 use std::alloc::{AllocError, Global};
 use trace_clauses::Tally;
-use trace_values::{Event, Moment};
+use trace_values::ReadRecord;
 
 /// The tables, with what the records so far hold.
 pub struct Ledger {
@@ -94,25 +93,26 @@ impl Ledger {
         ensures same { IfErr result (λ why. why ≢ Memory → self.new ≡ self.old) }
     {
         let number = self.tally.records;
+        let entry = ReadRecord::of(entry);
         hold_event(
             &mut self.held,
             self.alloc,
             &self.tables,
             rules,
             number,
-            entry,
+            &entry,
         )?;
-        self.follow(rules, entry)?;
+        self.follow(rules, &entry)?;
         Ok(())
     }
 
     /// The record, of which the event is held and with which the capture is lawful, follows those so far.
-    fn follow(&mut self, rules: &[Rule], entry: &Record) -> Result<(), AllocError>
+    fn follow(&mut self, rules: &[Rule], entry: &ReadRecord<'_>) -> Result<(), AllocError>
         ensures { OnOk result (self.old.tally.records < 2 ^ 63 → (records : List Record) →
             IsLawfulNext rules.now records entry.now (held_event_view self.old.held (moment_of entry.now.what)) →
             Stands rules.now self.old records → Stands rules.now self.new (records ++ entry.now ∷ [])) }
     {
-        let event = made_again(&self.held, entry);
+        let event = self.held.event(entry);
         self.tables.take(rules, &event)?;
         self.tally = counted(self.tally, &event);
         Ok(())
@@ -124,13 +124,13 @@ impl Ledger {
 /// # Errors
 ///
 /// The first clause that it breaks; then what is held stays. Or memory was refused; then what is held may be of no record.
-fn hold_event<'a>(
+fn hold_event<'a, 'm: 'a>(
     held: &mut HeldEvent,
     alloc: Global,
     tables: &'a Tables,
     rules: &[Rule],
     number: u64,
-    entry: &'a Record,
+    entry: &ReadRecord<'m>,
 ) -> Result<(), NotEntered>
     ensures lawful { OnOk result ((records : List Record) → AreTables rules.now tables.now (history rules.now records) → number ≡ length (history rules.now records) →
         IsLawfulNext rules.now records entry.now (held_event_view held.new (moment_of entry.now.what))) }
@@ -142,11 +142,4 @@ fn hold_event<'a>(
 {
     let looked = tables.looked();
     hold_next(held, alloc, &looked, rules, number, entry)
-}
-
-/// The event of the record, of what was kept of it.
-fn made_again<'e>(held: &'e HeldEvent, entry: &'e Record) -> Event<'e>
-    ensures { event_view result ≡ held_event_view held.now (moment_of entry.now.what) }
-{
-    held.event(Moment::of(&entry.what))
 }

@@ -33,7 +33,7 @@ pub struct Queues {
 }
 
 /// The delivery that the event completes, if it goes to one consumer.
-fn completed<'a>(rules: &[Rule], event: &Event<'a>) -> Option<Incoming<'a>>
+fn completed<'a>(rules: &[Rule], event: &Event<'a, '_>) -> Option<Incoming<'a>>
     ensures { option_map incoming_view result ≡ where_passes (λ d. not (is_of_multicast rules.now d)) (completed_by (event_view event.now)) }
 {
     match event.completed_by() {

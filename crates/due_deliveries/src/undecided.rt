@@ -44,7 +44,7 @@ fn numbers_of<K: NumberKey>(
 }
 
 /// What a consumer says of deliveries with the event.
-fn answer<'a>(event: &Event<'a>) -> Option<Disposition<'a>>
+fn answer<'a>(event: &Event<'_, 'a>) -> Option<Disposition<'a>>
     ensures { option_map disposition_fields result ≡ answer_of (event_view event.now) }
 {
     match event.in_disposition() {

@@ -160,7 +160,7 @@ fn place_of(link: &Link) -> Place
 }
 
 /// The producer's link that the event opens.
-fn producer_opened<'a>(event: &Event<'a>) -> Option<Link<'a>>
+fn producer_opened<'a>(event: &Event<'a, '_>) -> Option<Link<'a>>
     ensures { option_map link_view result ≡ where_passes is_producer (own_link (event_view event.now)) }
 {
     match event.link {
@@ -208,7 +208,7 @@ fn settled_session(event: &Event) -> Option<u64>
 }
 
 /// The address of the consumer's link that the event opens, where it has none yet.
-fn served<'a>(event: &Event<'a>, before: &Looked<'_>) -> Option<&'a [u8]>
+fn served<'a>(event: &Event<'a, '_>, before: &Looked<'_>) -> Option<&'a [u8]>
     ensures { (rules : List RuleText) (past : Events) → AreOf rules before.now past → (l : law.Link) → consumer_opened (event_view event.now) ≡ Some l →
         addresses.has_consumer l.address past ≡ false → option_map (λ octets. octets.now) result ≡ Some l.address }
 {

@@ -146,7 +146,7 @@ impl Awake {
 }
 
 /// The address of the delivery that the event completes.
-fn completed<'a>(event: &Event<'a>) -> Option<&'a [u8]>
+fn completed<'a>(event: &Event<'a, '_>) -> Option<&'a [u8]>
     ensures { option_map (λ octets. octets.now) result ≡ option_map address_of (completed_by (event_view event.now)) }
 {
     Some(event.completed_by()?.link.address)
@@ -163,7 +163,7 @@ fn is_flow(event: &Event) -> bool
 }
 
 /// The address of the consumer's link that a flow of the client names.
-fn credited<'a>(event: &Event<'a>) -> Option<&'a [u8]>
+fn credited<'a>(event: &Event<'a, '_>) -> Option<&'a [u8]>
     ensures { (l : law.Link) → (event_view event.now).link ≡ Some l → is_consumer l ≡ true → grants_window (event_view event.now) ≡ true →
         option_map (λ octets. octets.now) result ≡ Some l.address }
 {
@@ -186,7 +186,7 @@ fn goes_on(event: &Event) -> bool
 }
 
 /// The address of the link on which the event ends a delivery.
-fn freed<'a>(event: &Event<'a>) -> Option<&'a [u8]>
+fn freed<'a>(event: &Event<'a, '_>) -> Option<&'a [u8]>
     ensures { (j : law.Outgoing) → (event_view event.now).outgoing ≡ Some j → goes_on (event_view event.now) ≡ false →
         option_map (λ octets. octets.now) result ≡ Some j.link.address }
 {

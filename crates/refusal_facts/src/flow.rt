@@ -168,7 +168,7 @@ fn link_numbers<'a, 'l, P: Inputs<'a> + Counts>(
     past: &P,
     rules: &[Rule],
     handle: Option<u32>,
-    event: &Event<'l>,
+    event: &Event<'l, 'l>,
 ) -> FlowLink<'l>
     requires few { P.is_short past.now }
     ensures { (history : Events) → P.stands_for past.now rules.now history → NamesLive (event_view event.now) history → IsFlowLink rules.now (event_view event.now) history handle result }
@@ -189,7 +189,7 @@ fn link_numbers<'a, 'l, P: Inputs<'a> + Counts>(
 pub(crate) fn flow_facts<'a, P: Inputs<'a> + Counts>(
     past: &P,
     rules: &[Rule],
-    event: &Event<'a>,
+    event: &Event<'a, 'a>,
 ) -> Option<FlowFacts<'a>>
     requires few { P.is_short past.now }
     ensures facts { (history : Events) → P.stands_for past.now rules.now history → StandsLive (event_view event.now) history → NamesLive (event_view event.now) history → IfSome result (AreFlow rules.now (event_view event.now) history) }

@@ -97,7 +97,7 @@ fn asked_on<'a, P: Openings<'a>>(
 pub(crate) fn attach_facts<'a, P: Openings<'a>>(
     past: &P,
     rules: &[Rule],
-    event: &Event<'a>,
+    event: &Event<'a, 'a>,
 ) -> Option<AttachFacts<'a>>
     ensures facts { (history : Events) → P.stands_for past.now rules.now history → StandsLive (event_view event.now) history → IfSome result (AreAttach rules.now (event_view event.now) history) }
     ensures there { is_some result ≡ is_some (said.out_attach (event_view event.now)) }

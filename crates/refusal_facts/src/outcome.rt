@@ -154,7 +154,7 @@ fn told_delivery<'a, P: Outcomes<'a>>(
 pub(crate) fn outcome_facts<'a, P: Outcomes<'a>>(
     past: &P,
     rules: &[Rule],
-    event: &Event<'a>,
+    event: &Event<'a, 'a>,
 ) -> Option<OutcomeFacts<'a>>
     ensures facts { (history : Events) → P.stands_for past.now rules.now history → IfSome (event_view event.now).told (λ n. P.knows_number past.now n history) → IfSome result (AreOutcome rules.now (event_view event.now) history) }
     ensures there { is_some result ≡ is_some (said.out_disposition (event_view event.now)) }

@@ -139,7 +139,10 @@ fn next_id_on<P: Counts>(past: &P, session: Option<Session>) -> Option<u32>
 }
 
 /// L4.
-pub(crate) fn sending_facts<'a, P: Counts>(past: &P, event: &Event<'a>) -> Option<SendingFacts<'a>>
+pub(crate) fn sending_facts<'a, P: Counts>(
+    past: &P,
+    event: &Event<'a, 'a>,
+) -> Option<SendingFacts<'a>>
     ensures facts { (rules : List RuleText) (history : Events) → P.stands_for past.now rules history → StandsLive (event_view event.now) history → IfSome result (AreSending (event_view event.now) history) }
     ensures there { is_some result ≡ is_some (said.out_transfer (event_view event.now)) }
 {
@@ -158,7 +161,7 @@ pub(crate) fn sending_facts<'a, P: Counts>(past: &P, event: &Event<'a>) -> Optio
 /// L5.
 pub(crate) fn beginning_facts<'a, P: Counts>(
     past: &P,
-    event: &Event<'a>,
+    event: &Event<'a, 'a>,
 ) -> Option<BeginningFacts<'a>>
     ensures facts { (rules : List RuleText) (history : Events) → P.stands_for past.now rules history → NamesLive (event_view event.now) history → IfSome result (AreBeginning (event_view event.now) history) }
     ensures there { is_some result ≡ (is_some (said.out_transfer (event_view event.now)) && is_some (event_view event.now).link) }
@@ -175,7 +178,7 @@ pub(crate) fn beginning_facts<'a, P: Counts>(
 }
 
 /// L6.
-pub(crate) fn going_on_facts<'a>(event: &Event<'a>) -> Option<GoingOnFacts<'a>>
+pub(crate) fn going_on_facts<'a>(event: &Event<'a, 'a>) -> Option<GoingOnFacts<'a>>
     ensures facts { IfSome result (AreGoingOn (event_view event.now)) }
     ensures there { is_some result ≡ is_some (said.out_transfer (event_view event.now)) }
 {
@@ -227,7 +230,7 @@ fn named_by<'a, P: Outcomes<'a> + Carriage<'a>>(past: &P, rules: &[Rule], note: 
 pub(crate) fn carrying_facts<'a, P: Outcomes<'a> + Carriage<'a>>(
     past: &P,
     rules: &[Rule],
-    event: &Event<'a>,
+    event: &Event<'a, 'a>,
 ) -> Option<CarryingFacts<'a>>
     ensures facts { (history : Events) → P.stands_for past.now rules.now history → IfSome result (AreCarrying rules.now (λ n. P.knows_number past.now n history) (event_view event.now) history) }
     ensures there { is_some result ≡ (is_some (said.out_transfer (event_view event.now)) && is_some (event_view event.now).link) }
@@ -275,7 +278,7 @@ pub(crate) fn order_facts<'a, P: Questions<'a>, C: Payloads<'a>>(
     past: &P,
     contents: &C,
     rules: &[Rule],
-    event: &Event<'a>,
+    event: &Event<'a, 'a>,
 ) -> Option<OrderFacts<'a>>
     requires few { P.is_short past.now }
     ensures facts { (history : Events) → P.stands_for past.now rules.now history → C.tells_of contents.now rules.now history → ((d : law_events.Incoming) → P.knows_incoming past.now d history → C.knows contents.now d) →

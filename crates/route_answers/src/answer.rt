@@ -28,7 +28,7 @@ use trace_values::{Body, Event, Link, Moment, Spoken, handle_in};
 
 /// A close of the connection, behind the router's open where none was written yet.
 #[tactic(auto, using(crate::proofs::Connections::framed_opened))]
-fn closing<'a, P: Openings<'a>>(
+fn closing<'p, 'a, P: Openings<'p>>(
     past: &P,
     connection: u32,
     condition: Option<ErrorCondition>,
@@ -63,7 +63,7 @@ fn session_numbers<P: Counts>(past: &P, session: Session) -> Flow
 }
 
 /// The numbers of a link and its session.
-fn link_flow<'a, P: Inputs<'a> + Counts>(past: &P, link: &Link) -> Reply<'a>
+fn link_flow<'p, 'a, P: Inputs<'p> + Counts>(past: &P, link: &Link) -> Reply<'a>
     ensures says { (rules : List RuleText) (history : Events) → P.stands_for past.now rules history → IsLiveLink (link_view link.now) history →
         (reply_view result ≡ duties.link_flow (link_view link.now) history) }
     ensures short { CanBeSaid result.saying }
@@ -91,7 +91,7 @@ fn link_flow<'a, P: Inputs<'a> + Counts>(past: &P, link: &Link) -> Reply<'a>
 }
 
 /// The echo of a flow that asks for one: the link's numbers, or those of its session alone.
-fn echo<'a, P: Inputs<'a> + Counts>(past: &P, event: &Event, flow: &Flow) -> Answer<'a>
+fn echo<'p, 'a, P: Inputs<'p> + Counts>(past: &P, event: &Event, flow: &Flow) -> Answer<'a>
     ensures says { (rules : List RuleText) (history : Events) → P.stands_for past.now rules history → EchoesLive (event_view event.now) history (AFlow flow.now) →
         (answer_view result ≡ duties.echo_on (event_view event.now).session (event_view event.now).link flow.now history) }
     ensures short { CanBeWritten result }
@@ -116,7 +116,7 @@ fn echo<'a, P: Inputs<'a> + Counts>(past: &P, event: &Event, flow: &Flow) -> Ans
 /// # Errors
 ///
 /// Where the memory for a made up address is refused.
-fn plain_answer<'a, P: Inputs<'a> + Openings<'a> + Counts>(
+fn plain_answer<'p, 'a, P: Inputs<'p> + Openings<'p> + Counts>(
     alloc: Global,
     past: &P,
     rules: &[Rule],
@@ -170,7 +170,7 @@ fn refusal<'a>(
 }
 
 /// The answer to a frame with this fault.
-fn fault_answer<'a, P: Openings<'a>>(
+fn fault_answer<'p, 'a, P: Openings<'p>>(
     past: &P,
     event: &Event,
     channel: u16,
@@ -197,7 +197,7 @@ fn fault_answer<'a, P: Openings<'a>>(
 /// # Errors
 ///
 /// Where the memory for a made up address is refused.
-fn spoken_answer<'a, P: Inputs<'a> + Openings<'a> + Counts>(
+fn spoken_answer<'p, 'a, P: Inputs<'p> + Openings<'p> + Counts>(
     alloc: Global,
     past: &P,
     rules: &[Rule],
@@ -223,7 +223,7 @@ fn spoken_answer<'a, P: Inputs<'a> + Openings<'a> + Counts>(
 }
 
 /// The answer to octets that are no frame, or begin with no performative.
-fn unread_answer<'a, P: Openings<'a>>(past: &P, event: &Event) -> Answer<'a>
+fn unread_answer<'p, 'a, P: Openings<'p>>(past: &P, event: &Event) -> Answer<'a>
     ensures says { (rules : List RuleText) (history : Events) → P.stands_for past.now rules history → first_broken rules history ≡ None →
         (answer_view result ≡ duties.unread_answer (event_view event.now) event.now.fault history) }
     ensures short { CanBeWritten result }
@@ -239,7 +239,7 @@ fn unread_answer<'a, P: Openings<'a>>(past: &P, event: &Event) -> Answer<'a>
 /// # Errors
 ///
 /// Where the memory for a made up address is refused.
-fn body_answer<'a, P: Inputs<'a> + Openings<'a> + Counts>(
+fn body_answer<'p, 'a, P: Inputs<'p> + Openings<'p> + Counts>(
     alloc: Global,
     past: &P,
     rules: &[Rule],
@@ -271,11 +271,11 @@ fn body_answer<'a, P: Inputs<'a> + Openings<'a> + Counts>(
 /// # Errors
 ///
 /// Where the memory for a made up address is refused.
-fn moment_answer<'a, P: Inputs<'a> + Openings<'a> + Counts>(
+fn moment_answer<'p, 'a, P: Inputs<'p> + Openings<'p> + Counts>(
     alloc: Global,
     past: &P,
     rules: &[Rule],
-    event: &Event<'a>,
+    event: &Event<'_, 'a>,
 ) -> Result<Answer<'a>, AllocError>
     ensures says { (history : Events) → P.stands_for past.now rules.now history → IsAnswerable rules.now (event_view event.now) history →
         IfOk result (λ answer. answer_view answer ≡ duties.answer rules.now (event_view event.now) history) }
@@ -292,7 +292,7 @@ fn moment_answer<'a, P: Inputs<'a> + Openings<'a> + Counts>(
 
 /// Whether an event is a client's transfer or disposition without fault. Nothing is owed for such a one, whatever came before
 /// it: it has no direct answer. Of any other, something may be owed or nothing.
-pub fn owes_nothing(event: &Event<'_>) -> bool
+pub fn owes_nothing(event: &Event) -> bool
     ensures is { result ≡ is_sound_transfer_or_disposition (event_view event.now) }
     ensures owed { result ≡ true → (rules : List RuleText) (past : Events) → duties.answer rules (event_view event.now) past ≡ [] }
 {
@@ -305,11 +305,11 @@ pub fn owes_nothing(event: &Event<'_>) -> bool
 /// # Errors
 ///
 /// Where the memory for an address that is made up is refused.
-pub fn answer_to<'a, P: Inputs<'a> + Openings<'a> + Counts>(
+pub fn answer_to<'p, 'a, P: Inputs<'p> + Openings<'p> + Counts>(
     alloc: Global,
     past: &P,
     rules: &[Rule],
-    event: &Event<'a>,
+    event: &Event<'_, 'a>,
 ) -> Result<Answer<'a>, AllocError>
     // They are exactly those that are owed.
     ensures says { (history : Events) (c : ℕ) (m : law.Moment) → IsReady rules.now history → IsTrue (may_happen c m history) →

@@ -2,7 +2,6 @@
 
 ghost use Rattle.std.specs.Prelude.{◌≡◌, IfOk};
 ghost use Rattle.trace_events.specs.History.{moment_of};
-ghost use Rattle.trace_values.specs.View.{event_view};
 ghost use Rattle.audit_ledger.specs.HeldEvents.{held_event_view};
 ghost use Rattle.route_answers.specs.Replies.{answer_view, reply_view, CanBeSaid, CanBeWritten};
 ghost use Rattle.route_records.specs.Replies.{IsReply, AreReplies, IsAnswerable, IsAnswerOf, AreAnswers, replies_of};
@@ -13,7 +12,7 @@ use pairing_cert::Note;
 use route_answers::{Answer, Reply, answer_to};
 use route_work::Looked;
 use std::alloc::{AllocError, Global};
-use trace_values::{Event, Moment};
+use trace_values::ReadRecord;
 
 /// The records of a direct answer, in order.
 #[derive(Drop)]
@@ -65,30 +64,23 @@ fn records_of(alloc: Global, connection: u32, answer: &Answer<'_>) -> Result<Rep
     }
 }
 
-/// The event that was judged, of the record that was.
-pub(crate) fn event_of<'a>(held: &'a HeldEvent, entry: &'a Record) -> Event<'a>
-    ensures { event_view result ≡ held_event_view held.now (moment_of entry.now.what) }
-{
-    held.event(Moment::of(&entry.what))
-}
-
 /// The direct answer to what a client did, by the tables of what was recorded up to it.
 ///
 /// # Errors
 ///
 /// Where memory is refused.
-fn answer_by<'a>(
+fn answer_by<'m>(
     alloc: Global,
-    looked: &Looked<'a>,
+    looked: &Looked<'_>,
     rules: &[Rule],
-    held: &'a HeldEvent,
-    entry: &'a Record,
-) -> Result<Answer<'a>, AllocError>
+    held: &HeldEvent,
+    entry: &ReadRecord<'m>,
+) -> Result<Answer<'m>, AllocError>
     requires answerable { IsAnswerable rules.now (held_event_view held.now (moment_of entry.now.what)) }
     ensures says { IfOk result (λ answer. IsAnswerOf rules.now looked.now (held_event_view held.now (moment_of entry.now.what)) (answer_view answer)) }
     ensures short { IfOk result CanBeWritten }
 {
-    let event = event_of(held, entry);
+    let event = held.event(entry);
     let answer = answer_to(alloc, looked, rules, &event)?;
     Ok(answer)
 }
@@ -103,13 +95,13 @@ pub(crate) fn replies_to(
     looked: &Looked<'_>,
     rules: &[Rule],
     held: &HeldEvent,
-    entry: &Record,
+    entry: &ReadRecord<'_>,
 ) -> Result<Replies, AllocError>
     requires answerable { IsAnswerable rules.now (held_event_view held.now (moment_of entry.now.what)) }
     requires connected { (held_event_view held.now (moment_of entry.now.what)).connection ≡ entry.now.connection }
     ensures { IfOk result (λ replies. AreAnswers rules.now looked.now (held_event_view held.now (moment_of entry.now.what)) (replies_of replies)) }
 {
     let answer = answer_by(alloc, looked, rules, held, entry)?;
-    let replies = records_of(alloc, entry.connection, &answer)?;
+    let replies = records_of(alloc, entry.connection(), &answer)?;
     Ok(replies)
 }

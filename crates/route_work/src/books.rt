@@ -19,8 +19,8 @@ use audit_answers::{Looked, Tables};
 use audit_ledger::HeldEvent;
 use capture_form::{Record, Rule};
 use std::alloc::{AllocError, Global};
-use trace_judge::{judge_unopened_moment, open};
-use trace_values::{Event, Moment};
+use trace_judge::{judge_unopened_read, open};
+use trace_values::{Event, ReadRecord};
 
 /// The tables of the records so far, and what is due behind them.
 pub struct Books<D: Dues> {
@@ -66,20 +66,18 @@ impl<D: Dues> Books<D> {
     /// # Errors
     ///
     /// Where memory is refused; then what is held may be of no record.
-    pub fn judge<'a>(
-        &'a self,
+    pub fn judge(
+        &self,
         held: &mut HeldEvent,
         rules: &[Rule],
         number: u64,
-        entry: &'a Record,
+        entry: &ReadRecord<'_>,
     ) -> Result<(), AllocError>
         ensures { OnOk result ((records : List Record) → AreBooks D.has_all rules.now self.now records → number ≡ length records →
             IsUnbroken rules.now records entry.now → IsLawfulNext rules.now records entry.now (held_event_view held.new (moment_of entry.now.what))) }
     {
         let looked = self.tables.looked();
-        let (connection, note) = (entry.connection, entry.note);
-        let moment = Moment::of(&entry.what);
-        let mut event = judge_unopened_moment(&looked, rules, number, connection, &moment, note);
+        let mut event = judge_unopened_read(&looked, rules, number, entry);
         open(&looked, &mut event);
         held.keep(self.alloc, &event)
     }

@@ -169,12 +169,12 @@ fn answers_live<'a, P: Openings<'a>>(
 }
 
 /// A performative: L1 speaks of each.
-fn broken_by_spoken<'a, P: Questions<'a>>(
+fn broken_by_spoken<'a, 'm: 'a, P: Questions<'a>>(
     past: &P,
     rules: &[Rule],
-    event: &Event<'a>,
+    event: &Event<'_, 'm>,
     frame: &Frame,
-    spoken: &Spoken<'a>,
+    spoken: &Spoken<'m>,
 ) -> Option<Clause>
     requires few { P.is_short past.now }
     ensures { (history : Events) → P.stands_for past.now rules.now history → StandsLive (event_view event.now) history → NamesLive (event_view event.now) history →
@@ -203,10 +203,10 @@ fn broken_by_spoken<'a, P: Questions<'a>>(
 
 /// The first clause that an event breaks: only what the router wrote breaks one. A frame of the router's that is no performative
 /// breaks L1.
-pub fn broken_clause<'a, P: Questions<'a>>(
+pub fn broken_clause<'a, 'm: 'a, P: Questions<'a>>(
     past: &P,
     rules: &[Rule],
-    event: &Event<'a>,
+    event: &Event<'_, 'm>,
 ) -> Option<Clause>
     requires few { P.is_short past.now }
     ensures { (history : Events) → P.stands_for past.now rules.now history → StandsLive (event_view event.now) history → NamesLive (event_view event.now) history →

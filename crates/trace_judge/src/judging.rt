@@ -20,7 +20,9 @@ use amqp_perf::{Disposition, Performative, Role};
 use capture_form::{Record, Rule};
 use pairing_cert::Note;
 use trace_events::{Fault, Session};
-use trace_values::{Event, Incoming, Link, Moment, Outgoing, Spoken, handle_in, opens_link};
+use trace_values::{
+    Event, Incoming, Link, Moment, Outgoing, ReadRecord, Spoken, handle_in, opens_link,
+};
 
 // Where a frame stands.
 
@@ -55,7 +57,7 @@ fn link_of<'a, P: Inputs<'a>>(
 /// The delivery in progress on a producer's link, or one that begins.
 fn incoming_part<'a, P: Inputs<'a>>(
     past: &P,
-    event: &Event<'a>,
+    event: &Event<'a, '_>,
     spoken: &Spoken,
 ) -> Option<Incoming<'a>>
     ensures { (rules : List RuleText) (history : Events) → P.stands_for past.now rules history → NamesLive (event_view event.now) history →
@@ -75,7 +77,7 @@ fn incoming_part<'a, P: Inputs<'a>>(
 }
 
 /// The delivery of a transfer that is heard and without fault.
-fn incoming_by<'a, P: Inputs<'a>>(past: &P, event: &Event<'a>) -> Option<Incoming<'a>>
+fn incoming_by<'a, P: Inputs<'a>>(past: &P, event: &Event<'a, '_>) -> Option<Incoming<'a>>
     ensures { (rules : List RuleText) (history : Events) → P.stands_for past.now rules history → NamesLive (event_view event.now) history →
         (option_map incoming_view result ≡ law.incoming_by (event_view event.now) (event_view event.now).moment history) }
 {
@@ -90,7 +92,7 @@ fn incoming_by<'a, P: Inputs<'a>>(past: &P, event: &Event<'a>) -> Option<Incomin
 /// The delivery in progress on a consumer's link, or one that begins.
 fn outgoing_part<'a, P: Carriage<'a>>(
     past: &P,
-    event: &Event<'a>,
+    event: &Event<'a, '_>,
     spoken: &Spoken,
 ) -> Option<Outgoing<'a>>
     ensures { (rules : List RuleText) (history : Events) → P.stands_for past.now rules history → NamesLive (event_view event.now) history →
@@ -109,7 +111,7 @@ fn outgoing_part<'a, P: Carriage<'a>>(
     }
 }
 
-fn outgoing_by<'a, P: Carriage<'a>>(past: &P, event: &Event<'a>) -> Option<Outgoing<'a>>
+fn outgoing_by<'a, P: Carriage<'a>>(past: &P, event: &Event<'a, '_>) -> Option<Outgoing<'a>>
     ensures { (rules : List RuleText) (history : Events) → P.stands_for past.now rules history → NamesLive (event_view event.now) history →
         (option_map outgoing_view result ≡ law.outgoing_by (event_view event.now) (event_view event.now).moment history) }
 {
@@ -201,7 +203,7 @@ fn opened_session<'a, P: Openings<'a>>(past: &P, event: &Event) -> Option<Sessio
 }
 
 /// The link that an Out attach with source and target opens on a live session.
-fn opened_link<'a, P: Openings<'a>>(past: &P, event: &Event<'a>) -> Option<Link<'a>>
+fn opened_link<'a, 'm: 'a, P: Openings<'a>>(past: &P, event: &Event<'a, 'm>) -> Option<Link<'a>>
     ensures { (rules : List RuleText) (history : Events) → P.stands_for past.now rules history → StandsLive (event_view event.now) history →
         OpensKnown (λ c channel. P.knows_begin past.now c channel history) (λ s handle. P.knows_attach past.now s handle history) (event_view event.now) →
         (option_map link_view result ≡ law.opened_link (event_view event.now) history) }
@@ -218,13 +220,13 @@ fn opened_link<'a, P: Openings<'a>>(past: &P, event: &Event<'a>) -> Option<Link<
 // In five steps: where the record stands, whether it is heard, its fault, the deliveries that it is of, and what it
 // opens. Each fills in its fields of the event, which is large.
 
-fn placed<'a, P: Inputs<'a>>(
+fn placed<'a, 'm, P: Inputs<'a>>(
     past: &P,
     number: u64,
     connection: u32,
-    moment: &Moment<'a>,
+    moment: &Moment<'m>,
     note: Note,
-) -> Event<'a>
+) -> Event<'a, 'm>
     ensures { (rules : List RuleText) (history : Events) → P.stands_for past.now rules history → number ≡ length history →
         (event_view result ≡ law.placed history connection (moment_view moment.now) note) }
 {
@@ -255,7 +257,7 @@ fn heard_by<'a, P: Inputs<'a>>(past: &P, event: &Event) -> bool
     }
 }
 
-fn hear<'a, P: Inputs<'a>>(past: &P, event: &mut Event<'a>)
+fn hear<'a, P: Inputs<'a>>(past: &P, event: &mut Event<'a, '_>)
     ensures { (rules : List RuleText) (history : Events) → P.stands_for past.now rules history → StandsLive (event_view event.old) history →
         (event_view event.new ≡ law.heard history (event_view event.old)) }
 {
@@ -272,7 +274,7 @@ fn fault_by<'a, P: Inputs<'a>>(past: &P, rules: &[Rule], event: &Event) -> Optio
     }
 }
 
-fn find_fault<'a, P: Inputs<'a>>(past: &P, rules: &[Rule], event: &mut Event<'a>)
+fn find_fault<'a, P: Inputs<'a>>(past: &P, rules: &[Rule], event: &mut Event<'a, '_>)
     ensures { (history : Events) → P.stands_for past.now rules.now history → StandsLive (event_view event.old) history → NamesLive (event_view event.old) history →
         (event_view event.new ≡ law.faulted rules.now history (event_view event.old)) }
 {
@@ -282,7 +284,7 @@ fn find_fault<'a, P: Inputs<'a>>(past: &P, rules: &[Rule], event: &mut Event<'a>
 fn find_deliveries<'a, P: Inputs<'a> + Outcomes<'a> + Carriage<'a>>(
     past: &P,
     rules: &[Rule],
-    event: &mut Event<'a>,
+    event: &mut Event<'a, '_>,
 )
     ensures { (history : Events) → P.stands_for past.now rules.now history → StandsLive (event_view event.old) history → NamesLive (event_view event.old) history →
         (event_view event.new ≡ law.delivered rules.now history (event_view event.old)) }
@@ -299,7 +301,7 @@ fn find_deliveries<'a, P: Inputs<'a> + Outcomes<'a> + Carriage<'a>>(
 
 /// Fills in what the event opens: an Out begin stands on its own session, and an Out attach names its own link; any other
 /// event stays as it was.
-pub fn open<'a, P: Openings<'a>>(past: &P, event: &mut Event<'a>)
+pub fn open<'a, 'm: 'a, P: Openings<'a>>(past: &P, event: &mut Event<'a, 'm>)
     ensures { (rules : List RuleText) (history : Events) → P.stands_for past.now rules history → StandsLive (event_view event.old) history →
         OpensKnown (λ c channel. P.knows_begin past.now c channel history) (λ s handle. P.knows_attach past.now s handle history) (event_view event.old) →
         (event_view event.new ≡ law.opened history (event_view event.old)) }
@@ -317,12 +319,12 @@ pub fn open<'a, P: Openings<'a>>(past: &P, event: &mut Event<'a>)
 }
 
 /// A record, with its note, as the event of this number, but for what it opens: the law can be asked here.
-pub fn judge_unopened<'a, P: Inputs<'a> + Outcomes<'a> + Carriage<'a>>(
+pub fn judge_unopened<'a, 'm, P: Inputs<'a> + Outcomes<'a> + Carriage<'a>>(
     past: &P,
     rules: &[Rule],
     number: u64,
-    entry: &'a Record,
-) -> Event<'a>
+    entry: &'m Record,
+) -> Event<'a, 'm>
     ensures { (history : Events) → P.stands_for past.now rules.now history → number ≡ length history →
         (event_view result ≡ law.judge_unopened rules.now history entry.now.connection (law.moment_of entry.now.what) entry.now.note) }
 {
@@ -330,15 +332,31 @@ pub fn judge_unopened<'a, P: Inputs<'a> + Outcomes<'a> + Carriage<'a>>(
     judge_unopened_moment(past, rules, number, entry.connection, &moment, entry.note)
 }
 
-/// The same where the octets of the frame are read already, of this moment and note.
-pub fn judge_unopened_moment<'a, P: Inputs<'a> + Outcomes<'a> + Carriage<'a>>(
+/// The same where the octets of the frame are read already.
+pub fn judge_unopened_read<'a, 'm, P: Inputs<'a> + Outcomes<'a> + Carriage<'a>>(
+    past: &P,
+    rules: &[Rule],
+    number: u64,
+    entry: &ReadRecord<'m>,
+) -> Event<'a, 'm>
+    ensures { (history : Events) → P.stands_for past.now rules.now history → number ≡ length history →
+        (event_view result ≡ law.judge_unopened rules.now history entry.now.connection (law.moment_of entry.now.what) entry.now.note) }
+{
+    let moment = entry.moment();
+    let connection = entry.connection();
+    let note = entry.note();
+    judge_unopened_moment(past, rules, number, connection, moment, note)
+}
+
+/// What happened on a connection, with its note, as the event of this number, but for what it opens.
+fn judge_unopened_moment<'a, 'm, P: Inputs<'a> + Outcomes<'a> + Carriage<'a>>(
     past: &P,
     rules: &[Rule],
     number: u64,
     connection: u32,
-    moment: &Moment<'a>,
+    moment: &Moment<'m>,
     note: Note,
-) -> Event<'a>
+) -> Event<'a, 'm>
     ensures { (history : Events) → P.stands_for past.now rules.now history → number ≡ length history →
         (event_view result ≡ law.judge_unopened rules.now history connection (moment_view moment.now) note) }
 {
@@ -350,12 +368,12 @@ pub fn judge_unopened_moment<'a, P: Inputs<'a> + Outcomes<'a> + Carriage<'a>>(
 }
 
 /// The record of this number in its place.
-pub fn judge<'a, P: Inputs<'a> + Outcomes<'a> + Openings<'a> + Carriage<'a>>(
+pub fn judge<'a, 'm: 'a, P: Inputs<'a> + Outcomes<'a> + Openings<'a> + Carriage<'a>>(
     past: &P,
     rules: &[Rule],
     number: u64,
-    entry: &'a Record,
-) -> Event<'a>
+    entry: &'m Record,
+) -> Event<'a, 'm>
     ensures { (history : Events) → P.stands_for past.now rules.now history → number ≡ length history →
         OpensKnown (λ c channel. P.knows_begin past.now c channel history) (λ s handle. P.knows_attach past.now s handle history)
         (law.judge_unopened rules.now history entry.now.connection (law.moment_of entry.now.what) entry.now.note) →

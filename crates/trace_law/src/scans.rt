@@ -263,7 +263,7 @@ impl<'p, 'a> Past<'p, 'a> {
 
     /// The record of this number in its place.
     #[tactic(auto, using(crate::proofs::KnownAll::opens_all))]
-    pub(crate) fn judge(&self, rules: &[Rule], number: u64, entry: &'a Record) -> Event<'a>
+    pub(crate) fn judge(&self, rules: &[Rule], number: u64, entry: &'a Record) -> Event<'a, 'a>
         requires numbered { number ≡ length (events self.now) }
         ensures { event_view result ≡ judge rules.now (events self.now) entry.now }
     {

@@ -57,15 +57,15 @@ pub enum Moment<'a> {
     Broken,
 }
 
-/// A record in its place.
+/// A record in its place. Addresses are lent by whoever tells of the records before it, and the octets of its frame by the record.
 #[derive(Clone, Copy)]
-pub struct Event<'a> {
+pub struct Event<'a, 'm> {
     /// Its place in the capture, from 0.
     pub number: u64,
     /// That of the record.
     pub connection: u32,
     /// What happened.
-    pub moment: Moment<'a>,
+    pub moment: Moment<'m>,
     /// What the router certifies of it.
     pub note: Note,
     /// The live session on which a frame stands; an Out begin's own.

@@ -35,7 +35,7 @@ impl<'a> Incoming<'a> {
     }
 }
 
-impl<'a> Event<'a> {
+impl<'a, 'm> Event<'a, 'm> {
     ghost use Rattle.std.specs.Prelude.{◌≡◌, ◌&&◌, option_map};
     ghost use Rattle.amqp_perf.specs.Meaning.{flag};
     ghost use Rattle.trace_events.specs.Words.{is_some_and};

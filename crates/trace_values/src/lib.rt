@@ -2,7 +2,7 @@
 //! connection, session, link or delivery that it is asked about. Each function computes the definition of `trace_events`, or
 //! of an attach's answer in `trace_clauses`, that its contract names, and looks at no other event.
 //!
-//! - `event`, `frame`, `said`: a record in its place, its octets, read, and what they say;
+//! - `event`, `frame`, `said`: a record in its place, its octets, read, and what they say; `read_record` is a record, read once;
 //! - `connection`, `session`, `window`: what ends a connection or a session, and moves its windows;
 //! - `link`, `credit`, `address`, `asking`: what opens and ends a link, and moves its credit; how an address distributes;
 //!   what an attach asks for, and which answers fit;
@@ -22,6 +22,7 @@ mod frame;
 mod incoming;
 mod link;
 mod outgoing;
+mod read_record;
 mod said;
 mod session;
 mod window;
@@ -35,4 +36,5 @@ pub use frame::{Body, Frame, Spoken};
 pub use incoming::goes_on;
 pub use link::{address_at, opens_link, their_first_count};
 pub use outgoing::names;
+pub use read_record::ReadRecord;
 pub use said::{handle_in, is_of_connection};

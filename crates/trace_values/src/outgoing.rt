@@ -18,7 +18,7 @@ pub fn names(number: u64, note: Note) -> bool
     }
 }
 
-impl<'a> Event<'a> {
+impl<'a, 'm> Event<'a, 'm> {
     ghost use Rattle.std.specs.Prelude.{◌≡◌, ◌&&◌, option_map, is_some, not};
     ghost use Rattle.amqp_perf.specs.Meaning.{flag};
     ghost use Rattle.amqp_perf.specs.View.{disposition_fields};
@@ -80,7 +80,7 @@ impl<'a> Event<'a> {
     }
 
     /// A heard disposition of the consumer, behind the delivery's first transfer, that covers its id.
-    pub fn answering(&self, delivery: &Outgoing) -> Option<Disposition<'a>>
+    pub fn answering(&self, delivery: &Outgoing) -> Option<Disposition<'m>>
         ensures { option_map disposition_fields result ≡ law.answering (outgoing_view delivery.now) (event_view self.now) }
     {
         if !(self.is_heard

@@ -78,7 +78,7 @@ impl<'a> Moment<'a> {
     }
 }
 
-impl<'a> Event<'a> {
+impl<'a, 'm> Event<'a, 'm> {
     ghost use Rattle.std.specs.Prelude.{◌≡◌, option_map};
     ghost use Rattle.amqp_perf.specs.View.{open_fields, attach_fields, transfer_fields, disposition_fields, detach_fields};
     ghost use Rattle.trace_events.specs.Event.{is_on_channel, is_on_session, is_on_link};
@@ -114,21 +114,21 @@ impl<'a> Event<'a> {
     }
 
     /// The performative that the client sent.
-    pub fn in_spoken(&self) -> Option<&Spoken<'a>>
+    pub fn in_spoken(&self) -> Option<&Spoken<'m>>
         ensures { option_map (λ spoken. spoken_view spoken.now) result ≡ said.in_spoken (event_view self.now) }
     {
         self.moment.in_frame()?.spoken()
     }
 
     /// The performative that the router wrote.
-    pub fn out_spoken(&self) -> Option<&Spoken<'a>>
+    pub fn out_spoken(&self) -> Option<&Spoken<'m>>
         ensures { option_map (λ spoken. spoken_view spoken.now) result ≡ said.out_spoken (event_view self.now) }
     {
         self.moment.out_frame()?.spoken()
     }
 
     /// The client's open.
-    pub fn in_open(&self) -> Option<Open<'a>>
+    pub fn in_open(&self) -> Option<Open<'m>>
         ensures { option_map open_fields result ≡ said.in_open (event_view self.now) }
     {
         match self.in_spoken()?.performative {
@@ -148,7 +148,7 @@ impl<'a> Event<'a> {
     }
 
     /// The client's attach.
-    pub fn in_attach(&self) -> Option<Attach<'a>>
+    pub fn in_attach(&self) -> Option<Attach<'m>>
         ensures { option_map attach_fields result ≡ said.in_attach (event_view self.now) }
     {
         match self.in_spoken()?.performative {
@@ -158,7 +158,7 @@ impl<'a> Event<'a> {
     }
 
     /// The client's transfer.
-    pub fn in_transfer(&self) -> Option<Transfer<'a>>
+    pub fn in_transfer(&self) -> Option<Transfer<'m>>
         ensures { option_map transfer_fields result ≡ said.in_transfer (event_view self.now) }
     {
         match self.in_spoken()?.performative {
@@ -168,7 +168,7 @@ impl<'a> Event<'a> {
     }
 
     /// The client's disposition.
-    pub fn in_disposition(&self) -> Option<Disposition<'a>>
+    pub fn in_disposition(&self) -> Option<Disposition<'m>>
         ensures { option_map disposition_fields result ≡ said.in_disposition (event_view self.now) }
     {
         match self.in_spoken()?.performative {
@@ -178,7 +178,7 @@ impl<'a> Event<'a> {
     }
 
     /// The client's detach.
-    pub fn in_detach(&self) -> Option<Detach<'a>>
+    pub fn in_detach(&self) -> Option<Detach<'m>>
         ensures { option_map detach_fields result ≡ said.in_detach (event_view self.now) }
     {
         match self.in_spoken()?.performative {
@@ -218,7 +218,7 @@ impl<'a> Event<'a> {
     }
 
     /// The router's attach.
-    pub fn out_attach(&self) -> Option<Attach<'a>>
+    pub fn out_attach(&self) -> Option<Attach<'m>>
         ensures { option_map attach_fields result ≡ said.out_attach (event_view self.now) }
     {
         match self.out_spoken()?.performative {
@@ -228,7 +228,7 @@ impl<'a> Event<'a> {
     }
 
     /// The router's transfer.
-    pub fn out_transfer(&self) -> Option<Transfer<'a>>
+    pub fn out_transfer(&self) -> Option<Transfer<'m>>
         ensures { option_map transfer_fields result ≡ said.out_transfer (event_view self.now) }
     {
         match self.out_spoken()?.performative {
@@ -238,7 +238,7 @@ impl<'a> Event<'a> {
     }
 
     /// The router's disposition.
-    pub fn out_disposition(&self) -> Option<Disposition<'a>>
+    pub fn out_disposition(&self) -> Option<Disposition<'m>>
         ensures { option_map disposition_fields result ≡ said.out_disposition (event_view self.now) }
     {
         match self.out_spoken()?.performative {
@@ -258,7 +258,7 @@ impl<'a> Event<'a> {
     }
 
     /// The router's detach.
-    pub fn out_detach(&self) -> Option<Detach<'a>>
+    pub fn out_detach(&self) -> Option<Detach<'m>>
         ensures { option_map detach_fields result ≡ said.out_detach (event_view self.now) }
     {
         match self.out_spoken()?.performative {

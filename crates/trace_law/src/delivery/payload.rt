@@ -25,7 +25,7 @@ impl Delivery {
     ghost use Rattle.trace_values.specs.View.{event_view};
 
     /// What an event adds to the delivery's payload.
-    fn part<'a>(self, event: &Event<'a>) -> &'a [u8]
+    fn part<'a>(self, event: &Event<'a, 'a>) -> &'a [u8]
         ensures { result.now ≡ part_of self (event_view event.now) }
     {
         let spoken = match (self, event.incoming, event.outgoing) {

@@ -2,7 +2,6 @@ use Rattle.std.proofs.lemmas.Result.{err_from_is_err_and}
 use Rattle.std.proofs.Common.{◌≡◌, sym, ap, subst, ◌∙◌, true}
 use Rattle.trace_clauses.specs.Clauses.{broken_clause}
 use Rattle.trace_events.specs.Event.{Event}
-use Rattle.trace_events.specs.History as law
 use Rattle.trace_events.specs.History.{moment_of}
 use Rattle.trace_values.specs.Known.{CarriesKnown, OpensKnown}
 use Rattle.trace_values.specs.View.{event_view}
@@ -14,8 +13,8 @@ pub returns-in-Some-clause-answer : goal.returns-in-Some-clause-answer
 returns-in-Some-clause-answer g c = λ past stands numbered carries opens.
     let rules = c.args.rules.now in
     let r = c.args.entry.now in
-    let e = event_view c.judge_unopened_moment-event.result in
-    let is = c.judge_unopened_moment-event.ensures past stands numbered ∙ ap (λ m. law.judge_unopened rules past r.connection m r.note) c.of-moment.ensures in
+    let e = event_view c.judge_unopened_read-event.result in
+    let is = c.judge_unopened_read-event.ensures past stands numbered in
     let Carries : Event → Type 0 = λ x. CarriesKnown (λ n. g.P.History.knows_number c.args.past.now n past) (λ j. g.P.History.knows_outgoing c.args.past.now j past) x in
     let broken = c.in-Some.ensures past stands (stands-live rules past r e is) (names-live rules past r e is) (number-is rules past r e is) (subst Carries (sym is) carries) in
     sym (broken ∙ broken-is rules past r e is)
@@ -24,8 +23,8 @@ pub returns-in_ok-keep-in-None-clause-answer : goal.returns-in_ok-keep-in-None-c
 returns-in_ok-keep-in-None-clause-answer g c = λ past stands numbered carries opens.
     let rules = c.args.rules.now in
     let r = c.args.entry.now in
-    let e = event_view c.judge_unopened_moment-event.result in
-    let is = c.judge_unopened_moment-event.ensures past stands numbered ∙ ap (λ m. law.judge_unopened rules past r.connection m r.note) c.of-moment.ensures in
+    let e = event_view c.judge_unopened_read-event.result in
+    let is = c.judge_unopened_read-event.ensures past stands numbered in
     let Carries : Event → Type 0 = λ x. CarriesKnown (λ n. g.P.History.knows_number c.args.past.now n past) (λ j. g.P.History.knows_outgoing c.args.past.now j past) x in
     let Opens : Event → Type 0 = λ x. OpensKnown (λ n channel. g.P.History.knows_begin c.args.past.now n channel past) (λ s handle. g.P.History.knows_attach c.args.past.now s handle past) x in
     let unbroken = c.in-None.ensures past stands (stands-live rules past r e is) (names-live rules past r e is) (number-is rules past r e is) (subst Carries (sym is) carries) in
@@ -37,8 +36,8 @@ pub returns-in_err-keep-in-None-clause-answer : goal.returns-in_err-keep-in-None
 returns-in_err-keep-in-None-clause-answer g c = λ past stands numbered carries opens.
     let rules = c.args.rules.now in
     let r = c.args.entry.now in
-    let e = event_view c.judge_unopened_moment-event.result in
-    let is = c.judge_unopened_moment-event.ensures past stands numbered ∙ ap (λ m. law.judge_unopened rules past r.connection m r.note) c.of-moment.ensures in
+    let e = event_view c.judge_unopened_read-event.result in
+    let is = c.judge_unopened_read-event.ensures past stands numbered in
     let Carries : Event → Type 0 = λ x. CarriesKnown (λ n. g.P.History.knows_number c.args.past.now n past) (λ j. g.P.History.knows_outgoing c.args.past.now j past) x in
     let Opens : Event → Type 0 = λ x. OpensKnown (λ n channel. g.P.History.knows_begin c.args.past.now n channel past) (λ s handle. g.P.History.knows_attach c.args.past.now s handle past) x in
     let unbroken = c.in-None.ensures past stands (stands-live rules past r e is) (names-live rules past r e is) (number-is rules past r e is) (subst Carries (sym is) carries) in

@@ -6,7 +6,7 @@ use Rattle.route_records.proofs.replies.answer_by.Goals as goal
 pub returns-clause-says : goal.returns-clause-says
 returns-clause-says c =
     let rules = c.args.rules.now in
-    let is = c.event_of-event.ensures in
+    let is = c.event-event.ensures in
     record {
       says = λ past k m ready may judged tells.
           c.in_ok-answer.ensures.says past k m ready may (is ∙ judged) (subst (λ e. TellsOf rules c.args.looked.now (e ∷ past)) (sym is) tells)
@@ -17,4 +17,4 @@ pub returns-clause-short : goal.returns-clause-short
 returns-clause-short c =
     let asked = c.requires.answerable in
     c.in_ok-answer.ensures.short asked.past asked.connection asked.moment asked.ready asked.may
-    ((c.event_of-event.ensures) ∙ asked.judged)
+    ((c.event-event.ensures) ∙ asked.judged)
