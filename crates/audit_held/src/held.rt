@@ -72,15 +72,15 @@ impl Fate {
 pub struct HeldDelivery {
     number: u64,
     link: HeldLink,
-    id: Option<u32>,
-    format: u32,
     payload: Vec<u8>,
     /// The record that completed it.
     completion: Option<u64>,
+    fate: Fate,
+    id: Option<u32>,
+    format: u32,
     /// It is told, settled, or of a link that is over.
     is_closed: bool,
     is_undecided: bool,
-    fate: Fate,
 }
 
 impl HeldDelivery {

@@ -17,11 +17,11 @@ use trace_values::{Event, ReadRecord};
 #[derive(Clone, Copy)]
 pub struct HeldFacts {
     number: u64,
-    connection: u32,
-    note: Note,
     session: Option<Session>,
     told: Option<u64>,
     settled: Option<u64>,
+    note: Note,
+    connection: u32,
     is_heard: bool,
     fault: Option<Fault>,
 }

@@ -56,9 +56,9 @@ impl HeldIncoming {
 pub struct HeldOutgoing {
     number: u64,
     link: HeldLink,
+    note: Note,
     id: Option<u32>,
     is_settled: bool,
-    note: Note,
 }
 
 impl HeldOutgoing {

@@ -35,13 +35,13 @@ pub struct SentDelivery {
     alloc: Global,
     number: u64,
     link: HeldLink,
-    id: Option<u32>,
-    is_settled: bool,
     note: Note,
     /// How many octets of its payload were sent, counted in 64 bits.
     sent_count: u64,
-    is_sent: bool,
     decision: Option<Decided>,
+    id: Option<u32>,
+    is_settled: bool,
+    is_sent: bool,
     /// It isn't of a pre-settled link, its link lives, and neither side has settled it.
     is_unsettled: bool,
 }

@@ -19,12 +19,12 @@ const USUAL_OCTETS: usize = 40;
 pub struct HeldLink {
     number: u64,
     session: Session,
-    handle: u32,
-    role: Role,
     address: SmallVec<u8, USUAL_OCTETS>,
-    is_pre_settled: bool,
+    handle: u32,
     our_first_count: u32,
     their_first_count: u32,
+    role: Role,
+    is_pre_settled: bool,
 }
 
 impl HeldLink {

@@ -12,14 +12,14 @@ use trace_events::{Fault, Session};
 pub struct Link<'a> {
     pub number: u64,
     pub session: Session,
-    pub handle: u32,
-    pub role: Role,
     pub address: &'a [u8],
-    pub is_pre_settled: bool,
+    pub handle: u32,
     /// initial-delivery-count of the Out attach, 0 where it has none.
     pub our_first_count: u32,
     /// initial-delivery-count of the client's attach that it answers, 0 where that has none.
     pub their_first_count: u32,
+    pub role: Role,
+    pub is_pre_settled: bool,
 }
 
 /// A delivery from a client, named by the record of its first transfer, whose id and message-format it has (part 2,
@@ -37,9 +37,9 @@ pub struct Incoming<'a> {
 pub struct Outgoing<'a> {
     pub number: u64,
     pub link: Link<'a>,
+    pub note: Note,
     pub id: Option<u32>,
     pub is_settled: bool,
-    pub note: Note,
 }
 
 /// What happened.
@@ -62,12 +62,8 @@ pub enum Moment<'a> {
 pub struct Event<'a, 'm> {
     /// Its place in the capture, from 0.
     pub number: u64,
-    /// That of the record.
-    pub connection: u32,
     /// What happened.
     pub moment: Moment<'m>,
-    /// What the router certifies of it.
-    pub note: Note,
     /// The live session on which a frame stands; an Out begin's own.
     pub session: Option<Session>,
     /// The live link whose handle a flow, transfer or detach names; an Out attach's own.
@@ -80,6 +76,10 @@ pub struct Event<'a, 'm> {
     pub told: Option<u64>,
     /// The number of the outgoing delivery that an Out disposition of role sender settles.
     pub settled: Option<u64>,
+    /// What the router certifies of it.
+    pub note: Note,
+    /// That of the record.
+    pub connection: u32,
     /// An In frame that is not passed over.
     pub is_heard: bool,
     /// The fault of a heard frame.
