@@ -16,10 +16,19 @@ use std::alloc::{AllocError, Global};
 use trace_values::{Event, Link};
 
 /// The live links of consumers, by their numbers, each with an address of its own.
-#[derive(Drop)]
 pub struct ConsumerLinks {
     alloc: Global,
     entries: NumberMap<u64, HeldLink>,
+}
+
+// Written out, and not derived, so that where one is let go the prover need not go through all that it owns.
+impl Drop for ConsumerLinks {
+    fn drop(self) {
+        let ConsumerLinks {
+            alloc: _,
+            entries: _,
+        } = self;
+    }
 }
 
 impl ConsumerLinks {

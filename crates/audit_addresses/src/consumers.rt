@@ -18,9 +18,15 @@ use std::alloc::{AllocError, Global};
 use trace_values::{Event, Link};
 
 /// By address the numbers of the live links of its consumers.
-#[derive(Drop)]
 pub struct Consumers {
     groups: OctetGroups,
+}
+
+// Written out, and not derived, so that where one is let go the prover need not go through all that it owns.
+impl Drop for Consumers {
+    fn drop(self) {
+        let Consumers { groups: _ } = self;
+    }
 }
 
 /// The consumer's link that the event opens.

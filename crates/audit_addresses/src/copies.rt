@@ -33,10 +33,16 @@ pub struct Receiver {
 }
 
 /// The copies of multicast deliveries that are still to be sent, by the link.
-#[derive(Drop)]
 pub struct Copies {
     /// By the number of the link the numbers of the deliveries.
     unsent: Groups<u64>,
+}
+
+// Written out, and not derived, so that where one is let go the prover need not go through all that it owns.
+impl Drop for Copies {
+    fn drop(self) {
+        let Copies { unsent: _ } = self;
+    }
 }
 
 /// The delivery of multicast that the event completes.

@@ -27,11 +27,21 @@ use std::alloc::{AllocError, Global};
 use trace_values::{Event, Link};
 
 /// The deliveries from clients that are kept.
-#[derive(Drop)]
 pub struct Deliveries {
     alloc: Global,
     entries: NumberMap<u64, HeldDelivery>,
     pub(crate) groups: HeldGroups,
+}
+
+// Written out, and not derived, so that where one is let go the prover need not go through all that it owns.
+impl Drop for Deliveries {
+    fn drop(self) {
+        let Deliveries {
+            alloc: _,
+            entries: _,
+            groups: _,
+        } = self;
+    }
 }
 
 impl Deliveries {

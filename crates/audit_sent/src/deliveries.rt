@@ -32,12 +32,23 @@ use std::alloc::{AllocError, Global};
 use trace_values::{Event, Link};
 
 /// The deliveries to clients.
-#[derive(Drop)]
 pub struct SentDeliveries {
     alloc: Global,
     entries: NumberMap<u64, SentDelivery>,
     groups: SentGroups,
     begun: LastNumbers,
+}
+
+// Written out, and not derived, so that where one is let go the prover need not go through all that it owns.
+impl Drop for SentDeliveries {
+    fn drop(self) {
+        let SentDeliveries {
+            alloc: _,
+            entries: _,
+            groups: _,
+            begun: _,
+        } = self;
+    }
 }
 
 impl SentDeliveries {

@@ -19,10 +19,19 @@ use std::alloc::{AllocError, Global};
 use trace_values::Event;
 
 /// The connections of which a record stands.
-#[derive(Drop)]
 pub struct Connections {
     alloc: Global,
     entries: NumberMap<u32, Connection>,
+}
+
+// Written out, and not derived, so that where one is let go the prover need not go through all that it owns.
+impl Drop for Connections {
+    fn drop(self) {
+        let Connections {
+            alloc: _,
+            entries: _,
+        } = self;
+    }
 }
 
 impl Connections {

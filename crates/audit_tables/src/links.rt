@@ -18,10 +18,19 @@ use std::alloc::{AllocError, Global};
 use trace_values::Event;
 
 /// The links of live sessions, with the counts of their credit, and what is still to be answered of their handles.
-#[derive(Drop)]
 pub struct Links {
     alloc: Global,
     pub(crate) entries: NumberMap<u32, Channels>,
+}
+
+// Written out, and not derived, so that where one is let go the prover need not go through all that it owns.
+impl Drop for Links {
+    fn drop(self) {
+        let Links {
+            alloc: _,
+            entries: _,
+        } = self;
+    }
 }
 
 impl Links {
