@@ -112,7 +112,7 @@ module _ {R : Type 0} (remaining : R → Option (List ℕ)) (rules : List RuleTe
 
     pub goes_on : (entry : Record) (next : Reader R) (taker : Auditor) (len : ℕ) (then_saw : List Record → Type 0) → IsRecord entry → len ≡ length (record_text entry) → IfSome (left_of remaining reader) (λ octets. IsNext octets (left_of remaining next) (Some entry))
         → offset_of next ≡ offset_of reader + length (record_text entry) → fault_of next ≡ None
-        → ((rs : List RuleText) (es : List Record) → Agrees auditor rs es → Agrees taker rs (es ++ entry ∷ [])) → ((es : List Record) → saw es → then_saw (es ++ entry ∷ []))
+        → ((rs : List RuleText) (es : List Record) → Agrees auditor rs es → Agrees taker rs (es ++ entry ∷ [])) → ((es : List Record) → Agrees auditor rules es → saw es → then_saw (es ++ entry ∷ []))
         → ReadSoFar remaining rules first next taker (offset + len) then_saw
     goes_on entry next taker len then_saw fits counted read moved runs takes sees = record {
       records = so_far.records ++ entry ∷ [];
@@ -122,7 +122,7 @@ module _ {R : Type 0} (remaining : R → Option (List ℕ)) (rules : List RuleTe
       place = omega (arith, so_far.place, counted, ap length (text_push rules so_far.records entry), length-append (text (record { rules = rules; records = so_far.records })) (record_text entry));
       at = omega (arith, moved, so_far.at, counted);
       runs = runs;
-      seen = sees so_far.records so_far.seen;
+      seen = sees so_far.records so_far.agrees so_far.seen;
     }
 
     pub ends : (tally : Tally) (next : Option (List ℕ)) → tally ≡ tally_by auditor → IfSome (left_of remaining reader) (λ octets. IsNext octets next None) → IfSome first (λ all. AnswersRead (text_of_head rules ++ all) (Accepted tally))

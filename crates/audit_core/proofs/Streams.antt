@@ -116,6 +116,10 @@ module _ (rules : List RuleText) (records : List Record) (octets rest : List ℕ
       let found = first_fault from.room (length octets) rest form_kind some from.enough e in
       ap (λ (r : Reads). r.records) from.reads ∙ ap (λ r. records ++ r.records) found ∙ append-nil records
 
+  -- and their rules are all that they have
+  pub rules_to : (reading octets).rules ≡ rules
+  rules_to = let from = reads_from trace octets rest bounds begins in ap (λ (r : Reads). r.rules) from.reads
+
   module _ (offset : ℕ) (place : offset ≡ length (text (record { rules = rules; records = records }))) where
     malformed : (form_kind : FormKind) → 0 < length rest → record_at rest ≡ Err form_kind → IsMalformed octets offset form_kind
     malformed form_kind some e =

@@ -1,5 +1,5 @@
 -- What a watcher has seen of octets where their reading ends.
-use Rattle.std.proofs.Common.{◌≡◌, sym, ap, subst, ◌∙◌, ℕ, List, [], ◌++◌, length, Option, None, Some}
+use Rattle.std.proofs.Common.{◌≡◌, sym, ap, subst, ◌∙◌, ℕ, List, [], ◌∷◌, ◌++◌, length, Option, None, Some}
 use Rattle.std.specs.Prelude.{◌≢◌, ◌<◌, Err, IfSome, is_ok}
 use Rattle.std.specs.Io.KnownBytes.{Consumes}
 use Rattle.std.proofs.lemmas.List.{append-nil}
@@ -27,7 +27,7 @@ use Rattle.audit_core.specs.Verdict.{verdict_of_fault, verdict_of_refusal}
 use Rattle.audit_core.specs.Watching.{SawAll, Watched}
 use Rattle.audit_core.proofs.ReadSoFar.{ReadSoFar}
 use Rattle.audit_core.proofs.ReadSteps.{begins}
-use Rattle.audit_core.proofs.Streams.{longer_bounds, longer_begins, reads_to}
+use Rattle.audit_core.proofs.Streams.{longer_bounds, longer_begins, reads_to, rules_to}
 
 pub no_want : (number : ℕ) (clause : Clause) → Broken number clause ≢ Memory
 no_want number clause e = cc
@@ -46,21 +46,38 @@ seen_by remaining rules left reader auditor offset P seen s p = record {
   seen = s.seen p;
 }
 
-module _ {W : Type 0} (saw : W → List Record → Type 0) (refuses : W → List RuleText → List Record → Record → Type 0) where
+-- the rules and the ledger of an auditor are those of the records for which it stands
+pub held_by : (auditor : Auditor) (held : List RuleText) (ledger : Ledger) → held ≡ rules_of auditor → ledger ≡ auditor.ledger → (rules : List RuleText) (records : List Record) → StandsFor auditor rules records
+    → Stands held ledger records
+held_by auditor held ledger same own rules records stands =
+    subst (λ l. Stands held l records) (sym own) (subst (λ rl. Stands rl auditor.ledger records) (sym (same ∙ stands.0)) stands.1)
+
+module _ {W : Type 0} (saw : W → List RuleText → List Record → Type 0) (refuses : W → List RuleText → List Record → Record → Type 0) where
   -- what is known behind the ledger's records is known behind those for which the auditor stands
   pub explained : (before after : W) (auditor : Auditor) (held : List RuleText) (ledger : Ledger) (entry : Record) → held ≡ rules_of auditor → ledger ≡ auditor.ledger
-      → ((records : List Record) → Stands held ledger records → saw before records → refuses after held records entry)
-      → (rules : List RuleText) (records : List Record) → StandsFor auditor rules records → saw before records → refuses after rules records entry
+      → ((records : List Record) → Stands held ledger records → saw before held records → refuses after held records entry)
+      → (rules : List RuleText) (records : List Record) → StandsFor auditor rules records → saw before rules records → refuses after rules records entry
   explained before after auditor held ledger entry same own told rules records stands seen =
       let is : held ≡ rules = same ∙ stands.0 in
-      let under : Stands held ledger records = subst (λ l. Stands held l records) (sym own) (subst (λ rl. Stands rl auditor.ledger records) (sym is) stands.1) in
-      subst (λ rl. refuses after rl records entry) is (told records under seen)
+      let under = held_by auditor held ledger same own rules records stands in
+      subst (λ rl. refuses after rl records entry) is (told records under (subst (λ rl. saw before rl records) (sym is) seen))
+
+  -- the same of a record that the ledger took
+  pub seen_taken : (before after : W) (auditor : Auditor) (held : List RuleText) (ledger : Ledger) (entry : Record) → held ≡ rules_of auditor → ledger ≡ auditor.ledger
+      → ((records : List Record) → Stands held ledger (records ++ entry ∷ []) → saw before held records → saw after held (records ++ entry ∷ []))
+      → (rules : List RuleText) (records : List Record) → StandsFor auditor rules (records ++ entry ∷ []) → saw before rules records → saw after rules (records ++ entry ∷ [])
+  seen_taken before after auditor held ledger entry same own told rules records stands seen =
+      let is : held ≡ rules = same ∙ stands.0 in
+      let under = held_by auditor held ledger same own rules (records ++ entry ∷ []) stands in
+      subst (λ rl. saw after rl (records ++ entry ∷ [])) is (told records under (subst (λ rl. saw before rl records) (sym is) seen))
 
   -- octets with a fault in their head have no record
-  headless_seen : (watcher : W) (octets : List ℕ) (fault : FormFault) → saw watcher [] → head_at octets ≡ Err fault → saw watcher (reading octets).records
-  headless_seen watcher octets fault unseen e = subst (λ (records : List Record). saw watcher records) (sym (headless octets (ap is_ok e)).1) unseen
+  headless_seen : (watcher : W) (octets : List ℕ) (fault : FormFault) → saw watcher [] [] → head_at octets ≡ Err fault → saw watcher (reading octets).rules (reading octets).records
+  headless_seen watcher octets fault unseen e =
+      let none = headless octets (ap is_ok e) in
+      subst (λ (rules : List RuleText). saw watcher rules (reading octets).records) (sym none.0) (subst (λ (records : List Record). saw watcher [] records) (sym none.1) unseen)
 
-  stops_head_seen : (watcher : W) (octets : List ℕ) (form_kind : FormKind) (offset : ℕ) → saw watcher [] → StopsHead form_kind offset octets → Watched saw refuses watcher octets (verdict_of_fault form_kind offset)
+  stops_head_seen : (watcher : W) (octets : List ℕ) (form_kind : FormKind) (offset : ℕ) → saw watcher [] [] → StopsHead form_kind offset octets → Watched saw refuses watcher octets (verdict_of_fault form_kind offset)
   stops_head_seen watcher octets kinds.Magic offset unseen stops = headless_seen watcher octets (record { offset = offset; kind = kinds.Magic }) unseen stops
   stops_head_seen watcher octets kinds.Rules offset unseen stops = headless_seen watcher octets (record { offset = offset; kind = kinds.Rules }) unseen stops
   stops_head_seen watcher octets kinds.Kind offset unseen stops = headless_seen watcher octets (record { offset = offset; kind = kinds.Kind }) unseen stops
@@ -70,7 +87,7 @@ module _ {W : Type 0} (saw : W → List Record → Type 0) (refuses : W → List
   stops_head_seen watcher octets kinds.Memory offset unseen stops = tt
   stops_head_seen watcher octets kinds.Read offset unseen stops = tt
 
-  pub head_seen : (known : Option (List ℕ)) (watcher : W) (fault : FormFault) → saw watcher [] → IfSome known (StopsHead fault.kind fault.offset) → IfSome known (λ octets. Watched saw refuses watcher octets (verdict_of_fault fault.kind fault.offset))
+  pub head_seen : (known : Option (List ℕ)) (watcher : W) (fault : FormFault) → saw watcher [] [] → IfSome known (StopsHead fault.kind fault.offset) → IfSome known (λ octets. Watched saw refuses watcher octets (verdict_of_fault fault.kind fault.offset))
   head_seen None watcher fault unseen stops = tt
   head_seen (Some octets) watcher fault unseen stops = stops_head_seen watcher octets fault.kind fault.offset unseen stops
 
@@ -83,7 +100,7 @@ module _ {W : Type 0} (saw : W → List Record → Type 0) (refuses : W → List
       subst (λ o. Watched saw refuses watcher o verdict) (sym head.1.spelled) at
 
   module _ {R : Type 0} (remaining : R → Option (List ℕ)) (rules : List RuleText) (first : Option (List ℕ)) (reader : Reader R) (auditor : Auditor) (offset : ℕ) (before : W)
-      (so_far : ReadSoFar remaining rules first reader auditor offset (saw before)) where
+      (so_far : ReadSoFar remaining rules first reader auditor offset (saw before rules)) where
     saw_all : (octets rest : List ℕ) → octets ≡ text (record { rules = rules; records = so_far.records }) ++ rest → rest ≡ [] → SawAll saw before octets
     saw_all octets rest spelled none =
         let whole : text (record { rules = rules; records = so_far.records }) ++ rest ≡ text (record { rules = rules; records = so_far.records }) =
@@ -101,9 +118,10 @@ module _ {W : Type 0} (saw : W → List Record → Type 0) (refuses : W → List
         → IfSome first (λ all. Watched saw refuses before (text_of_head rules ++ all) (Accepted tally))
     ends_seen tally next read = ends_by tally first (left_of remaining reader) next so_far.read read
 
-    stopped : (octets rest : List ℕ) (form_kind : FormKind) → octets ≡ text (record { rules = rules; records = so_far.records }) ++ rest → 0 < length rest → record_at rest ≡ Err form_kind → saw before (reading octets).records
+    stopped : (octets rest : List ℕ) (form_kind : FormKind) → octets ≡ text (record { rules = rules; records = so_far.records }) ++ rest → 0 < length rest → record_at rest ≡ Err form_kind → saw before (reading octets).rules (reading octets).records
     stopped octets rest form_kind spelled some e =
-        subst (λ (records : List Record). saw before records) (sym (reads_to rules so_far.records octets rest so_far.bounds so_far.agrees.lawful spelled form_kind some e)) so_far.seen
+        subst (λ (own : List RuleText). saw before own (reading octets).records) (sym (rules_to rules so_far.records octets rest so_far.bounds so_far.agrees.lawful spelled))
+        (subst (λ (records : List Record). saw before rules records) (sym (reads_to rules so_far.records octets rest so_far.bounds so_far.agrees.lawful spelled form_kind some e)) so_far.seen)
 
     stops_at : (octets rest : List ℕ) (form_kind : FormKind) (at : ℕ) → octets ≡ text (record { rules = rules; records = so_far.records }) ++ rest → StopsNext form_kind rest → Watched saw refuses before octets (verdict_of_fault form_kind at)
     stops_at octets rest kinds.Magic at spelled stops = stopped octets rest kinds.Magic spelled stops.0 stops.1

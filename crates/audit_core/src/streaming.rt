@@ -10,7 +10,7 @@ ghost use Rattle.audit_core.specs.declared.verdict.Refusal.TheVariants.{Memory};
 ghost use Rattle.audit_core.specs.declared.auditor.TheConstants.{MOST_RECORDS};
 ghost use Rattle.audit_core.specs.Auditor.{Agrees, IsRefusalBehind, rules_of, tally_by};
 ghost use Rattle.audit_core.specs.Verdict.{AnswersRead, IsKept, verdict_of_fault, verdict_of_refusal};
-ghost use Rattle.audit_core.specs.Watching.{TakesOneMore, Watched};
+ghost use Rattle.audit_core.specs.Watching.{Watched};
 
 use crate::auditor::Auditor;
 use crate::lengths::{len_of_head, len_of_record};
@@ -41,7 +41,7 @@ where
     ensures kept { IfSome (R.remaining reader) (λ octets. (tally : Tally) → result ≡ Accepted tally → IsKept octets) }
     // A watcher that had seen none saw, at `Accepted`, all records; at `Refused`, the refused one behind the others; at
     // `Malformed`, those in front of the fault.
-    ensures watched { W.saw watcher.old [] → IfSome (R.remaining reader) (λ octets. Watched W.saw W.saw_refused watcher.new octets result) }
+    ensures watched { ((rules : List RuleText) → W.saw watcher.old watcher.old rules []) → IfSome (R.remaining reader) (λ octets. Watched (W.saw watcher.old) (W.saw_refused watcher.old) watcher.new octets result) }
 {
     match Reader::within(alloc, reader, MOST_READS) {
         Ok(mut text) => audit_text(alloc, &mut text, watcher),
@@ -59,7 +59,7 @@ pub fn audit_text<R: Read, W: Watcher>(
     requires { IsNew text.old }
     ensures answers { IfSome (left_of R.remaining text.old) (λ octets. AnswersRead octets result) }
     ensures kept { IfSome (left_of R.remaining text.old) (λ octets. (tally : Tally) → result ≡ Accepted tally → IsKept octets) }
-    ensures watched { W.saw watcher.old [] → IfSome (left_of R.remaining text.old) (λ octets. Watched W.saw W.saw_refused watcher.new octets result) }
+    ensures watched { ((rules : List RuleText) → W.saw watcher.old watcher.old rules []) → IfSome (left_of R.remaining text.old) (λ octets. Watched (W.saw watcher.old) (W.saw_refused watcher.old) watcher.new octets result) }
     ensures unreadable { (offset : ℕ) → result ≡ Unreadable offset → IsUnreadable text.new }
 {
     match text.read_head() {
@@ -79,7 +79,7 @@ fn audit_read<R: Read, W: Watcher>(
     requires place { offset_of records.old ≡ length (text_of_head rules.items) }
     requires runs { fault_of records.old ≡ None }
     ensures answers { IfSome (left_of R.remaining records.old) (λ left. AnswersRead (text_of_head rules.items ++ left) result) }
-    ensures watched { W.saw watcher.old [] → IfSome (left_of R.remaining records.old) (λ left. Watched W.saw W.saw_refused watcher.new (text_of_head rules.items ++ left) result) }
+    ensures watched { W.saw watcher.old watcher.old rules.items [] → IfSome (left_of R.remaining records.old) (λ left. Watched (W.saw watcher.old) (W.saw_refused watcher.old) watcher.new (text_of_head rules.items ++ left) result) }
     ensures unreadable { (offset : ℕ) → result ≡ Unreadable offset → IsUnreadable records.new }
 {
     let offset = len_of_head(&rules);
@@ -101,7 +101,7 @@ fn follow_read<R: Read, W: Watcher>(
     requires place { offset_of records.old ≡ length (text_of_head (rules_of auditor.old)) }
     requires runs { fault_of records.old ≡ None }
     ensures answers { IfSome (left_of R.remaining records.old) (λ left. AnswersRead (text_of_head (rules_of auditor.old) ++ left) result) }
-    ensures watched { W.saw watcher.old [] → IfSome (left_of R.remaining records.old) (λ left. Watched W.saw W.saw_refused watcher.new (text_of_head (rules_of auditor.old) ++ left) result) }
+    ensures watched { W.saw watcher.old watcher.old (rules_of auditor.old) [] → IfSome (left_of R.remaining records.old) (λ left. Watched (W.saw watcher.old) (W.saw_refused watcher.old) watcher.new (text_of_head (rules_of auditor.old) ++ left) result) }
     ensures unreadable { (number : ℕ) → result ≡ Unreadable number → IsUnreadable records.new }
 {
     let mut offset = offset;
@@ -134,11 +134,11 @@ fn take_watched<W: Watcher>(
     requires agrees { (records : List Record) × Agrees auditor.old (rules_of auditor.old) records }
     ensures taken { OnOk result ((rules : List RuleText) (records : List Record) → Agrees auditor.old rules records → Agrees auditor.new rules (records ++ entry ∷ [])) }
     ensures refused { IfErr result (λ refusal. (rules : List RuleText) (records : List Record) → Agrees auditor.old rules records → IsRefusalBehind rules records entry refusal) }
-    ensures seen { OnOk result (TakesOneMore W.saw watcher.old watcher.new entry) }
-    ensures explained { IfErr result (λ refusal. refusal ≢ Memory → (rules : List RuleText) (records : List Record) → Agrees auditor.old rules records → W.saw watcher.old records → W.saw_refused watcher.new rules records entry) }
+    ensures seen { OnOk result ((first : W) (rules : List RuleText) (records : List Record) → Agrees auditor.old rules records → W.saw first watcher.old rules records → W.saw first watcher.new rules (records ++ entry ∷ [])) }
+    ensures explained { IfErr result (λ refusal. refusal ≢ Memory → (first : W) (rules : List RuleText) (records : List Record) → Agrees auditor.old rules records → W.saw first watcher.old rules records → W.saw_refused first watcher.new rules records entry) }
 {
     match auditor.follow(&entry) {
-        Ok(()) => match watcher.taken(&entry) {
+        Ok(()) => match watcher.taken(auditor.ledger(), auditor.rules(), &entry) {
             Ok(()) => Ok(()),
             Err(AllocError) => Err(Refusal::Memory),
         },

@@ -12,8 +12,8 @@ use Rattle.audit_core.specs.declared.verdict.Verdict.TheVariants.{Malformed}
 use Rattle.audit_core.specs.Watching.{SawAll, SawRefused, Watched}
 
 -- a watcher that keeps the records of which it is told, and knows just these
-abbrev keeps : List Record → List Record → Type 0
-keeps kept records = kept ≡ records
+abbrev keeps : List Record → List RuleText → List Record → Type 0
+keeps kept rules records = kept ≡ records
 
 abbrev keeps_refused : List Record → List RuleText → List Record → Record → Type 0
 keeps_refused kept rules before entry = kept ≡ before ++ entry ∷ []

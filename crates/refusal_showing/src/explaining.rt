@@ -54,11 +54,16 @@ impl Explaining {
 impl Watcher for Explaining {
     ghost use Rattle.refusal_showing.specs.Seen.{HasExplained, HasSeen};
 
-    ghost saw = { HasSeen };
+    ghost saw = { λ first explaining rules records. HasSeen explaining records };
 
-    ghost saw_refused = { HasExplained };
+    ghost saw_refused = { λ first explaining rules records entry. HasExplained explaining rules records entry };
 
-    fn taken(&mut self, entry: &Record) -> Result<(), AllocError> {
+    fn taken(
+        &mut self,
+        _ledger: &Ledger,
+        _rules: &[Rule],
+        entry: &Record,
+    ) -> Result<(), AllocError> {
         let view = view_of(self.taken, entry);
         self.names.take(&view)?;
         self.origins.take(&view)?;

@@ -27,4 +27,7 @@ returns-clause-answers g c =
 pub returns-clause-watched : goal.returns-clause-watched
 returns-clause-watched g c =
     λ unseen.
-    subst (λ (rs : List RuleText). IfSome (left_of g.R.Read.remaining c.args.records.now) (λ left. Watched g.W.Watcher.saw g.W.Watcher.saw_refused c.follow_read.new.watcher (text_of_head rs ++ left) c.follow_read.result)) c.new-auditor.ensures.stands.0 (c.follow_read.ensures.watched unseen)
+    let own = c.new-auditor.ensures.stands.0 in
+    let first = c.args.watcher.now in
+    subst (λ (rs : List RuleText). IfSome (left_of g.R.Read.remaining c.args.records.now) (λ left. Watched (g.W.Watcher.saw first) (g.W.Watcher.saw_refused first) c.follow_read.new.watcher (text_of_head rs ++ left) c.follow_read.result)) own
+    (c.follow_read.ensures.watched (subst (λ (rs : List RuleText). g.W.Watcher.saw first first rs []) (sym own) unseen))

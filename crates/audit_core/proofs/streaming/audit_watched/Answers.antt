@@ -23,4 +23,4 @@ pub returns-in-Err-clause-kept : goal.returns-in-Err-clause-kept
 returns-in-Err-clause-kept g c = roomless_kept (g.R.Read.remaining c.args.reader)
 
 pub returns-in-Err-clause-watched : goal.returns-in-Err-clause-watched
-returns-in-Err-clause-watched g c = λ unseen. roomless_seen g.W.Watcher.saw g.W.Watcher.saw_refused (g.R.Read.remaining c.args.reader) c.args.watcher.now
+returns-in-Err-clause-watched g c = λ unseen. roomless_seen (g.W.Watcher.saw c.args.watcher.now) (g.W.Watcher.saw_refused c.args.watcher.now) (g.R.Read.remaining c.args.reader) c.args.watcher.now

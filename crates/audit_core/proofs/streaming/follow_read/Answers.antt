@@ -13,7 +13,7 @@ use Rattle.audit_core.proofs.streaming.follow_read.Goals as goal
 
 pub records-init : goal.records-init
 records-init g c =
-    starts g.R.Read.remaining (rules_of c.args.auditor.now) c.args.records.now c.args.auditor.now c.args.offset (λ records. g.W.Watcher.saw c.args.watcher.now [] → g.W.Watcher.saw c.args.watcher.now records) c.requires.rules c.requires.agrees c.requires.head c.requires.place
+    starts g.R.Read.remaining (rules_of c.args.auditor.now) c.args.records.now c.args.auditor.now c.args.offset (λ records. g.W.Watcher.saw c.args.watcher.now c.args.watcher.now (rules_of c.args.auditor.now) [] → g.W.Watcher.saw c.args.watcher.now c.args.watcher.now (rules_of c.args.auditor.now) records) c.requires.rules c.requires.agrees c.requires.head c.requires.place
     c.requires.runs (λ unseen. unseen)
 
 pub take_watched-requires-clause-few : goal.take_watched-requires-clause-few
@@ -48,8 +48,8 @@ records-preserved g c =
     let next = found_so _ _ some.field-0 (Some some.entry) some.field-0-is some.ensures.next in
     let moved = moved_so _ _ some.field-0 some.entry some.field-0-is some.ensures.moved in
     let fits = fits_so some.field-0 some.entry some.field-0-is some.ensures.bounds in
-    goes_on g.R.Read.remaining (rules_of c.args.auditor.now) _ c.records.records c.records.auditor c.records.offset _ c.records.invariant some.entry c.next_record.new.self c.take_watched.new.auditor c.len_of_record-len.result (λ records. g.W.Watcher.saw c.args.watcher.now [] → g.W.Watcher.saw c.take_watched.new.watcher records)
-    fits c.len_of_record-len.ensures next moved (some.ensures.sound refl) c.in_default.ensures.taken (λ records known unseen. c.in_default.ensures.seen records (known unseen))
+    goes_on g.R.Read.remaining (rules_of c.args.auditor.now) _ c.records.records c.records.auditor c.records.offset _ c.records.invariant some.entry c.next_record.new.self c.take_watched.new.auditor c.len_of_record-len.result (λ records. g.W.Watcher.saw c.args.watcher.now c.args.watcher.now (rules_of c.args.auditor.now) [] → g.W.Watcher.saw c.args.watcher.now c.take_watched.new.watcher (rules_of c.args.auditor.now) records)
+    fits c.len_of_record-len.ensures next moved (some.ensures.sound refl) c.in_default.ensures.taken (λ records agrees known unseen. c.in_default.ensures.seen c.args.watcher.now (rules_of c.args.auditor.now) records agrees (known unseen))
 
 pub returns-in-Ok-None-clause-answers : goal.returns-in-Ok-None-clause-answers
 returns-in-Ok-None-clause-answers g c =
@@ -65,30 +65,30 @@ returns-in-Err-clause-answers g c =
 pub returns-in-Ok-None-clause-watched : goal.returns-in-Ok-None-clause-watched
 returns-in-Ok-None-clause-watched g c =
     λ unseen.
-    let so_far = seen_by g.R.Read.remaining (rules_of c.args.auditor.now) _ c.records.records c.records.auditor c.records.offset (g.W.Watcher.saw c.args.watcher.now []) (g.W.Watcher.saw c.records.watcher) c.records.invariant unseen in
+    let so_far = seen_by g.R.Read.remaining (rules_of c.args.auditor.now) _ c.records.records c.records.auditor c.records.offset (g.W.Watcher.saw c.args.watcher.now c.args.watcher.now (rules_of c.args.auditor.now) []) (g.W.Watcher.saw c.args.watcher.now c.records.watcher (rules_of c.args.auditor.now)) c.records.invariant unseen in
     let next = found_so _ _ c.in-Ok-None.field-0 None c.in-Ok-None.field-0-is c.in-Ok-None.ensures.next in
-    ends_seen g.W.Watcher.saw g.W.Watcher.saw_refused g.R.Read.remaining (rules_of c.args.auditor.now) _ c.records.records c.records.auditor c.records.offset c.records.watcher so_far c.tally.result _ next
+    ends_seen (g.W.Watcher.saw c.args.watcher.now) (g.W.Watcher.saw_refused c.args.watcher.now) g.R.Read.remaining (rules_of c.args.auditor.now) _ c.records.records c.records.auditor c.records.offset c.records.watcher so_far c.tally.result _ next
 
 pub returns-in-Err-clause-watched : goal.returns-in-Err-clause-watched
 returns-in-Err-clause-watched g c =
     λ unseen.
     let rules = rules_of c.args.auditor.now in
-    let so_far = seen_by g.R.Read.remaining rules _ c.records.records c.records.auditor c.records.offset (g.W.Watcher.saw c.args.watcher.now []) (g.W.Watcher.saw c.records.watcher) c.records.invariant unseen in
-    subst (λ v. IfSome (left_of g.R.Read.remaining c.args.records.now) (λ left. Watched g.W.Watcher.saw g.W.Watcher.saw_refused c.records.watcher (text_of_head rules ++ left) v)) (sym c.verdict_of_fault.ensures)
-    (stops_seen g.W.Watcher.saw g.W.Watcher.saw_refused g.R.Read.remaining rules _ c.records.records c.records.auditor c.records.offset c.records.watcher so_far c.in-Err.fault c.in-Err.ensures.exact)
+    let so_far = seen_by g.R.Read.remaining rules _ c.records.records c.records.auditor c.records.offset (g.W.Watcher.saw c.args.watcher.now c.args.watcher.now (rules_of c.args.auditor.now) []) (g.W.Watcher.saw c.args.watcher.now c.records.watcher (rules_of c.args.auditor.now)) c.records.invariant unseen in
+    subst (λ v. IfSome (left_of g.R.Read.remaining c.args.records.now) (λ left. Watched (g.W.Watcher.saw c.args.watcher.now) (g.W.Watcher.saw_refused c.args.watcher.now) c.records.watcher (text_of_head rules ++ left) v)) (sym c.verdict_of_fault.ensures)
+    (stops_seen (g.W.Watcher.saw c.args.watcher.now) (g.W.Watcher.saw_refused c.args.watcher.now) g.R.Read.remaining rules _ c.records.records c.records.auditor c.records.offset c.records.watcher so_far c.in-Err.fault c.in-Err.ensures.exact)
 
 pub returns-in-Err-take_watched-clause-watched : goal.returns-in-Err-take_watched-clause-watched
 returns-in-Err-take_watched-clause-watched g c =
     λ unseen.
     let some = c.in-Ok-Some in
     let rules = rules_of c.args.auditor.now in
-    let so_far = seen_by g.R.Read.remaining rules _ c.records.records c.records.auditor c.records.offset (g.W.Watcher.saw c.args.watcher.now []) (g.W.Watcher.saw c.records.watcher) c.records.invariant unseen in
+    let so_far = seen_by g.R.Read.remaining rules _ c.records.records c.records.auditor c.records.offset (g.W.Watcher.saw c.args.watcher.now c.args.watcher.now (rules_of c.args.auditor.now) []) (g.W.Watcher.saw c.args.watcher.now c.records.watcher (rules_of c.args.auditor.now)) c.records.invariant unseen in
     let refusal = c.in-Err-take_watched.refusal in
     let next = found_so _ _ some.field-0 (Some some.entry) some.field-0-is some.ensures.next in
     let fits = fits_so some.field-0 some.entry some.field-0-is some.ensures.bounds in
-    subst (λ v. IfSome (left_of g.R.Read.remaining c.args.records.now) (λ left. Watched g.W.Watcher.saw g.W.Watcher.saw_refused c.take_watched.new.watcher (text_of_head rules ++ left) v)) (sym c.verdict_of_refusal.ensures)
-    (refuses_seen g.W.Watcher.saw g.W.Watcher.saw_refused g.R.Read.remaining rules _ c.records.records c.records.auditor c.records.offset c.records.watcher so_far c.take_watched.new.watcher some.entry fits refusal _ next
-    (c.in-Err-take_watched.ensures.refused rules so_far.records so_far.agrees) (λ no. c.in-Err-take_watched.ensures.explained no rules so_far.records so_far.agrees so_far.seen))
+    subst (λ v. IfSome (left_of g.R.Read.remaining c.args.records.now) (λ left. Watched (g.W.Watcher.saw c.args.watcher.now) (g.W.Watcher.saw_refused c.args.watcher.now) c.take_watched.new.watcher (text_of_head rules ++ left) v)) (sym c.verdict_of_refusal.ensures)
+    (refuses_seen (g.W.Watcher.saw c.args.watcher.now) (g.W.Watcher.saw_refused c.args.watcher.now) g.R.Read.remaining rules _ c.records.records c.records.auditor c.records.offset c.records.watcher so_far c.take_watched.new.watcher some.entry fits refusal _ next
+    (c.in-Err-take_watched.ensures.refused rules so_far.records so_far.agrees) (λ no. c.in-Err-take_watched.ensures.explained no c.args.watcher.now rules so_far.records so_far.agrees so_far.seen))
 
 pub returns-in-Err-clause-unreadable : goal.returns-in-Err-clause-unreadable
 returns-in-Err-clause-unreadable g c = λ number is.
