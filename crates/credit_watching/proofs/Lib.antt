@@ -1,0 +1,4 @@
+-- proofs/Lib.antt
+mod Taking
+mod SeenAs
+mod Examples

@@ -1,0 +1,3 @@
+-- specs/Lib.antt
+pub mod Taken
+pub mod Drawn
