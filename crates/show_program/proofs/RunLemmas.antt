@@ -1,5 +1,5 @@
 -- What a run leaves.
-use Rattle.std.proofs.Common.{◌≡◌, ◌≢◌, ◌<◌, ◌≤◌, ◌⊎◌, ◌++◌, ◌∷◌, ℕ, refl, true, false, List, [], Option, None, Some, Ok, Err, ap, arith, inl, inr, subst, sym}
+use Rattle.std.proofs.Common.{◌≡◌, ◌∙◌, ◌≢◌, ◌<◌, ◌≤◌, ◌⊎◌, ◌++◌, ◌∷◌, ℕ, refl, true, false, List, [], Option, None, Some, Ok, Err, ap, arith, inl, inr, subst, sym}
 use Rattle.std.specs.Prelude.{IfSome, if◌then◌else◌}
 use Rattle.std.specs.Io.KnownBytes.{Appends}
 use Rattle.clap.specs.Words.{kind_of}
@@ -16,8 +16,10 @@ use Rattle.show_program.specs.declared.words.Words.{Words}
 use Rattle.show_program.specs.Run.{ExplainsInput, IsRunOn, ShowsInput, Tells, TellsEnd, TellsSome, is_whole, tail_of}
 use Rattle.program_ends.specs.Source.{path_of}
 use Rattle.show_program.specs.declared.words.Mode.{Mode}
-use Rattle.show_program.specs.Words.{AnswersWords, AsksWhy, IsAudit, IsPlain, chart_of, is_why, packets_of}
+use Rattle.show_program.specs.Words.{AnswersWords, AsksWhy, IsAudit, IsPlain, chart_of, credit_of, is_why, packets_of}
+use Rattle.audit_core.specs.declared.verdict.Verdict.{Verdict}
 use Rattle.audit_core.specs.declared.verdict.Verdict.TheVariants as verdicts
+use Rattle.audit_core.specs.Report.{status_of as status_of_verdict}
 use Rattle.audit_core.specs.Verdict.{AnswersRead}
 
 -- of a whole capture no line is told
@@ -78,17 +80,17 @@ refused_told before after status is told some low =
 -- the parser took the words, and the source that they ask for was shown
 pub shown_run : (words : List (List ℕ)) (asked : Words) (mode : Mode) (held before after : Option (List ℕ)) (status : ℕ)
     → AnswersWords words (Ok asked) → asked.mode ≡ Some mode
-    → (path_of asked.source ≡ None → is_why mode ≡ false → status ≢ 74 → status ≢ 5 → status ≢ 6 → ShowsInput held before after status)
-    → (is_why mode ≡ false → status ≢ 74 → status ≢ 5 → status ≢ 6 → TellsSome before after status)
-    → (packets_of mode ≡ None → chart_of mode ≡ None → status ≢ 5)
-    → (chart_of mode ≡ None → status ≢ 6)
+    → (path_of asked.source ≡ None → is_why mode ≡ false → credit_of mode ≡ None → status ≢ 74 → status ≢ 5 → status ≢ 6 → ShowsInput held before after status)
+    → (is_why mode ≡ false → credit_of mode ≡ None → status ≢ 74 → status ≢ 5 → status ≢ 6 → TellsSome before after status)
+    → (packets_of mode ≡ None → chart_of mode ≡ None → credit_of mode ≡ None → status ≢ 5)
+    → (chart_of mode ≡ None → credit_of mode ≡ None → status ≢ 6)
     → IsRunOn words held before after status
 shown_run [] asked mode held before after status answer is input told unasked few =
     let plain : IsPlain (Some mode) = subst IsPlain is answer.1 in
-    λ written. input answer.0 plain.2 written (unasked plain.0 plain.1) (few plain.1)
+    λ written. input answer.0 plain.3 plain.2 written (unasked plain.0 plain.1 plain.2) (few plain.1 plain.2)
 shown_run (word ∷ []) asked mode held before after status answer is input told unasked few = λ plain written.
     let one : IsPlain (Some mode) = subst IsPlain is (answer plain).1 in
-    told one.2 written (unasked one.0 one.1) (few one.1)
+    told one.3 one.2 written (unasked one.0 one.1 one.2) (few one.1 one.2)
 shown_run (first ∷ second ∷ more) asked mode held before after status answer is input told unasked few = λ plain plain'. absurd (answer plain plain')
 
 -- the parser took words that ask for several modes: they are no plain ones
@@ -120,3 +122,17 @@ shown_why asked mode held before after status answer is explained = explained an
 -- it asks for one mode
 pub why_is_one : (asked : Words) (held before after : Option (List ℕ)) (status : ℕ) → AsksWhy (Ok asked) → asked.mode ≡ None → status ≢ 74 → ExplainsInput held before after status
 why_is_one asked held before after status answer none = λ written. absurd (subst IsAudit none answer.1)
+
+-- ---- the line of a verdict
+
+verdict_low : (verdict : Verdict) → status_of_verdict verdict ≤ 4
+verdict_low (verdicts.Accepted tally) = omega arith
+verdict_low (verdicts.Refused number clause) = omega arith
+verdict_low (verdicts.Malformed offset form_kind) = omega arith
+verdict_low (verdicts.NoMemory offset) = omega arith
+verdict_low (verdicts.Unreadable offset) = omega arith
+
+-- its status is one of the first five
+pub low_or : (verdict : Verdict) (status own : ℕ) → own ≡ status_of_verdict verdict → (status ≡ own) ⊎ (status ≡ 74) → (status ≤ 4) ⊎ (status ≡ 74)
+low_or verdict status own is (inl same) = inl (subst (λ n. n ≤ 4) (sym (same ∙ is)) (verdict_low verdict))
+low_or verdict status own is (inr not) = inr not

@@ -35,11 +35,15 @@ chart-none : first_of (codes "chart") (matches_of command_line []) ≡ None
 unfolding clap_on_literals
 chart-none = refl
 
+credit-none : first_of (codes "credit") (matches_of command_line []) ≡ None
+unfolding clap_on_literals
+credit-none = refl
+
 audit-none : one_of (codes "why") (matches_of command_line []) ≡ Some (codes "false")
 unfolding clap_on_literals
 audit-none = refl
 
--- the word that asks for an audit: no fault, no file, and neither packets nor a chart
+-- the word that asks for an audit: no fault, no file, and neither packets nor a chart nor a credit
 fault_of-why : fault_of command_line (codes "--why" ∷ []) ≡ []
 unfolding clap_on_literals
 fault_of-why = refl
@@ -55,6 +59,10 @@ packets-why = refl
 chart-why : first_of (codes "chart") (matches_of command_line (codes "--why" ∷ [])) ≡ None
 unfolding clap_on_literals
 chart-why = refl
+
+credit-why : first_of (codes "credit") (matches_of command_line (codes "--why" ∷ [])) ≡ None
+unfolding clap_on_literals
+credit-why = refl
 
 audit-why : one_of (codes "why") (matches_of command_line (codes "--why" ∷ [])) ≡ Some (codes "true")
 unfolding clap_on_literals
@@ -81,6 +89,10 @@ chart-one : (word : List ℕ) → is_option word ≡ false → first_of (codes "
 unfolding clap_on_literals
 chart-one word plain = rw (dashes-plain word plain, strip_byte-plain word plain, strip_byte-plain word plain) refl
 
+credit-one : (word : List ℕ) → is_option word ≡ false → first_of (codes "credit") (matches_of command_line (word ∷ [])) ≡ None
+unfolding clap_on_literals
+credit-one word plain = rw (dashes-plain word plain, strip_byte-plain word plain, strip_byte-plain word plain) refl
+
 audit-one : (word : List ℕ) → is_option word ≡ false → one_of (codes "why") (matches_of command_line (word ∷ [])) ≡ Some (codes "false")
 unfolding clap_on_literals
 audit-one word plain = rw (dashes-plain word plain, strip_byte-plain word plain, strip_byte-plain word plain) refl
@@ -103,11 +115,12 @@ fault_of-more first second more plain plain' =
 pub answers_taken : (words : List (List ℕ)) (asked : Words) → fault_of command_line words ≡ []
     → path_of asked.source ≡ path_asked (first_of (codes "FILE") (matches_of command_line words))
     → (first_of (codes "pcapng") (matches_of command_line words) ≡ None → first_of (codes "chart") (matches_of command_line words) ≡ None
+    → first_of (codes "credit") (matches_of command_line words) ≡ None
     → one_of (codes "why") (matches_of command_line words) ≡ Some (codes "false") → IsPlain asked.mode)
     → AnswersWords words (Ok asked)
-answers_taken [] asked taken met is = (met ∙ ap path_asked file-none, is packets-none chart-none audit-none)
+answers_taken [] asked taken met is = (met ∙ ap path_asked file-none, is packets-none chart-none credit-none audit-none)
 answers_taken (word ∷ []) asked taken met is = λ plain.
-    (met ∙ ap path_asked (file-one word plain) ∙ asked-plain word plain, is (packets-one word plain) (chart-one word plain) (audit-one word plain))
+    (met ∙ ap path_asked (file-one word plain) ∙ asked-plain word plain, is (packets-one word plain) (chart-one word plain) (credit-one word plain) (audit-one word plain))
 answers_taken (first ∷ second ∷ more) asked taken met is = λ plain plain'.
     let clash : [] ≡ UnknownArgument ∷ [] = sym taken ∙ fault_of-more first second more plain plain' in cc
 
@@ -124,6 +137,7 @@ answers_refused (first ∷ second ∷ more) error kind = λ plain plain'.
 pub why_taken : (words : List (List ℕ)) (source : Source) (mode : Option Mode) → words ≡ codes "--why" ∷ []
     → path_of source ≡ path_asked (first_of (codes "FILE") (matches_of command_line words))
     → (first_of (codes "pcapng") (matches_of command_line words) ≡ None → first_of (codes "chart") (matches_of command_line words) ≡ None
+    → first_of (codes "credit") (matches_of command_line words) ≡ None
     → one_of (codes "why") (matches_of command_line words) ≡ Some (codes "true")
     → one_of (codes "summary") (matches_of command_line words) ≡ Some (codes "false") → IsAudit mode)
     → (path_of source ≡ None) × IsAudit mode
@@ -132,6 +146,7 @@ why_taken words source mode are met audited = (
   audited
       (ap (λ ws. first_of (codes "pcapng") (matches_of command_line ws)) are ∙ packets-why)
       (ap (λ ws. first_of (codes "chart") (matches_of command_line ws)) are ∙ chart-why)
+      (ap (λ ws. first_of (codes "credit") (matches_of command_line ws)) are ∙ credit-why)
       (ap (λ ws. one_of (codes "why") (matches_of command_line ws)) are ∙ audit-why)
       (ap (λ ws. one_of (codes "summary") (matches_of command_line ws)) are ∙ summary-why),
 )

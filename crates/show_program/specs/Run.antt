@@ -52,12 +52,20 @@ no_chart = codes "chart not written" ++ 10 ∷ []
 abbrev pub too_many : List ℕ
 too_many = codes "more than 2000 records for a chart: --from, --to, --connection, --link, --delivery choose" ++ 10 ∷ []
 
+-- that no link of a consumer opens of those that are asked for (own format)
+abbrev pub no_link : List ℕ
+no_link = codes "no such link of a consumer" ++ 10 ∷ []
+
 -- a line tells that the file could not be written that was asked for
 abbrev pub TellsNoFile : Option (List ℕ) → Option (List ℕ) → Type 0
 TellsNoFile before after = Appends before after no_packets ⊎ Appends before after no_chart
 
--- the statuses of the endings, of a file that can't be written, of too many records for a chart, of a fault of the words and
--- of an output that can't be written (own format)
+-- a line tells why there is nothing to draw, or too much
+abbrev pub TellsNotDrawn : Option (List ℕ) → Option (List ℕ) → Type 0
+TellsNotDrawn before after = Appends before after too_many ⊎ Appends before after no_link
+
+-- the statuses of the endings, of a file that can't be written, of too many records for a chart and of no link, of a fault of the
+-- words and of an output that can't be written (own format)
 abbrev pub IsStatus : ℕ → Type 0
 IsStatus status = (status ≤ 6) ⊎ (status ≡ 64) ⊎ (status ≡ 74)
 

@@ -9,7 +9,7 @@ use Rattle.clap.specs.declared.error.kind.ErrorKind.TheVariants.{OutOfMemory, Un
 use Rattle.program_ends.specs.Words.{is_option}
 use Rattle.program_ends.specs.Source.{path_of}
 use Rattle.show_program.specs.declared.words.Mode.{Mode}
-use Rattle.show_program.specs.declared.words.Mode.TheVariants.{Lines, Summary, Why, Packets, Chart}
+use Rattle.show_program.specs.declared.words.Mode.TheVariants.{Lines, Summary, Why, Packets, Chart, Credit}
 use Rattle.show_program.specs.declared.words.Words.{Words}
 
 -- the file that packets are asked for in (own format)
@@ -19,6 +19,7 @@ packets_of Summary = None
 packets_of Why = None
 packets_of (Packets path) = Some path.now
 packets_of (Chart path) = None
+packets_of (Credit path) = None
 
 -- the file that a chart is asked for in (own format)
 abbrev pub chart_of : Mode → Option (List ℕ)
@@ -27,14 +28,25 @@ chart_of Summary = None
 chart_of Why = None
 chart_of (Packets path) = None
 chart_of (Chart path) = Some path.now
+chart_of (Credit path) = None
 
--- whether the capture is to be audited (own format)
+-- the file that the curves of a link's credit are asked for in (own format)
+abbrev pub credit_of : Mode → Option (List ℕ)
+credit_of Lines = None
+credit_of Summary = None
+credit_of Why = None
+credit_of (Packets path) = None
+credit_of (Chart path) = None
+credit_of (Credit path) = Some path.now
+
+-- whether it is asked why the capture is not accepted (own format)
 abbrev pub is_why : Mode → Bool
 is_why Lines = false
 is_why Summary = false
 is_why Why = true
 is_why (Packets path) = false
 is_why (Chart path) = false
+is_why (Credit path) = false
 
 -- whether one table is shown (own format)
 abbrev pub is_table : Mode → Bool
@@ -43,27 +55,29 @@ is_table Summary = true
 is_table Why = false
 is_table (Packets path) = false
 is_table (Chart path) = false
+is_table (Credit path) = false
 
--- one mode is asked for, and neither packets nor a chart nor an audit (own format)
+-- one mode is asked for, and neither packets nor a chart nor a credit nor an audit (own format)
 abbrev pub IsPlain : Option Mode → Type 0
 IsPlain None = ⊥
-IsPlain (Some mode) = (packets_of mode ≡ None) × (chart_of mode ≡ None) × (is_why mode ≡ false)
+IsPlain (Some mode) = (packets_of mode ≡ None) × (chart_of mode ≡ None) × (credit_of mode ≡ None) × (is_why mode ≡ false)
 
 -- an audit is asked for, and no other mode (own format)
 abbrev pub IsAudit : Option Mode → Type 0
 IsAudit None = ⊥
 IsAudit (Some mode) = is_why mode ≡ true
 
--- of packets, a chart, an audit and a summary more than one is asked for (own format)
-abbrev pub are_several : Bool → Bool → Bool → Bool → Bool
-are_several packets chart audited summary = (packets && (chart || (audited || summary))) || ((chart && (audited || summary)) || (audited && summary))
+-- of packets, a chart, a credit, an audit and a summary more than one is asked for (own format)
+abbrev pub are_several : Bool → Bool → Bool → Bool → Bool → Bool
+are_several packets chart credit audited summary =
+    (packets && (chart || (credit || (audited || summary)))) || ((chart && (credit || (audited || summary))) || ((credit && (audited || summary)) || (audited && summary)))
 
 -- there is a mode just where not more than one is asked for (own format)
 abbrev pub IsOne : Bool → Option Mode → Type 0
 IsOne several None = several ≡ true
 IsOne several (Some mode) = several ≡ false
 
--- the words ask for this source, and neither for packets nor for a chart nor an audit, want of memory aside (own format)
+-- the words ask for this source, and neither for packets nor for a chart, a credit nor an audit, want of memory aside (own format)
 abbrev pub AsksFor : Option (List ℕ) → Result Words Error → Type 0
 AsksFor path result = MatchResult result
     (λ words. (path_of words.source ≡ path) × IsPlain words.mode)
@@ -81,7 +95,7 @@ IsMistake result = MatchResult result (λ words. ⊥)
     (λ error. (kind_of error ≡ OutOfMemory) ⊎ (kind_of error ≡ UnknownArgument))
 
 -- no word asks for standard input and one word that is no option for the file that it names, and neither for packets nor for
--- a chart or an audit; two such are a mistake
+-- a chart, a credit or an audit; two such are a mistake
 abbrev pub AnswersWords : List (List ℕ) → Result Words Error → Type 0
 AnswersWords [] result = AsksFor None result
 AnswersWords (word ∷ []) result = is_option word ≡ false → AsksFor (Some word) result
@@ -128,8 +142,11 @@ packets_argument = asking_argument (codes "pcapng") String
 abbrev pub chart_argument : Rule
 chart_argument = asking_argument (codes "chart") String
 
+abbrev pub credit_argument : Rule
+credit_argument = asking_argument (codes "credit") String
+
 -- the command line, as the parser reads it (own format)
 abbrev pub command_line : App
 command_line =
     let shown = with_rule (with_rule choosing_command (flag_argument (codes "wide"))) (flag_argument (codes "summary")) in
-    with_rule (with_rule (with_rule shown (flag_argument (codes "why"))) packets_argument) chart_argument
+    with_rule (with_rule (with_rule (with_rule shown (flag_argument (codes "why"))) packets_argument) chart_argument) credit_argument

@@ -6,9 +6,9 @@ ghost use Rattle.capture_words.specs.Shown.{EndsText};
 ghost use Rattle.show_program.specs.Run.{ShowsInput, TellsAlone, no_chart, too_many};
 
 use crate::charted::{NoChart, draw_capture};
-use crate::telling::{NO_FILE, TOO_MANY, tell, tell_no_chart, tell_too_many};
+use crate::telling::{NO_FILE, NOT_DRAWN, tell, tell_no_chart, tell_too_many};
 use crate::words::Words;
-use capture_words::Ending;
+use capture_words::{Ending, NotWritten};
 use program_ends::{NOT_WRITTEN, Source};
 use std::alloc::Global;
 use std::fs::File;
@@ -36,11 +36,11 @@ pub fn write_chart<F: Files, R: Read, O: Write>(
 ) -> u8
 where
     R: Drop,
-    ensures shown { result ≢ NOT_WRITTEN → result ≢ NO_FILE → result ≢ TOO_MANY → ShowsInput (R.remaining input) (O.contents out.old) (O.contents out.new) result }
-    ensures alone { result ≢ NOT_WRITTEN → result ≢ NO_FILE → result ≢ TOO_MANY → TellsAlone (O.contents out.old) (O.contents out.new) result }
+    ensures shown { result ≢ NOT_WRITTEN → result ≢ NO_FILE → result ≢ NOT_DRAWN → ShowsInput (R.remaining input) (O.contents out.old) (O.contents out.new) result }
+    ensures alone { result ≢ NOT_WRITTEN → result ≢ NO_FILE → result ≢ NOT_DRAWN → TellsAlone (O.contents out.old) (O.contents out.new) result }
     ensures chart { result ≡ NO_FILE → Appends (O.contents out.old) (O.contents out.new) no_chart }
-    ensures many { result ≡ TOO_MANY → Appends (O.contents out.old) (O.contents out.new) too_many }
-    ensures status { (result ≤ TOO_MANY) ⊎ (result ≡ NOT_WRITTEN) }
+    ensures many { result ≡ NOT_DRAWN → Appends (O.contents out.old) (O.contents out.new) too_many }
+    ensures status { (result ≤ NOT_DRAWN) ⊎ (result ≡ NOT_WRITTEN) }
 {
     match chart_file(files, alloc, words, path, input) {
         Ok(ending) => tell(&ending, out),
@@ -69,7 +69,7 @@ where
     match draw_capture(alloc, title_of(words.source), words.choice, input) {
         Ok(drawn) => match write_new(files, path, drawn.text.as_str()) {
             Ok(()) => Ok(drawn.ending),
-            Err(fault) => Err(fault),
+            Err(NotWritten) => Err(NotCharted::NotWritten),
         },
         Err(NoChart::TooMany) => Err(NotCharted::TooMany),
         Err(NoChart::Memory) => Ok(Ending::NoMemory),
@@ -77,18 +77,18 @@ where
 }
 
 /// Writes a text to a new file of this path.
-fn write_new<F: Files>(files: &F, path: &str, text: &str) -> Result<(), NotCharted> {
+pub fn write_new<F: Files>(files: &F, path: &str, text: &str) -> Result<(), NotWritten> {
     let Ok(mut file) = File::create_new(files, path) else {
-        return Err(NotCharted::NotWritten);
+        return Err(NotWritten);
     };
     match file.write_all(text.as_bytes()) {
         Ok(()) => Ok(()),
-        Err(_) => Err(NotCharted::NotWritten),
+        Err(_) => Err(NotWritten),
     }
 }
 
 /// What the chart of a capture that is read from here is called.
-fn title_of<'a>(source: Source<'a>) -> &'a str {
+pub fn title_of<'a>(source: Source<'a>) -> &'a str {
     match source {
         Source::StandardInput => "standard input",
         Source::File(path) => path,

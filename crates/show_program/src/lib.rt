@@ -1,6 +1,6 @@
 //! What the program that shows captures in words does with its own words: it reads a capture from the file that they name,
-//! or from standard input, and writes a line for each record; or one table, or why the capture is not accepted, or packets or
-//! a chart to a new file.
+//! or from standard input, and writes a line for each record; or one table, or why the capture is not accepted, or packets,
+//! a chart or the credit of a link to a new file.
 //!
 //! The exit status tells whether the capture is whole (`Ending::status`), or the verdict. What was read in front of a fault is
 //! shown, and then the line of the fault. A mistake in the words gives the parser's text on standard error alone, and status 64. The
@@ -12,6 +12,7 @@
 //! - `telling`: what is told behind what was shown
 //! - `packets`: a capture as packets in a file
 //! - `charted`, `charts`: the records that are asked for as a chart, and in a file
+//! - `credits`: the credit of a link as curves, in a file
 //! - `why`: a capture, audited
 //! - `run`: a run over any words, reader and writers
 //!
@@ -21,6 +22,7 @@
 mod asked;
 mod charted;
 mod charts;
+mod credits;
 mod lines;
 mod packets;
 mod run;

@@ -1,18 +1,19 @@
 //! A run over any words, reader and writers.
 
-ghost use Rattle.std.specs.Prelude.{◌≡◌, ◌≢◌, ◌<◌, ◌≤◌, ◌⊎◌, ◌↔◌, ◌∷◌, [], codes, false, true, map, None};
+ghost use Rattle.std.specs.Prelude.{◌≡◌, ◌≢◌, ◌<◌, ◌≤◌, ◌⊎◌, ◌↔◌, ◌∷◌, [], codes, false, true, is_some, map, None};
 ghost use Rattle.capture_words.specs.declared.ending.Ending.TheVariants.{NoMemory, Unreadable};
 ghost use Rattle.std.specs.Io.KnownBytes.{Appends};
 ghost use Rattle.program_ends.specs.Growth.{IsRefusedGrowth};
-ghost use Rattle.show_program.specs.Run.{ExplainsInput, ExplainsSome, IsRunOn, IsStatus, ShowsInput, TellsNoFile, TellsSome, no_chart, no_packets, too_many};
+ghost use Rattle.show_program.specs.Run.{ExplainsInput, ExplainsSome, IsRunOn, IsStatus, ShowsInput, TellsNoFile, TellsNotDrawn, TellsSome, no_chart, no_link, no_packets, too_many};
 ghost use Rattle.program_ends.specs.Source.{path_of};
-ghost use Rattle.show_program.specs.Words.{chart_of, is_why, packets_of};
+ghost use Rattle.show_program.specs.Words.{chart_of, credit_of, is_why, packets_of};
 
 use crate::charts::write_chart;
+use crate::credits::write_credit;
 use crate::lines::Lines;
 use crate::packets::write_packets;
 use crate::table::Table;
-use crate::telling::{NO_FILE, TOO_MANY, tell};
+use crate::telling::{NO_FILE, NOT_DRAWN, tell};
 use crate::why::show_why;
 use crate::words::{Mode, Words};
 use capture_words::{Ending, NotWritten, Page, View, show_capture};
@@ -25,9 +26,10 @@ use std::{fs, io};
 
 /// Shows the capture that `words`, those behind the program's name, ask for: the file that they name, or `input`. Writes
 /// it to `out`, behind it the line of a fault, and answers the exit status. Where packets or a chart are asked for they go to
-/// the file that is named, and the line of a fault alone to `out`; `NO_FILE` tells that it could not be written, and `TOO_MANY`
-/// that more records are asked for than a chart may have. Where it is asked why the capture is not accepted, the line of the
-/// auditor's verdict goes to `out`, and behind it the explanation.
+/// the file that is named, and the line of a fault alone to `out`; `NO_FILE` tells that it could not be written, and `NOT_DRAWN`
+/// that more records are asked for than a chart may have. Where the credit of a link is asked for it goes to the file that is named,
+/// and the line of the auditor's verdict to `out`; `NOT_DRAWN` tells that there is no such link. Where it is asked why the capture is
+/// not accepted, the line of the auditor's verdict goes to `out`, and behind it the explanation.
 ///
 /// A fault of the words is told on `err` alone, with `WORDS_FAULT`; the help goes to `out`, with status 0. Where `out`
 /// fails the status is `NOT_WRITTEN`, and nothing is said of what stands there. Where it is watched, `err` has a line of
@@ -51,9 +53,10 @@ pub fn run_words<F: Files, S: AsStr, R: Read, O: Write, E: Write>(
     // the explanation stands behind it.
     ensures told { 0 < result → result ≤ 4 → TellsSome (O.contents out.old) (O.contents out.new) result ⊎ ExplainsSome (O.contents out.old) (O.contents out.new) result }
 
-    // Status 5 comes only with a line that tells that the file could not be written, and 6 with that of too many records for a chart.
+    // Status 5 comes only with a line that tells that the file could not be written, and 6 with that of too many records for a chart,
+    // or of no such link.
     ensures unmade { result ≡ NO_FILE → TellsNoFile (O.contents out.old) (O.contents out.new) }
-    ensures many { result ≡ TOO_MANY → Appends (O.contents out.old) (O.contents out.new) too_many }
+    ensures undrawn { result ≡ NOT_DRAWN → TellsNotDrawn (O.contents out.old) (O.contents out.new) }
 
     // A mistake in the words is told on standard error alone, and where nobody watches nothing else is told there.
     ensures mistake { result ≡ WORDS_FAULT → out.new ≡ out.old }
@@ -77,7 +80,7 @@ fn tell_modes<E: Write>(err: &mut E) -> u8
     // The status tells the fault, whether or not its text could be written.
     let _ = writeln!(
         err,
-        "error: one of --pcapng, --chart, --why and --summary may be given"
+        "error: one of --pcapng, --chart, --credit, --why and --summary may be given"
     );
     WORDS_FAULT
 }
@@ -93,21 +96,25 @@ fn show_source<F: Files, R: Read, O: Write, E: Write>(
     out: &mut O,
     err: &mut E,
 ) -> u8
-    ensures input { path_of words.entry.source ≡ None → is_why mode.entry ≡ false → result ≢ NOT_WRITTEN → result ≢ NO_FILE → result ≢ TOO_MANY
+    ensures input { path_of words.entry.source ≡ None → is_why mode.entry ≡ false → credit_of mode.entry ≡ None → result ≢ NOT_WRITTEN → result ≢ NO_FILE → result ≢ NOT_DRAWN
         → ShowsInput (R.remaining input.old) (O.contents out.old) (O.contents out.new) result }
     ensures explained { path_of words.entry.source ≡ None → is_why mode.entry ≡ true → result ≢ NOT_WRITTEN
         → ExplainsInput (R.remaining input.old) (O.contents out.old) (O.contents out.new) result }
-    ensures told { is_why mode.entry ≡ false → result ≢ NOT_WRITTEN → result ≢ NO_FILE → result ≢ TOO_MANY → TellsSome (O.contents out.old) (O.contents out.new) result }
-    ensures either { result ≢ NOT_WRITTEN → result ≢ NO_FILE → result ≢ TOO_MANY
+    ensures credited { path_of words.entry.source ≡ None → is_some (credit_of mode.entry) ≡ true → result ≢ NOT_WRITTEN → result ≢ NO_FILE → result ≢ NOT_DRAWN
+        → ExplainsInput (R.remaining input.old) (O.contents out.old) (O.contents out.new) result }
+    ensures told { is_why mode.entry ≡ false → credit_of mode.entry ≡ None → result ≢ NOT_WRITTEN → result ≢ NO_FILE → result ≢ NOT_DRAWN → TellsSome (O.contents out.old) (O.contents out.new) result }
+    ensures either { result ≢ NOT_WRITTEN → result ≢ NO_FILE → result ≢ NOT_DRAWN
         → TellsSome (O.contents out.old) (O.contents out.new) result ⊎ ExplainsSome (O.contents out.old) (O.contents out.new) result }
-    ensures unasked { packets_of mode.entry ≡ None → chart_of mode.entry ≡ None → result ≢ NO_FILE }
-    ensures packets { chart_of mode.entry ≡ None → result ≡ NO_FILE → Appends (O.contents out.old) (O.contents out.new) no_packets }
+    ensures unasked { packets_of mode.entry ≡ None → chart_of mode.entry ≡ None → credit_of mode.entry ≡ None → result ≢ NO_FILE }
+    ensures packets { chart_of mode.entry ≡ None → credit_of mode.entry ≡ None → result ≡ NO_FILE → Appends (O.contents out.old) (O.contents out.new) no_packets }
     ensures chart { packets_of mode.entry ≡ None → result ≡ NO_FILE → Appends (O.contents out.old) (O.contents out.new) no_chart }
     ensures unmade { result ≡ NO_FILE → TellsNoFile (O.contents out.old) (O.contents out.new) }
-    ensures few { chart_of mode.entry ≡ None → result ≢ TOO_MANY }
-    ensures many { result ≡ TOO_MANY → Appends (O.contents out.old) (O.contents out.new) too_many }
+    ensures few { chart_of mode.entry ≡ None → credit_of mode.entry ≡ None → result ≢ NOT_DRAWN }
+    ensures many { credit_of mode.entry ≡ None → result ≡ NOT_DRAWN → Appends (O.contents out.old) (O.contents out.new) too_many }
+    ensures link { chart_of mode.entry ≡ None → result ≡ NOT_DRAWN → Appends (O.contents out.old) (O.contents out.new) no_link }
+    ensures undrawn { result ≡ NOT_DRAWN → TellsNotDrawn (O.contents out.old) (O.contents out.new) }
     ensures quiet { is_watched ≡ false → err.new ≡ err.old }
-    ensures status { (result ≤ TOO_MANY) ⊎ (result ≡ NOT_WRITTEN) }
+    ensures status { (result ≤ NOT_DRAWN) ⊎ (result ≡ NOT_WRITTEN) }
 {
     match words.source {
         Source::StandardInput => show_input(files, alloc, words, mode, is_watched, input, out, err),
@@ -143,17 +150,21 @@ fn show_input<F: Files, R: Read, O: Write, E: Write>(
 ) -> u8
 where
     R: Drop,
-    ensures shown { is_why mode.entry ≡ false → result ≢ NOT_WRITTEN → result ≢ NO_FILE → result ≢ TOO_MANY
+    ensures shown { is_why mode.entry ≡ false → credit_of mode.entry ≡ None → result ≢ NOT_WRITTEN → result ≢ NO_FILE → result ≢ NOT_DRAWN
         → ShowsInput (R.remaining input) (O.contents out.old) (O.contents out.new) result }
     ensures explained { is_why mode.entry ≡ true → result ≢ NOT_WRITTEN → ExplainsInput (R.remaining input) (O.contents out.old) (O.contents out.new) result }
-    ensures unasked { packets_of mode.entry ≡ None → chart_of mode.entry ≡ None → result ≢ NO_FILE }
-    ensures packets { chart_of mode.entry ≡ None → result ≡ NO_FILE → Appends (O.contents out.old) (O.contents out.new) no_packets }
+    ensures credited { is_some (credit_of mode.entry) ≡ true → result ≢ NOT_WRITTEN → result ≢ NO_FILE → result ≢ NOT_DRAWN
+        → ExplainsInput (R.remaining input) (O.contents out.old) (O.contents out.new) result }
+    ensures unasked { packets_of mode.entry ≡ None → chart_of mode.entry ≡ None → credit_of mode.entry ≡ None → result ≢ NO_FILE }
+    ensures packets { chart_of mode.entry ≡ None → credit_of mode.entry ≡ None → result ≡ NO_FILE → Appends (O.contents out.old) (O.contents out.new) no_packets }
     ensures chart { packets_of mode.entry ≡ None → result ≡ NO_FILE → Appends (O.contents out.old) (O.contents out.new) no_chart }
     ensures unmade { result ≡ NO_FILE → TellsNoFile (O.contents out.old) (O.contents out.new) }
-    ensures few { chart_of mode.entry ≡ None → result ≢ TOO_MANY }
-    ensures many { result ≡ TOO_MANY → Appends (O.contents out.old) (O.contents out.new) too_many }
+    ensures few { chart_of mode.entry ≡ None → credit_of mode.entry ≡ None → result ≢ NOT_DRAWN }
+    ensures many { credit_of mode.entry ≡ None → result ≡ NOT_DRAWN → Appends (O.contents out.old) (O.contents out.new) too_many }
+    ensures link { chart_of mode.entry ≡ None → result ≡ NOT_DRAWN → Appends (O.contents out.old) (O.contents out.new) no_link }
+    ensures undrawn { result ≡ NOT_DRAWN → TellsNotDrawn (O.contents out.old) (O.contents out.new) }
     ensures quiet { is_watched ≡ false → err.new ≡ err.old }
-    ensures status { (result ≤ TOO_MANY) ⊎ (result ≡ NOT_WRITTEN) }
+    ensures status { (result ≤ NOT_DRAWN) ⊎ (result ≡ NOT_WRITTEN) }
 {
     let mut page = Page::new(alloc, words.width);
     match mode {
@@ -168,6 +179,7 @@ where
         Mode::Why => show_why(alloc, input, out),
         Mode::Packets(path) => write_packets(files, alloc, path, input, out),
         Mode::Chart(path) => write_chart(files, alloc, words, path, input, out),
+        Mode::Credit(path) => write_credit(files, alloc, words, path, input, out),
     }
 }
 

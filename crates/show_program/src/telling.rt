@@ -1,10 +1,13 @@
 //! What is told behind what was shown, and the exit status.
 
-ghost use Rattle.std.specs.Prelude.{◌≡◌, ◌≢◌, ◌⊎◌};
+ghost use Rattle.std.specs.Prelude.{◌≡◌, ◌≢◌, ◌≤◌, ◌⊎◌};
 ghost use Rattle.capture_words.specs.Ending.{status_of};
 ghost use Rattle.std.specs.Io.KnownBytes.{Appends};
-ghost use Rattle.show_program.specs.Run.{Tells, TellsEnd, is_whole, no_chart, no_packets, too_many};
+ghost use Rattle.show_program.specs.Run.{Tells, TellsEnd, is_whole, no_chart, no_link, no_packets, too_many};
+ghost use Rattle.audit_core.specs.Report.{status_of as status_of_verdict};
+ghost use Rattle.refusal_showing.specs.Explained.{Tells as Explains};
 
+use audit_core::Verdict;
 use capture_words::Ending;
 use program_ends::{NOT_WRITTEN, tell_line};
 use std::io::Write;
@@ -12,8 +15,8 @@ use std::io::Write;
 /// The exit status where the file could not be written to which packets or a chart are to go.
 pub const NO_FILE: u8 = 5;
 
-/// The exit status where more records are asked for than a chart may have.
-pub const TOO_MANY: u8 = 6;
+/// The exit status where more records are asked for than a chart may have, or no link is there of which curves are asked for.
+pub const NOT_DRAWN: u8 = 6;
 
 /// Writes the line of a fault to `out`, and answers the status; or `NOT_WRITTEN` where `out` fails, and then nothing is said
 /// of what stands there. A whole capture has no line.
@@ -58,15 +61,31 @@ pub fn tell_no_chart<O: Write>(out: &mut O) -> u8
     tell_line(&"chart not written", NO_FILE, out)
 }
 
-/// Writes to `out` that more records are asked for than a chart may have, and answers `TOO_MANY`; or `NOT_WRITTEN` where `out`
+/// Writes to `out` that more records are asked for than a chart may have, and answers `NOT_DRAWN`; or `NOT_WRITTEN` where `out`
 /// fails.
 pub fn tell_too_many<O: Write>(out: &mut O) -> u8
     ensures told { result ≢ NOT_WRITTEN → Appends (O.contents out.old) (O.contents out.new) too_many }
-    ensures status { (result ≡ TOO_MANY) ⊎ (result ≡ NOT_WRITTEN) }
+    ensures status { (result ≡ NOT_DRAWN) ⊎ (result ≡ NOT_WRITTEN) }
 {
     tell_line(
         &"more than 2000 records for a chart: --from, --to, --connection, --link, --delivery choose",
-        TOO_MANY,
+        NOT_DRAWN,
         out,
     )
+}
+
+/// Writes to `out` that there is no link of which curves could be drawn, and answers `NOT_DRAWN`; or `NOT_WRITTEN` where `out` fails.
+pub fn tell_no_link<O: Write>(out: &mut O) -> u8
+    ensures told { result ≢ NOT_WRITTEN → Appends (O.contents out.old) (O.contents out.new) no_link }
+    ensures status { (result ≡ NOT_DRAWN) ⊎ (result ≡ NOT_WRITTEN) }
+{
+    tell_line(&"no such link of a consumer", NOT_DRAWN, out)
+}
+
+/// Writes the line of a verdict to `out`, and answers its status; or `NOT_WRITTEN` where `out` fails.
+pub fn tell_verdict<O: Write>(verdict: &Verdict, out: &mut O) -> u8
+    ensures told { result ≢ NOT_WRITTEN → Explains (O.contents out.old) (O.contents out.new) verdict.now × (result ≡ status_of_verdict verdict.now) }
+    ensures status { (result ≤ 4) ⊎ (result ≡ NOT_WRITTEN) }
+{
+    tell_line(verdict, verdict.status(), out)
 }

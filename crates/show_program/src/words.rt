@@ -24,6 +24,8 @@ pub enum Mode<'a> {
     Packets(&'a str),
     /// As a chart of the records that are asked for, in a new file of this path.
     Chart(&'a str),
+    /// As the curves of the credit of a link, the first of those that are asked for, in a new file of this path.
+    Credit(&'a str),
 }
 
 /// What is asked for.
@@ -42,30 +44,33 @@ const WIDTH: usize = 32;
 
 impl<'a> Mode<'a> {
     ghost use Rattle.std.specs.Prelude.{◌≡◌, false, true, None, IfSome, is_some, option_map};
-    ghost use Rattle.show_program.specs.Words.{IsAudit, IsOne, IsPlain, are_several, chart_of, is_table, is_why, packets_of};
+    ghost use Rattle.show_program.specs.Words.{IsAudit, IsOne, IsPlain, are_several, chart_of, credit_of, is_table, is_why, packets_of};
 
-    /// The mode that the paths of packets and of a chart, and the flags of an audit and of a summary ask for; none where these
-    /// are several.
+    /// The mode that the paths of packets, of a chart and of a credit, and the flags of an audit and of a summary ask for; none where
+    /// these are several.
     fn of_words(
         packets: Option<&'a str>,
         chart: Option<&'a str>,
+        credit: Option<&'a str>,
         is_audited: bool,
         is_summary: bool,
     ) -> Option<Mode<'a>>
-        ensures one { IsOne (are_several (is_some packets.entry) (is_some chart.entry) is_audited is_summary) result }
+        ensures one { IsOne (are_several (is_some packets.entry) (is_some chart.entry) (is_some credit.entry) is_audited is_summary) result }
         ensures packets { IfSome result (λ mode. packets_of mode ≡ option_map (λ path. path.now) packets.entry) }
         ensures chart { IfSome result (λ mode. chart_of mode ≡ option_map (λ path. path.now) chart.entry) }
+        ensures credit { IfSome result (λ mode. credit_of mode ≡ option_map (λ path. path.now) credit.entry) }
         ensures audit { IfSome result (λ mode. is_why mode ≡ is_audited) }
         ensures summary { IfSome result (λ mode. is_table mode ≡ is_summary) }
-        ensures plain { option_map (λ path. path.now) packets.entry ≡ None → option_map (λ path. path.now) chart.entry ≡ None → is_audited ≡ false → IsPlain result }
-        ensures audited { option_map (λ path. path.now) packets.entry ≡ None → option_map (λ path. path.now) chart.entry ≡ None → is_audited ≡ true → is_summary ≡ false → IsAudit result }
+        ensures plain { option_map (λ path. path.now) packets.entry ≡ None → option_map (λ path. path.now) chart.entry ≡ None → option_map (λ path. path.now) credit.entry ≡ None → is_audited ≡ false → IsPlain result }
+        ensures audited { option_map (λ path. path.now) packets.entry ≡ None → option_map (λ path. path.now) chart.entry ≡ None → option_map (λ path. path.now) credit.entry ≡ None → is_audited ≡ true → is_summary ≡ false → IsAudit result }
     {
-        match (packets, chart, is_audited, is_summary) {
-            (Some(path), None, false, false) => Some(Mode::Packets(path)),
-            (None, Some(path), false, false) => Some(Mode::Chart(path)),
-            (None, None, true, false) => Some(Mode::Why),
-            (None, None, false, true) => Some(Mode::Summary),
-            (None, None, false, false) => Some(Mode::Lines),
+        match (packets, chart, credit, is_audited, is_summary) {
+            (Some(path), None, None, false, false) => Some(Mode::Packets(path)),
+            (None, Some(path), None, false, false) => Some(Mode::Chart(path)),
+            (None, None, Some(path), false, false) => Some(Mode::Credit(path)),
+            (None, None, None, true, false) => Some(Mode::Why),
+            (None, None, None, false, true) => Some(Mode::Summary),
+            (None, None, None, false, false) => Some(Mode::Lines),
             _ => None,
         }
     }
@@ -88,6 +93,7 @@ impl<'a> Words<'a> {
         let mode = Mode::of_words(
             matches.get_str("pcapng"),
             matches.get_str("chart"),
+            matches.get_str("credit"),
             is_audited,
             is_summary,
         );
@@ -113,21 +119,28 @@ A line has the number of the record, its connection, and what happened: opened, 
 follow the channel, the performative with those of its fields that are read and there, the octets of a transfer's payload, \
 the link or the session that it names, and what the record notes: which delivery a transfer carries, or why an outcome is told.
 
-Without --why the whole capture is read, whatever is asked for. Status 0: it is whole. 2: malformed. 3: no memory. \
-4: unreadable. 5: OUT could not be written. 6: more records than a chart may have. 64: a mistake in the words. 74: standard \
-output could not be written.
+Without --why and --credit the whole capture is read, whatever is asked for. Status 0: it is whole. 2: malformed. 3: no memory. \
+4: unreadable. 5: OUT could not be written. 6: more records than a chart may have, or no such link. 64: a mistake in the words. \
+74: standard output could not be written.
 
-With --why the first line and the status are those of amqp_audit: 0 accepted, 1 refused, or 2, 3 or 4 as above. Behind the \
-line stand the record that is refused, what the clause asks, and each thing that it compares, with the records of the links, \
-deliveries, windows and credits; or what was expected where the capture is malformed. Nothing behind that is read.
+With --why and --credit the first line and the status are those of amqp_audit: 0 accepted, 1 refused, or 2, 3 or 4 as above. With \
+--why there stand behind the line the record that is refused, what the clause asks, and each thing that it compares, with the \
+records of the links, deliveries, windows and credits; or what was expected where the capture is malformed. Nothing behind that \
+is read.
 
-Of --pcapng, --chart, --why and --summary one may be given. But for --chart each is of the whole capture, whichever records \
-are asked for.
+Of --pcapng, --chart, --credit, --why and --summary one may be given. But for --chart each is of the whole capture, whichever \
+records are asked for; for --credit, --connection and --link choose the link.
 
 A chart is an SVG: a lane for the router and one for each connection, and for each record that is asked for an arrow. It has \
 2000 records at most; where more are asked for there is no file.
 
-Packets and charts are those of the whole records in front of a fault where the capture has one.";
+With --credit the capture is audited, and OUT is an SVG with a panel for each of four curves over the records that were taken: \
+the credit of a consumer's link, the window of its session, whether a delivery waits at its address, and whether its client \
+drains it. The link is the first that opens of those that are chosen; the curves break off where it ends. Where none opens there \
+is no file, and of an accepted capture the line is: no such link of a consumer.
+
+Packets and charts are those of the whole records in front of a fault where the capture has one, and curves those of the records \
+in front of a fault or of a refused record.";
 
 /// The command line: a file, which records, and how they are shown.
 fn command_line<'a>(alloc: Global) -> Result<Command<'a>, AllocError>
@@ -148,12 +161,16 @@ fn command_line<'a>(alloc: Global) -> Result<Command<'a>, AllocError>
     let chart = asking(alloc, "chart", ValueParser::string(), "OUT").help(
         "Draws the records that are asked for as a chart to OUT, which must not exist, and shows nothing",
     );
+    let credit = asking(alloc, "credit", ValueParser::string(), "OUT").help(
+        "Audits the capture, and draws the credit of a consumer's link to OUT, which must not exist",
+    );
     choosing_command(alloc)?
         .arg(wide)?
         .arg(summary)?
         .arg(why)?
         .arg(pcapng)?
-        .arg(chart)
+        .arg(chart)?
+        .arg(credit)
 }
 
 /// The command with a file, and what says which records.

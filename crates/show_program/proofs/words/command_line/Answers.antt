@@ -3,7 +3,7 @@ use Rattle.std.proofs.lemmas.Result.{IfOk-weaker}
 use Rattle.std.specs.Prelude.{Bool}
 use Rattle.clap.specs.Words.{rule_of, with_rule}
 use Rattle.clap.specs.declared.builder.arg.Arg.{Arg}
-use Rattle.show_program.specs.Words.{asking_argument, chart_argument, flag_argument, packets_argument}
+use Rattle.show_program.specs.Words.{asking_argument, chart_argument, credit_argument, flag_argument, packets_argument}
 use Rattle.show_program.proofs.words.command_line.Goals as goal
 
 abbrev is_global : Arg → Bool
@@ -18,8 +18,11 @@ returns c =
     ap rule_of c.help-pcapng.ensures ∙ (c.asking.ensures.rule ∙ ap (asking_argument (codes "pcapng")) c.string.ensures) in
     let chart_is : rule_of c.help-chart.result ≡ chart_argument =
     ap rule_of c.help-chart.ensures ∙ (c.asking-2.ensures.rule ∙ ap (asking_argument (codes "chart")) c.string-2.ensures) in
+    let credit_is : rule_of c.help-credit.result ≡ credit_argument =
+    ap rule_of c.help-credit.ensures ∙ (c.asking-3.ensures.rule ∙ ap (asking_argument (codes "credit")) c.string-3.ensures) in
     let with_wide = c.in_ok-arg.ensures.shape (ap is_global c.help-wide.ensures ∙ c.flag.ensures.local) ∙ ap₂ with_rule c.in_ok-choosing_command.ensures wide_is in
     let with_summary = c.in_ok-arg-2.ensures.shape (ap is_global c.help-summary.ensures ∙ c.flag-2.ensures.local) ∙ ap₂ with_rule with_wide summary_is in
     let with_why = c.in_ok-arg-3.ensures.shape (ap is_global c.help-why.ensures ∙ c.flag-3.ensures.local) ∙ ap₂ with_rule with_summary why_is in
     let with_packets = c.in_ok-arg-4.ensures.shape (ap is_global c.help-pcapng.ensures ∙ c.asking.ensures.local) ∙ ap₂ with_rule with_why packets_is in
-    IfOk-weaker c.arg-5.result _ _ (λ command adds. adds.shape (ap is_global c.help-chart.ensures ∙ c.asking-2.ensures.local) ∙ ap₂ with_rule with_packets chart_is) c.arg-5.ensures
+    let with_chart = c.in_ok-arg-5.ensures.shape (ap is_global c.help-chart.ensures ∙ c.asking-2.ensures.local) ∙ ap₂ with_rule with_packets chart_is in
+    IfOk-weaker c.arg-6.result _ _ (λ command adds. adds.shape (ap is_global c.help-credit.ensures ∙ c.asking-3.ensures.local) ∙ ap₂ with_rule with_chart credit_is) c.arg-6.ensures

@@ -31,9 +31,10 @@ returns-clause-plain g c =
     let line_is : app_of c.in_ok-command_line.field-0 ≡ command_line = search rules in
     answers_taken words _ (faults_of _ command_line words (λ kinds. kinds ≡ []) command_line-is_free line_is c.in_ok-matches.ensures.kinds)
     (c.of_word-source.ensures ∙ ap path_asked (c.get_str.ensures ∙ word_of (codes "FILE") _ command_line words c.in_ok-matches.matches command_line-is_free line_is c.in_ok-matches.ensures.matches))
-    (λ none uncharted absent. c.of_words-mode.ensures.plain
+    (λ none uncharted uncredited absent. c.of_words-mode.ensures.plain
     (c.get_str-2.ensures ∙ word_of (codes "pcapng") _ command_line words c.in_ok-matches.matches command_line-is_free line_is c.in_ok-matches.ensures.matches ∙ none)
     (c.get_str-3.ensures ∙ word_of (codes "chart") _ command_line words c.in_ok-matches.matches command_line-is_free line_is c.in_ok-matches.ensures.matches ∙ uncharted)
+    (c.get_str-4.ensures ∙ word_of (codes "credit") _ command_line words c.in_ok-matches.matches command_line-is_free line_is c.in_ok-matches.ensures.matches ∙ uncredited)
     (c.get_flag-is_audited.ensures.other (flag_of (codes "why") _ command_line words c.in_ok-matches.matches command_line-is_free line_is c.in_ok-matches.ensures.matches ∙ absent)))
 
 pub returns-clause-why : goal.returns-clause-why
@@ -42,8 +43,9 @@ returns-clause-why g c = λ are.
     let line_is : app_of c.in_ok-command_line.field-0 ≡ command_line = search rules in
     why_taken words _ _ are
     (c.of_word-source.ensures ∙ ap path_asked (c.get_str.ensures ∙ word_of (codes "FILE") _ command_line words c.in_ok-matches.matches command_line-is_free line_is c.in_ok-matches.ensures.matches))
-    (λ none uncharted asked absent. c.of_words-mode.ensures.audited
+    (λ none uncharted uncredited asked absent. c.of_words-mode.ensures.audited
     (c.get_str-2.ensures ∙ word_of (codes "pcapng") _ command_line words c.in_ok-matches.matches command_line-is_free line_is c.in_ok-matches.ensures.matches ∙ none)
     (c.get_str-3.ensures ∙ word_of (codes "chart") _ command_line words c.in_ok-matches.matches command_line-is_free line_is c.in_ok-matches.ensures.matches ∙ uncharted)
+    (c.get_str-4.ensures ∙ word_of (codes "credit") _ command_line words c.in_ok-matches.matches command_line-is_free line_is c.in_ok-matches.ensures.matches ∙ uncredited)
     (c.get_flag-is_audited.ensures.value (flag_of (codes "why") _ command_line words c.in_ok-matches.matches command_line-is_free line_is c.in_ok-matches.ensures.matches ∙ asked))
     (c.get_flag-is_summary.ensures.other (flag_of (codes "summary") _ command_line words c.in_ok-matches.matches command_line-is_free line_is c.in_ok-matches.ensures.matches ∙ absent)))
