@@ -13,11 +13,9 @@ rank_of_none Balanced = refl
 rank_of_none Multicast = refl
 
 -- the table's answer is that of the events
-pub pick_from : (table : Table) (past : List AddressEvent) (distribution : Distribution) (test : ℕ → Bool) (address : List ℕ) → IsCount table past
-    → (distribution ≡ Multicast → ⊥)
-    → best (ranks_below distribution (consumer_of table)) (filter test (consumers_at table address)) ≡ pick_of distribution test address past
-pick_from table past Closest test address count anycast =
-    λ j. best (ranks_below Closest (λ link. count.links link j)) (filter test (count.lists address j))
-pick_from table past Balanced test address count anycast =
-    λ j. best (ranks_below Balanced (λ link. count.links link j)) (filter test (count.lists address j))
-pick_from table past Multicast test address count anycast = absurd (anycast refl)
+module _ (table : Table) (past : List AddressEvent) (test : ℕ → Bool) (address : List ℕ) (count : IsCount table past) where
+  pub pick_closest : best (ranks_below Closest (consumer_of table)) (filter test (consumers_at table address)) ≡ pick_of Closest test address past
+  pick_closest = λ j. best (ranks_below Closest (λ link. count.links link j)) (filter test (count.lists address j))
+
+  pub pick_balanced : best (ranks_below Balanced (consumer_of table)) (filter test (consumers_at table address)) ≡ pick_of Balanced test address past
+  pick_balanced = λ j. best (ranks_below Balanced (λ link. count.links link j)) (filter test (count.lists address j))

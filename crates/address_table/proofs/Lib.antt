@@ -2,3 +2,8 @@ pub mod Lists
 pub mod Best
 pub mod RuleTests
 pub mod Histories
+pub mod Ordered
+pub mod Apart
+pub mod Lines
+pub mod Places
+pub mod FirstAsked

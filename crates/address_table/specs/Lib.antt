@@ -1,4 +1,5 @@
 pub mod Refusals
 pub mod Picking
+pub mod Lineups
 pub mod Links
 pub mod History

@@ -1,8 +1,10 @@
 -- What the links of consumers come to.
-use Rattle.std.specs.Prelude.{ℕ, ◌≡◌, ◌==◌, not, List, [], ◌∷◌, ◌++◌, Option, None, Some, filter, nat_eq, bytes_eq, Vec, if◌then◌else◌}
+use Rattle.std.specs.Prelude.{ℕ, ◌≡◌, List, ◌∷◌, Option, nat_eq}
 use Rattle.std.specs.HashMap.{get_by_text}
 use Rattle.indexmap.specs.IndexMap.{get}
 use Rattle.flow_counts.specs.Picks.{AddressEvent, Consumer, balanced_rank, consumer, consumers}
+use Rattle.address_table.specs.Lineups.{line_of}
+use Rattle.address_table.specs.declared.lineup.Lineup.{Lineup}
 use Rattle.address_table.specs.declared.table.Table.{Table}
 
 -- the link, while it is attached
@@ -13,9 +15,9 @@ consumer_of table link = get nat_eq table.links link
 abbrev pub undecided_on : Table → ℕ → ℕ
 undecided_on table link = balanced_rank (consumer_of table link)
 
-abbrev pub listed : {A : Type 0} → Option (Vec ℕ A) → List ℕ
-listed None = []
-listed (Some links) = links.items
+-- its links, in the order of their attaches
+abbrev pub listed : Option Lineup → List ℕ
+listed lineup = (line_of lineup).0
 
 -- the links of an address
 abbrev pub consumers_at : Table → List ℕ → List ℕ
@@ -35,13 +37,3 @@ CountsOneMore earlier later event = (past : List AddressEvent) → IsCount earli
 pub record IsSame (earlier later : Table) : Type 0 where
   pub links : (link : ℕ) → consumer_of later link ≡ consumer_of earlier link
   pub lists : (address : List ℕ) → consumers_at later address ≡ consumers_at earlier address
-
--- the link has come last among those of the address
-pub record Joins (earlier later : Table) (address : List ℕ) (link : ℕ) : Type 0 where
-  pub links : later.links ≡ earlier.links
-  pub lists : (at : List ℕ) → consumers_at later at ≡ (if bytes_eq at address then consumers_at earlier at ++ link ∷ [] else consumers_at earlier at)
-
--- the link is no more among those of the address
-pub record Leaves (earlier later : Table) (address : List ℕ) (link : ℕ) : Type 0 where
-  pub links : later.links ≡ earlier.links
-  pub lists : (at : List ℕ) → consumers_at later at ≡ (if bytes_eq at address then filter (λ on. not (on == link)) (consumers_at earlier at) else consumers_at earlier at)

@@ -1,28 +1,32 @@
 //! The links of consumers, by their addresses.
 
-ghost use Rattle.std.specs.Prelude.{ℕ, ◌≡◌, ◌<◌, ◌-◌, ◌^◌, Bool, List, [], None, filter, OnOk, OnErr};
+ghost use Rattle.std.specs.Prelude.{ℕ, ◌≡◌, ◌<◌, ◌-◌, ◌^◌, Bool, List, [], None, filter, nat_eq, nat_lt, OnOk, OnErr};
 ghost use Rattle.std.specs.HashMap.{get_by_text};
+ghost use Rattle.indexmap.specs.IndexMap.{get};
 ghost use Rattle.flow_counts.specs.Picks as picks;
 ghost use Rattle.flow_counts.specs.Picks.{AddressEvent, Attached, Detached, Begun, Decided};
 ghost use Rattle.address_table.specs.Picking.{rank_of, ranks_below, pick_of};
+ghost use Rattle.address_table.specs.Lineups.{AreSameLines, ChangesAt, IsLine, joined, left, line_of, stood};
 
 use crate::consumer::Consumer;
+use crate::lineup::Lineup;
 use capture_form::Distribution;
 use indexmap::IndexMap;
 use std::alloc::{AllocError, Global};
 
 /// The links of consumers that are attached. A link is named by the record number of the attach that was written on it.
-/// Only `attach` takes memory.
+/// Only `attach` takes memory. What happens to a link takes time linear in the links of its address at most.
 #[derive(Drop)]
 pub struct Table {
     alloc: Global,
     links: IndexMap<u64, Consumer>,
-    /// The links of each address, in the order of their attaches.
-    addresses: IndexMap<String, Vec<u64>>,
+    /// The links of each address.
+    addresses: IndexMap<String, Lineup>,
+    ghost in_line: { (address : List ℕ) → IsLine (get nat_eq links) address (line_of (get_by_text addresses address)) },
 }
 
 impl Table {
-    ghost use Rattle.address_table.specs.Links.{consumer_of, undecided_on, consumers_at, IsCount, CountsOneMore, IsSame, Joins, Leaves};
+    ghost use Rattle.address_table.specs.Links.{consumer_of, undecided_on, consumers_at, IsCount, CountsOneMore, IsSame};
 
     /// No links.
     pub fn new(alloc: Global) -> Table
@@ -46,35 +50,9 @@ impl Table {
         }
         let consumer = Consumer::new(self.alloc, address, pre_settled)?;
         self.links.reserve(1)?;
-        self.join(address, link)?;
+        join(self.alloc, &mut self.addresses, address, link)?;
         // The room is reserved.
         let _ = self.links.insert(link, consumer).unwrap();
-        Ok(())
-    }
-
-    /// The link comes last among those of the address.
-    fn join(&mut self, address: &str, link: u64) -> Result<(), AllocError>
-        ensures joined { OnOk result (Joins self.old self.new address.now link) }
-        ensures unchanged { OnErr result (IsSame self.old self.new) }
-        ensures room { self.new.links ≡ self.old.links }
-    {
-        let Some(links) = self.addresses.get_mut(address) else {
-            return self.found(address, link);
-        };
-        links.push(link)?;
-        Ok(())
-    }
-
-    /// The link is the first of the address.
-    fn found(&mut self, address: &str, link: u64) -> Result<(), AllocError>
-        requires { get_by_text self.old.addresses address.now ≡ None }
-        ensures joined { OnOk result (Joins self.old self.new address.now link) }
-        ensures unchanged { OnErr result (IsSame self.old self.new) }
-        ensures room { self.new.links ≡ self.old.links }
-    {
-        let links = vec![in self.alloc; link]?;
-        let address = String::from_str(self.alloc, address)?;
-        self.addresses.insert(address, links)?;
         Ok(())
     }
 
@@ -83,19 +61,7 @@ impl Table {
         ensures { CountsOneMore self.old self.new (Detached link) }
     {
         if let Some(consumer) = self.links.swap_remove(&link) {
-            self.leave(consumer.address(), link);
-        }
-    }
-
-    /// The link is taken out of those of the address.
-    fn leave(&mut self, address: &str, link: u64)
-        ensures left { Leaves self.old self.new address.now link }
-    {
-        if let Some(links) = self.addresses.get_mut(address) {
-            links.retain(|other| *other != link);
-            if links.is_empty() {
-                self.addresses.swap_remove(address);
-            }
+            leave(&mut self.addresses, consumer.address(), link);
         }
     }
 
@@ -105,7 +71,7 @@ impl Table {
         ensures count { (past : List AddressEvent) → IsCount self.now past → result.now ≡ picks.consumers address.now past }
     {
         match self.addresses.get(address) {
-            Some(links) => links.as_slice(),
+            Some(lineup) => lineup.links(),
             None => &[],
         }
     }
@@ -113,7 +79,8 @@ impl Table {
     /// The link that a delivery of the address goes to, of those that pass the test: for a closest address the one whose
     /// last delivery began first, where one without a delivery comes before all; for a balanced address the one with the
     /// fewest deliveries that are not decided; of equal ones the one that was attached first. `None` where none passes,
-    /// and for a multicast address. It takes time linear in the links of the address, and no memory.
+    /// and for a multicast address. It takes no memory. Of a closest address each link is tested; of a balanced one the
+    /// links are tested in that order, and none behind the first that passes.
     pub fn pick<F: Fn(u64) -> bool>(
         &self,
         address: &str,
@@ -128,7 +95,25 @@ impl Table {
     {
         match distribution {
             Distribution::Multicast => None,
-            anycast => self.first_of_least(anycast, self.consumers(address), eligible),
+            Distribution::Balanced => self.first_in_order(address, eligible),
+            Distribution::Closest => {
+                self.first_of_least(Distribution::Closest, self.consumers(address), eligible)
+            }
+        }
+    }
+
+    /// Of the links of the address that pass the test the one with the fewest undecided deliveries; of equal ones the one
+    /// that was attached first. No link behind it in that order is asked.
+    fn first_in_order<F: Fn(u64) -> bool>(&self, address: &str, eligible: F) -> Option<u64>
+    where
+        F: Drop,
+        requires { F.IsAlwaysCallable eligible }
+        ensures { (test : ℕ → Bool) → ((link : ℕ) (answer : Bool) → link < 2 ^ 64 → F.post eligible link answer → answer ≡ test link)
+            → result ≡ picks.best (λ one other. nat_lt (undecided_on self.now one) (undecided_on self.now other)) (filter test (consumers_at self.now address.now)) }
+    {
+        match self.addresses.get(address) {
+            Some(lineup) => lineup.first(eligible),
+            None => None,
         }
     }
 
@@ -186,6 +171,7 @@ impl Table {
     {
         if let Some(consumer) = self.links.get_mut(&link) {
             consumer.begun(number);
+            stand(&mut self.addresses, consumer, link);
         }
     }
 
@@ -197,6 +183,62 @@ impl Table {
     {
         if let Some(consumer) = self.links.get_mut(&link) {
             consumer.decided();
+            stand(&mut self.addresses, consumer, link);
         }
+    }
+}
+
+/// The link comes last among those of the address. Where memory is refused, nothing changes.
+fn join(
+    alloc: Global,
+    addresses: &mut IndexMap<String, Lineup>,
+    address: &str,
+    link: u64,
+) -> Result<(), AllocError>
+    ensures changed { OnOk result (ChangesAt (get_by_text addresses.old) (get_by_text addresses.new) address.now (joined link)) }
+    ensures unchanged { OnErr result (AreSameLines (get_by_text addresses.old) (get_by_text addresses.new)) }
+{
+    let Some(lineup) = addresses.get_mut(address) else {
+        return found(alloc, addresses, address, link);
+    };
+    lineup.join(link)?;
+    Ok(())
+}
+
+/// The link is the first of the address.
+fn found(
+    alloc: Global,
+    addresses: &mut IndexMap<String, Lineup>,
+    address: &str,
+    link: u64,
+) -> Result<(), AllocError>
+    requires { get_by_text addresses.old address.now ≡ None }
+    ensures changed { OnOk result (ChangesAt (get_by_text addresses.old) (get_by_text addresses.new) address.now (joined link)) }
+    ensures unchanged { OnErr result (AreSameLines (get_by_text addresses.old) (get_by_text addresses.new)) }
+{
+    let lineup = Lineup::of(alloc, link)?;
+    let address = String::from_str(alloc, address)?;
+    addresses.insert(address, lineup)?;
+    Ok(())
+}
+
+/// The link is no more among those of the address.
+fn leave(addresses: &mut IndexMap<String, Lineup>, address: &str, link: u64)
+    ensures { ChangesAt (get_by_text addresses.old) (get_by_text addresses.new) address.now (left link) }
+{
+    if let Some(lineup) = addresses.get_mut(address) {
+        lineup.leave(link);
+        if lineup.is_empty() {
+            addresses.swap_remove(address);
+        }
+    }
+}
+
+/// The link of the consumer comes to its place among those of the address.
+fn stand(addresses: &mut IndexMap<String, Lineup>, consumer: &Consumer, link: u64)
+    ensures { ChangesAt (get_by_text addresses.old) (get_by_text addresses.new) consumer.now.address (stood link consumer.now.undecided) }
+{
+    if let Some(lineup) = addresses.get_mut(consumer.address()) {
+        lineup.stand(link, consumer.undecided());
     }
 }

@@ -1,0 +1,187 @@
+//! The links of one address, and the order in which a balanced pick asks them.
+
+ghost use Rattle.std.specs.Prelude.{ℕ, ◌≡◌, ◌<◌, ◌^◌, Bool, [], Some, find, map, IsTrue, IfOk, OnOk, OnErr, OnSome};
+ghost use Rattle.std.specs.List.{position};
+ghost use Rattle.std.specs.Option.{option_map};
+ghost use Rattle.std.specs.Vec.{vec_len, vec_capacity};
+ghost use Rattle.address_table.specs.Lineups.{MayAsk, comes_before, is_of, joined, left, line_of, moved_up, put, stood, without};
+
+use std::alloc::{AllocError, Global};
+
+/// Where a link stands among those of its address: how many of its deliveries are not decided, and how many of the
+/// others were attached before it.
+#[doc(hidden)]
+#[derive(Clone, Copy, Drop)]
+pub struct Standing {
+    undecided: u64,
+    place: usize,
+    link: u64,
+}
+
+impl Standing {
+    /// It is asked before the other.
+    fn comes_before(&self, other: &Standing) -> bool
+        ensures { result ≡ comes_before self.now other.now }
+    {
+        if self.undecided != other.undecided {
+            return self.undecided < other.undecided;
+        }
+        if self.place != other.place {
+            return self.place < other.place;
+        }
+        self.link <= other.link
+    }
+
+    /// One that was attached in this place has left.
+    fn move_up(&mut self, gone: usize)
+        ensures { self.new ≡ moved_up gone self.old }
+    {
+        if self.place > gone {
+            self.place -= 1;
+        }
+    }
+}
+
+/// The links of an address in the order of their attaches, and in the order in which a balanced pick asks them. Only `of`
+/// and `join` take memory.
+#[doc(hidden)]
+#[derive(Drop)]
+pub struct Lineup {
+    links: Vec<u64>,
+    order: Vec<Standing>,
+}
+
+impl Lineup {
+    /// One link, with nothing undecided.
+    pub(crate) fn of(alloc: Global, link: u64) -> Result<Lineup, AllocError>
+        ensures { IfOk result (λ lineup. line_of (Some lineup) ≡ joined link ([], [])) }
+    {
+        let standing = Standing {
+            undecided: 0,
+            place: 0,
+            link,
+        };
+        Ok(Lineup {
+            links: vec![in alloc; link]?,
+            order: vec![in alloc; standing]?,
+        })
+    }
+
+    /// The link comes last, with nothing undecided. Where memory is refused, nothing changes.
+    pub(crate) fn join(&mut self, link: u64) -> Result<(), AllocError>
+        ensures joined { OnOk result (line_of (Some self.new) ≡ joined link (line_of (Some self.old))) }
+        ensures unchanged { OnErr result (line_of (Some self.new) ≡ line_of (Some self.old)) }
+    {
+        let standing = Standing {
+            undecided: 0,
+            place: self.links.len(),
+            link,
+        };
+        self.order.reserve(1)?;
+        self.links.push(link)?;
+        put_in(&mut self.order, standing);
+        Ok(())
+    }
+
+    /// The link is no more among them.
+    pub(crate) fn leave(&mut self, link: u64)
+        ensures { line_of (Some self.new) ≡ left link (line_of (Some self.old)) }
+    {
+        self.links.retain(|other| *other != link);
+        if let Some(gone) = take_out(&mut self.order, link) {
+            close_up(&mut self.order, gone.place);
+        }
+    }
+
+    /// So many deliveries of the link are undecided; it moves to its place among the others. Without the link nothing
+    /// changes.
+    pub(crate) fn stand(&mut self, link: u64, undecided: u64)
+        ensures { line_of (Some self.new) ≡ stood link undecided (line_of (Some self.old)) }
+    {
+        if let Some(standing) = take_out(&mut self.order, link) {
+            put_in(
+                &mut self.order,
+                Standing {
+                    undecided,
+                    place: standing.place,
+                    link: standing.link,
+                },
+            );
+        }
+    }
+
+    /// There are no links.
+    pub(crate) fn is_empty(&self) -> bool
+        ensures { IsTrue result → line_of (Some self.now) ≡ ([], []) }
+    {
+        self.links.is_empty() && self.order.is_empty()
+    }
+
+    /// The links in the order of their attaches, lent.
+    pub(crate) fn links(&self) -> &[u64]
+        ensures { result.now ≡ self.now.links.items }
+    {
+        self.links.as_slice()
+    }
+
+    /// The first link in the order that passes the test. No link behind it is asked.
+    pub(crate) fn first<F: Fn(u64) -> bool>(&self, eligible: F) -> Option<u64>
+    where
+        F: Drop,
+        requires { MayAsk (F.pre eligible) (F.post eligible) self.now.order.items }
+        ensures { (test : ℕ → Bool) → ((link : ℕ) (answer : Bool) → link < 2 ^ 64 → F.post eligible link answer → answer ≡ test link)
+            → result ≡ option_map (λ one. one.link) (find (λ one. test one.link) self.now.order.items) }
+    {
+        for standing in &self.order {
+            if eligible(standing.link) {
+                return Some(standing.link);
+            }
+        }
+        None
+    }
+}
+
+/// The standing comes to its place among those in order.
+#[tactic(auto, using(crate::proofs::Places::put_there))]
+fn put_in(order: &mut Vec<Standing>, standing: Standing)
+    requires { vec_len order.old < vec_capacity order.old }
+    ensures { order.new.items ≡ put standing order.old.items }
+{
+    let place = place_for(order.as_slice(), &standing).unwrap_or(order.len());
+    // There is room for it.
+    order.insert(place, standing).unwrap();
+}
+
+/// The place of the first that the standing comes before.
+fn place_for(order: &[Standing], standing: &Standing) -> Option<usize>
+    ensures { result ≡ position (comes_before standing.now) order.now }
+{
+    order.iter().position(|other| standing.comes_before(other))
+}
+
+/// The standing of the link, which is no more among them.
+#[tactic(auto, using(crate::proofs::Places::found_there, crate::proofs::Places::without_there, crate::proofs::Places::found_nowhere, crate::proofs::Places::without_nowhere))]
+fn take_out(order: &mut Vec<Standing>, link: u64) -> Option<Standing>
+    ensures taken { result ≡ find (is_of link) order.old.items }
+    ensures others { order.new.items ≡ without link order.old.items }
+    ensures room { OnSome result (vec_len order.new < vec_capacity order.new) }
+{
+    let place = place_of(order.as_slice(), link)?;
+    Some(order.remove(place))
+}
+
+/// The place of the link's standing.
+fn place_of(order: &[Standing], link: u64) -> Option<usize>
+    ensures { result ≡ position (is_of link) order.now }
+{
+    order.iter().position(|standing| standing.link == link)
+}
+
+/// Those that were attached after one that has left move up.
+fn close_up(order: &mut Vec<Standing>, gone: usize)
+    ensures { order.new.items ≡ map (moved_up gone) order.old.items }
+{
+    for standing in order.iter_mut() {
+        standing.move_up(gone);
+    }
+}
