@@ -4,6 +4,7 @@ use crate::words::{Answer, Subject, behind, done, joined, number, parted, parts,
 use address_table::{AddressEvent, Rules, RulesFault, Table, table_after};
 use capture_form::{Distribution, Rule};
 use std::alloc::{AllocError, Global};
+use std::cell::Cell;
 use std::mem;
 
 /// The rules that are written so far, those of a router and others that are kept beside them; and the links.
@@ -119,11 +120,14 @@ impl Addresses {
         let (verb, rest) = parted(words);
         match verb {
             "after" => self.table_after(rest),
+            "many" => self.attach_many(word(rest, 0), number(word(rest, 1))),
+            "then" => self.follow(rest),
             "consumers" => {
                 let address = joined(self.alloc, rest)?;
                 told(self.alloc, self.table.consumers(address.as_str()))
             }
             "pick" => self.pick(rest),
+            "asks" => self.asked(rest),
             _ => Ok(None),
         }
     }
@@ -137,6 +141,63 @@ impl Addresses {
             .table
             .pick(word(words, 0), distribution, |link| Some(link) != but);
         told(self.alloc, picked)
+    }
+
+    /// The link that a delivery goes to whose address and distribution these words tell, where the links up to the number
+    /// behind them may not be sent it; and how many links were asked.
+    fn asked(&self, words: &[&str]) -> Answer {
+        let refused = number(word(words, 2));
+        let asked = Cell::new(0u64);
+        let picked = self
+            .table
+            .pick(word(words, 0), distribution_of(word(words, 1)), |link| {
+                asked.set(asked.get().saturating_add(1));
+                link > refused
+            });
+        told(self.alloc, (picked, asked.get()))
+    }
+
+    /// The links from 1 up to this number are attached to the address, one after the other, and there are no others.
+    fn attach_many(&mut self, address: &str, count: u64) -> Answer {
+        self.table = Table::new(self.alloc);
+        for before in 0..count {
+            self.table.attach(address, before.saturating_add(1), false)?;
+        }
+        done(self.alloc)
+    }
+
+    /// These events happen to the links that there are.
+    fn follow(&mut self, words: &[&str]) -> Answer {
+        for word in words {
+            let Some(event) = address_event(parts(self.alloc, word)?.as_slice()) else {
+                return Ok(None);
+            };
+            self.happen(event)?;
+        }
+        done(self.alloc)
+    }
+
+    /// The event happens to the links that there are.
+    fn happen(&mut self, event: AddressEvent<'_>) -> Result<(), AllocError> {
+        match event {
+            AddressEvent::Attached {
+                address,
+                link,
+                pre_settled,
+            } => self.table.attach(address, link, pre_settled)?,
+            AddressEvent::Detached { link } => self.table.detach(link),
+            AddressEvent::Begun { link, number } => {
+                if self.table.undecided(link) < u64::MAX {
+                    self.table.begun(link, number);
+                }
+            }
+            AddressEvent::Decided { link } => {
+                if self.table.undecided(link) > 0 {
+                    self.table.decided(link);
+                }
+            }
+        }
+        Ok(())
     }
 
     /// All of these events happen to no links.
