@@ -173,9 +173,9 @@ fn vanish<R: Threads + Wait + Sync + Print>(rt: &R, alloc: Global) -> io::Result
 /// The exchange octet by octet, where each read that brings one, and then each write, of one of both fails in turn. By one
 /// worker nothing depends on how patient the other is, and each of these calls comes.
 fn fail<R: Threads + Wait + Sync + Print>(rt: &R, alloc: Global) -> io::Result<()> {
-    for (workers, patience, name) in [(1, 200, "one worker"), (2, 10_000, "two workers")] {
+    for (workers, name) in [(1, "one worker"), (2, "two workers")] {
         let pace = Pace {
-            patience,
+            patience: PATIENCE,
             ..ONE_BY_ONE
         };
         let mut tally = Tally::NONE;
