@@ -5,7 +5,7 @@ use Rattle.std.specs.List.{concat}
 use Rattle.std.proofs.lemmas.List.{reverse-append, take-append-drop}
 use Rattle.capture_form.specs.declared.records.Record.{Record}
 use Rattle.core_exchange.specs.declared.seat.Seat.{Seat}
-use Rattle.core_exchange.specs.Seats.{Begins, SeatAgrees, SeatsAgree, frames_of, inputs_on, outs_on}
+use Rattle.core_exchange.specs.Seats.{Begins, SeatAgrees, SeatsAgree, inputs_on, outs_on}
 use Rattle.conn_workers.specs.declared.report.ConnReport.{ConnReport}
 use Rattle.conn_serving.specs.Served.{IsServed}
 use Rattle.conn_workers.specs.Lines.{IsDone, IsFrom}
@@ -65,7 +65,7 @@ pub reported : {G : Type 0} (gates : List G) (Follows : G → G → Type 0) (Del
     → IsDone gates Follows Delivered Took ended r.gate r.taken.items seat → SeatAgrees records k seat → r.conn ≡ seat.conn → r.items ≡ seat.items
     → IsReported gates Follows Delivered Took ended records k r
 reported gates Follows Delivered Took ended records k seat r done agrees conn items =
-    told gates Follows Delivered Took ended records k (frames_of seat) r (rw items done.served) (conn ∙ agrees.conn)
+    told gates Follows Delivered Took ended records k seat.frames.items r (rw items done.served) (conn ∙ agrees.conn)
     (subst (λ (n : ℕ). IsFrom gates Follows n r.gate) agrees.conn done.from) (agrees.items ∙ ap (λ v. v.items) (sym items)) agrees.frames
 
 -- what is put behind others stands in front of them the other way round

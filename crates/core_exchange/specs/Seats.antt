@@ -37,15 +37,11 @@ owned_below n records = list_all (is_owned_below n) records
 abbrev pub Begins : {A : Type 0} → List A → List A → Type 0
 Begins front all = front ≡ take (length front) all
 
--- the octets of a seat's frames
-abbrev pub frames_of : Seat → List (List ℕ)
-frames_of seat = map (λ frame. frame.items) seat.frames.items
-
 -- the seat is of connection k, and tells what the records have of it
 pub record SeatAgrees (records : List Record) (k : ℕ) (seat : Seat) : Type 0 where
   pub conn : seat.conn ≡ k
   pub items : inputs_on k records ≡ seat.items.items
-  pub frames : Begins (frames_of seat) (outs_on k records)
+  pub frames : Begins seat.frames.items (outs_on k records)
 
 -- the seats are those of connections k and up, and tell what the records have of them
 abbrev pub SeatsAgree : List Record → ℕ → List Seat → Type 0

@@ -1,13 +1,13 @@
 //! Whether seats are what a capture has.
 
-ghost use Rattle.std.specs.Prelude.{◌≡◌, ◌↔◌, IsTrue, true, map};
+ghost use Rattle.std.specs.Prelude.{◌≡◌, ◌↔◌, IsTrue, true};
 ghost use Rattle.capture_form.specs.Text.{frame_of};
 ghost use Rattle.route_items.specs.Outs.{writes_on, is_written};
 ghost use Rattle.core_exchange.specs.Seats.{Agrees, SeatAgrees, SeatsAgree, Begins, inputs_on, outs_on, is_input_on, owned_below, is_owned_below};
 
 use crate::seat::Seat;
 use address_table::Rules;
-use capture_form::{Capture, Record, What};
+use capture_form::{Capture, Frame, Record, What};
 
 /// Whether the seats are those of connections 0 and up and tell what the capture has of these, the capture has no other
 /// inputs, and these are its rules.
@@ -59,8 +59,8 @@ fn are_inputs(records: &[Record], conn: u32, items: &[What]) -> bool
 }
 
 /// Whether these frames begin those that were written on a connection.
-fn begin_outs(records: &[Record], conn: u32, frames: &[Vec<u8>]) -> bool
-    ensures { IsTrue result ↔ Begins (map (λ frame. frame.items) frames.now) (outs_on conn records.now) }
+fn begin_outs(records: &[Record], conn: u32, frames: &[Frame]) -> bool
+    ensures { IsTrue result ↔ Begins frames.now (outs_on conn records.now) }
 {
     let mut rest = frames;
     for entry in records {
@@ -105,12 +105,12 @@ fn is_out_on(entry: &Record, conn: u32) -> bool
 }
 
 /// Whether these are the octets of what was written.
-fn is_frame_of(what: &What, octets: &Vec<u8>) -> bool
+fn is_frame_of(what: &What, given: &Frame) -> bool
     requires { is_written what.now ≡ true }
-    ensures { IsTrue result ↔ (frame_of what.now ≡ octets.now.items) }
+    ensures { IsTrue result ↔ (frame_of what.now ≡ given.now) }
 {
     match what {
-        What::Out(frame) => frame.octets() == octets.as_slice(),
+        What::Out(frame) => frame.octets() == given.octets(),
         _ => false,
     }
 }

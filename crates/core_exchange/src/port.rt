@@ -11,7 +11,7 @@ use std::alloc::{AllocError, Global};
 use std::sync::{MutexGuard, Wait};
 
 /// Hands the items of a connection to the core of an exchange, and gives the frames that the core wrote to it. It keeps
-/// copies of the items that the core took and of the frames that were given.
+/// the items that the core took and the frames that were given, whose octets it owns together with the capture.
 #[derive(Drop)]
 pub struct ExchangePort<'a, R: Wait> {
     exchange: &'a Exchange<R>,
@@ -76,19 +76,23 @@ impl<'a, R: Wait> ExchangePort<'a, R> {
 }
 
 impl<'a, R: Wait> Port for ExchangePort<'a, R> {
-    ghost use Rattle.std.specs.Prelude.{map, true};
+    ghost use Rattle.std.specs.Prelude.{true};
 
     ghost connection = { λ port. port.seat.conn };
 
     ghost items = { λ port. port.seat.items.items };
 
-    ghost frames = { λ port. map (λ frame. frame.items) port.seat.frames.items };
+    ghost frames = { λ port. port.seat.frames.items };
 
     // What a core has under its lock is not known between two calls.
     ghost is_idle = { λ port. true };
 
     fn submit(&mut self, item: Item<'_>) -> Result<(), PortFault> {
+        // All that may be refused stands in front of the step.
         let Ok(entry) = item.to_record(self.exchange.alloc()) else {
+            return Err(PortFault::Memory);
+        };
+        let Ok(what) = entry.what.clone() else {
             return Err(PortFault::Memory);
         };
         let Ok(()) = self.seat.items.reserve(1) else {
@@ -96,11 +100,11 @@ impl<'a, R: Wait> Port for ExchangePort<'a, R> {
         };
         let exchange = self.exchange;
         let core = self.core.get_or_insert_with(|| exchange.taken());
-        let answer = exchange.step(core, item);
+        let answer = exchange.step(core, item, entry);
         self.let_go();
         match answer {
             Ok(()) => {
-                self.seat.items.push_reserved(entry.what);
+                self.seat.items.push_reserved(what);
                 Ok(())
             }
             Err(fault) => Err(PortFault::Step(fault)),
@@ -115,14 +119,14 @@ impl<'a, R: Wait> Port for ExchangePort<'a, R> {
         }
         let exchange = self.exchange;
         let core = self.core.get_or_insert_with(|| exchange.taken());
-        let found = frame_from(exchange.alloc(), core, self.seat.conn, from);
+        let found = frame_from(core, self.seat.conn, from);
         self.let_go();
         let Some((number, frame)) = found? else {
             self.unwritten = Some((from, mark));
             return Ok(None);
         };
         self.seat.frames.reserve(1)?;
-        out.extend_from_slice(&frame)?;
+        out.extend_from_slice(frame.octets())?;
         self.seat.frames.push_reserved(frame);
         Ok(Some(number))
     }

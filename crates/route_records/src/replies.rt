@@ -33,7 +33,7 @@ fn record_of_reply(alloc: Global, connection: u32, reply: &Reply<'_>) -> Result<
 {
     let mut octets = Vec::new(alloc);
     reply.write(&mut octets)?;
-    let frame = Frame::from_octets(octets);
+    let frame = Frame::from_octets(octets)?;
     Ok(Record {
         connection,
         what: What::Out(frame),

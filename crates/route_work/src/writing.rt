@@ -123,7 +123,7 @@ pub fn record_of<'a, P: Counts + Outcomes<'a>>(
     let mut octets = Vec::new(alloc);
     let mut scratch = Vec::new(alloc);
     put_due(&mut octets, &mut scratch, past, rules, due)?;
-    let frame = Frame::from_octets(octets);
+    let frame = Frame::from_octets(octets)?;
     Ok(Record {
         connection: connection_of(due),
         what: What::Out(frame),

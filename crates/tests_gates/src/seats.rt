@@ -3,7 +3,7 @@
 ghost use Rattle.std.specs.Prelude.{◌≡◌};
 
 use address_table::Rules;
-use capture_form::{Distribution, Rule, What};
+use capture_form::{Distribution, Frame, Rule, What};
 use conn_engine::Port;
 use core_exchange::{Exchange, Seat};
 use route_items::Item;
@@ -114,7 +114,7 @@ fn told(alloc: Global, lie: &str, first: Seat, second: Seat) -> Result<Vec<Seat>
         "an item told twice" => first.items.push(What::Opened)?,
         "another frame" => {
             first.frames.clear();
-            first.frames.push(Vec::from_slice(alloc, OPEN)?)?;
+            first.frames.push(Frame::new(alloc, OPEN)?)?;
         }
         _ => {}
     }
