@@ -1,3 +1,4 @@
+pub mod Cuts
 pub mod Entries
 pub mod Joins
 pub mod Order

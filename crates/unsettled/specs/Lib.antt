@@ -1,4 +1,5 @@
 pub mod Refusals
+pub mod Cuts
 pub mod Sent
 pub mod Deliveries
 pub mod History

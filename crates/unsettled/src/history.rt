@@ -11,6 +11,7 @@ ghost use Rattle.unsettled.specs.History.{part_event, parts_of};
 use crate::fault::PartFault;
 use crate::inbound::Inbound;
 use crate::outstanding::Outstanding;
+use bytes::Bytes;
 use flow_counts::SentEvent;
 use std::alloc::{AllocError, Global};
 
@@ -23,7 +24,8 @@ pub enum PartEvent<'a> {
         /// The record of the transfer.
         number: u64,
         id: Option<u32>,
-        payload: &'a [u8],
+        /// Its octets are shared, and not copied.
+        payload: &'a Bytes,
     },
     /// The delivery in progress on a link is aborted.
     Aborted {
@@ -50,7 +52,7 @@ impl Inbound {
                 number,
                 id,
                 payload,
-            } => self.part(link, number, id, payload)?,
+            } => self.part(link, number, id, payload.clone()?)?,
             PartEvent::Aborted { link } => self.abort(link),
             PartEvent::Completed { link } => self.let_go(link),
             PartEvent::Freed { id } => self.freed(id),
@@ -72,7 +74,8 @@ impl Inbound {
 ///
 /// # Errors
 ///
-/// The fault of the first part that is refused, as `Inbound::part` tells it.
+/// The fault of the first part that is refused, as `Inbound::part` tells it; or `Memory`, where a payload has as many
+/// owners already as it may have.
 pub fn inbound_after(alloc: Global, events: &[PartEvent<'_>]) -> Result<Inbound, PartFault>
     ensures { IfOk result (λ inbound. IsCount inbound (parts_of events.now)) }
 {

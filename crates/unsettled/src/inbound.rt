@@ -3,11 +3,12 @@
 ghost use Rattle.std.specs.Prelude.{◌≡◌, ◌↔◌, [], length, IsTrue, IsSome, IfSome, None, IfErr, OnOk, OnErr};
 ghost use Rattle.std.specs.Result.{result_err};
 ghost use Rattle.flow_counts.specs.Parts.{Part, Aborted, Completed, Freed};
+ghost use Rattle.unsettled.specs.Cuts.{octets_of, AreFilled};
 ghost use Rattle.unsettled.specs.Refusals.{admission, part_fault, IsAnswer};
 
 use crate::fault::PartFault;
 use crate::partial::Partial;
-use bytes::BytesMut;
+use bytes::Bytes;
 use indexmap::{IndexMap, IndexSet};
 use std::alloc::Global;
 
@@ -57,17 +58,18 @@ impl Inbound {
     }
 
     /// A transfer on the link begins a delivery, whose record number is given, or goes on with the one in progress, for
-    /// which the number does not count. The faults are tested in the order of `admits`, then `TooLarge`, then `Memory`.
-    /// After a fault nothing has changed.
+    /// which the number does not count. The payload is kept as it is, without a copy, and with it the memory of which it
+    /// is a cut; one without octets is not kept. The faults are tested in the order of `admits`, then `TooLarge`, then
+    /// `Memory`. After a fault nothing has changed, and the payload is given up.
     pub fn part(
         &mut self,
         link: u64,
         number: u64,
         id: Option<u32>,
-        payload: &[u8],
+        payload: Bytes,
     ) -> Result<(), PartFault>
-        ensures answer { IsAnswer (part_fault (partial_on self.old link) (is_taken self.old) id payload.now) result }
-        ensures counted { OnOk result (CountsOneMore self.old self.new (Part link number id payload.now)) }
+        ensures answer { IsAnswer (part_fault (partial_on self.old link) (is_taken self.old) id payload) result }
+        ensures counted { OnOk result (CountsOneMore self.old self.new (Part link number id payload)) }
         ensures unchanged { OnErr result (IsSame self.old self.new) }
     {
         self.admits(link, id)?;
@@ -101,14 +103,17 @@ impl Inbound {
         }
     }
 
-    /// The last part of the delivery in progress on the link has come: its record number, and the payloads of its parts,
-    /// joined. Its delivery-id stays in use.
-    pub fn complete(&mut self, link: u64) -> (u64, BytesMut)
+    /// The last part of the delivery in progress on the link has come: its record number, and its payload as the cuts in
+    /// which it came, the oldest first, neither joined nor copied. Its delivery-id stays in use.
+    pub fn complete(&mut self, link: u64) -> (u64, Vec<Bytes>)
         // `is_in_progress` tells.
         requires { IsSome (partial_on self.old link) }
         ensures number { IfSome (partial_on self.old link) (λ partial. result.0 ≡ partial.number) }
-        ensures payload { IfSome (partial_on self.old link) (λ partial. result.1.items ≡ partial.payload) }
         ensures counted { CountsOneMore self.old self.new (Completed link) }
+        // The cuts, joined in their order, are the delivery's payload.
+        ensures payload { IfSome (partial_on self.old link) (λ partial. octets_of result.1.items ≡ partial.payload) }
+        // No cut is empty, however many parts without octets came.
+        ensures filled { AreFilled result.1.items }
     {
         self.deliveries.swap_remove(&link).unwrap().into_parts()
     }

@@ -1,31 +1,37 @@
 //! A delivery that is being put together.
 
-ghost use Rattle.std.specs.Prelude.{◌≡◌, ℕ, ◌+◌, ◌<◌, ◌≤◌, ◌++◌, length, Some, None, OnOk, OnErr, IfOk, IfErr};
+ghost use Rattle.std.specs.Prelude.{◌≡◌, ℕ, Some, None, OnOk, OnErr, IfOk};
 ghost use Rattle.flow_counts.specs.Parts.{joined, is_id};
+ghost use Rattle.unsettled.specs.Cuts.{octets_of, AreFilled};
 ghost use Rattle.unsettled.specs.Refusals.{IsAnswer, size_fault};
 
 use crate::fault::PartFault;
-use bytes::BytesMut;
+use bytes::Bytes;
 use flow_counts::MAX_MESSAGE_SIZE;
-use std::alloc::{AllocError, Global};
+use std::alloc::Global;
 use std::marker::Model;
 
-/// A delivery in progress: the record number and the delivery-id of its first transfer, and its payload so far.
+/// A delivery in progress: the record number and the delivery-id of its first transfer, and its payload so far, as the
+/// cuts in which it came, without those that are empty, and how many octets these have.
 #[doc(hidden)]
 #[derive(Drop)]
 pub struct Partial {
     number: u64,
     id: u32,
-    payload: BytesMut,
+    cuts: Vec<Bytes>,
+    octets: u64,
 }
 
 impl Model for Partial {
     ghost use Rattle.flow_counts.specs.Parts.{Partial as Part};
-    ghost use Rattle.std.specs.Prelude.{Some};
+    ghost use Rattle.std.specs.Prelude.{◌≡◌, Some, length};
+    ghost use Rattle.unsettled.specs.Cuts.{octets_of, AreFilled};
 
     ghost Value = { Part };
 
-    ghost view = { λ p. record { number = p.number; id = Some p.id; payload = p.payload.items } };
+    ghost view = { λ p. record { number = p.number; id = Some p.id; payload = octets_of p.cuts.items } };
+
+    ghost invariant = { λ p. (p.octets ≡ length (octets_of p.cuts.items)) × AreFilled p.cuts.items };
 }
 
 impl Partial {
@@ -34,31 +40,36 @@ impl Partial {
         alloc: Global,
         number: u64,
         id: u32,
-        payload: &[u8],
+        payload: Bytes,
     ) -> Result<Partial, PartFault>
-        ensures begun { IfOk result (λ partial. partial ≡ joined None number (Some id) payload.now) }
-        ensures answer { IsAnswer (size_fault None payload.now) result }
+        ensures begun { IfOk result (λ partial. partial ≡ joined None number (Some id) payload) }
+        ensures answer { IsAnswer (size_fault None payload) result }
     {
-        if payload.len() as u64 > MAX_MESSAGE_SIZE {
-            return Err(PartFault::TooLarge);
-        }
-        Ok(Partial {
+        let mut partial = Partial {
             number,
             id,
-            payload: BytesMut::copy_from_slice(alloc, payload)?,
-        })
+            cuts: Vec::new(alloc),
+            octets: 0,
+        };
+        partial.join(payload)?;
+        Ok(partial)
     }
 
     /// One part more. After a fault the delivery is as before.
-    pub(crate) fn join(&mut self, payload: &[u8]) -> Result<(), PartFault>
-        ensures joined { OnOk result ((number : ℕ) → self.new ≡ joined (Some self.old) number None payload.now) }
-        ensures answer { IsAnswer (size_fault (Some self.old) payload.now) result }
+    pub(crate) fn join(&mut self, payload: Bytes) -> Result<(), PartFault>
+        ensures joined { OnOk result ((number : ℕ) → self.new ≡ joined (Some self.old) number None payload) }
+        ensures answer { IsAnswer (size_fault (Some self.old) payload) result }
         ensures unchanged { OnErr result (self.new ≡ self.old) }
     {
-        if self.payload.len().saturating_add(payload.len()) as u64 > MAX_MESSAGE_SIZE {
+        let octets = self.octets.saturating_add(payload.len() as u64);
+        if octets > MAX_MESSAGE_SIZE {
             return Err(PartFault::TooLarge);
         }
-        self.payload.extend_from_slice(payload)?;
+        if payload.is_empty() {
+            return Ok(());
+        }
+        self.cuts.push(payload)?;
+        self.octets = octets;
         Ok(())
     }
 
@@ -76,11 +87,12 @@ impl Partial {
         self.id
     }
 
-    /// The record number of its first transfer, and its payload.
-    pub(crate) fn into_parts(self) -> (u64, BytesMut)
+    /// The record number of its first transfer, and the cuts of its payload.
+    pub(crate) fn into_parts(self) -> (u64, Vec<Bytes>)
         ensures number { result.0 ≡ self.number }
-        ensures payload { result.1.items ≡ self.payload }
+        ensures payload { octets_of result.1.items ≡ self.payload }
+        ensures filled { AreFilled result.1.items }
     {
-        (self.number, self.payload)
+        (self.number, self.cuts)
     }
 }
