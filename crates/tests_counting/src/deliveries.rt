@@ -1,17 +1,20 @@
 //! The deliveries of a session: those that come in from a client, and those that were sent to it.
 //!
-//! A payload is the text of its word, and `-` an empty one; `-` is also a transfer without a delivery-id.
+//! A payload is the text of its word, and `-` an empty one; `-` is also a transfer without a delivery-id. `cuts` tells how
+//! many octets each cut has of the delivery that was completed last.
 
 use crate::words::{Answer, Subject, done, number, optional, parted, parts, small, told, word};
+use bytes::Bytes;
 use flow_counts::SentEvent;
-use std::alloc::Global;
+use std::alloc::{AllocError, Global};
 use unsettled::{Inbound, Outstanding, PartEvent, PartFault, inbound_after, outstanding_after};
 
-/// The deliveries of one session, in both directions.
+/// The deliveries of one session, in both directions, and the cuts of the one that was completed last.
 #[derive(Drop)]
 pub struct Deliveries {
     alloc: Global,
     inbound: Inbound,
+    cuts: Vec<Bytes>,
     sent: Outstanding,
 }
 
@@ -20,6 +23,7 @@ impl Deliveries {
         Deliveries {
             alloc,
             inbound: Inbound::new(alloc),
+            cuts: Vec::new(alloc),
             sent: Outstanding::new(alloc),
         }
     }
@@ -44,10 +48,10 @@ impl Deliveries {
         let (verb, rest) = parted(words);
         let link = number(word(rest, 0));
         match verb {
-            "part" => return self.part(link, rest, payload_of(word(rest, 3))),
+            "part" => return self.part(link, rest, payload_of(self.alloc, word(rest, 3))?),
             "large" => {
                 let octets = vec![in self.alloc; 7u8; number(word(rest, 3)) as usize]?;
-                return self.part(link, rest, octets.as_slice());
+                return self.part(link, rest, Bytes::from_vec(octets)?);
             }
             "admits" => {
                 let admitted = self.inbound.admits(link, optional(word(rest, 1)));
@@ -55,6 +59,7 @@ impl Deliveries {
             }
             "is-in-progress" => return told(self.alloc, self.inbound.is_in_progress(link)),
             "complete" => return self.complete(link),
+            "cuts" => return self.sizes(),
             "abort" => self.inbound.abort(link),
             "freed" => self.inbound.freed(small(word(rest, 0))),
             "after" => return self.inbound_after(rest),
@@ -64,7 +69,7 @@ impl Deliveries {
     }
 
     /// A transfer comes, whose record and delivery-id are told by the words behind the link.
-    fn part(&mut self, link: u64, words: &[&str], payload: &[u8]) -> Answer {
+    fn part(&mut self, link: u64, words: &[&str], payload: Bytes) -> Answer {
         let (record, id) = (number(word(words, 1)), optional(word(words, 2)));
         let taken = self.inbound.part(link, record, id, payload);
         told(self.alloc, numbered(taken))
@@ -75,7 +80,9 @@ impl Deliveries {
         if !self.inbound.is_in_progress(link) {
             return told(self.alloc, "not in progress");
         }
-        let (record, payload) = self.inbound.complete(link);
+        let (record, cuts) = self.inbound.complete(link);
+        self.cuts = cuts;
+        let payload = joined(self.alloc, self.cuts.as_slice())?;
         if payload.len() > 100 {
             return told(self.alloc, (record, payload.len()));
         }
@@ -83,11 +90,18 @@ impl Deliveries {
         told(self.alloc, (record, text))
     }
 
+    /// How many octets each cut has of the delivery that was completed last.
+    fn sizes(&self) -> Answer {
+        let sizes: Vec<usize> = self.cuts.iter().map(|cut| cut.len()).collect(self.alloc)?;
+        told(self.alloc, sizes)
+    }
+
     /// All of these events happen on a new session.
     fn inbound_after(&mut self, words: &[&str]) -> Answer {
+        let payloads = payloads_of(self.alloc, words)?;
         let mut events = Vec::new(self.alloc);
-        for word in words {
-            let Some(event) = part_event(parts(self.alloc, word)?.as_slice()) else {
+        for (word, payload) in words.iter().zip(payloads.iter()) {
+            let Some(event) = part_event(parts(self.alloc, word)?.as_slice(), payload) else {
                 return Ok(None);
             };
             events.push(event)?;
@@ -144,12 +158,31 @@ fn numbered(taken: Result<(), PartFault>) -> Result<(), (PartFault, u8)> {
 }
 
 /// The octets of a payload's word.
-fn payload_of(word: &str) -> &[u8] {
-    if word == "-" { &[] } else { word.as_bytes() }
+fn payload_of(alloc: Global, word: &str) -> Result<Bytes, AllocError> {
+    Bytes::copy_from_slice(alloc, if word == "-" { &[] } else { word.as_bytes() })
 }
 
-/// What happens to the deliveries that come in, by the parts of its word.
-fn part_event<'a>(parts: &[&'a str]) -> Option<PartEvent<'a>> {
+/// The payload of each of these words for events, an empty one where it has none.
+fn payloads_of(alloc: Global, words: &[&str]) -> Result<Vec<Bytes>, AllocError> {
+    let mut payloads = Vec::new(alloc);
+    for event in words {
+        let parts = parts(alloc, event)?;
+        payloads.push(payload_of(alloc, word(parts.as_slice(), 4))?)?;
+    }
+    Ok(payloads)
+}
+
+/// The octets of these cuts, one behind the other.
+fn joined(alloc: Global, cuts: &[Bytes]) -> Result<Vec<u8>, AllocError> {
+    let mut octets = Vec::new(alloc);
+    for cut in cuts {
+        octets.extend_from_slice(cut.as_slice())?;
+    }
+    Ok(octets)
+}
+
+/// What happens to the deliveries that come in, by the parts of its word and its payload.
+fn part_event<'a>(parts: &[&str], payload: &'a Bytes) -> Option<PartEvent<'a>> {
     let (verb, rest) = parted(parts);
     let link = number(word(rest, 0));
     match verb {
@@ -157,7 +190,7 @@ fn part_event<'a>(parts: &[&'a str]) -> Option<PartEvent<'a>> {
             link,
             number: number(word(rest, 1)),
             id: optional(word(rest, 2)),
-            payload: payload_of(word(rest, 3)),
+            payload,
         }),
         "aborted" => Some(PartEvent::Aborted { link }),
         "completed" => Some(PartEvent::Completed { link }),
