@@ -4,14 +4,14 @@ ghost use Rattle.std.specs.Prelude.{◌≡◌, Some, IfOk, IfSome, OnOk, option_
 ghost use Rattle.amqp_perf.specs.Grammar.{IsPerformative};
 ghost use Rattle.amqp_perf.specs.Meaning.{ADisposition, DispositionFields, state_told};
 ghost use Rattle.amqp_perf.specs.NestedViews.{state_view};
-ghost use Rattle.amqp_perf.specs.Router.{FitsFrame, outcome_told};
+ghost use Rattle.amqp_perf.specs.Router.{FitsFrame, bare_state, outcome_told};
 ghost use Rattle.amqp_perf.specs.View.{view};
 ghost use Rattle.amqp_perf.specs.Writing.{IfThere, IsWritableState, performative_octets};
 ghost use Rattle.trace_judge.specs.Told.{told_view};
 ghost use Rattle.route_dues.specs.Outcomes.{HasState, octets_in};
 
 use crate::outcome::DueOutcome;
-use amqp_perf::{Performative, Slot, State, put_fields};
+use amqp_perf::{Outcome, Performative, Slot, State, put_fields};
 use std::alloc::AllocError;
 use trace_judge::Told;
 
@@ -19,8 +19,8 @@ use trace_judge::Told;
 const DISPOSITION: u8 = 0x15;
 
 impl<'t> DueOutcome<'t> {
-    /// The state that is told, as it is written. A consumer's own is read again, from a disposition that is put into `scratch`
-    /// in the place of what stands there.
+    /// The state that is told, as it is written. A consumer's own that is more than an outcome is read again, from a
+    /// disposition that is put into `scratch` in the place of what stands there.
     ///
     /// # Errors
     ///
@@ -35,8 +35,38 @@ impl<'t> DueOutcome<'t> {
             Told::Nothing => Ok(None),
             Told::Bare(outcome) => Ok(Some(State::of_outcome(outcome))),
             Told::DeliveryFailed => Ok(Some(State::delivery_failed())),
-            Told::Octets(octets) => read_again(scratch, octets),
+            Told::Octets(octets) => own_state(scratch, octets),
         }
+    }
+}
+
+/// The state of these octets, which a consumer wrote. Most have an outcome alone, in its shortest form.
+///
+/// # Errors
+///
+/// Memory was refused, for a state that is read again.
+fn own_state<'s>(scratch: &'s mut Vec<u8>, octets: &[u8]) -> Result<Option<State<'s>>, AllocError>
+    requires { HasState octets.now }
+    ensures octets { IfOk result (λ state. octets_in (option_map state_view state) ≡ Some octets.now) }
+    ensures writable { IfOk result (λ state. IfThere IsWritableState (option_map state_view state)) }
+    ensures short { IfOk result (λ state. IfThere FitsFrame (option_map state_view state)) }
+{
+    match bare_outcome(octets) {
+        Some(outcome) => Ok(Some(State::of_outcome(outcome))),
+        None => read_again(scratch, octets),
+    }
+}
+
+/// The outcome whose state without fields these octets are, in its shortest form.
+fn bare_outcome(octets: &[u8]) -> Option<Outcome>
+    ensures { IfSome result (λ outcome. (bare_state outcome).octets ≡ octets.now) }
+{
+    match octets {
+        [0x00, 0x53, 0x24, 0x45] => Some(Outcome::Accepted),
+        [0x00, 0x53, 0x25, 0x45] => Some(Outcome::Rejected),
+        [0x00, 0x53, 0x26, 0x45] => Some(Outcome::Released),
+        [0x00, 0x53, 0x27, 0x45] => Some(Outcome::Modified),
+        _ => None,
     }
 }
 
