@@ -1,4 +1,4 @@
-//! Lets the router's core run, in five ways, and judges what it does.
+//! Lets the router's core run, in six ways, and judges what it does.
 //!
 //! Without words all are done, one behind the other. `README.md` says what each does and prints, and which words ask for
 //! one of them alone. In reading order:
@@ -8,10 +8,12 @@
 //! - `replayed`: the inputs of worked captures
 //! - `exchanged`: clients whose octets are cut into pieces
 //! - `hostile`: clients by chance, of whom some keep to nothing
+//! - `crowded`: many consumers of one balanced address
 //! - `routed`: messages beside others, and how long they take
 #![tactic(auto)]
 
 mod cores;
+mod crowded;
 mod exchanged;
 mod hostile;
 mod names;
@@ -50,6 +52,7 @@ fn done(rt: &HostRuntime) -> io::Result<u8> {
         "exchanged" => exchanged::exchange_all(rt, numbers_of(rt, behind)?.as_slice()),
         "hostile" => hostile::drive_all(rt, numbers_of(rt, behind)?.as_slice()),
         "show" => hostile::show(rt, numbers_of(rt, behind)?.as_slice()),
+        "crowd" => crowded::serve_crowd(rt, numbers_of(rt, behind)?.as_slice()),
         "routed" => routed::route_all(rt, behind, false),
         "timed" => routed::route_all(rt, behind, true),
         _ => Ok(WORDS_FAULT),
@@ -63,6 +66,7 @@ fn done_all(rt: &HostRuntime) -> io::Result<u8> {
         replayed::replay_all(rt, &[])?,
         exchanged::exchange_all(rt, &[40, 1])?,
         hostile::drive_all(rt, &[30, 100, 1, 40])?,
+        crowded::serve_crowd(rt, &[200, 1000, 1])?,
         routed::route_each(rt)?,
     ];
     Ok(statuses.into_iter().max().unwrap_or(0))

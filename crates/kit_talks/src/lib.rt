@@ -7,10 +7,13 @@
 //! - `deed`: an input of a router; `driver`: clients by chance, with what they know (`known`), how they learn it (`seen`), and
 //!   what they do next, as they may (`lawful`) or not (`hostile`);
 //! - `measured`: the frames of clients whose messages are measured;
+//! - `crowd`: many consumers of one address, and what they do; `picks`: a plain scan of whether each delivery went where it had
+//!   to;
 //! - `streams`: the octets of a client by chance; `served`: whether an engine served a client as its octets say;
 //! - `frame_counts`, `stream_counts`: what came of it, in numbers.
 #![tactic(auto)]
 
+mod crowd;
 mod deed;
 mod driver;
 mod frame_counts;
@@ -20,6 +23,7 @@ mod known;
 mod lawful;
 mod lines;
 mod measured;
+mod picks;
 mod records;
 mod said;
 mod seen;
@@ -29,12 +33,14 @@ mod stream_counts;
 mod streams;
 mod words;
 
+pub use crowd::{CROWDED, Crowd, CrowdCounts};
 pub use deed::Deed;
 pub use driver::Driver;
 pub use frame_counts::FrameCounts;
 pub use known::{Held, Known, Life, Link, Place, Sent, Session};
 pub use lines::lines_meant;
 pub use measured::{BEGIN, DETACH, OPEN, attaching, crediting, put_accepted, put_transfer};
+pub use picks::{Picks, scan_picks};
 pub use records::{Names, Telling};
 pub use served::{Seen, Served, are_served};
 pub use stage::{Difference, Stage};

@@ -313,7 +313,7 @@ fn address_of(attach: &Attach<'_>) -> usize {
 }
 
 /// What a frame says, and on which channel.
-fn spoken(connection: u32, octets: &[u8]) -> Option<(Place, Performative<'_>)> {
+pub(crate) fn spoken(connection: u32, octets: &[u8]) -> Option<(Place, Performative<'_>)> {
     let frame = FrameView::whole(octets, u32::MAX)?;
     let channel = frame.channel();
     let (said, _) = Performative::read(frame.body()).ok()?;
