@@ -4,7 +4,7 @@ use Rattle.route_answers.specs.Replies.{reply_view}
 use Rattle.route_records.proofs.ShortReplies.{within_frame}
 use Rattle.route_records.proofs.replies.record_of_reply.Goals as goal
 
-pub from_octets-frame-requires : goal.from_octets-frame-requires
-from_octets-frame-requires c =
+pub from_octets-requires : goal.from_octets-requires
+from_octets-requires c =
     within_frame c.args.reply.now c.requires.can c.write.new.out.items
     (c.in_ok-write.ensures.appended ∙ ap (λ xs. xs ++ spoken_octets (reply_view c.args.reply.now)) c.new-octets.ensures.items)
