@@ -83,14 +83,14 @@ pub shown_run : (words : List (List ℕ)) (asked : Words) (mode : Mode) (held be
     → (path_of asked.source ≡ None → is_why mode ≡ false → credit_of mode ≡ None → status ≢ 74 → status ≢ 5 → status ≢ 6 → ShowsInput held before after status)
     → (is_why mode ≡ false → credit_of mode ≡ None → status ≢ 74 → status ≢ 5 → status ≢ 6 → TellsSome before after status)
     → (packets_of mode ≡ None → chart_of mode ≡ None → credit_of mode ≡ None → status ≢ 5)
-    → (chart_of mode ≡ None → credit_of mode ≡ None → status ≢ 6)
+    → (chart_of mode ≡ None → status ≢ 6)
     → IsRunOn words held before after status
 shown_run [] asked mode held before after status answer is input told unasked few =
     let plain : IsPlain (Some mode) = subst IsPlain is answer.1 in
-    λ written. input answer.0 plain.3 plain.2 written (unasked plain.0 plain.1 plain.2) (few plain.1 plain.2)
+    λ written. input answer.0 plain.3 plain.2 written (unasked plain.0 plain.1 plain.2) (few plain.1)
 shown_run (word ∷ []) asked mode held before after status answer is input told unasked few = λ plain written.
     let one : IsPlain (Some mode) = subst IsPlain is (answer plain).1 in
-    told one.3 one.2 written (unasked one.0 one.1 one.2) (few one.1 one.2)
+    told one.3 one.2 written (unasked one.0 one.1 one.2) (few one.1)
 shown_run (first ∷ second ∷ more) asked mode held before after status answer is input told unasked few = λ plain plain'. absurd (answer plain plain')
 
 -- the parser took words that ask for several modes: they are no plain ones

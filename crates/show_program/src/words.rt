@@ -120,7 +120,7 @@ follow the channel, the performative with those of its fields that are read and 
 the link or the session that it names, and what the record notes: which delivery a transfer carries, or why an outcome is told.
 
 Without --why and --credit the whole capture is read, whatever is asked for. Status 0: it is whole. 2: malformed. 3: no memory. \
-4: unreadable. 5: OUT could not be written. 6: more records than a chart may have, or no such link. 64: a mistake in the words. \
+4: unreadable. 5: OUT could not be written. 6: more records than a chart may have. 7: no such link. 64: a mistake in the words. \
 74: standard output could not be written.
 
 With --why and --credit the first line and the status are those of amqp_audit: 0 accepted, 1 refused, or 2, 3 or 4 as above. With \
