@@ -5,7 +5,7 @@ use audit_core::{Ledger, Watcher};
 use capture_form::{Record, Rule};
 use capture_view::{Names, view_of};
 use capture_words::Page;
-use refusal_words::{Explained, Origins};
+use refusal_words::{Compared, Explained, Origins, compared_with};
 use std::alloc::{AllocError, Global};
 
 /// At how many characters the texts and octets of the refused record's line are cut.
@@ -21,6 +21,7 @@ pub(crate) struct Explaining {
     origins: Origins,
     line: Page,
     reason: String,
+    compared: Option<Compared>,
 }
 
 impl Explaining {
@@ -37,6 +38,7 @@ impl Explaining {
             origins: Origins::new(alloc),
             line: Page::new(alloc, Some(WIDTH)),
             reason: String::new(alloc),
+            compared: None,
         }
     }
 
@@ -48,6 +50,11 @@ impl Explaining {
     /// Why it was refused, in some lines; empty where none was.
     pub(crate) fn reason(&self) -> &str {
         self.reason.as_str()
+    }
+
+    /// The records that it was compared with; none where no record was refused.
+    pub(crate) fn compared(&self) -> Option<Compared> {
+        self.compared
     }
 }
 
@@ -87,6 +94,7 @@ impl Watcher for Explaining {
                     reason: &reason,
                     origins: &self.origins,
                 };
+                self.compared = Some(compared_with(&reason, &self.origins));
                 writeln!(self.reason, "{explained}")
             }
             None => Ok(()),
