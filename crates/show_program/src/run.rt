@@ -11,6 +11,7 @@ ghost use Rattle.show_program.specs.Words.{chart_of, credit_of, is_why, packets_
 use crate::charts::write_chart;
 use crate::credits::write_credit;
 use crate::lines::Lines;
+use crate::marked::write_marked;
 use crate::packets::write_packets;
 use crate::table::Table;
 use crate::telling::{NO_FILE, NO_LINK, TOO_MANY, tell};
@@ -29,7 +30,9 @@ use std::{fs, io};
 /// the file that is named, and the line of a fault alone to `out`; `NO_FILE` tells that it could not be written, and `TOO_MANY`
 /// that more records are asked for than a chart may have. Where the credit of a link is asked for it goes to the file that is named,
 /// and the line of the auditor's verdict to `out`; `NO_LINK` tells that there is no such link. Where it is asked why the capture is
-/// not accepted, the line of the auditor's verdict goes to `out`, and behind it the explanation.
+/// not accepted, the line of the auditor's verdict goes to `out`, and behind it the explanation; and where a chart is asked for
+/// beside it, the refused record and those that it is compared with are marked in that, and the statuses of a chart come with the
+/// line of what is wrong with it alone.
 ///
 /// A fault of the words is told on `err` alone, with `WORDS_FAULT`; the help goes to `out`, with status 0. Where `out`
 /// fails the status is `NOT_WRITTEN`, and nothing is said of what stands there. Where it is watched, `err` has a line of
@@ -81,7 +84,7 @@ fn tell_modes<E: Write>(err: &mut E) -> u8
     // The status tells the fault, whether or not its text could be written.
     let _ = writeln!(
         err,
-        "error: one of --pcapng, --chart, --credit, --why and --summary may be given"
+        "error: one of --pcapng, --chart, --credit, --why and --summary may be given, or --chart and --why"
     );
     WORDS_FAULT
 }
@@ -99,7 +102,9 @@ fn show_source<F: Files, R: Read, O: Write, E: Write>(
 ) -> u8
     ensures input { path_of words.entry.source ≡ None → is_why mode.entry ≡ false → credit_of mode.entry ≡ None → result ≢ NOT_WRITTEN → result ≢ NO_FILE → result ≢ TOO_MANY
         → ShowsInput (R.remaining input.old) (O.contents out.old) (O.contents out.new) result }
-    ensures explained { path_of words.entry.source ≡ None → is_why mode.entry ≡ true → result ≢ NOT_WRITTEN
+    ensures explained { path_of words.entry.source ≡ None → is_why mode.entry ≡ true → chart_of mode.entry ≡ None → result ≢ NOT_WRITTEN
+        → ExplainsInput (R.remaining input.old) (O.contents out.old) (O.contents out.new) result }
+    ensures marked { path_of words.entry.source ≡ None → is_why mode.entry ≡ true → result ≢ NOT_WRITTEN → result ≢ NO_FILE → result ≢ TOO_MANY
         → ExplainsInput (R.remaining input.old) (O.contents out.old) (O.contents out.new) result }
     ensures credited { path_of words.entry.source ≡ None → is_some (credit_of mode.entry) ≡ true → result ≢ NOT_WRITTEN → result ≢ NO_FILE → result ≢ NO_LINK
         → ExplainsInput (R.remaining input.old) (O.contents out.old) (O.contents out.new) result }
@@ -153,7 +158,10 @@ where
     R: Drop,
     ensures shown { is_why mode.entry ≡ false → credit_of mode.entry ≡ None → result ≢ NOT_WRITTEN → result ≢ NO_FILE → result ≢ TOO_MANY
         → ShowsInput (R.remaining input) (O.contents out.old) (O.contents out.new) result }
-    ensures explained { is_why mode.entry ≡ true → result ≢ NOT_WRITTEN → ExplainsInput (R.remaining input) (O.contents out.old) (O.contents out.new) result }
+    ensures explained { is_why mode.entry ≡ true → chart_of mode.entry ≡ None → result ≢ NOT_WRITTEN
+        → ExplainsInput (R.remaining input) (O.contents out.old) (O.contents out.new) result }
+    ensures marked { is_why mode.entry ≡ true → result ≢ NOT_WRITTEN → result ≢ NO_FILE → result ≢ TOO_MANY
+        → ExplainsInput (R.remaining input) (O.contents out.old) (O.contents out.new) result }
     ensures credited { is_some (credit_of mode.entry) ≡ true → result ≢ NOT_WRITTEN → result ≢ NO_FILE → result ≢ NO_LINK
         → ExplainsInput (R.remaining input) (O.contents out.old) (O.contents out.new) result }
     ensures unasked { packets_of mode.entry ≡ None → chart_of mode.entry ≡ None → credit_of mode.entry ≡ None → result ≢ NO_FILE }
@@ -180,6 +188,7 @@ where
         Mode::Why => show_why(alloc, input, out),
         Mode::Packets(path) => write_packets(files, alloc, path, input, out),
         Mode::Chart(path) => write_chart(files, alloc, words, path, input, out),
+        Mode::Marked(path) => write_marked(files, alloc, words, path, input, out),
         Mode::Credit(path) => write_credit(files, alloc, words, path, input, out),
     }
 }
