@@ -1,5 +1,5 @@
 -- The records that an explanation names, which the refused one is compared with (own format).
-use Rattle.std.specs.Prelude.{ℕ, nat_lt, List, [], ◌∷◌, Option, Some, None, if◌then◌else◌, option_map}
+use Rattle.std.specs.Prelude.{ℕ, nat_lt, List, [], ◌∷◌, ◌++◌, map, Option, Some, None, if◌then◌else◌, option_map}
 use Rattle.pairing_cert.specs.declared.note.Note.{Note}
 use Rattle.pairing_cert.specs.declared.note.Note.TheVariants as notes
 use Rattle.trace_events.specs.declared.session.Session.{Session}
@@ -17,6 +17,7 @@ use Rattle.refusal_facts.specs.declared.transfer.Named.{Named}
 use Rattle.refusal_facts.specs.declared.transfer.Named.TheVariants as names
 use Rattle.refusal_facts.specs.declared.transfer.OrderFacts.{OrderFacts}
 use Rattle.refusal_words.specs.declared.compared.Compared.{Compared}
+use Rattle.refusal_words.specs.declared.compared.Granting.{Granting}
 
 -- the numbers, in no order
 abbrev pub numbers_of : Compared → List ℕ
@@ -26,6 +27,10 @@ numbers_of compared = compared.numbers
 abbrev pub in_front : ℕ → Option ℕ → ℕ
 in_front refused None = refused
 in_front refused (Some number) = if nat_lt number refused then number else refused
+
+-- the numbers of these records, and behind them of those from which a window or a credit comes
+abbrev pub in_places : ℕ → Granting → List (Option ℕ) → List ℕ
+in_places refused granting named = map (in_front refused) (named ++ granting.granted ∷ granting.answered ∷ [])
 
 -- ---- one thing
 
@@ -75,9 +80,12 @@ carried (names.Unknown number) = Some number
 abbrev pub two : Option ℕ → Option ℕ → List (Option ℕ)
 two one other = one ∷ other ∷ None ∷ None ∷ None ∷ None ∷ []
 
+abbrev pub six : Option ℕ × Option ℕ × Option ℕ × Option ℕ × Option ℕ × Option ℕ → List (Option ℕ)
+six (one, two, three, four, five, last) = one ∷ two ∷ three ∷ four ∷ five ∷ last ∷ []
+
 abbrev pub going_on : Option Outgoing → Note → List (Option ℕ)
-going_on None note = two None None
-going_on (Some first) note = Some first.number ∷ noted note ∷ noted first.note ∷ None ∷ None ∷ None ∷ []
+going_on None said = two None None
+going_on (Some first) said = Some first.number ∷ noted said ∷ noted first.note ∷ None ∷ None ∷ None ∷ []
 
 abbrev pub order : OrderFacts → List (Option ℕ)
 order facts =

@@ -1,7 +1,8 @@
 //! The records that an explanation names, which the refused one is compared with.
 
-ghost use Rattle.std.specs.Prelude.{◌≡◌, map, take};
+ghost use Rattle.std.specs.Prelude.{◌≡◌};
 ghost use Rattle.refusal_words.specs.Compared as spec;
+ghost use Rattle.refusal_words.specs.declared.compared.Granting.{Granting};
 
 use crate::Origins;
 use crate::transfer::{origin_of, window_origin_of};
@@ -20,6 +21,69 @@ pub struct Compared {
     numbers: [u64; 8],
 }
 
+/// Where the window or the credit comes from that a clause compares.
+#[derive(Clone, Copy, Debug)]
+struct Granting {
+    /// The flow or the begin of the client that granted it.
+    granted: Option<u64>,
+    /// The flow of the router that used it up, as an answer to a drain.
+    answered: Option<u64>,
+}
+
+impl Granting {
+    ghost use Rattle.std.specs.Prelude.{◌≡◌};
+    ghost use Rattle.refusal_words.specs.Compared as spec;
+
+    /// The clause compares none.
+    const NOTHING: Granting = Granting {
+        granted: None,
+        answered: None,
+    };
+
+    /// It, behind one or two records.
+    fn beside(self, refused: u64, one: Option<u64>, other: Option<u64>) -> [u64; 8]
+        ensures { result ≡ spec.in_places refused self (spec.two one other) }
+    {
+        [
+            in_front(refused, one),
+            in_front(refused, other),
+            refused,
+            refused,
+            refused,
+            refused,
+            in_front(refused, self.granted),
+            in_front(refused, self.answered),
+        ]
+    }
+
+    /// It, behind up to six.
+    fn behind(
+        self,
+        refused: u64,
+        named: (
+            Option<u64>,
+            Option<u64>,
+            Option<u64>,
+            Option<u64>,
+            Option<u64>,
+            Option<u64>,
+        ),
+    ) -> [u64; 8]
+        ensures { result ≡ spec.in_places refused self (spec.six named) }
+    {
+        [
+            in_front(refused, named.0),
+            in_front(refused, named.1),
+            in_front(refused, named.2),
+            in_front(refused, named.3),
+            in_front(refused, named.4),
+            in_front(refused, named.5),
+            in_front(refused, self.granted),
+            in_front(refused, self.answered),
+        ]
+    }
+}
+
 impl Compared {
     /// Their numbers, in no order. None is behind that of the refused record, which stands for one that a note names and that is
     /// not in front of it, and in places that are not needed.
@@ -33,22 +97,11 @@ impl Compared {
 /// The records that the explanation of this reason names.
 pub fn compared_with(reason: &Reason, origins: &Origins) -> Compared
     // Of those that the clause compares none is left out, and no other is named, but for two from which a window or a credit comes.
-    ensures named { take 6 (spec.numbers_of result) ≡ map (spec.in_front reason.now.number) (spec.named_in reason.now.facts) }
+    ensures named { (granting : Granting) × (spec.numbers_of result ≡ spec.in_places reason.now.number granting (spec.named_in reason.now.facts)) }
 {
-    let [one, two, three, four, five, six] = named_in(&reason.facts);
-    let (granted, answered) = granting_in(&reason.facts, origins);
-    let refused = reason.number;
+    let granting = granting_in(&reason.facts, origins);
     Compared {
-        numbers: [
-            in_front(refused, one),
-            in_front(refused, two),
-            in_front(refused, three),
-            in_front(refused, four),
-            in_front(refused, five),
-            in_front(refused, six),
-            in_front(refused, granted),
-            in_front(refused, answered),
-        ],
+        numbers: named_in(&reason.facts, reason.number, granting),
     }
 }
 
@@ -62,32 +115,44 @@ fn in_front(refused: u64, number: Option<u64>) -> u64
     }
 }
 
-/// The records of what the clause compares.
-fn named_in(facts: &Facts) -> [Option<u64>; 6]
-    ensures { result ≡ spec.named_in facts.now }
+/// The records of what the clause compares, and where its window or its credit comes from.
+fn named_in(facts: &Facts, refused: u64, granting: Granting) -> [u64; 8]
+    ensures { result ≡ spec.in_places refused granting (spec.named_in facts.now) }
 {
     match facts {
-        Facts::Attach(facts) => two(session_number(&facts.session), None),
-        Facts::Sending(facts) => two(session_number(&facts.session), link_number(&facts.link)),
-        Facts::Beginning(facts) => two(Some(facts.link.number), None),
-        Facts::GoingOn(facts) => going_on(&facts.first, facts.note),
-        Facts::Carrying(facts) => two(Some(facts.link.number), carried(&facts.named)),
-        Facts::Payload(facts) => two(Some(facts.delivery.number), None),
-        Facts::Order(facts) => order(facts),
-        Facts::Flow(facts) => two(flow_session(&facts.session), flow_link(&facts.link)),
-        Facts::Outcome(facts) => told(&facts.told),
-        Facts::Settling(facts) => two(facts.to_settle, None),
-        Facts::Detach(facts) => two(session_number(&facts.session), link_number(&facts.link)),
-        Facts::End(facts) => two(session_number(&facts.session), None),
-        Facts::Noted(note) => two(noted(*note), None),
-        Facts::Frame(_) | Facts::Writing(_) | Facts::Begin(_) | Facts::Nothing => two(None, None),
+        Facts::Attach(facts) => granting.beside(refused, session_number(&facts.session), None),
+        Facts::Sending(facts) => granting.beside(
+            refused,
+            session_number(&facts.session),
+            link_number(&facts.link),
+        ),
+        Facts::Beginning(facts) => granting.beside(refused, Some(facts.link.number), None),
+        Facts::GoingOn(facts) => going_on(refused, granting, &facts.first, facts.note),
+        Facts::Carrying(facts) => granting.beside(
+            refused,
+            Some(facts.link.number),
+            carried(&facts.named),
+        ),
+        Facts::Payload(facts) => granting.beside(refused, Some(facts.delivery.number), None),
+        Facts::Order(facts) => order(refused, granting, facts),
+        Facts::Flow(facts) => granting.beside(
+            refused,
+            flow_session(&facts.session),
+            flow_link(&facts.link),
+        ),
+        Facts::Outcome(facts) => told(refused, granting, &facts.told),
+        Facts::Settling(facts) => granting.beside(refused, facts.to_settle, None),
+        Facts::Detach(facts) => granting.beside(
+            refused,
+            session_number(&facts.session),
+            link_number(&facts.link),
+        ),
+        Facts::End(facts) => granting.beside(refused, session_number(&facts.session), None),
+        Facts::Noted(note) => granting.beside(refused, noted(*note), None),
+        Facts::Frame(_) | Facts::Writing(_) | Facts::Begin(_) | Facts::Nothing => granting.beside(
+            refused, None, None,
+        ),
     }
-}
-
-fn two(one: Option<u64>, other: Option<u64>) -> [Option<u64>; 6]
-    ensures { result ≡ spec.two one other }
-{
-    [one, other, None, None, None, None]
 }
 
 /// The record of the router's begin.
@@ -140,19 +205,22 @@ fn noted(note: Note) -> Option<u64>
 }
 
 /// The first transfer of the delivery in progress, and what both notes name.
-fn going_on(first: &Option<Outgoing>, note: Note) -> [Option<u64>; 6]
-    ensures { result ≡ spec.going_on first.now note }
+fn going_on(refused: u64, granting: Granting, first: &Option<Outgoing>, note: Note) -> [u64; 8]
+    ensures { result ≡ spec.in_places refused granting (spec.going_on first.now note) }
 {
     match first {
-        Some(first) => [
-            Some(first.number),
-            noted(note),
-            noted(first.note),
-            None,
-            None,
-            None,
-        ],
-        None => two(None, None),
+        Some(first) => {
+            let named = (
+                Some(first.number),
+                noted(note),
+                noted(first.note),
+                None,
+                None,
+                None,
+            );
+            granting.behind(refused, named)
+        }
+        None => granting.beside(refused, None, None),
     }
 }
 
@@ -169,17 +237,18 @@ fn carried(named: &Named) -> Option<u64>
 }
 
 /// The link, the delivery, and the one that the link carried last, with what completed them; and who was sent this one before.
-fn order(facts: &OrderFacts) -> [Option<u64>; 6]
-    ensures { result ≡ spec.order facts.now }
+fn order(refused: u64, granting: Granting, facts: &OrderFacts) -> [u64; 8]
+    ensures { result ≡ spec.in_places refused granting (spec.order facts.now) }
 {
-    [
+    let named = (
         Some(facts.link.number),
         Some(facts.delivery.number),
         facts.completion,
         sent_before(&facts.carrier),
         incoming_number(&facts.before),
         facts.before_completion,
-    ]
+    );
+    granting.behind(refused, named)
 }
 
 fn sent_before(carrier: &Option<Outgoing>) -> Option<u64>
@@ -201,12 +270,15 @@ fn incoming_number(delivery: &Option<Incoming>) -> Option<u64>
 }
 
 /// The delivery whose outcome is told, and the transfer that carried it.
-fn told(told: &Option<ToldDelivery>) -> [Option<u64>; 6]
-    ensures { result ≡ spec.told told.now }
+fn told(refused: u64, granting: Granting, told: &Option<ToldDelivery>) -> [u64; 8]
+    ensures { result ≡ spec.in_places refused granting (spec.told told.now) }
 {
     match told {
-        Some(told) => two(Some(told.delivery.number), carrier_number(&told.carrier)),
-        None => two(None, None),
+        Some(told) => {
+            let carrier = carrier_number(&told.carrier);
+            granting.beside(refused, Some(told.delivery.number), carrier)
+        }
+        None => granting.beside(refused, None, None),
     }
 }
 
@@ -219,39 +291,48 @@ fn carrier_number(carrier: &Option<Carrier>) -> Option<u64>
     }
 }
 
-/// Where the window or the credit comes from that the clause compares, and the router's answer to a drain.
-fn granting_in(facts: &Facts, origins: &Origins) -> (Option<u64>, Option<u64>) {
+/// Where the window or the credit comes from that the clause compares.
+fn granting_in(facts: &Facts, origins: &Origins) -> Granting {
     match facts {
         Facts::Sending(facts) => match &facts.session {
-            Some(session) => (window_number(session, origins), None),
-            None => (None, None),
+            Some(session) => window_granting(session, origins),
+            None => Granting::NOTHING,
         },
-        Facts::Beginning(facts) => credit_numbers(&facts.link, origins),
+        Facts::Beginning(facts) => credit_granting(&facts.link, origins),
         Facts::Flow(facts) => match &facts.link {
-            FlowLink::Consumer(numbers) => credit_numbers(&numbers.link, origins),
-            _ => (None, None),
+            FlowLink::Consumer(numbers) => credit_granting(&numbers.link, origins),
+            _ => Granting::NOTHING,
         },
-        _ => (None, None),
+        _ => Granting::NOTHING,
     }
 }
 
-/// The flow or the begin of the client that granted the session's window.
-fn window_number(session: &Session, origins: &Origins) -> Option<u64> {
-    let origin = window_origin_of(origins, session)?;
-    match (&origin.window, &origin.opened) {
-        (Some(window), _) => Some(window.number),
-        (None, Some(opened)) => Some(opened.number),
-        (None, None) => None,
+/// Where the session's window comes from.
+fn window_granting(session: &Session, origins: &Origins) -> Granting {
+    let granted = match window_origin_of(origins, session) {
+        Some(origin) => match (&origin.window, &origin.opened) {
+            (Some(window), _) => Some(window.number),
+            (None, Some(opened)) => Some(opened.number),
+            (None, None) => None,
+        },
+        None => None,
+    };
+    Granting {
+        granted,
+        answered: None,
     }
 }
 
-/// The flow of the client that granted the link's credit, and the router's that used it up.
-fn credit_numbers(link: &Link, origins: &Origins) -> (Option<u64>, Option<u64>) {
+/// Where the link's credit comes from.
+fn credit_granting(link: &Link, origins: &Origins) -> Granting {
     match origin_of(origins, link) {
         Some(origin) => match &origin.credit {
-            Some(credit) => (Some(credit.number), origin.drained),
-            None => (None, None),
+            Some(credit) => Granting {
+                granted: Some(credit.number),
+                answered: origin.drained,
+            },
+            None => Granting::NOTHING,
         },
-        None => (None, None),
+        None => Granting::NOTHING,
     }
 }
