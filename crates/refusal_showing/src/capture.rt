@@ -110,7 +110,7 @@ where
     let mut recalling = Recalling::new(alloc, input);
     let mut explaining = Explaining::new(alloc);
     let verdict = audit_watched(alloc, &mut recalling, &mut explaining);
-    match explanation(alloc, verdict, &explaining, &recalling) {
+    match text_behind(alloc, verdict, &explaining, &recalling) {
         Ok(text) => Explanation {
             verdict,
             text,
@@ -125,7 +125,7 @@ where
 }
 
 /// What is said of the capture besides the verdict's line.
-fn explanation<R>(
+fn text_behind<R>(
     alloc: Global,
     verdict: Verdict,
     explaining: &Explaining,
