@@ -1,6 +1,4 @@
-use Rattle.std.proofs.Common.{ap, subst, ◌∙◌}
 use Rattle.capture_view.specs.Viewed.{viewed}
-use Rattle.capture_chart.specs.Shown.{arrows_of, shown_of}
 use Rattle.show_program.proofs.Charting.{takes_asked}
 use Rattle.show_program.proofs.charted.Charted.take.Goals as goal
 
