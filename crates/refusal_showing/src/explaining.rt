@@ -88,16 +88,27 @@ impl Watcher for Explaining {
         self.names.take(&view)?;
         let (link, has_session) = (self.names.named_by(&view), self.names.has_session_of(&view));
         self.line.put_record(&view, link, has_session)?;
-        match explain_refused(ledger, rules, entry) {
-            Some(reason) => {
-                let explained = Explained {
-                    reason: &reason,
-                    origins: &self.origins,
-                };
-                self.compared = Some(compared_with(&reason, &self.origins));
-                writeln!(self.reason, "{explained}")
-            }
-            None => Ok(()),
-        }
+        self.compared = write_reason(ledger, rules, entry, &self.origins, &mut self.reason)?;
+        Ok(())
     }
+}
+
+/// Writes why the ledger does not take the record, in some lines behind this text, and gives the records that it is compared with;
+/// none where it breaks no clause.
+fn write_reason<'x>(
+    ledger: &'x Ledger,
+    rules: &[Rule],
+    entry: &'x Record,
+    origins: &Origins,
+    text: &mut String,
+) -> Result<Option<Compared>, AllocError> {
+    let Some(reason) = explain_refused(ledger, rules, entry) else {
+        return Ok(None);
+    };
+    let explained = Explained {
+        reason: &reason,
+        origins,
+    };
+    writeln!(text, "{explained}")?;
+    Ok(Some(compared_with(&reason, origins)))
 }

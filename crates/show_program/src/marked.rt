@@ -90,6 +90,7 @@ fn keep<R: Read>(alloc: Global, input: &mut R) -> (Vec<u8>, bool)
 fn tell_explanation<O: Write>(explanation: &Explanation, out: &mut O) -> u8
     ensures told { result ≢ NOT_WRITTEN → Explains (O.contents out.old) (O.contents out.new) (verdict_of explanation.now) }
     ensures status { (result ≡ status_of_verdict (verdict_of explanation.now)) ⊎ (result ≡ NOT_WRITTEN) }
+    ensures low { (result ≤ 4) ⊎ (result ≡ NOT_WRITTEN) }
 {
     match explanation.tell(out) {
         Ok(()) => explanation.verdict().status(),
