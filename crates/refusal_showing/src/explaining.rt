@@ -5,7 +5,7 @@ use audit_core::{Ledger, Watcher};
 use capture_form::{Record, Rule};
 use capture_view::{Names, view_of};
 use capture_words::Page;
-use refusal_words::{Explained, Origins};
+use refusal_words::{Compared, Explained, Origins, compared_with};
 use std::alloc::{AllocError, Global};
 
 /// At how many characters the texts and octets of the refused record's line are cut.
@@ -21,6 +21,7 @@ pub(crate) struct Explaining {
     origins: Origins,
     line: Page,
     reason: String,
+    compared: Option<Compared>,
 }
 
 impl Explaining {
@@ -37,6 +38,7 @@ impl Explaining {
             origins: Origins::new(alloc),
             line: Page::new(alloc, Some(WIDTH)),
             reason: String::new(alloc),
+            compared: None,
         }
     }
 
@@ -48,6 +50,11 @@ impl Explaining {
     /// Why it was refused, in some lines; empty where none was.
     pub(crate) fn reason(&self) -> &str {
         self.reason.as_str()
+    }
+
+    /// The records that it was compared with; none where no record was refused.
+    pub(crate) fn compared(&self) -> Option<Compared> {
+        self.compared
     }
 }
 
@@ -81,15 +88,27 @@ impl Watcher for Explaining {
         self.names.take(&view)?;
         let (link, has_session) = (self.names.named_by(&view), self.names.has_session_of(&view));
         self.line.put_record(&view, link, has_session)?;
-        match explain_refused(ledger, rules, entry) {
-            Some(reason) => {
-                let explained = Explained {
-                    reason: &reason,
-                    origins: &self.origins,
-                };
-                writeln!(self.reason, "{explained}")
-            }
-            None => Ok(()),
-        }
+        self.compared = write_reason(ledger, rules, entry, &self.origins, &mut self.reason)?;
+        Ok(())
     }
+}
+
+/// Writes why the ledger does not take the record, in some lines behind this text, and gives the records that it is compared with;
+/// none where it breaks no clause.
+fn write_reason<'x>(
+    ledger: &'x Ledger,
+    rules: &[Rule],
+    entry: &'x Record,
+    origins: &Origins,
+    text: &mut String,
+) -> Result<Option<Compared>, AllocError> {
+    let Some(reason) = explain_refused(ledger, rules, entry) else {
+        return Ok(None);
+    };
+    let explained = Explained {
+        reason: &reason,
+        origins,
+    };
+    writeln!(text, "{explained}")?;
+    Ok(Some(compared_with(&reason, origins)))
 }

@@ -1,3 +1,4 @@
 pub mod Session
 pub mod Link
 pub mod Tables
+pub mod Compared

@@ -1,7 +1,8 @@
 //! Why a capture is refused, in words: one line that says what the clause asks, and a line for each thing that it compares.
-//! No clause says what is printed; the runs of `refusal_tests` show it.
+//! No clause says what is printed; the runs of `refusal_tests` show it. Which records it names is a call of its own.
 //!
 //! - `explained`: a reason, with `opening`, `transfer`, `flow` and `outcome` for the clauses, and `clauses`, what each asks;
+//! - `compared`: the records that it names;
 //! - `malformed`: octets that are no capture;
 //! - `text`: octets, names and flags as they are printed;
 //! - `origins`, with `link` and `session`: where windows and credits come from, which is proved.
@@ -15,6 +16,7 @@
 #![tactic(auto)]
 
 mod clauses;
+mod compared;
 mod explained;
 mod flow;
 mod link;
@@ -27,6 +29,7 @@ mod text;
 mod transfer;
 
 pub use clauses::sentence;
+pub use compared::{Compared, compared_with};
 pub use explained::Explained;
 pub use link::{Credited, LinkOrigin};
 pub use malformed::{Around, Malformed, expected};

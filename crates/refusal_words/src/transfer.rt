@@ -48,7 +48,10 @@ pub(crate) fn origin_of<'o>(origins: &'o Origins, link: &Link) -> Option<&'o Lin
 }
 
 /// Where the window of the session comes from, which began in the same record.
-fn window_origin_of<'o>(origins: &'o Origins, session: &Session) -> Option<&'o SessionOrigin>
+pub(crate) fn window_origin_of<'o>(
+    origins: &'o Origins,
+    session: &Session,
+) -> Option<&'o SessionOrigin>
     ensures { IfSome result (λ origin. origin.now.number ≡ session.now.number) }
 {
     let origin = origins.session(session.connection, session.channel)?;

@@ -17,7 +17,7 @@ use Rattle.capture_words.specs.Taken.{TakesAll, TakesOneMore}
 use Rattle.capture_chart.specs.Shown.{Shown, arrows_of, shown_of}
 use Rattle.show_program.specs.declared.asked.Asked.{Asked}
 use Rattle.show_program.specs.declared.charted.Charted.{Charted}
-use Rattle.show_program.specs.Asked.{IsAnswer, link_name}
+use Rattle.show_program.specs.Asked.{IsAnswer, is_drawn, link_name}
 use Rattle.show_program.specs.Charts.{AreAskedOf, HasAsked}
 
 -- ---- tests
@@ -57,35 +57,36 @@ answered choice now view traits is_asked number connection link shows = record {
 
 -- ---- one record more
 
-pub takes_asked : (choice : Choice) (old new : Charted) (asked : Asked) (view : Viewed) (is_asked : Bool) → new.asked ≡ asked → tables.TakesOneMore old.asked.names asked.names view
+pub takes_asked : (choice : Choice) (also : List ℕ) (old new : Charted) (asked : Asked) (view : Viewed) (is_asked : Bool) → new.asked ≡ asked → new.also ≡ old.also → tables.TakesOneMore old.asked.names asked.names view
     → asked.choice ≡ old.asked.choice
     → ((past : List Viewed) → StandsFor old.asked.names past → IsAnswer old.asked.choice (view ∷ past) view is_asked)
     → (new.is_full ≡ false → old.is_full ≡ false)
-    → (new.is_full ≡ false → arrows_of new.chart ≡ (if is_asked then arrows_of old.chart ++ shown_of view ∷ [] else arrows_of old.chart))
-    → TakesOneMore (HasAsked choice) old new view
-takes_asked choice old new asked view is_asked kept names same answers few arrows = λ past has. record {
+    → (new.is_full ≡ false → arrows_of new.chart ≡ (if is_drawn old.also.now view.number is_asked then arrows_of old.chart ++ shown_of view ∷ [] else arrows_of old.chart))
+    → TakesOneMore (HasAsked choice also) old new view
+takes_asked choice also old new asked view is_asked kept drawn names same answers few arrows = λ past has. record {
   names = subst (λ (a : Asked). StandsFor a.names (view ∷ past)) (sym kept) (names past has.names);
   asks = ap (λ (a : Asked). a.choice) kept ∙ same ∙ has.asks;
+  draws = ap (λ (b : Bor (List ℕ)). b.now) drawn ∙ has.draws;
   arrows = λ enough. (
     is_asked,
     arrows_of old.chart,
     subst (λ (ch : Choice). IsAnswer ch (view ∷ past) view is_asked) has.asks (answers past has.names),
     has.arrows (few enough),
-    arrows enough,
+    subst (λ (numbers : List ℕ). arrows_of new.chart ≡ (if is_drawn numbers view.number is_asked then arrows_of old.chart ++ shown_of view ∷ [] else arrows_of old.chart)) has.draws (arrows enough),
   );
 }
 
 -- ---- all records
 
 -- what took all of them has the arrows, unless there were too many
-asked_by : (choice : Choice) (entries : List Record) (ending : Ending) (first now : Charted) → now.is_full ≡ false → HasAsked choice first [] → TakesAll (HasAsked choice) entries ending first now
-    → AreAskedOf choice entries ending (arrows_of now.chart)
-asked_by choice entries Whole first now few begins takes = (takes begins).arrows few
-asked_by choice entries (Malformed offset) first now few begins takes = (takes begins).arrows few
-asked_by choice entries NoMemory first now few begins takes = tt
-asked_by choice entries (Unreadable offset) first now few begins takes = tt
+asked_by : (choice : Choice) (also : List ℕ) (entries : List Record) (ending : Ending) (first now : Charted) → now.is_full ≡ false → HasAsked choice also first [] → TakesAll (HasAsked choice also) entries ending first now
+    → AreAskedOf choice also entries ending (arrows_of now.chart)
+asked_by choice also entries Whole first now few begins takes = (takes begins).arrows few
+asked_by choice also entries (Malformed offset) first now few begins takes = (takes begins).arrows few
+asked_by choice also entries NoMemory first now few begins takes = tt
+asked_by choice also entries (Unreadable offset) first now few begins takes = tt
 
-pub asked_all : (choice : Choice) (known : Option (List ℕ)) (ending : Ending) (first now : Charted) → now.is_full ≡ false → HasAsked choice first []
-    → IfSome known (λ text. TakesAll (HasAsked choice) (reading text).records ending first now) → IfSome known (λ text. AreAskedOf choice (reading text).records ending (arrows_of now.chart))
-asked_all choice None ending first now few begins takes = tt
-asked_all choice (Some text) ending first now few begins takes = asked_by choice (reading text).records ending first now few begins takes
+pub asked_all : (choice : Choice) (also : List ℕ) (known : Option (List ℕ)) (ending : Ending) (first now : Charted) → now.is_full ≡ false → HasAsked choice also first []
+    → IfSome known (λ text. TakesAll (HasAsked choice also) (reading text).records ending first now) → IfSome known (λ text. AreAskedOf choice also (reading text).records ending (arrows_of now.chart))
+asked_all choice also None ending first now few begins takes = tt
+asked_all choice also (Some text) ending first now few begins takes = asked_by choice also (reading text).records ending first now few begins takes

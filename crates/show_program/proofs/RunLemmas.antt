@@ -1,7 +1,8 @@
 -- What a run leaves.
 use Rattle.std.proofs.Common.{◌≡◌, ◌∙◌, ◌≢◌, ◌<◌, ◌≤◌, ◌⊎◌, ◌++◌, ◌∷◌, ℕ, refl, true, false, List, [], Option, None, Some, Ok, Err, ap, arith, inl, inr, subst, sym}
 use Rattle.std.specs.Prelude.{IfSome, if◌then◌else◌}
-use Rattle.std.specs.Io.KnownBytes.{Appends}
+use Rattle.std.specs.Io.KnownBytes.{Appends, Consumes}
+use Rattle.core.specs.Fmt.{option_append}
 use Rattle.clap.specs.Words.{kind_of}
 use Rattle.clap.specs.declared.error.Error.{Error}
 use Rattle.clap.specs.declared.error.kind.ErrorKind.TheVariants.{OutOfMemory}
@@ -21,6 +22,7 @@ use Rattle.audit_core.specs.declared.verdict.Verdict.{Verdict}
 use Rattle.audit_core.specs.declared.verdict.Verdict.TheVariants as verdicts
 use Rattle.audit_core.specs.Report.{status_of as status_of_verdict}
 use Rattle.audit_core.specs.Verdict.{AnswersRead}
+use Rattle.refusal_showing.specs.Explained.{Tells as Explains}
 
 -- of a whole capture no line is told
 pub nothing_told : (known : Option (List ℕ)) (ending : Ending) → is_whole ending ≡ true → TellsEnd known known ending
@@ -83,14 +85,14 @@ pub shown_run : (words : List (List ℕ)) (asked : Words) (mode : Mode) (held be
     → (path_of asked.source ≡ None → is_why mode ≡ false → credit_of mode ≡ None → status ≢ 74 → status ≢ 5 → status ≢ 6 → ShowsInput held before after status)
     → (is_why mode ≡ false → credit_of mode ≡ None → status ≢ 74 → status ≢ 5 → status ≢ 6 → TellsSome before after status)
     → (packets_of mode ≡ None → chart_of mode ≡ None → credit_of mode ≡ None → status ≢ 5)
-    → (chart_of mode ≡ None → credit_of mode ≡ None → status ≢ 6)
+    → (chart_of mode ≡ None → status ≢ 6)
     → IsRunOn words held before after status
 shown_run [] asked mode held before after status answer is input told unasked few =
     let plain : IsPlain (Some mode) = subst IsPlain is answer.1 in
-    λ written. input answer.0 plain.3 plain.2 written (unasked plain.0 plain.1 plain.2) (few plain.1 plain.2)
+    λ written. input answer.0 plain.3 plain.2 written (unasked plain.0 plain.1 plain.2) (few plain.1)
 shown_run (word ∷ []) asked mode held before after status answer is input told unasked few = λ plain written.
     let one : IsPlain (Some mode) = subst IsPlain is (answer plain).1 in
-    told one.3 one.2 written (unasked one.0 one.1 one.2) (few one.1 one.2)
+    told one.3 one.2 written (unasked one.0 one.1 one.2) (few one.1)
 shown_run (first ∷ second ∷ more) asked mode held before after status answer is input told unasked few = λ plain plain'. absurd (answer plain plain')
 
 -- the parser took words that ask for several modes: they are no plain ones
@@ -116,8 +118,11 @@ refused_why error held before after status answer told written =
 
 -- the source that is asked for was audited
 pub shown_why : (asked : Words) (mode : Mode) (held before after : Option (List ℕ)) (status : ℕ) → AsksWhy (Ok asked) → asked.mode ≡ Some mode
-    → (path_of asked.source ≡ None → is_why mode ≡ true → status ≢ 74 → ExplainsInput held before after status) → status ≢ 74 → ExplainsInput held before after status
-shown_why asked mode held before after status answer is explained = explained answer.0 (subst IsAudit is answer.1)
+    → (path_of asked.source ≡ None → is_why mode ≡ true → chart_of mode ≡ None → status ≢ 74 → ExplainsInput held before after status) → status ≢ 74
+    → ExplainsInput held before after status
+shown_why asked mode held before after status answer is explained =
+    let audit : IsAudit (Some mode) = subst IsAudit is answer.1 in
+    explained answer.0 audit.0 audit.1
 
 -- it asks for one mode
 pub why_is_one : (asked : Words) (held before after : Option (List ℕ)) (status : ℕ) → AsksWhy (Ok asked) → asked.mode ≡ None → status ≢ 74 → ExplainsInput held before after status
@@ -136,3 +141,28 @@ verdict_low (verdicts.Unreadable offset) = omega arith
 pub low_or : (verdict : Verdict) (status own : ℕ) → own ≡ status_of_verdict verdict → (status ≡ own) ⊎ (status ≡ 74) → (status ≤ 4) ⊎ (status ≡ 74)
 low_or verdict status own is (inl same) = inl (subst (λ n. n ≤ 4) (sym (same ∙ is)) (verdict_low verdict))
 low_or verdict status own is (inr not) = inr not
+
+-- ---- an audit of octets that were kept
+
+-- memory that was refused says nothing of the input
+pub explained_memory : (held before after : Option (List ℕ)) (status : ℕ) → (status ≢ 74 → Explains before after (verdicts.NoMemory 0) × (status ≡ 3)) → status ≢ 74 → ExplainsInput held before after status
+explained_memory held before after status told written =
+    let line = told written in
+    record { verdict = verdicts.NoMemory 0; told = line.0; same_status = line.1; answers = unaudited held }
+
+-- the octets that were read, and behind them what is left, are all
+kept_so : (verdict : Verdict) (held left : Option (List ℕ)) (octets : List ℕ) → Consumes held left octets
+    → IfSome (option_append (Some octets) left) (λ all. AnswersRead all verdict) → IfSome held (λ all. AnswersRead all verdict)
+kept_so verdict None left octets kept answers = tt
+kept_so verdict (Some all) None octets kept answers = absurd kept
+kept_so verdict (Some all) (Some rest) octets kept answers = subst (λ xs. AnswersRead xs verdict) (sym kept) answers
+
+pub explained_kept : (verdict : Verdict) (held left chained : Option (List ℕ)) (octets : List ℕ) (before after : Option (List ℕ)) (status : ℕ) → Consumes held left octets
+    → chained ≡ option_append (Some octets) left → IfSome chained (λ all. AnswersRead all verdict)
+    → (status ≢ 74 → Explains before after verdict) → (status ≡ status_of_verdict verdict) ⊎ (status ≡ 74) → status ≢ 74 → ExplainsInput held before after status
+explained_kept verdict held left chained octets before after status kept is answers told same written = record {
+  verdict = verdict;
+  told = told written;
+  same_status = status_so status (status_of_verdict verdict) same written;
+  answers = kept_so verdict held left octets kept (subst (λ o. IfSome o (λ all. AnswersRead all verdict)) is answers);
+}

@@ -1,5 +1,6 @@
 -- Which records are asked for, by the records so far, the newest first (own format).
-use Rattle.std.specs.Prelude.{◌≡◌, ℕ, Bool, List, [], ◌∷◌, ◌++◌, Option, Some, None, IfSome, IsTrue, if◌then◌else◌, option_and_then, option_map}
+use Rattle.std.specs.Prelude.{◌≡◌, ℕ, ◌==◌, Bool, ◌||◌, List, [], ◌∷◌, ◌++◌, Option, Some, None, IfSome, IsTrue, if◌then◌else◌, option_and_then, option_map}
+use Rattle.std.specs.List.{list_any}
 use Rattle.capture_view.specs.declared.choice.Choice.{Choice}
 use Rattle.capture_view.specs.Choice.{IsInRange, IsOnConnection}
 use Rattle.capture_view.specs.Told.{LinkText}
@@ -22,9 +23,13 @@ pub record IsAnswer (choice : Choice) (now : List Viewed) (view : Viewed) (is_as
   pub met : IsTrue is_asked → Meets choice now view
   pub all : choice.delivery ≡ None → Meets choice now view → IsTrue is_asked
 
--- arrows are those of the records that are asked for, in order, each once
-abbrev pub AreAsked : Choice → List Viewed → List Shown → Type 0
-AreAsked choice [] arrows = arrows ≡ []
-AreAsked choice (view ∷ past) arrows =
-    (is_asked : Bool) × (before : List Shown) × IsAnswer choice (view ∷ past) view is_asked × AreAsked choice past before
-    × (arrows ≡ (if is_asked then before ++ shown_of view ∷ [] else before))
+-- a record has an arrow that is asked for, or whose number is one of these
+abbrev pub is_drawn : List ℕ → ℕ → Bool → Bool
+is_drawn also number is_asked = is_asked || list_any (λ other. other == number) also
+
+-- arrows are those of the records that are asked for, and of those with these numbers, in order, each once
+abbrev pub AreAsked : Choice → List ℕ → List Viewed → List Shown → Type 0
+AreAsked choice also [] arrows = arrows ≡ []
+AreAsked choice also (view ∷ past) arrows =
+    (is_asked : Bool) × (before : List Shown) × IsAnswer choice (view ∷ past) view is_asked × AreAsked choice also past before
+    × (arrows ≡ (if is_drawn also view.number is_asked then before ++ shown_of view ∷ [] else before))

@@ -60,14 +60,10 @@ no_link = codes "no such link of a consumer" ++ 10 ∷ []
 abbrev pub TellsNoFile : Option (List ℕ) → Option (List ℕ) → Type 0
 TellsNoFile before after = Appends before after no_packets ⊎ Appends before after no_chart
 
--- a line tells why there is nothing to draw, or too much
-abbrev pub TellsNotDrawn : Option (List ℕ) → Option (List ℕ) → Type 0
-TellsNotDrawn before after = Appends before after too_many ⊎ Appends before after no_link
-
 -- the statuses of the endings, of a file that can't be written, of too many records for a chart and of no link, of a fault of the
 -- words and of an output that can't be written (own format)
 abbrev pub IsStatus : ℕ → Type 0
-IsStatus status = (status ≤ 6) ⊎ (status ≡ 64) ⊎ (status ≡ 74)
+IsStatus status = (status ≤ 7) ⊎ (status ≡ 64) ⊎ (status ≡ 74)
 
 -- an ending is told, which is that of all the octets that the reader is known to give
 pub record ShowsInput (held before after : Option (List ℕ)) (status : ℕ) : Type 0 where

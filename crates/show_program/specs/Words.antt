@@ -9,7 +9,7 @@ use Rattle.clap.specs.declared.error.kind.ErrorKind.TheVariants.{OutOfMemory, Un
 use Rattle.program_ends.specs.Words.{is_option}
 use Rattle.program_ends.specs.Source.{path_of}
 use Rattle.show_program.specs.declared.words.Mode.{Mode}
-use Rattle.show_program.specs.declared.words.Mode.TheVariants.{Lines, Summary, Why, Packets, Chart, Credit}
+use Rattle.show_program.specs.declared.words.Mode.TheVariants.{Lines, Summary, Why, Packets, Chart, Marked, Credit}
 use Rattle.show_program.specs.declared.words.Words.{Words}
 
 -- the file that packets are asked for in (own format)
@@ -19,6 +19,7 @@ packets_of Summary = None
 packets_of Why = None
 packets_of (Packets path) = Some path.now
 packets_of (Chart path) = None
+packets_of (Marked path) = None
 packets_of (Credit path) = None
 
 -- the file that a chart is asked for in (own format)
@@ -28,6 +29,7 @@ chart_of Summary = None
 chart_of Why = None
 chart_of (Packets path) = None
 chart_of (Chart path) = Some path.now
+chart_of (Marked path) = Some path.now
 chart_of (Credit path) = None
 
 -- the file that the curves of a link's credit are asked for in (own format)
@@ -37,15 +39,17 @@ credit_of Summary = None
 credit_of Why = None
 credit_of (Packets path) = None
 credit_of (Chart path) = None
+credit_of (Marked path) = None
 credit_of (Credit path) = Some path.now
 
--- whether it is asked why the capture is not accepted (own format)
+-- whether it is asked why the capture is not accepted, beside a chart or not (own format)
 abbrev pub is_why : Mode → Bool
 is_why Lines = false
 is_why Summary = false
 is_why Why = true
 is_why (Packets path) = false
 is_why (Chart path) = false
+is_why (Marked path) = true
 is_why (Credit path) = false
 
 -- whether one table is shown (own format)
@@ -55,6 +59,7 @@ is_table Summary = true
 is_table Why = false
 is_table (Packets path) = false
 is_table (Chart path) = false
+is_table (Marked path) = false
 is_table (Credit path) = false
 
 -- one mode is asked for, and neither packets nor a chart nor a credit nor an audit (own format)
@@ -65,12 +70,12 @@ IsPlain (Some mode) = (packets_of mode ≡ None) × (chart_of mode ≡ None) × 
 -- an audit is asked for, and no other mode (own format)
 abbrev pub IsAudit : Option Mode → Type 0
 IsAudit None = ⊥
-IsAudit (Some mode) = is_why mode ≡ true
+IsAudit (Some mode) = (is_why mode ≡ true) × (chart_of mode ≡ None)
 
--- of packets, a chart, a credit, an audit and a summary more than one is asked for (own format)
+-- of packets, a chart, a credit, an audit and a summary more than one is asked for, but for a chart and an audit (own format)
 abbrev pub are_several : Bool → Bool → Bool → Bool → Bool → Bool
 are_several packets chart credit audited summary =
-    (packets && (chart || (credit || (audited || summary)))) || ((chart && (credit || (audited || summary))) || ((credit && (audited || summary)) || (audited && summary)))
+    (packets && (chart || (credit || (audited || summary)))) || ((chart && (credit || summary)) || ((credit && (audited || summary)) || (audited && summary)))
 
 -- there is a mode just where not more than one is asked for (own format)
 abbrev pub IsOne : Bool → Option Mode → Type 0

@@ -8,7 +8,8 @@ ghost use Rattle.capture_form.specs.Reading.{reading};
 ghost use Rattle.capture_words.specs.Shown.{EndsRecords, EndsText};
 ghost use Rattle.capture_words.specs.Taken.{TakesAll};
 ghost use Rattle.svg_text.specs.Drawn.{IsSvg};
-ghost use Rattle.show_program.specs.Charts.{DrawsAsked, HasAsked};
+ghost use Rattle.capture_chart.specs.Marks.{marking};
+ghost use Rattle.show_program.specs.Charts.{DrawsAsked, DrawsMarked, HasAsked};
 
 use crate::asked::Asked;
 use capture_chart::{Chart, ChartFault, Marks};
@@ -22,6 +23,8 @@ use std::io::Read;
 #[derive(Drop)]
 struct Charted<'a> {
     asked: Asked<'a>,
+    /// The numbers of those that have one whichever are asked for.
+    also: &'a [u64],
     chart: Chart,
     /// More were asked for than a chart may have.
     is_full: bool,
@@ -46,7 +49,8 @@ pub enum NoChart {
 }
 
 impl Charted<'_> {
-    ghost use Rattle.std.specs.Prelude.{◌≡◌, ◌∷◌, ◌++◌, [], false, OnOk, if◌then◌else◌};
+    ghost use Rattle.std.specs.Prelude.{◌≡◌, ◌∷◌, ◌++◌, [], ℕ, List, false, OnOk, if◌then◌else◌};
+    ghost use Rattle.show_program.specs.Asked.{is_drawn};
     ghost use Rattle.capture_view.specs.declared.choice.Choice.{Choice};
     ghost use Rattle.capture_view.specs.Viewed.{viewed};
     ghost use Rattle.capture_words.specs.Taken.{TakesOneMore};
@@ -54,20 +58,29 @@ impl Charted<'_> {
 
     /// Takes one record more. After an error an arrow may be missing.
     fn take(&mut self, view: &RecordView<'_>) -> Result<(), AllocError>
-        ensures { OnOk result ((choice : Choice) → TakesOneMore (HasAsked choice) self.old self.new (viewed view.now)) }
+        ensures { OnOk result ((choice : Choice) (also : List ℕ) → TakesOneMore (HasAsked choice also) self.old self.new (viewed view.now)) }
     {
         let is_asked = self.asked.take(view)?;
-        self.add(view, is_asked)?;
+        let is_drawn = self.is_drawn(view, is_asked);
+        self.add(view, is_drawn)?;
         Ok(())
     }
 
-    /// Adds the arrow of a record that is asked for, or notes that it would be one too many.
-    fn add(&mut self, view: &RecordView<'_>, is_asked: bool) -> Result<(), AllocError>
-        ensures asked { self.new.asked ≡ self.old.asked }
-        ensures few { OnOk result (self.new.is_full ≡ false → self.old.is_full ≡ false) }
-        ensures arrows { OnOk result (self.new.is_full ≡ false → arrows_of self.new.chart ≡ (if is_asked then arrows_of self.old.chart ++ shown_of (viewed view.now) ∷ [] else arrows_of self.old.chart)) }
+    /// Whether a record has an arrow, by whether it is asked for.
+    fn is_drawn(&self, view: &RecordView<'_>, is_asked: bool) -> bool
+        ensures { result ≡ is_drawn self.now.also.now view.now.number is_asked }
     {
-        if !is_asked {
+        is_asked || self.also.contains(&view.number)
+    }
+
+    /// Adds the arrow of a record that has one, or notes that it would be one too many.
+    fn add(&mut self, view: &RecordView<'_>, is_drawn: bool) -> Result<(), AllocError>
+        ensures asked { self.new.asked ≡ self.old.asked }
+        ensures also { self.new.also ≡ self.old.also }
+        ensures few { OnOk result (self.new.is_full ≡ false → self.old.is_full ≡ false) }
+        ensures arrows { OnOk result (self.new.is_full ≡ false → arrows_of self.new.chart ≡ (if is_drawn then arrows_of self.old.chart ++ shown_of (viewed view.now) ∷ [] else arrows_of self.old.chart)) }
+    {
+        if !is_drawn {
             return Ok(());
         }
         if self.is_full {
@@ -106,10 +119,39 @@ where
     // Under the title it has the arrows of the records that are asked for, in order, each once, and none of them is marked.
     ensures arrows { IfOk result (λ drawn. DrawsAsked title.now choice.entry (R.remaining input) drawn.ending (string_bytes drawn.text)) }
 {
+    let marks = Marks {
+        refused: None,
+        compared: &[],
+    };
+    draw_marked(alloc, title, choice, &[], marks, input)
+}
+
+/// The chart of the records that are asked for, and of those with these numbers, of the capture that is read, with these marks. All
+/// of it is read; where it has a fault the chart is that of the whole records in front of it.
+///
+/// # Errors
+///
+/// There are more of these records than a chart may have, or it could not be drawn.
+pub fn draw_marked<R: Read>(
+    alloc: Global,
+    title: &str,
+    choice: Choice<'_>,
+    also: &[u64],
+    marks: Marks<'_>,
+    input: R,
+) -> Result<Drawn, NoChart>
+where
+    R: Drop,
+    ensures ending { IfOk result (λ drawn. IfSome (R.remaining input) (λ octets. EndsText octets drawn.ending)) }
+    ensures document { IfOk result (λ drawn. IsSvg (string_bytes drawn.text)) }
+    // Under the title it has the arrows of these records, in order, each once, with these marks.
+    ensures arrows { IfOk result (λ drawn. DrawsMarked title.now (marking marks.entry) choice.entry also.now (R.remaining input) drawn.ending (string_bytes drawn.text)) }
+{
     let asked = Asked::new(alloc, choice);
     let chart = Chart::new(alloc);
     let mut charted = Charted {
         asked,
+        also,
         chart,
         is_full: false,
     };
@@ -117,10 +159,6 @@ where
     if charted.is_full {
         return Err(NoChart::TooMany);
     }
-    let marks = Marks {
-        refused: None,
-        compared: &[],
-    };
     match charted.chart.draw(title, marks) {
         Ok(text) => Ok(Drawn { text, ending }),
         Err(_) => Err(NoChart::Memory),
@@ -132,7 +170,7 @@ fn read_all<R: Read>(alloc: Global, input: R, charted: &mut Charted<'_>) -> Endi
 where
     R: Drop,
     ensures ending { IfSome (R.remaining input) (λ octets. EndsText octets result) }
-    ensures taken { IfSome (R.remaining input) (λ octets. TakesAll (HasAsked charted.old.asked.choice) (reading octets).records result charted.old charted.new) }
+    ensures taken { IfSome (R.remaining input) (λ octets. TakesAll (HasAsked charted.old.asked.choice charted.old.also.now) (reading octets).records result charted.old charted.new) }
 {
     match Reader::start(alloc, input) {
         Ok((_, records)) => take_records(records, charted),
@@ -146,7 +184,7 @@ where
     R: Drop,
     requires { fault_of records ≡ None }
     ensures ending { IfSome (left_of R.remaining records) (λ left. EndsRecords (offset_of records) left result) }
-    ensures taken { IfSome (left_of R.remaining records) (λ left. TakesAll (HasAsked charted.old.asked.choice) (records_behind (offset_of records) left).records result charted.old charted.new) }
+    ensures taken { IfSome (left_of R.remaining records) (λ left. TakesAll (HasAsked charted.old.asked.choice charted.old.also.now) (records_behind (offset_of records) left).records result charted.old charted.new) }
 {
     let mut records = records;
     for number in 0..u64::MAX {

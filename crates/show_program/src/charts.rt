@@ -6,7 +6,7 @@ ghost use Rattle.capture_words.specs.Shown.{EndsText};
 ghost use Rattle.show_program.specs.Run.{ShowsInput, TellsAlone, no_chart, too_many};
 
 use crate::charted::{NoChart, draw_capture};
-use crate::telling::{NO_FILE, NOT_DRAWN, tell, tell_no_chart, tell_too_many};
+use crate::telling::{NO_FILE, TOO_MANY, tell, tell_no_chart, tell_too_many};
 use crate::words::Words;
 use capture_words::{Ending, NotWritten};
 use program_ends::{NOT_WRITTEN, Source};
@@ -36,11 +36,11 @@ pub fn write_chart<F: Files, R: Read, O: Write>(
 ) -> u8
 where
     R: Drop,
-    ensures shown { result ≢ NOT_WRITTEN → result ≢ NO_FILE → result ≢ NOT_DRAWN → ShowsInput (R.remaining input) (O.contents out.old) (O.contents out.new) result }
-    ensures alone { result ≢ NOT_WRITTEN → result ≢ NO_FILE → result ≢ NOT_DRAWN → TellsAlone (O.contents out.old) (O.contents out.new) result }
+    ensures shown { result ≢ NOT_WRITTEN → result ≢ NO_FILE → result ≢ TOO_MANY → ShowsInput (R.remaining input) (O.contents out.old) (O.contents out.new) result }
+    ensures alone { result ≢ NOT_WRITTEN → result ≢ NO_FILE → result ≢ TOO_MANY → TellsAlone (O.contents out.old) (O.contents out.new) result }
     ensures chart { result ≡ NO_FILE → Appends (O.contents out.old) (O.contents out.new) no_chart }
-    ensures many { result ≡ NOT_DRAWN → Appends (O.contents out.old) (O.contents out.new) too_many }
-    ensures status { (result ≤ NOT_DRAWN) ⊎ (result ≡ NOT_WRITTEN) }
+    ensures many { result ≡ TOO_MANY → Appends (O.contents out.old) (O.contents out.new) too_many }
+    ensures status { (result ≤ TOO_MANY) ⊎ (result ≡ NOT_WRITTEN) }
 {
     match chart_file(files, alloc, words, path, input) {
         Ok(ending) => tell(&ending, out),

@@ -6,7 +6,7 @@ ghost use Rattle.audit_core.specs.Verdict.{AnswersRead};
 ghost use Rattle.show_program.specs.Run.{ExplainsInput, no_chart, no_link};
 
 use crate::charts::{title_of, write_new};
-use crate::telling::{NO_FILE, NOT_DRAWN, tell_no_chart, tell_no_link, tell_verdict};
+use crate::telling::{NO_FILE, NO_LINK, TOO_MANY, tell_no_chart, tell_no_link, tell_verdict};
 use crate::words::Words;
 use capture_words::NotWritten;
 use credit_watching::{Drawn, Pick, Verdict, draw_credit};
@@ -37,10 +37,11 @@ pub fn write_credit<F: Files, R: Read, O: Write>(
 ) -> u8
 where
     R: Drop,
-    ensures explained { result ≢ NOT_WRITTEN → result ≢ NO_FILE → result ≢ NOT_DRAWN → ExplainsInput (R.remaining input) (O.contents out.old) (O.contents out.new) result }
+    ensures explained { result ≢ NOT_WRITTEN → result ≢ NO_FILE → result ≢ NO_LINK → ExplainsInput (R.remaining input) (O.contents out.old) (O.contents out.new) result }
     ensures chart { result ≡ NO_FILE → Appends (O.contents out.old) (O.contents out.new) no_chart }
-    ensures link { result ≡ NOT_DRAWN → Appends (O.contents out.old) (O.contents out.new) no_link }
-    ensures status { (result ≤ NOT_DRAWN) ⊎ (result ≡ NOT_WRITTEN) }
+    ensures few { result ≢ TOO_MANY }
+    ensures link { result ≡ NO_LINK → Appends (O.contents out.old) (O.contents out.new) no_link }
+    ensures status { (result ≤ NO_LINK) ⊎ (result ≡ NOT_WRITTEN) }
 {
     match credit_file(files, alloc, words, path, input) {
         Ok(verdict) => tell_verdict(&verdict, out),

@@ -14,6 +14,7 @@
 //! - `charted`, `charts`: the records that are asked for as a chart, and in a file
 //! - `credits`: the credit of a link as curves, in a file
 //! - `why`: a capture, audited
+//! - `marked`: a capture, audited, and as a chart with marks, in a file
 //! - `run`: a run over any words, reader and writers
 //!
 //! Another way to show a capture is a variant of `Mode`, its word in `words`, and its arm in `run::show_input`.
@@ -24,6 +25,7 @@ mod charted;
 mod charts;
 mod credits;
 mod lines;
+mod marked;
 mod packets;
 mod run;
 mod table;
@@ -31,5 +33,6 @@ mod telling;
 mod why;
 mod words;
 
-pub use charted::{Drawn, NoChart, draw_capture};
+pub use charted::{Drawn, NoChart, draw_capture, draw_marked};
+pub use marked::draw_explained;
 pub use run::run_words;

@@ -4,16 +4,17 @@ ghost use Rattle.std.specs.Prelude.{◌≡◌, ◌≢◌, ◌<◌, ◌≤◌, �
 ghost use Rattle.capture_words.specs.declared.ending.Ending.TheVariants.{NoMemory, Unreadable};
 ghost use Rattle.std.specs.Io.KnownBytes.{Appends};
 ghost use Rattle.program_ends.specs.Growth.{IsRefusedGrowth};
-ghost use Rattle.show_program.specs.Run.{ExplainsInput, ExplainsSome, IsRunOn, IsStatus, ShowsInput, TellsNoFile, TellsNotDrawn, TellsSome, no_chart, no_link, no_packets, too_many};
+ghost use Rattle.show_program.specs.Run.{ExplainsInput, ExplainsSome, IsRunOn, IsStatus, ShowsInput, TellsNoFile, TellsSome, no_chart, no_link, no_packets, too_many};
 ghost use Rattle.program_ends.specs.Source.{path_of};
 ghost use Rattle.show_program.specs.Words.{chart_of, credit_of, is_why, packets_of};
 
 use crate::charts::write_chart;
 use crate::credits::write_credit;
 use crate::lines::Lines;
+use crate::marked::write_marked;
 use crate::packets::write_packets;
 use crate::table::Table;
-use crate::telling::{NO_FILE, NOT_DRAWN, tell};
+use crate::telling::{NO_FILE, NO_LINK, TOO_MANY, tell};
 use crate::why::show_why;
 use crate::words::{Mode, Words};
 use capture_words::{Ending, NotWritten, Page, View, show_capture};
@@ -26,10 +27,12 @@ use std::{fs, io};
 
 /// Shows the capture that `words`, those behind the program's name, ask for: the file that they name, or `input`. Writes
 /// it to `out`, behind it the line of a fault, and answers the exit status. Where packets or a chart are asked for they go to
-/// the file that is named, and the line of a fault alone to `out`; `NO_FILE` tells that it could not be written, and `NOT_DRAWN`
+/// the file that is named, and the line of a fault alone to `out`; `NO_FILE` tells that it could not be written, and `TOO_MANY`
 /// that more records are asked for than a chart may have. Where the credit of a link is asked for it goes to the file that is named,
-/// and the line of the auditor's verdict to `out`; `NOT_DRAWN` tells that there is no such link. Where it is asked why the capture is
-/// not accepted, the line of the auditor's verdict goes to `out`, and behind it the explanation.
+/// and the line of the auditor's verdict to `out`; `NO_LINK` tells that there is no such link. Where it is asked why the capture is
+/// not accepted, the line of the auditor's verdict goes to `out`, and behind it the explanation; and where a chart is asked for
+/// beside it, the refused record and those that it is compared with are marked in that, and the statuses of a chart come with the
+/// line of what is wrong with it alone.
 ///
 /// A fault of the words is told on `err` alone, with `WORDS_FAULT`; the help goes to `out`, with status 0. Where `out`
 /// fails the status is `NOT_WRITTEN`, and nothing is said of what stands there. Where it is watched, `err` has a line of
@@ -53,10 +56,11 @@ pub fn run_words<F: Files, S: AsStr, R: Read, O: Write, E: Write>(
     // the explanation stands behind it.
     ensures told { 0 < result → result ≤ 4 → TellsSome (O.contents out.old) (O.contents out.new) result ⊎ ExplainsSome (O.contents out.old) (O.contents out.new) result }
 
-    // Status 5 comes only with a line that tells that the file could not be written, and 6 with that of too many records for a chart,
-    // or of no such link.
+    // Status 5 comes only with a line that tells that the file could not be written, 6 with that of too many records for a chart,
+    // and 7 with that of no such link.
     ensures unmade { result ≡ NO_FILE → TellsNoFile (O.contents out.old) (O.contents out.new) }
-    ensures undrawn { result ≡ NOT_DRAWN → TellsNotDrawn (O.contents out.old) (O.contents out.new) }
+    ensures many { result ≡ TOO_MANY → Appends (O.contents out.old) (O.contents out.new) too_many }
+    ensures link { result ≡ NO_LINK → Appends (O.contents out.old) (O.contents out.new) no_link }
 
     // A mistake in the words is told on standard error alone, and where nobody watches nothing else is told there.
     ensures mistake { result ≡ WORDS_FAULT → out.new ≡ out.old }
@@ -80,7 +84,7 @@ fn tell_modes<E: Write>(err: &mut E) -> u8
     // The status tells the fault, whether or not its text could be written.
     let _ = writeln!(
         err,
-        "error: one of --pcapng, --chart, --credit, --why and --summary may be given"
+        "error: one of --pcapng, --chart, --credit, --why and --summary may be given, or --chart and --why"
     );
     WORDS_FAULT
 }
@@ -96,25 +100,27 @@ fn show_source<F: Files, R: Read, O: Write, E: Write>(
     out: &mut O,
     err: &mut E,
 ) -> u8
-    ensures input { path_of words.entry.source ≡ None → is_why mode.entry ≡ false → credit_of mode.entry ≡ None → result ≢ NOT_WRITTEN → result ≢ NO_FILE → result ≢ NOT_DRAWN
+    ensures input { path_of words.entry.source ≡ None → is_why mode.entry ≡ false → credit_of mode.entry ≡ None → result ≢ NOT_WRITTEN → result ≢ NO_FILE → result ≢ TOO_MANY
         → ShowsInput (R.remaining input.old) (O.contents out.old) (O.contents out.new) result }
-    ensures explained { path_of words.entry.source ≡ None → is_why mode.entry ≡ true → result ≢ NOT_WRITTEN
+    ensures explained { path_of words.entry.source ≡ None → is_why mode.entry ≡ true → chart_of mode.entry ≡ None → result ≢ NOT_WRITTEN
         → ExplainsInput (R.remaining input.old) (O.contents out.old) (O.contents out.new) result }
-    ensures credited { path_of words.entry.source ≡ None → is_some (credit_of mode.entry) ≡ true → result ≢ NOT_WRITTEN → result ≢ NO_FILE → result ≢ NOT_DRAWN
+    ensures marked { path_of words.entry.source ≡ None → is_why mode.entry ≡ true → result ≢ NOT_WRITTEN → result ≢ NO_FILE → result ≢ TOO_MANY
         → ExplainsInput (R.remaining input.old) (O.contents out.old) (O.contents out.new) result }
-    ensures told { is_why mode.entry ≡ false → credit_of mode.entry ≡ None → result ≢ NOT_WRITTEN → result ≢ NO_FILE → result ≢ NOT_DRAWN → TellsSome (O.contents out.old) (O.contents out.new) result }
-    ensures either { result ≢ NOT_WRITTEN → result ≢ NO_FILE → result ≢ NOT_DRAWN
+    ensures credited { path_of words.entry.source ≡ None → is_some (credit_of mode.entry) ≡ true → result ≢ NOT_WRITTEN → result ≢ NO_FILE → result ≢ NO_LINK
+        → ExplainsInput (R.remaining input.old) (O.contents out.old) (O.contents out.new) result }
+    ensures told { is_why mode.entry ≡ false → credit_of mode.entry ≡ None → result ≢ NOT_WRITTEN → result ≢ NO_FILE → result ≢ TOO_MANY → TellsSome (O.contents out.old) (O.contents out.new) result }
+    ensures either { result ≢ NOT_WRITTEN → result ≢ NO_FILE → result ≢ TOO_MANY → result ≢ NO_LINK
         → TellsSome (O.contents out.old) (O.contents out.new) result ⊎ ExplainsSome (O.contents out.old) (O.contents out.new) result }
     ensures unasked { packets_of mode.entry ≡ None → chart_of mode.entry ≡ None → credit_of mode.entry ≡ None → result ≢ NO_FILE }
     ensures packets { chart_of mode.entry ≡ None → credit_of mode.entry ≡ None → result ≡ NO_FILE → Appends (O.contents out.old) (O.contents out.new) no_packets }
     ensures chart { packets_of mode.entry ≡ None → result ≡ NO_FILE → Appends (O.contents out.old) (O.contents out.new) no_chart }
     ensures unmade { result ≡ NO_FILE → TellsNoFile (O.contents out.old) (O.contents out.new) }
-    ensures few { chart_of mode.entry ≡ None → credit_of mode.entry ≡ None → result ≢ NOT_DRAWN }
-    ensures many { credit_of mode.entry ≡ None → result ≡ NOT_DRAWN → Appends (O.contents out.old) (O.contents out.new) too_many }
-    ensures link { chart_of mode.entry ≡ None → result ≡ NOT_DRAWN → Appends (O.contents out.old) (O.contents out.new) no_link }
-    ensures undrawn { result ≡ NOT_DRAWN → TellsNotDrawn (O.contents out.old) (O.contents out.new) }
+    ensures few { chart_of mode.entry ≡ None → result ≢ TOO_MANY }
+    ensures linked { credit_of mode.entry ≡ None → result ≢ NO_LINK }
+    ensures many { result ≡ TOO_MANY → Appends (O.contents out.old) (O.contents out.new) too_many }
+    ensures link { result ≡ NO_LINK → Appends (O.contents out.old) (O.contents out.new) no_link }
     ensures quiet { is_watched ≡ false → err.new ≡ err.old }
-    ensures status { (result ≤ NOT_DRAWN) ⊎ (result ≡ NOT_WRITTEN) }
+    ensures status { (result ≤ NO_LINK) ⊎ (result ≡ NOT_WRITTEN) }
 {
     match words.source {
         Source::StandardInput => show_input(files, alloc, words, mode, is_watched, input, out, err),
@@ -150,21 +156,24 @@ fn show_input<F: Files, R: Read, O: Write, E: Write>(
 ) -> u8
 where
     R: Drop,
-    ensures shown { is_why mode.entry ≡ false → credit_of mode.entry ≡ None → result ≢ NOT_WRITTEN → result ≢ NO_FILE → result ≢ NOT_DRAWN
+    ensures shown { is_why mode.entry ≡ false → credit_of mode.entry ≡ None → result ≢ NOT_WRITTEN → result ≢ NO_FILE → result ≢ TOO_MANY
         → ShowsInput (R.remaining input) (O.contents out.old) (O.contents out.new) result }
-    ensures explained { is_why mode.entry ≡ true → result ≢ NOT_WRITTEN → ExplainsInput (R.remaining input) (O.contents out.old) (O.contents out.new) result }
-    ensures credited { is_some (credit_of mode.entry) ≡ true → result ≢ NOT_WRITTEN → result ≢ NO_FILE → result ≢ NOT_DRAWN
+    ensures explained { is_why mode.entry ≡ true → chart_of mode.entry ≡ None → result ≢ NOT_WRITTEN
+        → ExplainsInput (R.remaining input) (O.contents out.old) (O.contents out.new) result }
+    ensures marked { is_why mode.entry ≡ true → result ≢ NOT_WRITTEN → result ≢ NO_FILE → result ≢ TOO_MANY
+        → ExplainsInput (R.remaining input) (O.contents out.old) (O.contents out.new) result }
+    ensures credited { is_some (credit_of mode.entry) ≡ true → result ≢ NOT_WRITTEN → result ≢ NO_FILE → result ≢ NO_LINK
         → ExplainsInput (R.remaining input) (O.contents out.old) (O.contents out.new) result }
     ensures unasked { packets_of mode.entry ≡ None → chart_of mode.entry ≡ None → credit_of mode.entry ≡ None → result ≢ NO_FILE }
     ensures packets { chart_of mode.entry ≡ None → credit_of mode.entry ≡ None → result ≡ NO_FILE → Appends (O.contents out.old) (O.contents out.new) no_packets }
     ensures chart { packets_of mode.entry ≡ None → result ≡ NO_FILE → Appends (O.contents out.old) (O.contents out.new) no_chart }
     ensures unmade { result ≡ NO_FILE → TellsNoFile (O.contents out.old) (O.contents out.new) }
-    ensures few { chart_of mode.entry ≡ None → credit_of mode.entry ≡ None → result ≢ NOT_DRAWN }
-    ensures many { credit_of mode.entry ≡ None → result ≡ NOT_DRAWN → Appends (O.contents out.old) (O.contents out.new) too_many }
-    ensures link { chart_of mode.entry ≡ None → result ≡ NOT_DRAWN → Appends (O.contents out.old) (O.contents out.new) no_link }
-    ensures undrawn { result ≡ NOT_DRAWN → TellsNotDrawn (O.contents out.old) (O.contents out.new) }
+    ensures few { chart_of mode.entry ≡ None → result ≢ TOO_MANY }
+    ensures linked { credit_of mode.entry ≡ None → result ≢ NO_LINK }
+    ensures many { result ≡ TOO_MANY → Appends (O.contents out.old) (O.contents out.new) too_many }
+    ensures link { result ≡ NO_LINK → Appends (O.contents out.old) (O.contents out.new) no_link }
     ensures quiet { is_watched ≡ false → err.new ≡ err.old }
-    ensures status { (result ≤ NOT_DRAWN) ⊎ (result ≡ NOT_WRITTEN) }
+    ensures status { (result ≤ NO_LINK) ⊎ (result ≡ NOT_WRITTEN) }
 {
     let mut page = Page::new(alloc, words.width);
     match mode {
@@ -179,6 +188,7 @@ where
         Mode::Why => show_why(alloc, input, out),
         Mode::Packets(path) => write_packets(files, alloc, path, input, out),
         Mode::Chart(path) => write_chart(files, alloc, words, path, input, out),
+        Mode::Marked(path) => write_marked(files, alloc, words, path, input, out),
         Mode::Credit(path) => write_credit(files, alloc, words, path, input, out),
     }
 }

@@ -15,8 +15,11 @@ use std::io::Write;
 /// The exit status where the file could not be written to which packets or a chart are to go.
 pub const NO_FILE: u8 = 5;
 
-/// The exit status where more records are asked for than a chart may have, or no link is there of which curves are asked for.
-pub const NOT_DRAWN: u8 = 6;
+/// The exit status where more records are asked for than a chart may have.
+pub const TOO_MANY: u8 = 6;
+
+/// The exit status where no link opens of those whose credit is asked for.
+pub const NO_LINK: u8 = 7;
 
 /// Writes the line of a fault to `out`, and answers the status; or `NOT_WRITTEN` where `out` fails, and then nothing is said
 /// of what stands there. A whole capture has no line.
@@ -61,25 +64,25 @@ pub fn tell_no_chart<O: Write>(out: &mut O) -> u8
     tell_line(&"chart not written", NO_FILE, out)
 }
 
-/// Writes to `out` that more records are asked for than a chart may have, and answers `NOT_DRAWN`; or `NOT_WRITTEN` where `out`
+/// Writes to `out` that more records are asked for than a chart may have, and answers `TOO_MANY`; or `NOT_WRITTEN` where `out`
 /// fails.
 pub fn tell_too_many<O: Write>(out: &mut O) -> u8
     ensures told { result ≢ NOT_WRITTEN → Appends (O.contents out.old) (O.contents out.new) too_many }
-    ensures status { (result ≡ NOT_DRAWN) ⊎ (result ≡ NOT_WRITTEN) }
+    ensures status { (result ≡ TOO_MANY) ⊎ (result ≡ NOT_WRITTEN) }
 {
     tell_line(
         &"more than 2000 records for a chart: --from, --to, --connection, --link, --delivery choose",
-        NOT_DRAWN,
+        TOO_MANY,
         out,
     )
 }
 
-/// Writes to `out` that there is no link of which curves could be drawn, and answers `NOT_DRAWN`; or `NOT_WRITTEN` where `out` fails.
+/// Writes to `out` that there is no link of which curves could be drawn, and answers `NO_LINK`; or `NOT_WRITTEN` where `out` fails.
 pub fn tell_no_link<O: Write>(out: &mut O) -> u8
     ensures told { result ≢ NOT_WRITTEN → Appends (O.contents out.old) (O.contents out.new) no_link }
-    ensures status { (result ≡ NOT_DRAWN) ⊎ (result ≡ NOT_WRITTEN) }
+    ensures status { (result ≡ NO_LINK) ⊎ (result ≡ NOT_WRITTEN) }
 {
-    tell_line(&"no such link of a consumer", NOT_DRAWN, out)
+    tell_line(&"no such link of a consumer", NO_LINK, out)
 }
 
 /// Writes the line of a verdict to `out`, and answers its status; or `NOT_WRITTEN` where `out` fails.

@@ -24,6 +24,8 @@ pub enum Mode<'a> {
     Packets(&'a str),
     /// As a chart of the records that are asked for, in a new file of this path.
     Chart(&'a str),
+    /// Audited, and as a chart with the refused record marked, in a new file of this path.
+    Marked(&'a str),
     /// As the curves of the credit of a link, the first of those that are asked for, in a new file of this path.
     Credit(&'a str),
 }
@@ -32,7 +34,7 @@ pub enum Mode<'a> {
 #[derive(Clone, Copy, Debug)]
 pub struct Words<'a> {
     pub source: Source<'a>,
-    /// None where more than one is asked for.
+    /// None where more than one is asked for, but for a chart and an audit.
     pub mode: Option<Mode<'a>>,
     pub choice: Choice<'a>,
     /// At how many characters texts and octets are cut.
@@ -47,7 +49,7 @@ impl<'a> Mode<'a> {
     ghost use Rattle.show_program.specs.Words.{IsAudit, IsOne, IsPlain, are_several, chart_of, credit_of, is_table, is_why, packets_of};
 
     /// The mode that the paths of packets, of a chart and of a credit, and the flags of an audit and of a summary ask for; none where
-    /// these are several.
+    /// these are several, but for a chart and an audit.
     fn of_words(
         packets: Option<&'a str>,
         chart: Option<&'a str>,
@@ -67,6 +69,7 @@ impl<'a> Mode<'a> {
         match (packets, chart, credit, is_audited, is_summary) {
             (Some(path), None, None, false, false) => Some(Mode::Packets(path)),
             (None, Some(path), None, false, false) => Some(Mode::Chart(path)),
+            (None, Some(path), None, true, false) => Some(Mode::Marked(path)),
             (None, None, Some(path), false, false) => Some(Mode::Credit(path)),
             (None, None, None, true, false) => Some(Mode::Why),
             (None, None, None, false, true) => Some(Mode::Summary),
@@ -120,7 +123,7 @@ follow the channel, the performative with those of its fields that are read and 
 the link or the session that it names, and what the record notes: which delivery a transfer carries, or why an outcome is told.
 
 Without --why and --credit the whole capture is read, whatever is asked for. Status 0: it is whole. 2: malformed. 3: no memory. \
-4: unreadable. 5: OUT could not be written. 6: more records than a chart may have, or no such link. 64: a mistake in the words. \
+4: unreadable. 5: OUT could not be written. 6: more records than a chart may have. 7: no such link. 64: a mistake in the words. \
 74: standard output could not be written.
 
 With --why and --credit the first line and the status are those of amqp_audit: 0 accepted, 1 refused, or 2, 3 or 4 as above. With \
@@ -128,11 +131,16 @@ With --why and --credit the first line and the status are those of amqp_audit: 0
 records of the links, deliveries, windows and credits; or what was expected where the capture is malformed. Nothing behind that \
 is read.
 
-Of --pcapng, --chart, --credit, --why and --summary one may be given. But for --chart each is of the whole capture, whichever \
+Of --pcapng, --chart, --credit, --why and --summary one may be given, or --chart and --why. But for --chart each is of the whole capture, whichever \
 records are asked for; for --credit, --connection and --link choose the link.
 
 A chart is an SVG: a lane for the router and one for each connection, and for each record that is asked for an arrow. It has \
 2000 records at most; where more are asked for there is no file.
+
+With --chart and --why the capture is audited, and standard output and the status are those of --why; in OUT the record that is \
+refused is red, and those that it is compared with are marked too, where they are asked for. Where a capture with a refused \
+record has more than 2000, and no option chooses among them, OUT has that record, those that it is compared with, and of the \
+others 100 in front of it and 20 behind it. All of the capture is kept in memory.
 
 With --credit the capture is audited, and OUT is an SVG with a panel for each of four curves over the records that were taken: \
 the credit of a consumer's link, the window of its session, whether a delivery waits at its address, and whether its client \
@@ -159,7 +167,7 @@ fn command_line<'a>(alloc: Global) -> Result<Command<'a>, AllocError>
         "Writes the whole capture as packets to OUT, which must not exist, and shows nothing",
     );
     let chart = asking(alloc, "chart", ValueParser::string(), "OUT").help(
-        "Draws the records that are asked for as a chart to OUT, which must not exist, and shows nothing",
+        "Draws the records that are asked for as a chart to OUT, which must not exist, and shows nothing; with --why marked, and explained",
     );
     let credit = asking(alloc, "credit", ValueParser::string(), "OUT").help(
         "Audits the capture, and draws the credit of a consumer's link to OUT, which must not exist",

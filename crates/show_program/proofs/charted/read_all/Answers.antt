@@ -13,7 +13,7 @@ returns-in-Ok-clause-ending g c =
 
 pub returns-in-Ok-clause-taken : goal.returns-in-Ok-clause-taken
 returns-in-Ok-clause-taken g c =
-    taken_behind_head (HasAsked c.args.charted.now.asked.choice) _ _ (g.R.Read.remaining c.args.input) _ _ _ c.take_records.result c.in-Ok.ensures.head c.in-Ok.ensures.place
+    taken_behind_head (HasAsked c.args.charted.now.asked.choice c.args.charted.now.also.now) _ _ (g.R.Read.remaining c.args.input) _ _ _ c.take_records.result c.in-Ok.ensures.head c.in-Ok.ensures.place
     c.take_records.ensures.taken
 
 pub returns-clause-ending : goal.returns-clause-ending
@@ -21,12 +21,12 @@ returns-clause-ending g c =
     let known = g.R.Read.remaining c.args.input in
     let charted = c.args.charted.now in
     subst (λ e. IfSome known (λ octets. EndsText octets e)) (sym c.from.ensures)
-    (ends_in_head (HasAsked charted.asked.choice) charted known c.in-Err.fault c.in-Err.ensures.exact)
+    (ends_in_head (HasAsked charted.asked.choice charted.also.now) charted known c.in-Err.fault c.in-Err.ensures.exact)
 
 pub returns-clause-taken : goal.returns-clause-taken
 returns-clause-taken g c =
     let known = g.R.Read.remaining c.args.input in
     let charted = c.args.charted.now in
-    let agrees = HasAsked charted.asked.choice in
+    let agrees = HasAsked charted.asked.choice charted.also.now in
     subst (λ e. IfSome known (λ octets. TakesAll agrees (reading octets).records e charted charted)) (sym c.from.ensures)
     (taken_in_head agrees charted known c.in-Err.fault c.in-Err.ensures.exact)

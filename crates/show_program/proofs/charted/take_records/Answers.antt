@@ -20,7 +20,8 @@ pub loop-number-preserved : goal.loop-number-preserved
 loop-number-preserved g c =
     let some = c.in-Ok-Some in
     let so = c.loop-number.invariant in
-    let agrees = HasAsked c.args.charted.now.asked.choice in
+    let also = c.args.charted.now.also.now in
+    let agrees = HasAsked c.args.charted.now.asked.choice also in
     let next = found_so _ _ some.field-0 (Some some.entry) some.field-0-is some.ensures.next in
     let moved = moved_so _ _ some.field-0 some.entry some.field-0-is some.ensures.moved in
     record {
@@ -29,7 +30,7 @@ loop-number-preserved g c =
       many = omega (arith, so.many, length-append so.read (some.entry ∷ []));
       follows = follows_next _ _ _ _ so.read _ _ some.entry so.follows next moved;
       took = took_more agrees _ _ _ so.read some.entry _ so.many so.took
-          (subst (TakesOneMore agrees _ _) c.view_of.ensures (c.in-Ok.ensures c.args.charted.now.asked.choice));
+          (subst (TakesOneMore agrees _ _) c.view_of.ensures (c.in-Ok.ensures c.args.charted.now.asked.choice also));
     }
 
 pub returns-in-Ok-None-clause-ending : goal.returns-in-Ok-None-clause-ending
@@ -42,7 +43,7 @@ pub returns-in-Ok-None-clause-taken : goal.returns-in-Ok-None-clause-taken
 returns-in-Ok-None-clause-taken g c =
     let so = c.loop-number.invariant in
     let next = found_so _ _ c.in-Ok-None.field-0 None c.in-Ok-None.field-0-is c.in-Ok-None.ensures.next in
-    took_all (HasAsked c.args.charted.now.asked.choice) (offset_of c.args.records) _ so.read Whole _ _
+    took_all (HasAsked c.args.charted.now.asked.choice c.args.charted.now.also.now) (offset_of c.args.records) _ so.read Whole _ _
     (follows_end (offset_of c.args.records) (left_of g.R.Read.remaining c.args.records) _ _ so.read _ so.follows next) so.took
 
 pub returns-in-Err-clause-ending : goal.returns-in-Err-clause-ending
@@ -57,5 +58,5 @@ returns-in-Err-clause-taken g c =
     let so = c.loop-number.invariant in
     let first = left_of g.R.Read.remaining c.args.records in
     let ends = follows_fault (offset_of c.args.records) first _ _ so.read c.in-Err.fault so.follows (c.in-Err.ensures.place so.runs) (c.in-Err.ensures.exact so.runs) in
-    took_all (HasAsked c.args.charted.now.asked.choice) (offset_of c.args.records) first so.read c.from.result _ _
+    took_all (HasAsked c.args.charted.now.asked.choice c.args.charted.now.also.now) (offset_of c.args.records) first so.read c.from.result _ _
     (subst (λ e. EndsWith (offset_of c.args.records) first so.read e) (sym c.from.ensures) ends) so.took

@@ -3,6 +3,7 @@ use Rattle.show_program.proofs.Charting.{takes_asked}
 use Rattle.show_program.proofs.charted.Charted.take.Goals as goal
 
 pub returns : goal.returns
-returns c = λ choice.
-    takes_asked choice c.args.self.now c.add.new.self _ (viewed c.args.view.now) c.in_ok-is_asked.is_asked c.in_ok-add.ensures.asked c.in_ok-is_asked.ensures.names
-    c.in_ok-is_asked.ensures.choice c.in_ok-is_asked.ensures.answer c.in_ok-add.ensures.few c.in_ok-add.ensures.arrows
+returns c = λ choice also.
+    takes_asked choice also c.args.self.now c.add.new.self _ (viewed c.args.view.now) c.in_ok-is_asked.is_asked c.in_ok-add.ensures.asked c.in_ok-add.ensures.also
+    c.in_ok-is_asked.ensures.names c.in_ok-is_asked.ensures.choice c.in_ok-is_asked.ensures.answer c.in_ok-add.ensures.few
+    (λ enough. let drawn = c.is_drawn-is_drawn.ensures in cc (c.in_ok-add.ensures.arrows enough, drawn))

@@ -5,7 +5,7 @@ use Rattle.capture_chart.specs.Shown.{arrows_of, worded_of}
 use Rattle.capture_chart.proofs.Drawings.{shown_worded}
 use Rattle.show_program.specs.Charts.{AreAskedOf}
 use Rattle.show_program.proofs.Charting.{asked_all}
-use Rattle.show_program.proofs.charted.draw_capture.Goals as goal
+use Rattle.show_program.proofs.charted.draw_marked.Goals as goal
 
 pub returns-in-Ok-clause-arrows : goal.returns-in-Ok-clause-arrows
 returns-in-Ok-clause-arrows g c =
@@ -13,10 +13,11 @@ returns-in-Ok-clause-arrows g c =
     let ending = c.read_all-ending.result in
     let charted = c.read_all-ending.new.charted in
     let asks = c.new-asked.result.choice in
-    let all = asked_all asks known ending _ charted c.if-charted.false (record { names = c.new-asked.ensures.names; asks = refl; arrows = λ few. c.new-chart.ensures }) c.read_all-ending.ensures.taken in
+    let also = c.args.also.now in
+    let all = asked_all asks also known ending _ charted c.if-charted.false (record { names = c.new-asked.ensures.names; asks = refl; draws = refl; arrows = λ few. c.new-chart.ensures }) c.read_all-ending.ensures.taken in
     record {
       arrows = worded_of charted.chart;
       drawn = c.in-Ok.ensures.arrows;
-      asked = subst (λ shows. IfSome known (λ text. AreAskedOf c.args.choice (reading text).records ending shows)) (sym (shown_worded charted.chart.arrows.items))
-          (subst (λ choice. IfSome known (λ text. AreAskedOf choice (reading text).records ending (arrows_of charted.chart))) c.new-asked.ensures.choice all);
+      asked = subst (λ shows. IfSome known (λ text. AreAskedOf c.args.choice also (reading text).records ending shows)) (sym (shown_worded charted.chart.arrows.items))
+          (subst (λ choice. IfSome known (λ text. AreAskedOf choice also (reading text).records ending (arrows_of charted.chart))) c.new-asked.ensures.choice all);
     }
