@@ -1,8 +1,7 @@
 -- What a run leaves.
 use Rattle.std.proofs.Common.{◌≡◌, ◌∙◌, ◌≢◌, ◌<◌, ◌≤◌, ◌⊎◌, ◌++◌, ◌∷◌, ℕ, refl, true, false, List, [], Option, None, Some, Ok, Err, ap, arith, inl, inr, subst, sym}
 use Rattle.std.specs.Prelude.{IfSome, if◌then◌else◌}
-use Rattle.std.specs.Io.KnownBytes.{Appends, Consumes}
-use Rattle.core.specs.Fmt.{option_append}
+use Rattle.std.specs.Io.KnownBytes.{Appends}
 use Rattle.clap.specs.Words.{kind_of}
 use Rattle.clap.specs.declared.error.Error.{Error}
 use Rattle.clap.specs.declared.error.kind.ErrorKind.TheVariants.{OutOfMemory}
@@ -142,27 +141,10 @@ pub low_or : (verdict : Verdict) (status own : ℕ) → own ≡ status_of_verdic
 low_or verdict status own is (inl same) = inl (subst (λ n. n ≤ 4) (sym (same ∙ is)) (verdict_low verdict))
 low_or verdict status own is (inr not) = inr not
 
--- ---- an audit of octets that were kept
+-- ---- an audit of octets that are kept
 
 -- memory that was refused says nothing of the input
 pub explained_memory : (held before after : Option (List ℕ)) (status : ℕ) → (status ≢ 74 → Explains before after (verdicts.NoMemory 0) × (status ≡ 3)) → status ≢ 74 → ExplainsInput held before after status
 explained_memory held before after status told written =
     let line = told written in
     record { verdict = verdicts.NoMemory 0; told = line.0; same_status = line.1; answers = unaudited held }
-
--- the octets that were read, and behind them what is left, are all
-kept_so : (verdict : Verdict) (held left : Option (List ℕ)) (octets : List ℕ) → Consumes held left octets
-    → IfSome (option_append (Some octets) left) (λ all. AnswersRead all verdict) → IfSome held (λ all. AnswersRead all verdict)
-kept_so verdict None left octets kept answers = tt
-kept_so verdict (Some all) None octets kept answers = absurd kept
-kept_so verdict (Some all) (Some rest) octets kept answers = subst (λ xs. AnswersRead xs verdict) (sym kept) answers
-
-pub explained_kept : (verdict : Verdict) (held left chained : Option (List ℕ)) (octets : List ℕ) (before after : Option (List ℕ)) (status : ℕ) → Consumes held left octets
-    → chained ≡ option_append (Some octets) left → IfSome chained (λ all. AnswersRead all verdict)
-    → (status ≢ 74 → Explains before after verdict) → (status ≡ status_of_verdict verdict) ⊎ (status ≡ 74) → status ≢ 74 → ExplainsInput held before after status
-explained_kept verdict held left chained octets before after status kept is answers told same written = record {
-  verdict = verdict;
-  told = told written;
-  same_status = status_so status (status_of_verdict verdict) same written;
-  answers = kept_so verdict held left octets kept (subst (λ o. IfSome o (λ all. AnswersRead all verdict)) is answers);
-}
