@@ -1,0 +1,5 @@
+mod Copies
+mod VerdictExamples
+mod RowExamples
+pub mod VerdictSteps
+pub mod AwaitedSteps

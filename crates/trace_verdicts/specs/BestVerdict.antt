@@ -1,0 +1,57 @@
+-- What the producer of a multicast delivery is told: once every copy that is due has its verdict, the best of these (states:
+-- part 3 of the standard, section 3.4; which one is told is an own rule).
+use Rattle.std.specs.Prelude.{ℕ, Bool, true, false, ◌&&◌, ◌||◌, not, List, Option, Some, None, if◌then◌else◌}
+use Rattle.std.specs.List.{list_any}
+use Rattle.amqp_perf.specs.declared.descriptor.Outcome.{Outcome}
+use Rattle.amqp_perf.specs.declared.descriptor.Outcome.TheVariants.{Accepted, Rejected, Released, Modified}
+use Rattle.amqp_perf.specs.Router.{delivery_failed}
+use Rattle.capture_form.specs.Rules.{RuleText}
+use Rattle.trace_events.specs.Words.{is_some_and}
+use Rattle.trace_events.specs.Event.{Event, Link, Incoming}
+use Rattle.trace_events.specs.Link.{links}
+use Rattle.trace_events.specs.Due.{is_due}
+use Rattle.trace_events.specs.Waiting.{is_of_multicast}
+use Rattle.trace_clauses.specs.Outcome.{bare_octets}
+use Rattle.trace_verdicts.specs.CopyVerdict.{copy_verdict, awaits_verdict}
+
+abbrev pub is_same_outcome : Outcome → Outcome → Bool
+is_same_outcome Accepted Accepted = true
+is_same_outcome Rejected Rejected = true
+is_same_outcome Released Released = true
+is_same_outcome Modified Modified = true
+is_same_outcome _ _ = false
+
+-- a copy is due to the link, and this is its verdict
+abbrev pub is_verdict : List RuleText → Incoming → List Event → Outcome → Link → Bool
+is_verdict rules d past outcome l = is_due rules d l past && is_some_and (copy_verdict d l past) (is_same_outcome outcome)
+
+-- some copy has this verdict
+abbrev pub has_verdict : List RuleText → Incoming → List Event → Outcome → Bool
+has_verdict rules d past outcome = list_any (is_verdict rules d past outcome) (links past)
+
+abbrev pub is_due_to_some : List RuleText → Incoming → List Event → Bool
+is_due_to_some rules d past = list_any (λ l. is_due rules d l past) (links past)
+
+-- every copy that is due has its verdict
+abbrev pub has_all_verdicts : List RuleText → Incoming → List Event → Bool
+has_all_verdicts rules d past = not (list_any (awaits_verdict rules d past) (links past))
+
+-- the best of the verdicts: accepted before modified, rejected and released; accepted too where no copy is due
+abbrev pub best_verdict : List RuleText → Incoming → List Event → Outcome
+best_verdict rules d past =
+    if not (is_due_to_some rules d past) || has_verdict rules d past Accepted then Accepted
+    else if has_verdict rules d past Modified then Modified
+    else if has_verdict rules d past Rejected then Rejected else Released
+
+-- the state that tells it: modified as delivery failed, whatever its consumer said, and the others without fields
+abbrev pub told_octets : Outcome → List ℕ
+told_octets Modified = delivery_failed.octets
+told_octets Accepted = bare_octets Accepted
+told_octets Rejected = bare_octets Rejected
+told_octets Released = bare_octets Released
+
+-- the row of a multicast delivery: where every copy has its verdict, the state that its producer is told
+abbrev pub multicast_row : List RuleText → Incoming → List Event → Option (Option (List ℕ))
+multicast_row rules d past =
+    if is_of_multicast rules d && has_all_verdicts rules d past
+    then Some (Some (told_octets (best_verdict rules d past))) else None

@@ -1,0 +1,2 @@
+pub mod CopyVerdict
+pub mod BestVerdict
