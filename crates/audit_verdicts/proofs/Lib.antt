@@ -1,0 +1,3 @@
+mod TableSteps
+mod VerdictsNext
+mod Answered

@@ -1,0 +1,42 @@
+use Rattle.std.proofs.Common.{ap, ◌∙◌, ◌&&◌, ◌||◌, ◌==◌, ◌∷◌, not, sym}
+use Rattle.std.specs.List.{list_any}
+use Rattle.amqp_perf.specs.declared.descriptor.Outcome.TheVariants.{Modified}
+use Rattle.trace_events.specs.Event as law
+use Rattle.trace_events.specs.History.{history}
+use Rattle.trace_events.proofs.Judged.{AreJudged, history-judged}
+use Rattle.trace_events.proofs.StepWords.{any-by}
+use Rattle.trace_values.specs.View.{event_view, link_view}
+use Rattle.trace_values.specs.declared.event.Link.{Link}
+use Rattle.trace_verdicts.specs.BestVerdict.{is_same_outcome}
+use Rattle.audit_tables.specs.EndedLinks.{views}
+use Rattle.audit_verdicts.specs.Verdicts.{awaits_at, awaits_in, comes_now, is_given, is_verdict_of, verdict_at}
+use Rattle.audit_verdicts.proofs.TableSteps.{any-map}
+use Rattle.audit_verdicts.proofs.VerdictsNext.{awaits-next, had-next, modified_at}
+use Rattle.audit_verdicts.proofs.verdicts.Verdicts.take.Goals as goal
+
+pub returns : goal.returns
+returns c = λ rules records r next are comes gives all.
+    let e = event_view c.args.event.now in
+    let past = history rules records in
+    let due = c.args.due.now in
+    let given = c.args.given.now in
+    let judged : AreJudged rules (e ∷ past) = ((r, next.0), history-judged rules records) in
+    record {
+      awaits = λ link n.
+          c.in_ok-end.ensures.awaits link n
+          ∙ (ap (λ b. b && not (list_any (λ (l : Link). l.number == link) c.args.ended.now))
+          (c.in_ok-give.ensures.awaits link n ∙ ap (λ b. b && not (is_given given link n)) (c.in_ok-come.ensures.awaits link n ∙ ap (λ b. comes_now e due link n || b) (are.awaits link n)))
+          ∙ (ap (λ b. ((comes_now e due link n || awaits_at rules past link n) && not (is_given given link n)) && not b) (any-map link_view (λ (l : law.Link). l.number == link) c.args.ended.now)
+          ∙ awaits-next rules e past judged next.1 due given (views c.args.ended.now) comes gives all link n));
+      mirrored = c.in_ok-end.ensures.mirrored (c.in_ok-give.ensures.mirrored (c.in_ok-come.ensures.mirrored are.mirrored));
+      had = λ n outcome.
+          c.in_ok-end.ensures.had n outcome
+          ∙ (ap (λ b. b || is_same_outcome outcome Modified && list_any (λ (l : Link). awaits_in c.give.new.self l.number n) c.args.ended.now)
+          (c.in_ok-give.ensures.had n outcome ∙ ap (λ b. b || list_any (is_verdict_of n outcome) given) (c.in_ok-come.ensures.had n outcome ∙ are.had n outcome))
+          ∙ (ap (λ b. (verdict_at rules past n outcome || list_any (is_verdict_of n outcome) given) || is_same_outcome outcome Modified && b)
+          (any-by (λ (l : Link). awaits_in c.give.new.self l.number n) (λ (l : Link). modified_at rules e past judged next.1 due given (views c.args.ended.now) comes gives all n (link_view l))
+          (λ l. c.in_ok-give.ensures.awaits l.number n ∙ ap (λ b. b && not (is_given given l.number n)) (c.in_ok-come.ensures.awaits l.number n ∙ ap (λ b. comes_now e due l.number n || b) (are.awaits l.number n)))
+          c.args.ended.now
+          ∙ any-map link_view (modified_at rules e past judged next.1 due given (views c.args.ended.now) comes gives all n) c.args.ended.now)
+          ∙ had-next rules e past judged next.1 due given (views c.args.ended.now) comes gives all n outcome));
+    }

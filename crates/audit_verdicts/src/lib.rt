@@ -1,0 +1,15 @@
+//! What has become of the copies of multicast deliveries: which await their verdict, and which verdicts a delivery has, moved
+//! forward by one event after the other.
+//!
+//! - `had`: the verdicts that the copies of one delivery have;
+//! - `verdicts`: the table, by the numbers of links and deliveries;
+//! - `answers`: what it answers of a delivery.
+//!
+//! The auditor and the router do not ask it yet (docs/STATUS.md).
+#![tactic(auto)]
+
+mod answers;
+mod had;
+mod verdicts;
+
+pub use verdicts::{CopyVerdict, Verdicts};
