@@ -1,19 +1,21 @@
 -- What is asked of a capture at one of its records: by the records below it.
-use Rattle.std.specs.Prelude.{ℕ, Bool, List, [], ◌∷◌, take, drop, Option, Some, None, Result, Ok, Err, option_map}
+use Rattle.std.specs.Prelude.{ℕ, Bool, List, [], ◌∷◌, take, drop, Option, Some, None, Result, Ok, Err, option_map, option_and_then, ◌&&◌, if◌then◌else◌}
+use Rattle.amqp_perf.specs.declared.descriptor.Outcome.{Outcome}
 use Rattle.capture_form.specs.declared.records.Record.{Record}
 use Rattle.capture_form.specs.Rules.{RuleText}
 use Rattle.capture_form.specs.Text.{Trace}
 use Rattle.trace_clauses.specs.declared.clause.Clause.{Clause}
 use Rattle.trace_events.specs.Words.{is_some_and, where_passes}
-use Rattle.trace_events.specs.Event.{Event}
+use Rattle.trace_events.specs.Event.{Event, Incoming}
 use Rattle.trace_events.specs.Session.{live_session}
 use Rattle.trace_events.specs.Link.{live_link, is_consumer}
 use Rattle.trace_events.specs.Window.{session_window}
 use Rattle.trace_events.specs.Credit.{link_credit}
-use Rattle.trace_events.specs.Incoming.{incoming_at}
-use Rattle.trace_events.specs.Waiting.{is_waiting}
+use Rattle.trace_events.specs.Incoming.{incoming_at, is_complete}
+use Rattle.trace_events.specs.Waiting.{is_of_multicast, is_waiting}
 use Rattle.trace_events.specs.History.{judge, history}
 use Rattle.trace_clauses.specs.Clauses.{broken_clause}
+use Rattle.trace_verdicts.specs.BestVerdict.{has_all_verdicts, best_verdict}
 
 -- the events of the records below this number
 abbrev pub events_below : ℕ → Trace → List Event
@@ -48,3 +50,12 @@ credit_on c channel handle past = option_map (λ l. link_credit l past) (where_p
 -- the delivery that begins in the record of this number waits
 abbrev pub waits : List RuleText → ℕ → List Event → Bool
 waits rules n past = is_some_and (incoming_at n past) (λ d. is_waiting rules d past)
+
+-- what the producer of a multicast delivery would be told: once it is complete and each copy has its verdict, the best
+abbrev pub told_of : List RuleText → List Event → Incoming → Option Outcome
+told_of rules past d =
+    if is_of_multicast rules d && is_complete d past && has_all_verdicts rules d past then Some (best_verdict rules d past) else None
+
+-- of the delivery that begins in the record of this number
+abbrev pub best_at : List RuleText → ℕ → List Event → Option Outcome
+best_at rules n past = option_and_then (told_of rules past) (incoming_at n past)

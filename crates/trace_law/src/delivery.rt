@@ -5,4 +5,5 @@ mod incoming;
 mod outgoing;
 mod payload;
 mod settling;
+mod verdicts;
 mod waiting;

@@ -3,8 +3,9 @@
 //! each, the newest first, and each definition is computed anew by the function of the same name, whose contract it is.
 //!
 //! - `past`: the events on the stack, and `scans`, their answers to the questions of `trace_judge`, each by a scan: `session`, with `connection` and `window`; `link`, with `credit` and `address`; `delivery`, with `incoming`,
-//!   `outgoing`, `payload`, `waiting`, `due` and `settling`;
-//! - `ask`: `slow_check`, `window_at`, `credit_at` and `waiting_at` (`check`) answer what the law says at one record,
+//!   `outgoing`, `payload`, `waiting`, `due`, `verdicts` and `settling`;
+//! - `ask`: `slow_check`, `window_at`, `credit_at`, `waiting_at` and `best_verdict_at` (`check`) answer what the law says at one
+//!   record,
 //!   `tally_capture` (`tally`) what a capture holds, in one walk over the records (`walk`).
 //!
 //! In `specs/`, `Check` is what is asked at one record, `OnStack` and `Payloads` say what the code's values stand for. What an
@@ -19,6 +20,6 @@ mod past;
 mod scans;
 mod session;
 
-pub use ask::check::{credit_at, slow_check, waiting_at, window_at};
+pub use ask::check::{best_verdict_at, credit_at, slow_check, waiting_at, window_at};
 pub use ask::tally::tally_capture;
 pub use trace_clauses::{Clause, Tally};

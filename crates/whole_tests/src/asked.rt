@@ -6,12 +6,14 @@
 //! | Word | What is asked |
 //! |---|---|
 //! | `worked` | all that is said of the capture of this name (`worked`) |
+//! | `copies` | what the producers of its deliveries would be told by the verdicts of their copies (`seen`) |
 //! | `cuts=10` | the verdicts of the text, cut to each length from this one on, where they change |
 //! | `verdict` | the verdict of the text, which is made while it is read |
 //! | `waits=15` | how many records the capture has, and whether the delivery that begins in this one waits in the end |
 //! | `entries=21` | how many entries an auditor has behind so many records of the text, which is made while it is read |
 
 use crate::parts::{Part, Parts, octets_of};
+use crate::seen::tell_verdicts;
 use crate::taken::take;
 use crate::worked::{tell_other_verdicts, tell_verdict, tell_worked};
 use audit_core::{Auditor, Verdict, audit_bytes, audit_stream};
@@ -33,6 +35,7 @@ pub fn answer(rt: &HostRuntime, line: &str) -> io::Result<()> {
     }
     match asked {
         "worked" => tell_worked(rt, name),
+        "copies" => tell_verdicts(rt, name),
         "cuts" => tell_cuts(rt, name, parts.as_slice(), number),
         "verdict" => tell_read(rt, name, parts.as_slice()),
         "waits" => tell_waiting(rt, name, parts.as_slice(), number),

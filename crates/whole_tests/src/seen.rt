@@ -1,9 +1,10 @@
 //! What the plain checker says of a capture, record by record: where windows and credits change, where deliveries wait,
 //! and which records break a clause.
 
-use capture_form::{Capture, What};
-use std::io;
-use trace_law::{credit_at, slow_check, waiting_at, window_at};
+use amqp_perf::Outcome;
+use capture_form::{Capture, What, read_capture};
+use std::{fs, io};
+use trace_law::{best_verdict_at, credit_at, slow_check, waiting_at, window_at};
 
 /// What changes from record to record.
 #[derive(Clone, Copy, Debug)]
@@ -14,15 +15,18 @@ enum Subject {
     Credit(u32),
     /// Whether the delivery that begins in this record waits.
     Delivery(usize),
+    /// What the producer of this one would be told by the verdicts of its copies.
+    Verdicts(usize),
 }
 
 /// How a subject stands by the records below a number.
 #[derive(Clone, Copy, Debug, PartialEq, Eq)]
 enum State {
-    /// There is no such session or link, or the delivery does not wait.
+    /// There is no such session or link, or the delivery does not wait, or its producer would be told nothing.
     Nothing,
     Count(u32),
     Waits,
+    Told(Outcome),
 }
 
 impl State {
@@ -46,6 +50,10 @@ impl Subject {
                     State::Nothing
                 }
             }
+            Subject::Verdicts(first) => match best_verdict_at(capture, below, first as u64) {
+                Some(outcome) => State::Told(outcome),
+                None => State::Nothing,
+            },
         }
     }
 
@@ -62,6 +70,9 @@ impl Subject {
                     State::Nothing => print!(rt; "{separator}no more from {below}")?,
                     State::Count(count) => print!(rt; "{separator}{count} from {below}")?,
                     State::Waits => print!(rt; "{separator}waits from {below}")?,
+                    State::Told(outcome) => {
+                        print!(rt; "{separator}{} from {below}", word_of(outcome))?
+                    }
                 }
                 (state, separator) = (now, ", ");
             }
@@ -77,6 +88,7 @@ impl Subject {
             Subject::Window(client) => print!(rt; "  window of client {client}"),
             Subject::Credit(client) => print!(rt; "  credit of client {client}"),
             Subject::Delivery(first) => print!(rt; "  delivery of record {first}"),
+            Subject::Verdicts(first) => print!(rt; "  copies of record {first}"),
         }
     }
 }
@@ -108,6 +120,31 @@ pub fn tell_capture(rt: &HostRuntime, capture: &Capture) -> io::Result<()> {
         }
         if let Err(clause) = slow_check(capture, i) {
             println!(rt; "  record {i}: breaks {clause}")?;
+        }
+    }
+    Ok(())
+}
+
+/// An outcome in a word.
+fn word_of(outcome: Outcome) -> &'static str {
+    match outcome {
+        Outcome::Accepted => "accepted",
+        Outcome::Rejected => "rejected",
+        Outcome::Released => "released",
+        Outcome::Modified => "modified",
+    }
+}
+
+/// Writes of each delivery of the capture `NAME.cap` what its producer would be told by the verdicts of its copies, if anything.
+pub fn tell_verdicts(rt: &HostRuntime, name: &str) -> io::Result<()> {
+    let octets = fs::read(rt, format!(in rt.alloc(); "{name}.cap")?)?;
+    let Ok(capture) = read_capture(rt.alloc(), octets.as_slice()) else {
+        return println!(rt; "{name}: no capture");
+    };
+    println!(rt; "{name}:")?;
+    for (i, entry) in capture.records().iter().enumerate() {
+        if matches!(entry.what, What::In(_)) {
+            Subject::Verdicts(i).tell(rt, &capture)?;
         }
     }
     Ok(())

@@ -6,6 +6,7 @@ ghost use Rattle.trace_law.specs.Check as checked;
 
 use crate::ask::walk::{Asked, walk};
 use crate::past::Past;
+use amqp_perf::Outcome;
 use capture_form::{Capture, Record, Rule};
 use trace_clauses::Clause;
 
@@ -93,6 +94,31 @@ impl Asked for Waits {
             Some(delivery) => past.is_waiting(rules, &delivery),
             None => false,
         }
+    }
+}
+
+/// What the producer of the multicast delivery that begins in a record would be told.
+#[derive(Clone, Copy)]
+struct BestVerdict {
+    delivery: u64,
+}
+
+impl Asked for BestVerdict {
+    ghost use Rattle.std.specs.Prelude.{◌≡◌};
+    ghost use Rattle.trace_law.specs.Check.{best_at};
+
+    type Answer = Option<Outcome>;
+
+    ghost is_answer = { λ asked rules past rest answer. answer ≡ best_at rules asked.delivery past };
+
+    fn answer<'a>(
+        &self,
+        rules: &[Rule],
+        past: &Past<'_, 'a>,
+        number: u64,
+        rest: &'a [Record],
+    ) -> Option<Outcome> {
+        past.told_of(rules, &past.incoming_at(self.delivery)?)
     }
 }
 
@@ -184,6 +210,27 @@ pub fn waiting_at<'a>(capture: &'a Capture, i: usize, d: u64) -> bool
     let start: Past<'_, 'a> = Past::Start;
     walk(
         &Waits { delivery: d },
+        capture.rules(),
+        records,
+        0,
+        end,
+        &start,
+    )
+}
+
+/// What the producer of the multicast delivery that begins in record `d` would be told, by the records below this number (by
+/// all, where there are fewer): the best of the verdicts of its copies, once it is complete and each that is due has one;
+/// `None` before, and of another delivery. It takes stack as `slow_check` does, and no other memory.
+///
+/// The law does not ask for it yet: by its row M a producer is told accepted at once.
+pub fn best_verdict_at<'a>(capture: &'a Capture, i: usize, d: u64) -> Option<Outcome>
+    ensures { result ≡ checked.best_at capture.now.rules d (checked.events_below i capture.now) }
+{
+    let records = capture.records();
+    let end = i.min(records.len());
+    let start: Past<'_, 'a> = Past::Start;
+    walk(
+        &BestVerdict { delivery: d },
         capture.rules(),
         records,
         0,

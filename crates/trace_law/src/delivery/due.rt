@@ -53,7 +53,7 @@ impl<'p, 'a> Past<'p, 'a> {
     }
 
     /// A copy of the delivery is due to the link.
-    fn is_due(&self, rules: &[Rule], delivery: &Incoming, link: &Link) -> bool
+    pub(crate) fn is_due(&self, rules: &[Rule], delivery: &Incoming, link: &Link) -> bool
         requires few { length (events self.now) < 2 ^ 64 }
         ensures { result ≡ law.is_due rules.now (incoming_view delivery.now) (link_view link.now) (events self.now) }
     {
