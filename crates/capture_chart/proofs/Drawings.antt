@@ -15,51 +15,66 @@ use Rattle.std.specs.Prelude.{codes}
 use Rattle.std.specs.Borrow.{Bor}
 use Rattle.std.specs.Str.{chars, encode_utf8_all}
 use Rattle.svg_parts.proofs.Drawings.{Ends, closed, draws_then}
-use Rattle.capture_chart.specs.declared.marks.Mark.{Mark}
 use Rattle.capture_chart.specs.Marks.{Marking, class_of}
 use Rattle.capture_chart.specs.declared.arrow.Arrow.{Arrow}
 use Rattle.capture_chart.specs.Shown.{Shown, Worded, shown, shown_in, title_text, worded}
 use Rattle.capture_chart.specs.declared.places.Place.{Place}
 use Rattle.capture_chart.specs.declared.places.TheConstants.{ROUTER}
-use Rattle.capture_chart.specs.Places.{lanes_of, place_at, row_place}
-use Rattle.svg_parts.specs.Parts.{Draws, DrawsSome, element_octets, label_octets}
-use Rattle.capture_chart.specs.Drawn.{HasArrows, all_lanes, arrow_octets, arrows_octets, chart_octets, group_octets, height_of, shaft_octets, start_of, tie_octets, width_of}
+use Rattle.capture_chart.specs.Places.{between, lanes_of, place_at, row_place}
+use Rattle.svg_parts.specs.Parts.{Draws, DrawsSome, element_octets, label_octets, line_octets}
+use Rattle.capture_chart.specs.Drawn.{HasArrows, all_lanes, arrow_octets, arrows_octets, chart_octets, group_octets, height_of, outcome_octets, shaft_octets, start_of, tie_octets, told_octets, width_of}
 
 -- ---- arrows
 
-group_assoc : (s t d k h m e : List ℕ) → s ++ ((t ++ (d ++ (k ++ (h ++ m)))) ++ e) ≡ s ++ (t ++ (d ++ (k ++ (h ++ (m ++ e)))))
-group_assoc s t d k h m e = simp append_assoc
+group_assoc : (s t d k o h m e : List ℕ) → s ++ ((t ++ (d ++ (k ++ (o ++ (h ++ m))))) ++ e) ≡ s ++ (t ++ (d ++ (k ++ (o ++ (h ++ (m ++ e))))))
+group_assoc s t d k o h m e = simp append_assoc
 
 -- what begins a group of this class
-pub group_is : (class : Bor (List ℕ)) (mark : Mark) → class.now ≡ class_of mark
-    → start_octets Group ((let a : Attribute = record { name = Class; value = values.Text class } in a) ∷ []) ≡ group_octets mark
+pub group_is : (class : Bor (List ℕ)) (words : List ℕ) → class.now ≡ words
+    → start_octets Group ((let a : Attribute = record { name = Class; value = values.Text class } in a) ∷ []) ≡ group_octets words
 unfolding start_octets group_octets
-group_is class mark is =
+group_is class words is =
     ap (λ (t : List ℕ). encode_utf8_all (start_text (record { name = codes "g"; attributes = (let a : grammar.Attribute = record { name = codes "class"; value = pieces_of (chars t) } in a) ∷ [] }))) is
 
-pub arrow_drawn : {E : Type 0} (r : Result Drawn E) (a opened titled described tied shot seen : Drawn) (start title : List ℕ) (arrow : Worded) (place : Place)
-    → opened ≡ record { octets = a.octets ++ start; unclosed = a.unclosed ++ Group ∷ [] } → start ≡ group_octets place.mark
+pub arrow_drawn : {E : Type 0} (r : Result Drawn E) (a opened titled described tied told shot seen : Drawn) (start title : List ℕ) (arrow : Worded) (place : Place)
+    → opened ≡ record { octets = a.octets ++ start; unclosed = a.unclosed ++ Group ∷ [] } → start ≡ group_octets (class_of place.mark)
     → Draws opened titled (element_octets Title title) → title ≡ title_text place.mark arrow.shows → Draws titled described (element_octets Description arrow.words)
-    → Draws described tied (tie_octets place) → Draws tied shot (shaft_octets arrow.shows.course place) → Draws shot seen (label_octets (ROUTER + 8, place.row - 4) arrow.label) → Ends r seen
+    → Draws described tied (tie_octets place) → Draws tied told (told_octets place arrow.shows) → Draws told shot (shaft_octets arrow.shows.course place)
+    → Draws shot seen (label_octets (ROUTER + 8, place.row - 4) arrow.label) → Ends r seen
     → IfOk r (λ after. Draws a after (arrow_octets place arrow))
 unfolding arrow_octets
-arrow_drawn r a opened titled described tied shot seen start title arrow place is start_is first title_is second third fourth fifth ends =
+arrow_drawn r a opened titled described tied told shot seen start title arrow place is start_is first title_is second third fourth fifth sixth ends =
     let heads = element_octets Title title in
-    let told = element_octets Description arrow.words in
+    let words = element_octets Description arrow.words in
     let tie = tie_octets place in
+    let outcome = told_octets place arrow.shows in
     let shaft = shaft_octets arrow.shows.course place in
     let label = label_octets (ROUTER + 8, place.row - 4) arrow.label in
-    let inside = heads ++ (told ++ (tie ++ (shaft ++ label))) in
+    let inside = heads ++ (words ++ (tie ++ (outcome ++ (shaft ++ label)))) in
     let draws : Draws opened seen inside =
     draws_then opened titled seen heads _ first
-    (draws_then titled described seen told _ second
+    (draws_then titled described seen words _ second
     (draws_then described tied seen tie _ third
-    (draws_then tied shot seen shaft label fourth fifth))) in
+    (draws_then tied told seen outcome _ fourth
+    (draws_then told shot seen shaft label fifth sixth)))) in
     let parts : start ++ (inside ++ end_octets Group) ≡ arrow_octets place arrow =
-    group_assoc start heads told tie shaft label (end_octets Group)
-    ∙ ap (λ (t : List ℕ). start ++ (element_octets Title t ++ (told ++ (tie ++ (shaft ++ (label ++ end_octets Group)))))) title_is
-    ∙ ap (λ (t : List ℕ). t ++ (element_octets Title (title_text place.mark arrow.shows) ++ (told ++ (tie ++ (shaft ++ (label ++ end_octets Group)))))) start_is in
+    group_assoc start heads words tie outcome shaft label (end_octets Group)
+    ∙ ap (λ (t : List ℕ). start ++ (element_octets Title t ++ (words ++ (tie ++ (outcome ++ (shaft ++ (label ++ end_octets Group))))))) title_is
+    ∙ ap (λ (t : List ℕ). t ++ (element_octets Title (title_text place.mark arrow.shows) ++ (words ++ (tie ++ (outcome ++ (shaft ++ (label ++ end_octets Group))))))) start_is in
     IfOk-weaker r _ _ (λ after drawn. subst (Draws a after) parts drawn) (closed r a opened seen Group start inside is draws ends)
+
+-- the line of an outcome
+pub outcome_drawn : {E : Type 0} (r : Result Drawn E) (a opened titled lined : Drawn) (start title : List ℕ) (place : Place) (delivery : ℕ × ℕ) (at : ℕ)
+    → opened ≡ record { octets = a.octets ++ start; unclosed = a.unclosed ++ Group ∷ [] } → start ≡ group_octets (codes "outcome")
+    → Draws opened titled (element_octets Title title) → Draws titled lined (line_octets (codes "tells") (at, delivery.1) (place.lane, place.row)) → at ≡ between ROUTER delivery.0 → Ends r lined
+    → IfOk r (λ after. Draws a after (outcome_octets place delivery title))
+unfolding outcome_octets
+outcome_drawn r a opened titled lined start title place delivery at is start_is first second at_is ends =
+    let inside : ℕ → List ℕ = λ n. element_octets Title title ++ line_octets (codes "tells") (n, delivery.1) (place.lane, place.row) in
+    let parts : start ++ (inside at ++ end_octets Group) ≡ outcome_octets place delivery title =
+    ap (λ (t : List ℕ). t ++ (inside at ++ end_octets Group)) start_is ∙ ap (λ (n : ℕ). group_octets (codes "outcome") ++ (inside n ++ end_octets Group)) at_is in
+    IfOk-weaker r _ _ (λ after drawn. subst (Draws a after) parts drawn)
+    (closed r a opened lined Group start (inside at) is (draws_then opened titled lined _ _ first second) ends)
 
 arrows_push : (marks : Marking) (lanes : List ℕ) (all : List Shown) (row : ℕ) (arrows : List Worded) (arrow : Worded)
     → arrows_octets marks lanes all row (arrows ++ arrow ∷ []) ≡ arrows_octets marks lanes all row arrows ++ arrow_octets (place_at marks lanes all (row + length arrows) arrow.shows) arrow

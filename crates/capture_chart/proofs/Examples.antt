@@ -7,7 +7,7 @@ use Rattle.std.specs.Str.{chars}
 use lib.Utf8.{encode}
 use Rattle.pairing_cert.specs.declared.note.Note.TheVariants as notes
 use Rattle.pairing_cert.specs.declared.note.Why.TheVariants as rows
-use Rattle.amqp_perf.specs.Meaning.{AnEnd}
+use Rattle.amqp_perf.specs.Meaning.{ADisposition, AnEnd, DispositionFields}
 use Rattle.capture_view.specs.Saying.{NoBody, Says}
 use Rattle.capture_view.specs.Viewed.{Viewed}
 use Rattle.capture_view.specs.Viewed as happenings
@@ -18,10 +18,10 @@ use Rattle.capture_chart.specs.declared.topic.Course.TheVariants.{Beside, ToClie
 use Rattle.capture_chart.specs.declared.topic.Topic.TheVariants as topics
 use Rattle.capture_chart.specs.declared.marks.Mark.TheVariants.{Compared, Plain, Refused}
 use Rattle.capture_chart.specs.Marks.{Marking, mark_of}
-use Rattle.capture_chart.specs.Shown.{Shown, Worded, shown_of, title_text}
-use Rattle.capture_chart.specs.Places.{carried_place, connection_place, lanes_of, place_at, row_place}
+use Rattle.capture_chart.specs.Shown.{Shown, Worded, shown_of, title_text, told_text}
+use Rattle.capture_chart.specs.Places.{connection_place, lanes_of, place_at, record_place, row_place}
 use Rattle.svg_parts.specs.Parts.{element_octets, label_octets, line_octets}
-use Rattle.capture_chart.specs.Drawn.{HasArrows, all_lanes, arrow_octets, arrows_octets, connection_words, group_octets, lane_octets, shaft_octets, start_of, tie_octets}
+use Rattle.capture_chart.specs.Drawn.{HasArrows, all_lanes, arrow_octets, arrows_octets, connection_words, group_octets, lane_octets, outcome_octets, shaft_octets, start_of, tie_octets, told_octets}
 
 -- ---- what is shown
 
@@ -30,23 +30,28 @@ ending : Viewed
 ending = record { number = 3; connection = 7; happened = happenings.In (Says 0 (AnEnd None) []); note = notes.None }
 
 ending_arrow : Shown
-ending_arrow = record { number = 3; connection = 7; course = ToRouter; topic = topics.End; carried = None }
+ending_arrow = record { number = 3; connection = 7; course = ToRouter; topic = topics.End; carried = None; told = None }
 
-ending_shown : shown_of ending ≡ ending_arrow
+ending_shown : shown_of ending None ≡ ending_arrow
 unfolding ending ending_arrow
 ending_shown = refl
 
 -- the same, written to a client
-ending_written : shown_of (record { number = 3; connection = 7; happened = happenings.Out (Says 0 (AnEnd None) []); note = notes.Pair 2 })
-    ≡ record { number = 3; connection = 7; course = ToClient; topic = topics.End; carried = Some 2 }
+ending_written : shown_of (record { number = 3; connection = 7; happened = happenings.Out (Says 0 (AnEnd None) []); note = notes.Pair 2 }) None
+    ≡ record { number = 3; connection = 7; course = ToClient; topic = topics.End; carried = Some 2; told = None }
 ending_written = refl
 
-empty_shown : shown_of (record { number = 4; connection = 0; happened = happenings.Out (NoBody 0); note = notes.Told rows.N })
-    ≡ record { number = 4; connection = 0; course = ToClient; topic = topics.EmptyFrame; carried = None }
+empty_shown : shown_of (record { number = 4; connection = 0; happened = happenings.Out (NoBody 0); note = notes.Told rows.N }) None
+    ≡ record { number = 4; connection = 0; course = ToClient; topic = topics.EmptyFrame; carried = None; told = None }
 empty_shown = refl
 
-lost_shown : shown_of (record { number = 5; connection = 1; happened = happenings.Lost; note = notes.None })
-    ≡ record { number = 5; connection = 1; course = Beside; topic = topics.Lost; carried = None }
+-- an outcome of the delivery of record 2
+outcome_shown : (fields : DispositionFields) → shown_of (record { number = 6; connection = 1; happened = happenings.Out (Says 0 (ADisposition fields) []); note = notes.Told rows.C }) (Some 2)
+    ≡ record { number = 6; connection = 1; course = ToClient; topic = topics.Disposition; carried = None; told = Some 2 }
+outcome_shown fields = refl
+
+lost_shown : shown_of (record { number = 5; connection = 1; happened = happenings.Lost; note = notes.None }) None
+    ≡ record { number = 5; connection = 1; course = Beside; topic = topics.Lost; carried = None; told = None }
 lost_shown = refl
 
 ending_title : title_text Plain ending_arrow ≡ codes "3 connection 7 to router: end"
@@ -56,6 +61,10 @@ ending_title = refl
 ending_refused : title_text Refused ending_arrow ≡ codes "3 connection 7 to router: end, refused"
 unfolding ending_arrow title_text digits
 ending_refused = refl
+
+outcome_title : told_text 2 ending_arrow ≡ codes "3 tells the outcome of 2"
+unfolding ending_arrow told_text digits
+outcome_title = refl
 
 -- ---- marks
 
@@ -81,10 +90,10 @@ none_marked = refl
 -- ---- where it stands
 
 one : Shown
-one = record { number = 10; connection = 7; course = ToRouter; topic = topics.Transfer; carried = None }
+one = record { number = 10; connection = 7; course = ToRouter; topic = topics.Transfer; carried = None; told = None }
 
 other : Shown
-other = record { number = 12; connection = 4; course = ToClient; topic = topics.Transfer; carried = Some 10 }
+other = record { number = 12; connection = 4; course = ToClient; topic = topics.Transfer; carried = Some 10; told = None }
 
 lanes : lanes_of (one ∷ other ∷ one ∷ []) ≡ 7 ∷ 4 ∷ []
 unfolding one other
@@ -104,14 +113,23 @@ second_row : row_place 1 ≡ 88
 second_row = refl
 
 -- the delivery is in the first row of the two
-carried_first : carried_place (7 ∷ 4 ∷ []) (one ∷ other ∷ []) (Some 10) ≡ Some (360, 60)
+carried_first : record_place (7 ∷ 4 ∷ []) (one ∷ other ∷ []) (Some 10) ≡ Some (360, 60)
 unfolding one other
 carried_first = refl
 
--- it is not shown
-carried_unseen : carried_place (7 ∷ 4 ∷ []) (one ∷ other ∷ []) (Some 11) ≡ None
+-- it is not shown, or none is named
+carried_unseen : record_place (7 ∷ 4 ∷ []) (one ∷ other ∷ []) (Some 11) ≡ None
 unfolding one other
 carried_unseen = refl
+
+none_named : record_place (7 ∷ 4 ∷ []) (one ∷ other ∷ []) None ≡ None
+none_named = refl
+
+-- which is carried, and whose outcome is told
+both_placed : place_at marks (7 ∷ 4 ∷ []) (one ∷ other ∷ []) 1 (record other { told = Some 12 })
+    ≡ record { lane = 520; row = 88; carried = Some (360, 60); told = Some (520, 88); mark = Plain }
+unfolding one other marks
+both_placed = refl
 
 -- ---- what is drawn
 
@@ -133,7 +151,7 @@ unfolding digits
 fourth_name = refl
 
 here : Place
-here = record { lane = 360; row = 60; carried = None; mark = Plain }
+here = record { lane = 360; row = 60; carried = None; told = None; mark = Plain }
 
 to_router : shaft_octets ToRouter here ≡ line_octets (codes "shaft") (360, 60) (60, 60)
 unfolding here
@@ -150,8 +168,33 @@ untied : tie_octets here ≡ []
 unfolding here
 untied = refl
 
-tied : tie_octets (record { lane = 620; row = 88; carried = Some (340, 60); mark = Plain }) ≡ line_octets (codes "carries") (200, 60) (340, 88)
+tied : tie_octets (record { lane = 620; row = 88; carried = Some (340, 60); told = None; mark = Plain }) ≡ line_octets (codes "carries") (200, 60) (340, 88)
 tied = refl
+
+untold : told_octets here ending_arrow ≡ []
+unfolding here ending_arrow
+untold = refl
+
+-- an outcome of which delivery is known, and where it stands
+outcome : Shown
+outcome = record { number = 6; connection = 7; course = ToClient; topic = topics.Disposition; carried = None; told = Some 2 }
+
+outcome_there : Place
+outcome_there = record { lane = 620; row = 88; carried = None; told = Some (340, 60); mark = Plain }
+
+told_there : told_octets outcome_there outcome
+    ≡ group_octets (codes "outcome") ++ ((element_octets Title (codes "6 tells the outcome of 2") ++ line_octets (codes "tells") (200, 60) (620, 88)) ++ end_octets Group)
+unfolding outcome_octets outcome_there outcome told_text digits
+told_there = refl
+
+a_group : group_octets (codes "outcome") ≡ codes "<g class=\"outcome\">"
+unfolding group_octets chars encode
+a_group = refl
+
+-- the delivery is not shown
+told_unseen : told_octets here outcome ≡ []
+unfolding here outcome
+told_unseen = refl
 
 -- an arrow with this line and this label
 ending_worded : List ℕ → List ℕ → Worded
@@ -159,9 +202,9 @@ ending_worded words label = record { shows = ending_arrow; words = words; label 
 
 -- its title, its line, its shaft, and its label
 an_arrow : arrow_octets here (ending_worded (codes "a") (codes "b"))
-    ≡ group_octets Plain
+    ≡ group_octets (codes "arrow")
     ++ (element_octets Title (codes "3 connection 7 to router: end")
-    ++ (element_octets Description (codes "a") ++ ([] ++ (line_octets (codes "shaft") (360, 60) (60, 60) ++ (label_octets (68, 56) (codes "b") ++ end_octets Group)))))
+    ++ (element_octets Description (codes "a") ++ ([] ++ ([] ++ (line_octets (codes "shaft") (360, 60) (60, 60) ++ (label_octets (68, 56) (codes "b") ++ end_octets Group))))))
 unfolding arrow_octets here ending_worded ending_arrow title_text digits
 an_arrow = refl
 

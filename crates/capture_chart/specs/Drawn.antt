@@ -10,9 +10,8 @@ use Rattle.capture_chart.specs.declared.places.TheConstants.{ROUTER}
 use Rattle.capture_chart.specs.declared.places.Place.{Place}
 use Rattle.capture_chart.specs.declared.topic.Course.{Course}
 use Rattle.capture_chart.specs.declared.topic.Course.TheVariants.{ToRouter, ToClient, Beside}
-use Rattle.capture_chart.specs.declared.marks.Mark.{Mark}
 use Rattle.capture_chart.specs.Marks.{Marking, class_of}
-use Rattle.capture_chart.specs.Shown.{Shown, Worded, shown_in, title_text}
+use Rattle.capture_chart.specs.Shown.{Shown, Worded, shown_in, title_text, told_text}
 use Rattle.capture_chart.specs.Places.{between, lane_place, lanes_of, place_at, row_place}
 
 -- ---- lanes
@@ -43,20 +42,35 @@ tie_from place (Some delivery) = line_octets (codes "carries") (between ROUTER d
 abbrev pub tie_octets : Place → List ℕ
 tie_octets place = tie_from place place.carried
 
+-- what begins a group of this class
+unfoldable pub group_octets : List ℕ → List ℕ
+group_octets class = encode_utf8_all (start_text (record { name = codes "g"; attributes = record { name = codes "class"; value = pieces_of (chars class) } ∷ [] }))
+
+-- a line from the middle of the arrow of a delivery to where this one ends at its client, in a group with a title of its own
+unfoldable pub outcome_octets : Place → ℕ × ℕ → List ℕ → List ℕ
+outcome_octets place delivery title =
+    group_octets (codes "outcome") ++ ((element_octets Title title ++ line_octets (codes "tells") (between ROUTER delivery.0, delivery.1) (place.lane, place.row)) ++ end_octets Group)
+
+-- one from the delivery whose outcome is told, if that is shown
+abbrev pub told_from : Place → Shown → Option (ℕ × ℕ) → Option ℕ → List ℕ
+told_from place shown (Some delivery) (Some number) = outcome_octets place delivery (told_text number shown)
+told_from place shown _ _ = []
+
+abbrev pub told_octets : Place → Shown → List ℕ
+told_octets place shown = told_from place shown place.told shown.told
+
 -- a line between the lanes of the connection and the router, with its head at its end
 abbrev pub shaft_octets : Course → Place → List ℕ
 shaft_octets ToRouter place = line_octets (codes "shaft") (place.lane, place.row) (ROUTER, place.row)
 shaft_octets ToClient place = line_octets (codes "shaft") (ROUTER, place.row) (place.lane, place.row)
 shaft_octets Beside place = []
 
--- what begins the group of an arrow with this mark
-unfoldable pub group_octets : Mark → List ℕ
-group_octets mark = encode_utf8_all (start_text (record { name = codes "g"; attributes = record { name = codes "class"; value = pieces_of (chars (class_of mark)) } ∷ [] }))
-
--- an arrow at a place: a group with the arrow's title, its words as its description, both lines, and its label beside it
+-- an arrow at a place: a group with the arrow's title, its words as its description, its lines, and its label beside it
 unfoldable pub arrow_octets : Place → Worded → List ℕ
-arrow_octets place arrow = group_octets place.mark
-    ++ (element_octets Title (title_text place.mark arrow.shows) ++ (element_octets Description arrow.words ++ (tie_octets place ++ (shaft_octets arrow.shows.course place ++ (label_octets (ROUTER + 8, place.row - 4) arrow.label ++ end_octets Group)))))
+arrow_octets place arrow = group_octets (class_of place.mark)
+    ++ (element_octets Title (title_text place.mark arrow.shows)
+    ++ (element_octets Description arrow.words
+    ++ (tie_octets place ++ (told_octets place arrow.shows ++ (shaft_octets arrow.shows.course place ++ (label_octets (ROUTER + 8, place.row - 4) arrow.label ++ end_octets Group))))))
 
 -- the arrows from a row on of a chart that shows all these, in order, each once
 abbrev pub arrows_octets : Marking → List ℕ → List Shown → ℕ → List Worded → List ℕ

@@ -49,15 +49,16 @@ found_place lanes number row [] = None
 found_place lanes number row (arrow ∷ rest) =
     if arrow.number == number then Some (connection_place lanes arrow.connection, row_place row) else found_place lanes number (row + 1) rest
 
-abbrev pub carried_place : List ℕ → List Shown → Option ℕ → Option (ℕ × ℕ)
-carried_place lanes arrows None = None
-carried_place lanes arrows (Some number) = found_place lanes number 0 arrows
+abbrev pub record_place : List ℕ → List Shown → Option ℕ → Option (ℕ × ℕ)
+record_place lanes arrows None = None
+record_place lanes arrows (Some number) = found_place lanes number 0 arrows
 
 -- where the arrow in a row of a chart stands, and its mark
 abbrev pub place_at : Marking → List ℕ → List Shown → ℕ → Shown → Place
 place_at marks lanes arrows row arrow = record {
   lane = connection_place lanes arrow.connection;
   row = row_place row;
-  carried = carried_place lanes arrows arrow.carried;
+  carried = record_place lanes arrows arrow.carried;
+  told = record_place lanes arrows arrow.told;
   mark = mark_of marks arrow.number;
 }

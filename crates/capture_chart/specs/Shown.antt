@@ -65,22 +65,28 @@ pub record Shown : Type 0 where
   pub course : Course
   pub topic : Topic
   pub carried : Option ℕ
+  pub told : Option ℕ
 
--- what is shown of a record
-abbrev pub shown_of : Viewed → Shown
-shown_of view = record {
+-- what is shown of a record that tells the outcome of the delivery of this record, if of one
+abbrev pub shown_of : Viewed → Option ℕ → Shown
+shown_of view told = record {
   number = view.number;
   connection = view.connection;
   course = course_of view.happened;
   topic = topic_of view.happened;
   carried = carried_by view.note;
+  told = told;
 }
+
+-- what is shown of records, each with the delivery whose outcome it tells
+abbrev pub shown_all : List (Viewed × Option ℕ) → List Shown
+shown_all views = map (λ (view : Viewed × Option ℕ). shown_of view.0 view.1) views
 
 -- ---- values of the code
 
 -- what an arrow shows
 abbrev pub shown : Arrow → Shown
-shown arrow = record { number = arrow.number; connection = arrow.connection; course = arrow.course; topic = arrow.topic; carried = arrow.carried }
+shown arrow = record { number = arrow.number; connection = arrow.connection; course = arrow.course; topic = arrow.topic; carried = arrow.carried; told = arrow.told }
 
 -- the arrows of a chart, in order
 abbrev pub arrows_of : Chart → List Shown
@@ -130,3 +136,7 @@ course_words Beside = codes ": "
 unfoldable pub title_text : Mark → Shown → List ℕ
 title_text mark shown =
     decimal shown.number ++ (codes " connection " ++ (decimal shown.connection ++ (course_words shown.course ++ (topic_words shown.topic ++ mark_words mark))))
+
+-- the title of the line to an arrow from the delivery of this record
+unfoldable pub told_text : ℕ → Shown → List ℕ
+told_text number shown = decimal shown.number ++ (codes " tells the outcome of " ++ decimal number)

@@ -4,7 +4,7 @@ ghost use Rattle.std.specs.Prelude.{◌≡◌, IfOk, map};
 ghost use Rattle.capture_chart.specs.Marks.{marking};
 ghost use Rattle.capture_chart.specs.Shown.{shown, worded};
 ghost use Rattle.svg_parts.specs.Parts.{Draws};
-ghost use Rattle.capture_chart.specs.Drawn.{arrow_octets, arrows_octets, shaft_octets, tie_octets};
+ghost use Rattle.capture_chart.specs.Drawn.{arrow_octets, arrows_octets, outcome_octets, shaft_octets, tie_octets, told_octets};
 
 use crate::arrow::Arrow;
 use crate::marks::Marks;
@@ -50,7 +50,8 @@ fn draw_arrow(
     let titled = draw_words(opened, Element::Title, title.as_str())?;
     let described = draw_words(titled, Element::Description, arrow.words.as_str())?;
     let tied = draw_tie(described, place)?;
-    let shot = draw_shaft(tied, arrow.course, place)?;
+    let told = draw_told(alloc, tied, arrow, place)?;
+    let shot = draw_shaft(told, arrow.course, place)?;
     let at = (ROUTER + 8, place.row.saturating_sub(4));
     let labelled = draw_label(shot, at, arrow.label.as_str())?;
     labelled.end()
@@ -69,6 +70,49 @@ fn draw_tie(drawing: Drawing, place: Place) -> Result<Drawing, AllocError>
         ),
         None => Ok(drawing),
     }
+}
+
+/// Draws a line from the delivery whose outcome is told, if it is shown.
+fn draw_told(
+    alloc: Global,
+    drawing: Drawing,
+    arrow: &Arrow,
+    place: Place,
+) -> Result<Drawing, AllocError>
+    ensures { IfOk result (λ after. Draws drawing after (told_octets place (shown arrow.now))) }
+{
+    match (place.told, arrow.told) {
+        (Some(delivery), Some(number)) => {
+            let title = arrow.told_title(alloc, number)?;
+            draw_outcome(drawing, place, delivery, title.as_str())
+        }
+        _ => Ok(drawing),
+    }
+}
+
+/// Draws a line from where a delivery comes in to where its outcome ends, with this title.
+fn draw_outcome(
+    drawing: Drawing,
+    place: Place,
+    delivery: (u32, u32),
+    title: &str,
+) -> Result<Drawing, AllocError>
+    ensures { IfOk result (λ after. Draws drawing after (outcome_octets place delivery title.now)) }
+{
+    let attributes = [Attribute {
+        name: Name::Class,
+        value: Value::Text("outcome"),
+    }];
+    let (lane, row) = delivery;
+    let opened = drawing.start(Element::Group, &attributes)?;
+    let titled = draw_words(opened, Element::Title, title)?;
+    let lined = draw_line(
+        titled,
+        "tells",
+        (between(ROUTER, lane), row),
+        (place.lane, place.row),
+    )?;
+    lined.end()
 }
 
 /// Draws a line from the side that wrote a frame to the other.

@@ -24,9 +24,9 @@ pub struct Chart {
 }
 
 impl Chart {
-    ghost use Rattle.std.specs.Prelude.{◌≡◌, ◌≤◌, ◌↔◌, ◌++◌, ◌∷◌, [], List, length, map, Err, OnOk, OnErr};
+    ghost use Rattle.std.specs.Prelude.{◌≡◌, ◌≤◌, ◌↔◌, ◌++◌, ◌∷◌, [], ℕ, List, Option, length, map, Err, OnOk, OnErr};
     ghost use Rattle.capture_view.specs.Viewed.{Viewed, viewed};
-    ghost use Rattle.capture_chart.specs.Shown.{arrows_of, shown, shown_of, worded, worded_of};
+    ghost use Rattle.capture_chart.specs.Shown.{arrows_of, shown, shown_all, shown_of, worded, worded_of};
 
     /// No arrows.
     pub fn new(alloc: Global) -> Chart
@@ -46,8 +46,8 @@ impl Chart {
         self.arrows.as_slice()
     }
 
-    /// Takes one record more, whose frame names this link, or stands on a session that has begun. After an error the chart is
-    /// as it was.
+    /// Takes one record more, whose frame names this link, or stands on a session that has begun, and which tells the outcome of the
+    /// delivery that begins in record `told`, if of one (`Outcomes` says of which). After an error the chart is as it was.
     ///
     /// # Errors
     ///
@@ -57,10 +57,11 @@ impl Chart {
         view: &RecordView<'_>,
         link: Option<LinkTold<'_>>,
         has_session: bool,
+        told: Option<u64>,
     ) -> Result<(), ChartFault>
-        ensures taken { OnOk result (arrows_of self.new ≡ arrows_of self.old ++ shown_of (viewed view.now) ∷ []) }
+        ensures taken { OnOk result (arrows_of self.new ≡ arrows_of self.old ++ shown_of (viewed view.now) told ∷ []) }
         // Where it had the arrows of these records, it has those of one more.
-        ensures all { OnOk result ((before : List Viewed) → arrows_of self.old ≡ map shown_of before → arrows_of self.new ≡ map shown_of (before ++ viewed view.now ∷ [])) }
+        ensures all { OnOk result ((before : List (Viewed × Option ℕ)) → arrows_of self.old ≡ shown_all before → arrows_of self.new ≡ shown_all (before ++ (viewed view.now, told) ∷ [])) }
         // Where it was not taken the arrows are those that were there.
         ensures same { OnErr result (arrows_of self.new ≡ arrows_of self.old) }
         // It is full where there are as many as there may be, and only there.
@@ -69,7 +70,7 @@ impl Chart {
         if self.arrows.len() >= MOST_ARROWS {
             return Err(ChartFault::Full);
         }
-        let Ok(arrow) = Arrow::new(self.alloc, view, link, has_session) else {
+        let Ok(arrow) = Arrow::new(self.alloc, view, link, has_session, told) else {
             return Err(ChartFault::Memory);
         };
         match self.arrows.push(arrow) {

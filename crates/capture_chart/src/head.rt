@@ -14,7 +14,8 @@ const STYLE: &str = "svg { color: #1a1a1a; background: #ffffff; font: 11px monos
 .refused { color: #ff8182 } .compared { color: #79b8ff } } \
 text, path { fill: currentColor } line { stroke: currentColor } \
 .lane { stroke-opacity: 0.3 } .shaft { marker-end: url(#head) } \
-.carries { stroke-opacity: 0.5; stroke-dasharray: 2 3 }";
+.carries { stroke-opacity: 0.5; stroke-dasharray: 2 3 } \
+.tells { stroke-opacity: 0.6; stroke-width: 0.7; stroke-dasharray: 7 4 }";
 
 /// Draws the style, and the head of an arrow.
 pub(crate) fn draw_head(drawing: Drawing) -> Result<Drawing, AllocError>

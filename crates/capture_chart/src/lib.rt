@@ -4,10 +4,12 @@
 //! number, its connection, whether the frame goes to the router or to the client, and which performative its octets are.
 //! `Chart::draw` gives the document, well-formed by the grammar of XML (`svg_text`): one lane for the router, one for each
 //! connection, and a group for each arrow with its title, the record's line in words, a short label, and the arrow; from a delivery that
-//! comes in to each transfer that carries it goes a thin line, where both are shown. Records may be marked: the one that is
-//! refused, and those that it is compared with.
+//! comes in to each transfer that carries it goes a thin line, and to the outcome that its client is told, where both are shown.
+//! Records may be marked: the one that is refused, and those that it is compared with.
 //!
-//! In reading order: `topic`, `marks`, `label`, `arrow`, `chart`; `places` is where lanes and rows stand;
+//! An outcome names its delivery by an id alone. `Outcomes` takes all records, and tells of which delivery it is.
+//!
+//! In reading order: `topic`, `marks`, `label`, `outcomes`, `arrow`, `chart`; `places` is where lanes and rows stand;
 //! `arrows`, `head`, `lanes`, `draw`.
 #![tactic(auto)]
 
@@ -19,10 +21,12 @@ mod head;
 mod label;
 mod lanes;
 mod marks;
+mod outcomes;
 mod places;
 mod topic;
 
 pub use arrow::Arrow;
 pub use chart::{Chart, ChartFault, MOST_ARROWS};
 pub use marks::{Mark, Marks};
+pub use outcomes::Outcomes;
 pub use topic::{Course, Topic};

@@ -28,6 +28,8 @@ pub(crate) struct Place {
     pub row: u32,
     /// Where the delivery that is carried comes in, if it is shown: its lane and its row.
     pub carried: Option<(u32, u32)>,
+    /// The same of the delivery whose outcome is told.
+    pub told: Option<(u32, u32)>,
     pub mark: Mark,
 }
 
@@ -85,11 +87,19 @@ pub(crate) fn place_at(
     Place {
         lane: connection_place(lanes, arrow.connection),
         row: row_place(row),
-        carried: match arrow.carried {
-            Some(number) => found_place(lanes, arrows, number),
-            None => None,
-        },
+        carried: record_place(lanes, arrows, arrow.carried),
+        told: record_place(lanes, arrows, arrow.told),
         mark: marks.mark_of(arrow.number),
+    }
+}
+
+/// Where the arrow of a record stands, if a record is named and has one.
+fn record_place(lanes: &[u32], arrows: &[Arrow], number: Option<u64>) -> Option<(u32, u32)>
+    ensures { result ≡ spec.record_place lanes.now (map shown arrows.now) number }
+{
+    match number {
+        Some(number) => found_place(lanes, arrows, number),
+        None => None,
     }
 }
 

@@ -14,6 +14,9 @@ use Rattle.capture_view.specs.Tables as tables
 use Rattle.capture_words.specs.declared.ending.Ending.{Ending}
 use Rattle.capture_words.specs.declared.ending.Ending.TheVariants.{Whole, Malformed, NoMemory, Unreadable}
 use Rattle.capture_words.specs.Taken.{TakesAll, TakesOneMore}
+use Rattle.capture_chart.specs.declared.outcomes.Outcomes.{Outcomes}
+use Rattle.capture_chart.specs.Outcomes as outcomes
+use Rattle.capture_chart.specs.Outcomes.{outcome_told}
 use Rattle.capture_chart.specs.Shown.{Shown, arrows_of, shown_of}
 use Rattle.show_program.specs.declared.asked.Asked.{Asked}
 use Rattle.show_program.specs.declared.charted.Charted.{Charted}
@@ -57,14 +60,17 @@ answered choice now view traits is_asked number connection link shows = record {
 
 -- ---- one record more
 
-pub takes_asked : (choice : Choice) (also : List ℕ) (old new : Charted) (asked : Asked) (view : Viewed) (is_asked : Bool) → new.asked ≡ asked → new.also ≡ old.also → tables.TakesOneMore old.asked.names asked.names view
+pub takes_asked : (choice : Choice) (also : List ℕ) (old new : Charted) (asked : Asked) (following : Outcomes) (view : Viewed) (told : Option ℕ) (is_asked : Bool) → new.asked ≡ asked → new.also ≡ old.also → new.outcomes ≡ following
+    → tables.TakesOneMore old.asked.names asked.names view → outcomes.TakesOneMore old.outcomes following view
+    → ((past : List Viewed) → outcomes.StandsFor old.outcomes past → told ≡ outcome_told past view)
     → asked.choice ≡ old.asked.choice
     → ((past : List Viewed) → StandsFor old.asked.names past → IsAnswer old.asked.choice (view ∷ past) view is_asked)
     → (new.is_full ≡ false → old.is_full ≡ false)
-    → (new.is_full ≡ false → arrows_of new.chart ≡ (if is_drawn old.also.now view.number is_asked then arrows_of old.chart ++ shown_of view ∷ [] else arrows_of old.chart))
+    → (new.is_full ≡ false → arrows_of new.chart ≡ (if is_drawn old.also.now view.number is_asked then arrows_of old.chart ++ shown_of view told ∷ [] else arrows_of old.chart))
     → TakesOneMore (HasAsked choice also) old new view
-takes_asked choice also old new asked view is_asked kept drawn names same answers few arrows = λ past has. record {
+takes_asked choice also old new asked following view told is_asked kept drawn follows names followed told_is same answers few arrows = λ past has. record {
   names = subst (λ (a : Asked). StandsFor a.names (view ∷ past)) (sym kept) (names past has.names);
+  outcomes = subst (λ (o : Outcomes). outcomes.StandsFor o (view ∷ past)) (sym follows) (followed past has.outcomes);
   asks = ap (λ (a : Asked). a.choice) kept ∙ same ∙ has.asks;
   draws = ap (λ (b : Bor (List ℕ)). b.now) drawn ∙ has.draws;
   arrows = λ enough. (
@@ -72,7 +78,8 @@ takes_asked choice also old new asked view is_asked kept drawn names same answer
     arrows_of old.chart,
     subst (λ (ch : Choice). IsAnswer ch (view ∷ past) view is_asked) has.asks (answers past has.names),
     has.arrows (few enough),
-    subst (λ (numbers : List ℕ). arrows_of new.chart ≡ (if is_drawn numbers view.number is_asked then arrows_of old.chart ++ shown_of view ∷ [] else arrows_of old.chart)) has.draws (arrows enough),
+    subst (λ (numbers : List ℕ). arrows_of new.chart ≡ (if is_drawn numbers view.number is_asked then arrows_of old.chart ++ shown_of view (outcome_told past view) ∷ [] else arrows_of old.chart)) has.draws
+        (subst (λ (t : Option ℕ). arrows_of new.chart ≡ (if is_drawn old.also.now view.number is_asked then arrows_of old.chart ++ shown_of view t ∷ [] else arrows_of old.chart)) (told_is past has.outcomes) (arrows enough)),
   );
 }
 

@@ -6,6 +6,7 @@ use Rattle.capture_view.specs.Choice.{IsInRange, IsOnConnection}
 use Rattle.capture_view.specs.Told.{LinkText}
 use Rattle.capture_view.specs.Named.{key_of, link_named}
 use Rattle.capture_view.specs.Viewed.{Viewed}
+use Rattle.capture_chart.specs.Outcomes.{outcome_told}
 use Rattle.capture_chart.specs.Shown.{Shown, shown_of}
 
 -- the name of the link that a record names, by the records up to it
@@ -27,9 +28,10 @@ pub record IsAnswer (choice : Choice) (now : List Viewed) (view : Viewed) (is_as
 abbrev pub is_drawn : List ℕ → ℕ → Bool → Bool
 is_drawn also number is_asked = is_asked || list_any (λ other. other == number) also
 
--- arrows are those of the records that are asked for, and of those with these numbers, in order, each once
+-- arrows are those of the records that are asked for, and of those with these numbers, in order, each once, and with the record in
+-- which the delivery began whose outcome it tells, by all the records in front of it
 abbrev pub AreAsked : Choice → List ℕ → List Viewed → List Shown → Type 0
 AreAsked choice also [] arrows = arrows ≡ []
 AreAsked choice also (view ∷ past) arrows =
     (is_asked : Bool) × (before : List Shown) × IsAnswer choice (view ∷ past) view is_asked × AreAsked choice also past before
-    × (arrows ≡ (if is_drawn also view.number is_asked then before ++ shown_of view ∷ [] else before))
+    × (arrows ≡ (if is_drawn also view.number is_asked then before ++ shown_of view (outcome_told past view) ∷ [] else before))

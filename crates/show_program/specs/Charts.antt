@@ -8,6 +8,7 @@ use Rattle.capture_view.specs.Tables.{StandsFor}
 use Rattle.capture_words.specs.declared.ending.Ending.{Ending}
 use Rattle.capture_words.specs.declared.ending.Ending.TheVariants.{Whole, Malformed, NoMemory, Unreadable}
 use Rattle.capture_words.specs.Taken.{views_of}
+use Rattle.capture_chart.specs.Outcomes as outcomes
 use Rattle.capture_chart.specs.Marks.{Marking}
 use Rattle.capture_chart.specs.Shown.{Shown, Worded, arrows_of, shown_in}
 use Rattle.capture_chart.specs.Drawn.{HasArrows}
@@ -17,10 +18,11 @@ use Rattle.refusal_showing.specs.Explained.{compared_of, refused_by, verdict_of}
 use Rattle.show_program.specs.declared.marked.TheConstants.{BEHIND, IN_FRONT}
 use Rattle.show_program.specs.Asked.{AreAsked}
 
--- after these records, the newest first: it asks for these, knows the links, and unless there were too many it has the arrows of
--- those that are asked for and of those with these numbers
+-- after these records, the newest first: it asks for these, knows the links and the deliveries whose outcomes are to be told, and
+-- unless there were too many it has the arrows of those that are asked for and of those with these numbers
 pub record HasAsked (choice : Choice) (also : List ℕ) (charted : Charted) (past : List Viewed) : Type 0 where
   pub names : StandsFor charted.asked.names past
+  pub outcomes : outcomes.StandsFor charted.outcomes past
   pub asks : charted.asked.choice ≡ choice
   pub draws : charted.also.now ≡ also
   pub arrows : charted.is_full ≡ false → AreAsked choice also past (arrows_of charted.chart)

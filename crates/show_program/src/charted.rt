@@ -12,7 +12,7 @@ ghost use Rattle.capture_chart.specs.Marks.{marking};
 ghost use Rattle.show_program.specs.Charts.{DrawsAsked, DrawsMarked, HasAsked};
 
 use crate::asked::Asked;
-use capture_chart::{Chart, ChartFault, Marks};
+use capture_chart::{Chart, ChartFault, Marks, Outcomes};
 use capture_form::Reader;
 use capture_view::{Choice, RecordView, view_of};
 use capture_words::Ending;
@@ -25,6 +25,8 @@ struct Charted<'a> {
     asked: Asked<'a>,
     /// The numbers of those that have one whichever are asked for.
     also: &'a [u64],
+    /// The deliveries whose outcomes are to be told.
+    outcomes: Outcomes,
     chart: Chart,
     /// More were asked for than a chart may have.
     is_full: bool,
@@ -61,8 +63,9 @@ impl Charted<'_> {
         ensures { OnOk result ((choice : Choice) (also : List ℕ) → TakesOneMore (HasAsked choice also) self.old self.new (viewed view.now)) }
     {
         let is_asked = self.asked.take(view)?;
+        let told = self.outcomes.take(view)?;
         let is_drawn = self.is_drawn(view, is_asked);
-        self.add(view, is_drawn)?;
+        self.add(view, told, is_drawn)?;
         Ok(())
     }
 
@@ -73,12 +76,19 @@ impl Charted<'_> {
         is_asked || self.also.contains(&view.number)
     }
 
-    /// Adds the arrow of a record that has one, or notes that it would be one too many.
-    fn add(&mut self, view: &RecordView<'_>, is_drawn: bool) -> Result<(), AllocError>
+    /// Adds the arrow of a record that has one, and tells the outcome of the delivery that begins in this record, or notes that it
+    /// would be one too many.
+    fn add(
+        &mut self,
+        view: &RecordView<'_>,
+        told: Option<u64>,
+        is_drawn: bool,
+    ) -> Result<(), AllocError>
         ensures asked { self.new.asked ≡ self.old.asked }
         ensures also { self.new.also ≡ self.old.also }
+        ensures outcomes { self.new.outcomes ≡ self.old.outcomes }
         ensures few { OnOk result (self.new.is_full ≡ false → self.old.is_full ≡ false) }
-        ensures arrows { OnOk result (self.new.is_full ≡ false → arrows_of self.new.chart ≡ (if is_drawn then arrows_of self.old.chart ++ shown_of (viewed view.now) ∷ [] else arrows_of self.old.chart)) }
+        ensures arrows { OnOk result (self.new.is_full ≡ false → arrows_of self.new.chart ≡ (if is_drawn then arrows_of self.old.chart ++ shown_of (viewed view.now) told ∷ [] else arrows_of self.old.chart)) }
     {
         if !is_drawn {
             return Ok(());
@@ -87,7 +97,7 @@ impl Charted<'_> {
             return Ok(());
         }
         let (link, has_session) = (self.asked.link_of(view), self.asked.has_session_of(view));
-        match self.chart.take(view, link, has_session) {
+        match self.chart.take(view, link, has_session, told) {
             Ok(()) => Ok(()),
             Err(ChartFault::Full) => {
                 self.is_full = true;
@@ -116,7 +126,8 @@ where
     ensures ending { IfOk result (λ drawn. IfSome (R.remaining input) (λ octets. EndsText octets drawn.ending)) }
     // What is drawn is an SVG.
     ensures document { IfOk result (λ drawn. IsSvg (string_bytes drawn.text)) }
-    // Under the title it has the arrows of the records that are asked for, in order, each once, and none of them is marked.
+    // Under the title it has the arrows of the records that are asked for, in order, each once, and none of them is marked. To an
+    // arrow whose record tells an outcome comes a line from the delivery's, where that is asked for too.
     ensures arrows { IfOk result (λ drawn. DrawsAsked title.now choice.entry (R.remaining input) drawn.ending (string_bytes drawn.text)) }
 {
     let marks = Marks {
@@ -148,10 +159,12 @@ where
     ensures arrows { IfOk result (λ drawn. DrawsMarked title.now (marking marks.entry) choice.entry also.now (R.remaining input) drawn.ending (string_bytes drawn.text)) }
 {
     let asked = Asked::new(alloc, choice);
+    let outcomes = Outcomes::new(alloc);
     let chart = Chart::new(alloc);
     let mut charted = Charted {
         asked,
         also,
+        outcomes,
         chart,
         is_full: false,
     };

@@ -1,6 +1,6 @@
 //! A capture, drawn.
 
-use capture_chart::{Chart, Marks};
+use capture_chart::{Chart, Marks, Outcomes};
 use capture_form::{Record, read_capture};
 use capture_view::{Names, view_of};
 use std::alloc::{AllocError, Global};
@@ -13,8 +13,9 @@ pub fn chart_of(alloc: Global, title: &str, octets: &[u8]) -> Result<Option<Stri
     };
     let mut chart = Chart::new(alloc);
     let mut names = Names::new(alloc);
+    let mut outcomes = Outcomes::new(alloc);
     for (number, entry) in capture.records().iter().enumerate() {
-        if !take(&mut chart, &mut names, number as u64, entry)? {
+        if !take(&mut chart, &mut names, &mut outcomes, number as u64, entry)? {
             return Ok(None);
         }
     }
@@ -29,15 +30,17 @@ pub fn chart_of(alloc: Global, title: &str, octets: &[u8]) -> Result<Option<Stri
 fn take(
     chart: &mut Chart,
     names: &mut Names,
+    outcomes: &mut Outcomes,
     number: u64,
     entry: &Record,
 ) -> Result<bool, AllocError> {
     let view = view_of(number, entry);
     names.take(&view)?;
+    let told = outcomes.take(&view)?;
     let has_session = names.has_session_of(&view);
     Ok(
         chart
-            .take(&view, names.named_by(&view), has_session)
+            .take(&view, names.named_by(&view), has_session, told)
             .is_ok(),
     )
 }

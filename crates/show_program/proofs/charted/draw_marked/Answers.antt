@@ -14,7 +14,7 @@ returns-in-Ok-clause-arrows g c =
     let charted = c.read_all-ending.new.charted in
     let asks = c.new-asked.result.choice in
     let also = c.args.also.now in
-    let all = asked_all asks also known ending _ charted c.if-charted.false (record { names = c.new-asked.ensures.names; asks = refl; draws = refl; arrows = λ few. c.new-chart.ensures }) c.read_all-ending.ensures.taken in
+    let all = asked_all asks also known ending _ charted c.if-charted.false (record { names = c.new-asked.ensures.names; outcomes = c.new-outcomes.ensures; asks = refl; draws = refl; arrows = λ few. c.new-chart.ensures }) c.read_all-ending.ensures.taken in
     record {
       arrows = worded_of charted.chart;
       drawn = c.in-Ok.ensures.arrows;
