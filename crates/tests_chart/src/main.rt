@@ -1,6 +1,7 @@
 //! Draws the captures of the folder that the program runs in, `data/` here, in the order of their names, texts that would
 //! break a document if they were written as they are, and curves of what stood behind the records of captures. In
-//! `names.cap` a client gives its links such names, and sends octets that are no frames. A line of `curves.cases` names a
+//! `names.cap` a client gives its links such names, and sends octets that are no frames. In `outcomes.cap`, which no router
+//! wrote, ids of deliveries are used again, and told of three deliveries and of none. A line of `curves.cases` names a
 //! capture and the consumer's link that is picked of it; in `curves/reopened.cap` that link is drained, detached and opened
 //! again. Of the 1,500 levels of `levels.cases` two share a column, and in some columns one of the two is an extreme.
 //!
