@@ -134,8 +134,9 @@ is read.
 Of --pcapng, --chart, --credit, --why and --summary one may be given, or --chart and --why. But for --chart each is of the whole capture, whichever \
 records are asked for; for --credit, --connection and --link choose the link.
 
-A chart is an SVG: a lane for the router and one for each connection, and for each record that is asked for an arrow. It has \
-2000 records at most; where more are asked for there is no file.
+A chart is an SVG: a lane for the router and one for each connection, and for each record that is asked for an arrow. Thin lines \
+go from a delivery of a client to the transfers that carry it, and to its outcome, where these are asked for too. It has 2000 \
+records at most; where more are asked for there is no file.
 
 With --chart and --why the capture is audited, and standard output and the status are those of --why; in OUT the record that is \
 refused is red, and those that it is compared with are marked too, where they are asked for. Where a capture with a refused \
