@@ -1,5 +1,5 @@
 -- What holds of an engine that serves, behind a call more.
-use Rattle.std.proofs.Common.{◌≡◌, ◌≢◌, ℕ, ◌⊎◌, Bool, true, false, List, [], ◌∷◌, ◌++◌, take, drop, refl, sym, ap, ◌∙◌, subst, inl, inr, append_assoc, Option, Some, None, Result, Ok, Err, arith, ◌<◌, ◌+◌, length}
+use Rattle.std.proofs.Common.{◌≡◌, ◌≢◌, ℕ, ◌⊎◌, Bool, true, false, List, [], ◌∷◌, ◌++◌, take, drop, refl, sym, ap, ◌∙◌, subst, inl, inr, append_assoc, Option, Some, None, Result, Ok, Err, arith, ◌+◌}
 use Rattle.std.specs.List.{concat}
 use Rattle.std.proofs.lemmas.List.{append-nil, take-append-drop}
 use Rattle.capture_form.specs.declared.records.What.{What}
@@ -14,21 +14,19 @@ use Rattle.conn_engine.specs.declared.fault.EngineFault.TheVariants as faults
 use Rattle.conn_engine.specs.declared.place.Loss.TheVariants.{Untold, Told, Refused}
 use Rattle.conn_engine.specs.declared.place.Place.{Place}
 use Rattle.conn_engine.specs.declared.place.Place.TheVariants.{Reading, Closing, Over}
-use Rattle.conn_engine.specs.declared.marks.Marks.{Marks}
 use Rattle.conn_engine.specs.Closing.{is_over, place_given}
 use Rattle.conn_engine.specs.Lacing.{IsPut}
 use Rattle.conn_engine.specs.Marks.{marks_left, no_marks}
-use Rattle.conn_engine.specs.Silence.{empty_frame, is_asked, no_silence, silence_given, time_out_after}
+use Rattle.conn_engine.specs.Silence.{empty_frame, is_asked, no_silence, silence_given}
 use Rattle.conn_engine.specs.Serving.{Connection}
 use Rattle.conn_engine.specs.Feeding.{AfterPiece, AfterSteps, FedAt, StopsFor, Went, and_piece, items_at_fault, place_after, place_at_fault, talk_of}
 use Rattle.conn_engine.specs.Taking.{AfterLoss, Refilled, is_loss_due}
-use Rattle.conn_engine.specs.Ticking.{AfterTick, patience_of, ticked}
+use Rattle.conn_engine.specs.Ticking.{AfterTick, patience_of}
 use Rattle.conn_engine.proofs.FedOn.{items_on, piece_unkept, steps_on}
 use Rattle.conn_engine.proofs.GivenOn.{behind_on, is_open, octets_on, open_stays, put_on, put_refilled, put_ticked, refilled_behind, stop_unsaid}
 use Rattle.conn_engine.proofs.LacedOn.{put_left, put_none, unlaced}
 use Rattle.conn_engine.proofs.TimeOuts.{asks_on, time_out_on}
-use Rattle.conn_serving.specs.declared.serving.Stop.{Stop}
-use Rattle.conn_serving.specs.Streams.{IsStopped, IsStream, IsTurnedAway, IsUnfinished, loss_at}
+use Rattle.conn_serving.specs.Streams.{IsStopped, IsTurnedAway, IsUnfinished, loss_at}
 use Rattle.conn_serving.specs.Served.{IsOverFor, IsServing, stop_of}
 use Rattle.conn_serving.proofs.Closes.{closing_given, over_given, over_on, reading_given}
 

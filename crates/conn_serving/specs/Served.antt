@@ -1,6 +1,6 @@
 -- What a device and its engine come to, turn by turn.
-use Rattle.std.specs.Prelude.{◌≡◌, ℕ, ◌⊎◌, Bool, true, List, [], ◌∷◌, ◌++◌, Option, Some, None, Result, Ok, Err}
-use Rattle.std.specs.List.{list_any}
+use Rattle.std.specs.Prelude.{◌≡◌, ℕ, ◌⊎◌, Bool, true, List, [], ◌++◌, Option, Some, None, Result, Ok, Err}
+use Rattle.std.specs.List.{concat, list_any}
 use Rattle.capture_form.specs.declared.records.What.{What}
 use Rattle.stream_reading.specs.declared.step.Phase.TheVariants as phases
 use Rattle.stream_reading.specs.Steps.{Ahead}
@@ -13,6 +13,7 @@ use Rattle.conn_engine.specs.Lacing.{IsPut}
 use Rattle.conn_engine.specs.Said.{is_close}
 use Rattle.conn_engine.specs.Serving.{Connection}
 use Rattle.conn_engine.specs.Silence.{is_asked, time_out_after}
+use Rattle.conn_serving.specs.declared.script.Script.{Script}
 use Rattle.conn_serving.specs.declared.serving.Status.{Status}
 use Rattle.conn_serving.specs.declared.serving.Status.TheVariants.{Open, Ended, Failed}
 use Rattle.conn_serving.specs.declared.serving.Stop.{Stop}
@@ -21,6 +22,7 @@ use Rattle.conn_serving.specs.declared.serving.Turn.{Turn}
 use Rattle.conn_serving.specs.declared.serving.Turn.TheVariants as turns
 use Rattle.conn_serving.specs.declared.serving.Motion.{Motion}
 use Rattle.conn_serving.specs.declared.serving.Motion.TheVariants.{Moved, Still, Gone}
+use Rattle.conn_serving.specs.Scripts.{StandsFor, octets_taken}
 use Rattle.conn_serving.specs.Streams.{IsStopped, IsStream, IsTurnedAway, IsUnfinished, IsWritten, loss_at}
 
 -- ---- an engine that serves
@@ -52,14 +54,20 @@ pub record IsServing (e : Connection) (octets taken : List ℕ) : Type 0 where
   pub behind : (e.ahead.phase ≡ phases.Open) ⊎ (e.frames ≡ [])
   pub over : IsOverFor e.place e.ahead e.frames
 
+-- the same, and a script stands for the octets that the device took
+pub record IsNoted (e : Connection) (script : Script) (octets taken : List ℕ) : Type 0 where
+  pub serving : IsServing e octets taken
+  pub stands : StandsFor script (concat e.frames) taken e.waiting
+
 -- ---- a gate and its engine
 
--- the engine was fed what the gate delivered, and the gate took these octets of it
-pub record IsOpen {G : Type 0} (Delivered Took : G → List ℕ → Type 0) (gate : G) (e : Connection) (taken : List ℕ) : Type 0 where
+-- the engine was fed what the gate delivered, and the gate took the octets of it for which the script stands
+pub record IsOpen {G : Type 0} (Delivered Took : G → List ℕ → Type 0) (gate : G) (e : Connection) (script : Script) : Type 0 where
   pub octets : List ℕ
+  pub taken : List ℕ
   pub delivered : Delivered gate octets
   pub took : Took gate taken
-  pub serving : IsServing e octets taken
+  pub noted : IsNoted e script octets taken
 
 -- why a connection has ended: its gate answered End or Fault; or its engine was over, since the client was turned away, or
 -- since a close is among the frames and the gate took them all
@@ -85,10 +93,10 @@ pub record IsServed {G : Type 0} (Delivered Took : G → List ℕ → Type 0) (e
   pub cause : HasCause (ended gate) ahead frames waiting
 
 -- what holds of a line, by how far it is
-abbrev pub LineHolds : {G : Type 0} → (G → List ℕ → Type 0) → (G → List ℕ → Type 0) → (G → Bool) → Status → G → Connection → List ℕ → Type 0
-LineHolds Delivered Took ended Open gate e taken = IsOpen Delivered Took gate e taken
-LineHolds Delivered Took ended Ended gate e taken = IsServed Delivered Took ended gate e.items e.frames taken
-LineHolds Delivered Took ended Failed gate e taken = Unit {0}
+abbrev pub LineHolds : {G : Type 0} → (G → List ℕ → Type 0) → (G → List ℕ → Type 0) → (G → Bool) → Status → G → Connection → Script → Type 0
+LineHolds Delivered Took ended Open gate e script = IsOpen Delivered Took gate e script
+LineHolds Delivered Took ended Ended gate e script = IsServed Delivered Took ended gate e.items e.frames (octets_taken script e.frames)
+LineHolds Delivered Took ended Failed gate e script = Unit {0}
 
 -- how far it is behind a turn
 abbrev pub status_after : Turn → Status

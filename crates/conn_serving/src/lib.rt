@@ -2,8 +2,14 @@
 //!
 //! A turn takes the router's frames and tells the engine the moment, writes what waits, reads where the engine takes more, and ends
 //! the connection where its gate has ended or failed, or its engine is over and all is given. Whoever calls it decides when, and waits in between.
+//!
+//! Which octets the gate took, a `Script` tells together with the frames of the engine's port, so that these are not kept once
+//! more.
 #![tactic(auto)]
 
+mod noting;
+mod script;
 mod serving;
 
+pub use script::Script;
 pub use serving::{Status, Stop, Turn, serve};

@@ -4,9 +4,12 @@ ghost use Rattle.std.specs.Prelude.{◌≡◌, ◌≤◌, ◌<◌, ◌++◌, ◌
 ghost use Rattle.conn_engine.specs.Closing.{is_over};
 ghost use Rattle.conn_serving.specs.declared.serving.Status.TheVariants.{Open};
 ghost use Rattle.conn_serving.specs.declared.serving.Motion.TheVariants as motions;
-ghost use Rattle.conn_serving.specs.Served.{IsOpen, IsServed, LineHolds, either_motion, status_after, stop_of};
+ghost use Rattle.conn_serving.specs.Scripts.{octets_taken};
+ghost use Rattle.conn_serving.specs.Served.{IsOpen, IsServed, LineHolds, either_motion, status_after};
 
-use conn_engine::{Delivered, Engine, EngineFault, Gate, Port, Taken};
+use crate::noting::{feed, gave, refill, stop_of, tick};
+use crate::script::Script;
+use conn_engine::{Delivered, Engine, Gate, Port, Taken};
 
 /// How far a connection is.
 #[derive(Clone, Copy, Debug, PartialEq, Eq)]
@@ -62,22 +65,22 @@ pub(crate) enum Motion {
 pub fn serve<G: Gate, P: Port>(
     gate: &mut G,
     engine: &mut Engine<P>,
-    taken: &mut Vec<u8>,
+    script: &mut Script,
     buffer: &mut [u8],
 ) -> Result<Turn, Stop>
     requires { 0 < length buffer.old }
-    ensures holds { IfOk result (λ turn. IsOpen G.delivered G.took gate.old engine.old taken.old.items → LineHolds G.delivered G.took G.has_ended (status_after turn) gate.new engine.new taken.new.items) }
+    ensures holds { IfOk result (λ turn. IsOpen G.delivered G.took gate.old engine.old script.old → LineHolds G.delivered G.took G.has_ended (status_after turn) gate.new engine.new script.new) }
     ensures follows { G.follows gate.old gate.new }
     ensures number { engine.new.number ≡ engine.old.number }
 {
-    let motion = match advance(gate, engine, taken, buffer) {
+    let motion = match advance(gate, engine, script, buffer) {
         Ok(motion) => motion,
         Err(stop) => return Err(stop),
     };
     if let Some(turn) = going_on(motion, engine) {
         return Ok(turn);
     }
-    match end(gate, engine, taken) {
+    match end(gate, engine, script) {
         Ok(()) => Ok(Turn::Ended),
         Err(stop) => Err(stop),
     }
@@ -87,37 +90,33 @@ pub fn serve<G: Gate, P: Port>(
 fn advance<G: Gate, P: Port>(
     gate: &mut G,
     engine: &mut Engine<P>,
-    taken: &mut Vec<u8>,
+    script: &mut Script,
     buffer: &mut [u8],
 ) -> Result<Motion, Stop>
     requires { 0 < length buffer.old }
-    ensures holds { OnOk result (IsOpen G.delivered G.took gate.old engine.old taken.old.items → IsOpen G.delivered G.took gate.new engine.new taken.new.items) }
+    ensures holds { OnOk result (IsOpen G.delivered G.took gate.old engine.old script.old → IsOpen G.delivered G.took gate.new engine.new script.new) }
     ensures ended { result ≡ Ok motions.Gone → G.has_ended gate.new ≡ true }
     ensures follows { G.follows gate.old gate.new }
     ensures number { engine.new.number ≡ engine.old.number }
 {
-    match take_frames(gate, engine, taken) {
-        Ok(()) => move_octets(gate, engine, taken, buffer),
+    match take_frames(gate, engine, script) {
+        Ok(()) => move_octets(gate, engine, script, buffer),
         Err(stop) => Err(stop),
     }
 }
 
-/// Takes frames for the gate, and tells the engine the moment, which may place an empty one where there are none. The octets
-/// that were taken stand here for the contract alone.
+/// Takes frames for the gate, and tells the engine the moment, which may place an empty one where there are none.
 fn take_frames<G: Gate, P: Port>(
     gate: &G,
     engine: &mut Engine<P>,
-    _taken: &Vec<u8>,
+    script: &mut Script,
 ) -> Result<(), Stop>
-    ensures holds { OnOk result (IsOpen G.delivered G.took gate.now engine.old _taken.now.items → IsOpen G.delivered G.took gate.now engine.new _taken.now.items) }
+    ensures holds { OnOk result (IsOpen G.delivered G.took gate.now engine.old script.old → IsOpen G.delivered G.took gate.now engine.new script.new) }
     ensures number { engine.new.number ≡ engine.old.number }
 {
-    let Ok(()) = engine.refill() else {
-        return Err(Stop::Memory);
-    };
-    match engine.tick(gate.now()) {
-        Ok(_) => Ok(()),
-        Err(_) => Err(Stop::Memory),
+    match refill(engine, script) {
+        Ok(()) => tick(engine, gate.now(), script),
+        Err(stop) => Err(stop),
     }
 }
 
@@ -125,22 +124,22 @@ fn take_frames<G: Gate, P: Port>(
 fn move_octets<G: Gate, P: Port>(
     gate: &mut G,
     engine: &mut Engine<P>,
-    taken: &mut Vec<u8>,
+    script: &mut Script,
     buffer: &mut [u8],
 ) -> Result<Motion, Stop>
     requires { 0 < length buffer.old }
-    ensures holds { OnOk result (IsOpen G.delivered G.took gate.old engine.old taken.old.items → IsOpen G.delivered G.took gate.new engine.new taken.new.items) }
+    ensures holds { OnOk result (IsOpen G.delivered G.took gate.old engine.old script.old → IsOpen G.delivered G.took gate.new engine.new script.new) }
     ensures ended { result ≡ Ok motions.Gone → G.has_ended gate.new ≡ true }
     ensures follows { G.follows gate.old gate.new }
     ensures number { engine.new.number ≡ engine.old.number }
 {
-    match write_out(gate, engine, taken) {
+    match write_out(gate, engine, script) {
         Ok(Motion::Gone) => Ok(Motion::Gone),
         Ok(wrote) => {
             if engine.is_over() {
                 return Ok(wrote);
             }
-            match read_in(gate, engine, taken, buffer) {
+            match read_in(gate, engine, script, buffer) {
                 Ok(read) => Ok(either_motion(wrote, read)),
                 Err(stop) => Err(stop),
             }
@@ -150,26 +149,23 @@ fn move_octets<G: Gate, P: Port>(
 }
 
 /// Shows the gate what waits. It is gone where the gate failed.
-#[tactic(auto, using(crate::proofs::ServedOn::open_written, crate::proofs::ServedOn::open_kept))]
+#[tactic(auto, using(crate::proofs::ServedOn::open_kept))]
 fn write_out<G: Gate, P: Port>(
     gate: &mut G,
     engine: &mut Engine<P>,
-    taken: &mut Vec<u8>,
+    script: &mut Script,
 ) -> Result<Motion, Stop>
-    ensures holds { OnOk result (IsOpen G.delivered G.took gate.old engine.old taken.old.items → IsOpen G.delivered G.took gate.new engine.new taken.new.items) }
+    ensures holds { OnOk result (IsOpen G.delivered G.took gate.old engine.old script.old → IsOpen G.delivered G.took gate.new engine.new script.new) }
     ensures ended { result ≡ Ok motions.Gone → G.has_ended gate.new ≡ true }
     ensures follows { G.follows gate.old gate.new }
     ensures number { engine.new.number ≡ engine.old.number }
 {
-    let Ok(()) = taken.reserve(engine.give().len()) else {
+    if !script.has_room(engine.give().len()) {
         return Err(Stop::Memory);
-    };
+    }
     match gate.write(engine.give()) {
         Taken::Took(n) => {
-            let Ok(()) = taken.extend_from_slice(&engine.give()[..n]) else {
-                unreachable!()
-            };
-            engine.gave(n);
+            gave(engine, n, script);
             Ok(motion_of(n))
         }
         Taken::Nothing => Ok(Motion::Still),
@@ -178,24 +174,24 @@ fn write_out<G: Gate, P: Port>(
 }
 
 /// Feeds the engine what the gate delivers. It is gone where the gate ended or failed.
-#[tactic(auto, using(crate::proofs::ServedOn::open_fed, crate::proofs::ServedOn::open_kept))]
+#[tactic(auto, using(crate::proofs::ServedOn::open_kept))]
 fn read_in<G: Gate, P: Port>(
     gate: &mut G,
     engine: &mut Engine<P>,
-    taken: &Vec<u8>,
+    script: &mut Script,
     buffer: &mut [u8],
 ) -> Result<Motion, Stop>
     requires going { is_over engine.old.place ≡ false }
     requires room { 0 < length buffer.old }
-    ensures holds { OnOk result (IsOpen G.delivered G.took gate.old engine.old taken.now.items → IsOpen G.delivered G.took gate.new engine.new taken.now.items) }
+    ensures holds { OnOk result (IsOpen G.delivered G.took gate.old engine.old script.old → IsOpen G.delivered G.took gate.new engine.new script.new) }
     ensures ended { result ≡ Ok motions.Gone → G.has_ended gate.new ≡ true }
     ensures follows { G.follows gate.old gate.new }
     ensures number { engine.new.number ≡ engine.old.number }
 {
     match gate.read(buffer) {
-        Delivered::Octets(n) => match stop_of(engine.feed(&buffer[..n])) {
-            None => Ok(motion_of(n)),
-            Some(stop) => Err(stop),
+        Delivered::Octets(n) => match feed(engine, &buffer[..n], script) {
+            Ok(()) => Ok(motion_of(n)),
+            Err(stop) => Err(stop),
         },
         Delivered::Nothing => Ok(Motion::Still),
         Delivered::End | Delivered::Fault => Ok(Motion::Gone),
@@ -207,9 +203,9 @@ fn read_in<G: Gate, P: Port>(
 /// # Errors
 ///
 /// `Memory` or `Core`, where the router did not take it.
-fn end<G: Gate, P: Port>(gate: &mut G, engine: &mut Engine<P>, taken: &Vec<u8>) -> Result<(), Stop>
+fn end<G: Gate, P: Port>(gate: &mut G, engine: &mut Engine<P>, script: &Script) -> Result<(), Stop>
     requires { (G.has_ended gate.old ≡ true) ⊎ ((is_over engine.old.place ≡ true) × (engine.old.waiting ≡ [])) }
-    ensures holds { OnOk result (IsOpen G.delivered G.took gate.old engine.old taken.now.items → IsServed G.delivered G.took G.has_ended gate.new engine.new.items engine.new.frames taken.now.items) }
+    ensures holds { OnOk result (IsOpen G.delivered G.took gate.old engine.old script.now → IsServed G.delivered G.took G.has_ended gate.new engine.new.items engine.new.frames (octets_taken script.now engine.new.frames)) }
     ensures follows { G.follows gate.old gate.new }
     ensures number { engine.new.number ≡ engine.old.number }
 {
@@ -255,23 +251,5 @@ fn either_motion(wrote: Motion, read: Motion) -> Motion
     match read {
         Motion::Still => wrote,
         Motion::Moved | Motion::Gone => read,
-    }
-}
-
-/// Why a worker does not go on behind an engine's answer. That the octets are refused or no frames is no reason: the client
-/// is answered then, and its connection closed.
-fn stop_of(answer: Result<(), EngineFault>) -> Option<Stop>
-    ensures { result ≡ stop_of answer }
-{
-    match answer {
-        Err(EngineFault::Port(_)) => Some(Stop::Core),
-        Err(EngineFault::Memory) => Some(Stop::Memory),
-        Ok(())
-        | Err(
-            EngineFault::HeaderRefused
-            | EngineFault::Frame
-            | EngineFault::SaslRefused
-            | EngineFault::Over,
-        ) => None,
     }
 }

@@ -5,59 +5,62 @@ ghost use Rattle.conn_serving.specs.declared.serving.Status.TheVariants.{Ended};
 
 use crate::line::{Line, Origin};
 use conn_engine::Gate;
+use conn_serving::Script;
 use core_exchange::{ExchangePort, Seat};
 use std::marker::{Model, PhantomData};
 use std::snapshot::Snapshot;
 use std::sync::Wait;
 
-/// A gate that was shut, the octets that it took, and its seat. Contracts see it as the seat.
+/// A gate that was shut, the script of the octets that it took, and its seat. Contracts see it as the seat.
 #[derive(Drop)]
 pub(crate) struct Done<G: Gate, J: Origin<G>> {
     gate: G,
-    taken: Vec<u8>,
+    script: Script,
     seat: Seat,
     origin: PhantomData<J>,
 }
 
 impl<G: Gate, J: Origin<G>> Model for Done<G, J> {
     ghost use Rattle.core_exchange.specs.declared.seat.Seat.{Seat};
+    ghost use Rattle.conn_serving.specs.Scripts.{octets_taken};
     ghost use Rattle.conn_workers.specs.Lines.{IsDone};
 
     ghost Value = { Seat };
 
     ghost view = { λ d. d.seat };
 
-    ghost invariant = { λ d. IsDone J.gates G.follows G.delivered G.took G.has_ended d.gate d.taken.items d.seat };
+    ghost invariant = { λ d. IsDone J.gates G.follows G.delivered G.took G.has_ended d.gate (octets_taken d.script d.seat.frames.items) d.seat };
 }
 
 /// The same without the seat, which contracts still see.
 #[derive(Drop)]
 pub(crate) struct Part<G: Gate, J: Origin<G>> {
     gate: G,
-    taken: Vec<u8>,
+    script: Script,
     seat: Snapshot<Seat>,
     origin: PhantomData<J>,
 }
 
 impl<G: Gate, J: Origin<G>> Model for Part<G, J> {
     ghost use Rattle.core_exchange.specs.declared.seat.Seat.{Seat};
+    ghost use Rattle.conn_serving.specs.Scripts.{octets_taken};
     ghost use Rattle.conn_workers.specs.Lines.{IsDone};
 
     ghost Value = { Seat };
 
     ghost view = { λ p. p.seat.value };
 
-    ghost invariant = { λ p. IsDone J.gates G.follows G.delivered G.took G.has_ended p.gate p.taken.items p.seat.value };
+    ghost invariant = { λ p. IsDone J.gates G.follows G.delivered G.took G.has_ended p.gate (octets_taken p.script p.seat.value.frames.items) p.seat.value };
 }
 
 impl<G: Gate, J: Origin<G>> Done<G, J> {
     pub(crate) fn new<'a, R: Wait>(line: Line<G, ExchangePort<'a, R>, J>) -> Done<G, J>
         requires { line ≡ Ended }
     {
-        let (gate, taken, seat) = line.into_parts();
+        let (gate, script, seat) = line.into_parts();
         Done {
             gate,
-            taken,
+            script,
             seat,
             origin: PhantomData,
         }
@@ -75,7 +78,7 @@ impl<G: Gate, J: Origin<G>> Done<G, J> {
     {
         let Done {
             gate,
-            taken,
+            script,
             seat,
             origin,
         } = self;
@@ -83,7 +86,7 @@ impl<G: Gate, J: Origin<G>> Done<G, J> {
         (
             Part {
                 gate,
-                taken,
+                script,
                 seat: seen,
                 origin,
             },
@@ -93,18 +96,19 @@ impl<G: Gate, J: Origin<G>> Done<G, J> {
 }
 
 impl<G: Gate, J: Origin<G>> Part<G, J> {
+    ghost use Rattle.conn_serving.specs.Scripts.{octets_taken};
     ghost use Rattle.conn_workers.specs.Lines.{IsDone};
 
-    /// The gate, and the octets that it took.
-    pub(crate) fn opened(self) -> (G, Vec<u8>)
-        ensures { IsDone J.gates G.follows G.delivered G.took G.has_ended result.0 result.1.items self }
+    /// The gate, and the script of the octets that it took.
+    pub(crate) fn opened(self) -> (G, Script)
+        ensures { IsDone J.gates G.follows G.delivered G.took G.has_ended result.0 (octets_taken result.1 self.frames.items) self }
     {
         let Part {
             gate,
-            taken,
+            script,
             seat: _,
             origin: _,
         } = self;
-        (gate, taken)
+        (gate, script)
     }
 }

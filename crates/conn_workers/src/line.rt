@@ -2,11 +2,12 @@
 
 ghost use Rattle.std.specs.Prelude.{◌≡◌, ◌<◌, [], List, ℕ, length, map, IfOk, OnOk};
 ghost use Rattle.conn_serving.specs.declared.serving.Status.TheVariants.{Open, Ended};
+ghost use Rattle.conn_serving.specs.Scripts.{octets_taken};
 ghost use Rattle.conn_serving.specs.Served.{status_after};
 ghost use Rattle.conn_workers.specs.Lines.{IsDone};
 
 use conn_engine::{Engine, Gate, Port, Ready};
-use conn_serving::{Status, Stop, Turn, serve};
+use conn_serving::{Script, Status, Stop, Turn, serve};
 use core_exchange::{ExchangePort, Seat};
 use std::alloc::Global;
 use std::marker::{Model, PhantomData};
@@ -35,13 +36,13 @@ impl<G: Gate, J: Origin<G>> Model for Start<G, J> {
     ghost invariant = { λ s. (slice_get J.gates s.conn ≡ Some s.gate) × G.delivered s.gate [] × G.took s.gate [] };
 }
 
-/// A gate, its engine, and the octets that it took. Contracts see how far it is.
+/// A gate, its engine, and the script of the octets that it took. Contracts see how far it is.
 #[derive(Drop)]
 pub(crate) struct Line<G: Gate, P: Port, J: Origin<G>> {
     conn: u32,
     gate: G,
     engine: Engine<P>,
-    taken: Vec<u8>,
+    script: Script,
     status: Status,
     origin: PhantomData<J>,
 }
@@ -56,7 +57,7 @@ impl<G: Gate, P: Port, J: Origin<G>> Model for Line<G, P, J> {
 
     ghost view = { λ l. l.status };
 
-    ghost invariant = { λ l. IsFrom J.gates G.follows l.conn l.gate × (l.engine.number ≡ l.conn) × LineHolds G.delivered G.took G.has_ended l.status l.gate l.engine l.taken.items };
+    ghost invariant = { λ l. IsFrom J.gates G.follows l.conn l.gate × (l.engine.number ≡ l.conn) × LineHolds G.delivered G.took G.has_ended l.status l.gate l.engine l.script };
 }
 
 impl<G: Gate, J: Origin<G>> Start<G, J> {
@@ -95,7 +96,7 @@ impl<G: Gate, P: Port, J: Origin<G>> Line<G, P, J> {
             conn,
             gate,
             engine: Engine::new(alloc, conn, port),
-            taken: Vec::new(alloc),
+            script: Script::new(alloc),
             status: Status::Open,
             origin,
         }
@@ -112,7 +113,7 @@ impl<G: Gate, P: Port, J: Origin<G>> Line<G, P, J> {
         requires room { 0 < length buffer.old }
         ensures { IfOk result (λ turn. self.new ≡ status_after turn) }
     {
-        match serve(&mut self.gate, &mut self.engine, &mut self.taken, buffer) {
+        match serve(&mut self.gate, &mut self.engine, &mut self.script, buffer) {
             Ok(Turn::Ended) => {
                 self.status = Status::Ended;
                 Ok(Turn::Ended)
@@ -144,19 +145,19 @@ impl<G: Gate, P: Port, J: Origin<G>> Line<G, P, J> {
 }
 
 impl<'a, G: Gate, R: Wait, J: Origin<G>> Line<G, ExchangePort<'a, R>, J> {
-    /// The gate of a line that has ended, the octets that it took, and its seat.
-    pub(crate) fn into_parts(self) -> (G, Vec<u8>, Seat)
+    /// The gate of a line that has ended, the script of the octets that it took, and its seat.
+    pub(crate) fn into_parts(self) -> (G, Script, Seat)
         requires { self ≡ Ended }
-        ensures { IsDone J.gates G.follows G.delivered G.took G.has_ended result.0 result.1.items result.2 }
+        ensures { IsDone J.gates G.follows G.delivered G.took G.has_ended result.0 (octets_taken result.1 result.2.frames.items) result.2 }
     {
         let Line {
             conn: _,
             gate,
             engine,
-            taken,
+            script,
             status: _,
             origin: _,
         } = self;
-        (gate, taken, engine.into_port().into_seat())
+        (gate, script, engine.into_port().into_seat())
     }
 }

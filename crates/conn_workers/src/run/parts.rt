@@ -45,33 +45,37 @@ pub(super) fn together<G: Gate + Drop, J: Origin<G>>(
         let Some(part) = parts.pop() else {
             unreachable!()
         };
-        conns.push(reported(capture, seats.len(), part, seat))?;
+        let conn = reported(alloc, capture, seats.len(), part, seat)?;
+        conns.push(conn)?;
     }
     conns.reverse();
     Ok(conns)
 }
 
-/// The report of a gate and its seat. The capture and the number stand here for the contract alone.
+/// The report of a gate and its seat, whose frames are let go once the octets that the gate took are made of them. The capture
+/// and the number stand here for the contract alone.
 fn reported<G: Gate + Drop, J: Origin<G>>(
+    alloc: Global,
     _capture: &Capture,
     _k: usize,
     part: Part<G, J>,
     seat: Seat,
-) -> ConnReport<G>
+) -> Result<ConnReport<G>, AllocError>
     requires same { part ≡ seat }
     requires agrees { SeatAgrees _capture.now.records _k seat }
-    ensures { IsReported J.gates G.follows G.delivered G.took G.has_ended _capture.now.records _k result }
+    ensures { IfOk result (λ report. IsReported J.gates G.follows G.delivered G.took G.has_ended _capture.now.records _k report) }
 {
-    let (gate, taken) = part.opened();
+    let (gate, script) = part.opened();
     let Seat {
         conn,
         items,
-        frames: _,
+        frames,
     } = seat;
-    ConnReport {
+    let taken = script.octets(alloc, &frames)?;
+    Ok(ConnReport {
         conn,
         gate,
         items,
         taken,
-    }
+    })
 }
