@@ -1,5 +1,5 @@
 -- Seats and gates, taken from the back.
-use Rattle.std.proofs.Common.{◌≡◌, ℕ, ◌+◌, Bool, List, [], ◌∷◌, ◌++◌, length, take, drop, refl, ap, sym, ◌∙◌, subst, append_assoc, arith}
+use Rattle.std.proofs.Common.{◌≡◌, ℕ, ◌+◌, Bool, List, [], ◌∷◌, ◌++◌, length, drop, ap, sym, ◌∙◌, subst, append_assoc, arith}
 use mathlib.Core.List.{reverse}
 use Rattle.std.specs.List.{concat}
 use Rattle.std.proofs.lemmas.List.{reverse-append, take-append-drop}

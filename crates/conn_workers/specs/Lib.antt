@@ -1,3 +1,4 @@
+pub mod Octets
 pub mod Lines
 pub mod Reports
 pub mod Faults

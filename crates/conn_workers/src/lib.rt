@@ -18,5 +18,5 @@ mod run;
 mod work;
 
 pub use core_exchange::{Exchange, ExchangePort, Seat};
-pub use report::{ConnReport, RunFault, RunReport};
+pub use report::{ConnReport, RunFault, RunReport, TakenOctets};
 pub use run::run_workers;

@@ -96,5 +96,6 @@ fn is_front(
             octets.extend_from_slice(frame.octets())?;
         }
     }
-    Ok(octets.as_slice().starts_with(conn.taken.as_slice()))
+    let taken = conn.taken.octets(alloc)?;
+    Ok(octets.as_slice().starts_with(taken.as_slice()))
 }

@@ -6,7 +6,7 @@ ghost use Rattle.conn_workers.specs.Reports.{AreReported, IsReported};
 
 use crate::done::{Done, Part};
 use crate::line::Origin;
-use crate::report::ConnReport;
+use crate::report::{ConnReport, TakenOctets};
 use capture_form::Capture;
 use conn_engine::Gate;
 use core_exchange::Seat;
@@ -45,25 +45,22 @@ pub(super) fn together<G: Gate + Drop, J: Origin<G>>(
         let Some(part) = parts.pop() else {
             unreachable!()
         };
-        let conn = reported(alloc, capture, seats.len(), part, seat)?;
-        conns.push(conn)?;
+        conns.push(reported(capture, seats.len(), part, seat))?;
     }
     conns.reverse();
     Ok(conns)
 }
 
-/// The report of a gate and its seat, whose frames are let go once the octets that the gate took are made of them. The capture
-/// and the number stand here for the contract alone.
+/// The report of a gate and its seat. The capture and the number stand here for the contract alone.
 fn reported<G: Gate + Drop, J: Origin<G>>(
-    alloc: Global,
     _capture: &Capture,
     _k: usize,
     part: Part<G, J>,
     seat: Seat,
-) -> Result<ConnReport<G>, AllocError>
+) -> ConnReport<G>
     requires same { part ≡ seat }
     requires agrees { SeatAgrees _capture.now.records _k seat }
-    ensures { IfOk result (λ report. IsReported J.gates G.follows G.delivered G.took G.has_ended _capture.now.records _k report) }
+    ensures { IsReported J.gates G.follows G.delivered G.took G.has_ended _capture.now.records _k result }
 {
     let (gate, script) = part.opened();
     let Seat {
@@ -71,11 +68,10 @@ fn reported<G: Gate + Drop, J: Origin<G>>(
         items,
         frames,
     } = seat;
-    let taken = script.octets(alloc, &frames)?;
-    Ok(ConnReport {
+    ConnReport {
         conn,
         gate,
         items,
-        taken,
-    })
+        taken: TakenOctets::new(script, frames),
+    }
 }

@@ -1,4 +1,4 @@
-use Rattle.std.proofs.Common.{◌≡◌, ap}
+use Rattle.std.proofs.Common.{ap}
 use Rattle.conn_serving.proofs.ServedOn.{open_new}
 use Rattle.conn_workers.proofs.line.Line.new.Goals as goal
 

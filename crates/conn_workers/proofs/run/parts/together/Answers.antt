@@ -13,6 +13,6 @@ pub loop-seat-preserved : goal.loop-seat-preserved
 loop-seat-preserved g c = record {
   same = search rules;
   agree = (agree_pop _ _ _ _ c.in-Some.ensures.items c.loop-seat.invariant.agree).0;
-  each = more_reported g.J.Origin.gates g.G.Gate.follows g.G.Gate.delivered g.G.Gate.took g.G.Gate.has_ended _ _ _ (vec_len c.loop-seat.seats) _ (reverse c.loop-seat.conns.items) _ c.len.ensures (search rules) (reverse_push _ _ _ c.in_ok-push.ensures.items) c.in_ok-conn.ensures c.loop-seat.invariant.each;
+  each = more_reported g.J.Origin.gates g.G.Gate.follows g.G.Gate.delivered g.G.Gate.took g.G.Gate.has_ended _ _ _ (vec_len c.loop-seat.seats) _ (reverse c.loop-seat.conns.items) _ c.len.ensures (search rules) (reverse_push _ _ _ c.in_ok-push.ensures.items) c.reported.ensures c.loop-seat.invariant.each;
   count = search rules;
 }
