@@ -105,10 +105,14 @@ attach_of_other_mode : broken_of [] (join 0 ++ (from 0 (AnAttach (sends_to q)) �
 unfolding broken_of
 attach_of_other_mode = refl
 
--- a consumer of a multicast address is pre-settled, whatever it asked for
-attach_unsettled_to_multicast : broken_of (rule Multicast q ∷ []) (consumer 0 Mixed q) ≡ Some (6, L3)
+-- a consumer of a multicast address gets the mode that it asks for, as one of any other does
+attach_unsettled_to_multicast : broken_of (rule Multicast q ∷ []) (consumer 0 Mixed q) ≡ None
 unfolding broken_of
 attach_unsettled_to_multicast = refl
+
+attach_settled_unasked : broken_of (rule Multicast q ∷ []) (join 0 ++ (from 0 (AnAttach (receives_from q)) ∷ write 0 (written_to_consumer 0 (codes "l") 0 Settled First q false) ∷ [])) ≡ Some (6, L3)
+unfolding broken_of
+attach_settled_unasked = refl
 
 -- accepted though there is no target; refused; refused though there is nothing to refuse
 attach_of_faulty : broken_of [] (join 0 ++ (from 0 (AnAttach (bare Sender (Some 0))) ∷ write 0 (written_to_producer 0 (codes "l") 0 Mixed q) ∷ [])) ≡ Some (6, L3)

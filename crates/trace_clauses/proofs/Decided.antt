@@ -50,6 +50,10 @@ if-then : {A : Type 0} (b : Bool) (x : A) (test : A → Bool) → is_some_and (i
 if-then true x test e = refl
 if-then false x test e = absurd cc
 
+if-some : {A : Type 0} (b : Bool) (o : Option A) (test : A → Bool) → is_some_and (if b then o else None) test ≡ true → b ≡ true
+if-some true o test e = refl
+if-some false o test e = absurd cc
+
 anycast-paired : {A : Type 0} (multicast : Bool) (o : Option A) (test : A → Bool) (paired : Bool) → (is_some_and o test ≡ true → paired ≡ true) → is_some_and (if multicast then None else o) test ≡ true → paired ≡ true
 anycast-paired true o test paired h e = absurd cc
 anycast-paired false o test paired h e = h e
@@ -65,7 +69,7 @@ paired-by rules d past why test e =
 
 by-row : (rules : List RuleText) (d : Incoming) (past : List Event) (why : Why) (test : Option (List ℕ) → Bool) → is_some_and (row rules d past why) test ≡ true → is_waiting rules d past ≡ false
 by-row rules d past N test e = gone-apart rules d past (if-then (is_gone rules d past) _ test e)
-by-row rules d past M test e = not-waiting rules d past (inl (if-then (is_of_multicast rules d) _ test e))
+by-row rules d past M test e = not-waiting rules d past (inl (if-some (is_of_multicast rules d) _ test e))
 by-row rules d past C test e = paired-by rules d past C test e
 by-row rules d past Z test e = paired-by rules d past Z test e
 by-row rules d past S test e = paired-by rules d past S test e

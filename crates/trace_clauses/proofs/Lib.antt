@@ -39,6 +39,9 @@ pub mod CopiesCounted
 pub mod FirstSent
 pub mod OutcomesToTell
 pub mod PartsGoOn
+pub mod VerdictSteps
+pub mod AwaitedSteps
+pub mod OneCopy
 mod ClauseExamples
 mod FaultExamples
 mod ReadingExamples
@@ -46,3 +49,6 @@ mod PartsExamples
 mod EndExamples
 mod QueueExamples
 mod WorkExamples
+mod Copies
+mod VerdictExamples
+mod RowExamples

@@ -1,9 +1,10 @@
 -- The outcomes to tell, in a lawful history: how one event moves them, whatever it is.
-use Rattle.std.proofs.Common.{◌≡◌, refl, sym, ap, subst, ◌∙◌, ℕ, ◌≤◌, inl, inr, List, [], ◌∷◌, ◌++◌, length, Bool, true, false, not, ◌&&◌, ◌||◌, ◌==◌, Option, Some, None, IfSome, is_some, filter, reverse, find, if◌then◌else◌, arith, eqb-true, ne_eqb}
+use Rattle.std.proofs.Common.{◌≡◌, refl, sym, ap, subst, ◌∙◌, ℕ, ◌≤◌, inl, inr, List, [], ◌∷◌, ◌++◌, length, Bool, true, false, not, ◌&&◌, ◌||◌, ◌==◌, Option, Some, None, IfSome, is_some, option_map, filter, reverse, find, if◌then◌else◌, arith, eqb-true, ne_eqb}
 use Rattle.std.specs.Prelude.{Contains}
 use Rattle.std.specs.List.{cons_option, list_any}
 use Rattle.std.proofs.lemmas.List.{append-nil, reverse-append}
 use Rattle.std.proofs.lemmas.List.Elements.{filter-append}
+use Rattle.amqp_perf.specs.declared.descriptor.Outcome.{Outcome}
 use Rattle.amqp_perf.specs.declared.descriptor.Outcome.TheVariants.{Accepted, Released}
 use Rattle.amqp_perf.specs.Meaning.{DispositionFields, flag}
 use Rattle.amqp_perf.specs.Router.{delivery_failed}
@@ -27,7 +28,8 @@ use Rattle.trace_events.specs.Settling.{is_closed}
 use Rattle.trace_events.specs.Work.{decides_now, closes_incoming}
 use Rattle.trace_clauses.specs.Clauses.{first_broken, meaning_meets}
 use Rattle.trace_clauses.specs.Outcome.{bare_octets, fits_producer, outcome_octets, bare_outcome, is_sent_settled, paired_row, anycast_row, may_be_told, is_to_tell}
-use Rattle.trace_clauses.specs.Telling.{outcomes_to_tell, is_answered, has_outcome, answers_now, gets_outcome}
+use Rattle.trace_clauses.specs.BestVerdict.{told_octets, best_verdict, has_all_verdicts}
+use Rattle.trace_clauses.specs.Telling.{outcomes_to_tell, is_answered, has_outcome, answers_now, gets_last_verdict, gets_outcome}
 use Rattle.trace_clauses.specs.TransferClause.{may_go_to, to_carry, is_first_to, is_in_order}
 use Rattle.trace_events.proofs.Along.{and_first, and_last}
 use Rattle.trace_events.proofs.Judged.{AreJudged, AreBorn, IsBorn, IsTransfer, judged-born, judged-number, judged-transfer}
@@ -36,9 +38,11 @@ use Rattle.trace_events.proofs.OutgoingLinks.{answering-before, decision-begun}
 use Rattle.trace_events.proofs.OutgoingSteps.{ends_delivery, pairing-same, pairing-another, pairing-begun}
 use Rattle.trace_events.proofs.QueueSteps.{Each, filter-each, filter-reverse}
 use Rattle.trace_events.proofs.SettlingSteps.{is_decided-step, is_closed-step}
+use Rattle.trace_clauses.proofs.AwaitedSteps.{has_all-stays}
 use Rattle.trace_clauses.proofs.BegunDeliveries.{IsBegun, begun-own, begun-carries, begun-linked, begun-live, found-begun}
 use Rattle.trace_clauses.proofs.ClausesMet.{met, lawful-past}
 use Rattle.trace_clauses.proofs.IncomingProgress.{judged-kept}
+use Rattle.trace_clauses.proofs.Incomings.{at-step, judged-part, judged-sound}
 use Rattle.trace_clauses.proofs.LinkEnds.{is_live-next}
 use Rattle.trace_clauses.proofs.OneConsumer.{some-and, passes-some, or-right}
 use Rattle.trace_clauses.proofs.Pairs.{paired-not_gone, pairing-stays}
@@ -91,20 +95,26 @@ paired-rows d j past (Some fields) gone =
     either-of (fits_producer d (outcome_octets fields) past) (outcome_octets fields) (bare_outcome fields) _ ∙ sym (or-one gone (is_sent_settled j past))
 paired-rows d j past None gone = undecided-bits (is_sent_settled j past) (is_live past j.link) gone (Some (bare_octets Accepted)) (Some delivery_failed.octets) (Some (bare_octets Released))
 
-rows-by : (d : Incoming) (past : List Event) (many gone : Bool) (o : Option Outgoing)
-    → is_some (if many then None else anycast_row d past C o) || (is_some (if many then None else anycast_row d past Z o) || (is_some (if many then None else anycast_row d past S o)
-    || (is_some (if many then None else anycast_row d past L o) || (is_some (if gone then Some (Some (bare_octets Released)) else None) || (is_some (if many then Some (Some (bare_octets Accepted)) else None) || false)))))
-    ≡ many || gone || is_some_and o (is_answered past)
-rows-by d past true true o = refl
-rows-by d past true false o = refl
-rows-by d past false gone None = gone-bits gone (Some (bare_octets Released))
-rows-by d past false gone (Some j) = paired-rows d j past (decision j past) gone
+all-bits : (all : Bool) (told : Outcome) → is_some (option_map (λ outcome. Some (told_octets outcome)) (if all then Some told else None)) || false ≡ all
+all-bits true told = refl
+all-bits false told = refl
+
+-- m: of multicast, k: complete, p: what carries it has begun, h: its address always had a consumer; it is gone by these
+rows-by : (d : Incoming) (past : List Event) (m k p h all : Bool) (told : Outcome) (o : Option Outgoing)
+    → is_some (if m then None else anycast_row d past C o) || (is_some (if m then None else anycast_row d past Z o) || (is_some (if m then None else anycast_row d past S o)
+    || (is_some (if m then None else anycast_row d past L o) || (is_some (if not m && k && not p && not h then Some (Some (bare_octets Released)) else None)
+    || (is_some (if m then option_map (λ outcome. Some (told_octets outcome)) (if all then Some told else None) else None) || false)))))
+    ≡ (if m then all else not m && k && not p && not h || is_some_and o (is_answered past))
+rows-by d past true k p h all told o = all-bits all told
+rows-by d past false k p h all told None = gone-bits (k && not p && not h) (Some (bare_octets Released))
+rows-by d past false k p h all told (Some j) = paired-rows d j past (decision j past) (k && not p && not h)
 
 -- it has an outcome, and something is still to be told of it
 pub is_to_tell-parts : (rules : List RuleText) (past : List Event) (d : Incoming) → is_to_tell rules past d ≡ has_outcome rules past d && not (is_closed past d)
 is_to_tell-parts rules past d =
-    ap (λ b. may_be_told d past && b) (rows-by d past (is_of_multicast rules d) (is_gone rules d past) (pairing d past))
-    ∙ tell-bits (is_complete d past) (is_settled d past) (is_told d past) (is_live past d.link) (is_of_multicast rules d || is_gone rules d past || is_some_and (pairing d past) (is_answered past))
+    ap (λ b. may_be_told d past && b) (rows-by d past (is_of_multicast rules d) (is_complete d past) (is_paired d past) (always_had_consumer d past)
+    (has_all_verdicts rules d past) (best_verdict rules d past) (pairing d past))
+    ∙ tell-bits (is_complete d past) (is_settled d past) (is_told d past) (is_live past d.link) (if is_of_multicast rules d then has_all_verdicts rules d past else is_gone rules d past || is_some_and (pairing d past) (is_answered past))
 
 -- ---- what an event does to a delivery to a client
 
@@ -151,7 +161,7 @@ is_answered-step e past j live =
 
 -- k: completed by the event, c: complete before, h: its address has a consumer, a: it always had one before
 nothing-carries : (k c h a : Bool) → (c ≡ true → k ≡ false)
-    → (k || c) && (false || (true && (k || c) && true && not (h && (k || a))) || false) ≡ c && (false || (true && c && true && not a) || false) || (k && not h || true && c && true && a && not h && true || false)
+    → (k || c) && ((true && (k || c) && true && not (h && (k || a))) || false) ≡ c && ((true && c && true && not a) || false) || (k && not h || true && c && true && a && not h && true || false)
 nothing-carries true true h a once = absurd (let never : true ≡ false = once refl in cc)
 nothing-carries true false true a once = refl
 nothing-carries true false false a once = refl
@@ -243,29 +253,37 @@ found-passes test (y ∷ ys) x found = by (test y) refl (found-passes test ys x)
     by true is later found = let same : y ≡ x = cc in ap test (sym same) ∙ is
     by false is later found = later found
 
-many-bits : (many completed complete gone gone_now answered answered_now rest : Bool) → many ≡ true
-    → (completed || complete) && (many || gone_now || answered_now) ≡ complete && (many || gone || answered) || (if many then completed else rest)
-many-bits true true true gone gone_now answered answered_now rest is = refl
-many-bits true true false gone gone_now answered answered_now rest is = refl
-many-bits true false true gone gone_now answered answered_now rest is = refl
-many-bits true false false gone gone_now answered answered_now rest is = refl
-many-bits false completed complete gone gone_now answered answered_now rest is = absurd cc
+-- a: each copy that was due had its verdict, b: each has
+many-bits : (many completed complete a b gone gone_now rest : Bool) → many ≡ true → (complete ≡ true → a ≡ true → b ≡ true)
+    → (completed || complete) && (if many then b else gone_now) ≡ complete && (if many then a else gone) || (if many then (completed || complete && not a) && b else rest)
+many-bits true completed true true b gone gone_now rest is stays = let all = stays refl refl in rw (all) (both completed)
+  where
+    both : (k : Bool) → (k || true) && true ≡ true && true || (k || true && not true) && true
+    both true = refl
+    both false = refl
+many-bits true true true false b gone gone_now rest is stays = refl
+many-bits true false true false b gone gone_now rest is stays = refl
+many-bits true true false a b gone gone_now rest is stays = refl
+many-bits true false false a b gone gone_now rest is stays = refl
+many-bits false completed complete a b gone gone_now rest is stays = absurd cc
 
-paired-bits : (many completed complete gone gone_now waits answered now without unpaired : Bool) → many ≡ false → completed ≡ false → complete ≡ true → gone ≡ false → gone_now ≡ false → waits ≡ false
-    → (completed || complete) && (many || gone_now || (answered || now)) ≡ complete && (many || gone || answered) || (if many then completed else completed && without || waits && without && unpaired || now)
-paired-bits many completed complete gone gone_now waits answered now without unpaired a b c d f g = rw (a, b, c, d, f, g) refl
+paired-bits : (many completed complete a b gone gone_now waits answered now without unpaired last : Bool) → many ≡ false → completed ≡ false → complete ≡ true → gone ≡ false → gone_now ≡ false → waits ≡ false
+    → (completed || complete) && (if many then b else gone_now || (answered || now)) ≡ complete && (if many then a else gone || answered)
+    || (if many then last else completed && without || waits && without && unpaired || now)
+paired-bits many completed complete a b gone gone_now waits answered now without unpaired last is c e f g h = rw (is, c, e, f, g, h) refl
 
-begun-bits : (many completed complete gone gone_now waits now without unpaired : Bool) → many ≡ false → completed ≡ false → complete ≡ true → gone ≡ false → gone_now ≡ false → unpaired ≡ false
-    → (completed || complete) && (many || gone_now || now) ≡ complete && (many || gone || false) || (if many then completed else completed && without || waits && without && unpaired || now)
-begun-bits many completed complete gone gone_now true now true unpaired a b c d f g = rw (a, b, c, d, f, g) refl
-begun-bits many completed complete gone gone_now true now false unpaired a b c d f g = rw (a, b, c, d, f) refl
-begun-bits many completed complete gone gone_now false now without unpaired a b c d f g = rw (a, b, c, d, f) refl
+begun-bits : (many completed complete a b gone gone_now waits now without unpaired last : Bool) → many ≡ false → completed ≡ false → complete ≡ true → gone ≡ false → gone_now ≡ false → unpaired ≡ false
+    → (completed || complete) && (if many then b else gone_now || now) ≡ complete && (if many then a else gone || false)
+    || (if many then last else completed && without || waits && without && unpaired || now)
+begun-bits many completed complete a b gone gone_now true now true unpaired last is c e f g h = rw (is, c, e, f, g, h) refl
+begun-bits many completed complete a b gone gone_now true now false unpaired last is c e f g h = rw (is, c, e, f, g) refl
+begun-bits many completed complete a b gone gone_now false now without unpaired last is c e f g h = rw (is, c, e, f, g) refl
 
-none-bits : (before after test : Outgoing → Bool) (many : Bool) (was is : Option Outgoing) (pairs_it k c h a : Bool) → many ≡ false → was ≡ None → is ≡ None → pairs_it ≡ false → (c ≡ true → k ≡ false)
-    → (k || c) && (many || (not many && (k || c) && not (is_some is) && not (h && (k || a))) || is_some_and is after)
-    ≡ c && (many || (not many && c && not (is_some was) && not a) || is_some_and was before)
-    || (if many then k else k && not h || not many && c && not (is_some was) && a && not h && not pairs_it || is_some_and is test)
-none-bits before after test many was is pairs_it k c h a m w i p once = rw (m, w, i, p) (nothing-carries k c h a once)
+none-bits : (before after test : Outgoing → Bool) (many : Bool) (was is : Option Outgoing) (pairs_it k c h a all all_now last : Bool) → many ≡ false → was ≡ None → is ≡ None → pairs_it ≡ false → (c ≡ true → k ≡ false)
+    → (k || c) && (if many then all_now else (not many && (k || c) && not (is_some is) && not (h && (k || a))) || is_some_and is after)
+    ≡ c && (if many then all else (not many && c && not (is_some was) && not a) || is_some_and was before)
+    || (if many then last else k && not h || not many && c && not (is_some was) && a && not h && not pairs_it || is_some_and is test)
+none-bits before after test many was is pairs_it k c h a all all_now last m w i p once = rw (m, w, i, p) (nothing-carries k c h a once)
 
 module _ (rules : List RuleText) (e : Event) (past : List Event) (are : AreJudged rules (e ∷ past)) (lawful : first_broken rules (e ∷ past) ≡ None) (d : Incoming) (kept : IsKept past d) where
   was_lawful : first_broken rules past ≡ None
@@ -285,14 +303,14 @@ module _ (rules : List RuleText) (e : Event) (past : List Event) (are : AreJudge
       let complete = by_number b.delivery (eqb-true b.delivery.number d.number named) b.complete in
       let still = pairing-stays rules e past are lawful d.number d kept.at anycast j is in
       let paired : is_paired d past ≡ true = ap is_some is in
-      ap (λ o. is_complete d (e ∷ past) && (is_of_multicast rules d || is_gone rules d (e ∷ past) || is_some_and o (is_answered (e ∷ past)))) still
-      ∙ (ap (λ x. is_complete d (e ∷ past) && (is_of_multicast rules d || is_gone rules d (e ∷ past) || x)) (answered-later rules e past are lawful j b)
-      ∙ (paired-bits (is_of_multicast rules d) (completes d e) (is_complete d past) (is_gone rules d past) (is_gone rules d (e ∷ past)) (is_waiting rules d past) (is_answered past j) (answers_now e past j)
-      (not (has_consumer (address_of d) (e ∷ past))) (not (pairs d e)) anycast (completed_once rules e past are d complete) complete
+      ap (λ o. is_complete d (e ∷ past) && (if is_of_multicast rules d then has_all_verdicts rules d (e ∷ past) else is_gone rules d (e ∷ past) || is_some_and o (is_answered (e ∷ past)))) still
+      ∙ (ap (λ x. is_complete d (e ∷ past) && (if is_of_multicast rules d then has_all_verdicts rules d (e ∷ past) else is_gone rules d (e ∷ past) || x)) (answered-later rules e past are lawful j b)
+      ∙ (paired-bits (is_of_multicast rules d) (completes d e) (is_complete d past) (has_all_verdicts rules d past) (has_all_verdicts rules d (e ∷ past)) (is_gone rules d past) (is_gone rules d (e ∷ past)) (is_waiting rules d past) (is_answered past j) (answers_now e past j)
+      (not (has_consumer (address_of d) (e ∷ past))) (not (pairs d e)) (gets_last_verdict rules e past d) anycast (completed_once rules e past are d complete) complete
       (paired-not_gone rules d past paired) (paired-not_gone rules d (e ∷ past) (ap is_some still)) (waits_not (is_of_multicast rules d) (is_complete d past) (is_paired d past) (always_had_consumer d past) paired)
-      ∙ sym (ap (λ o. is_complete d past && (is_of_multicast rules d || is_gone rules d past || is_some_and o (is_answered past)) || gets_outcome rules e past d) is
-      ∙ ap (λ o. is_complete d past && (is_of_multicast rules d || is_gone rules d past || is_answered past j)
-      || (if is_of_multicast rules d then completes d e else completes d e && not (has_consumer (address_of d) (e ∷ past))
+      ∙ sym (ap (λ o. is_complete d past && (if is_of_multicast rules d then has_all_verdicts rules d past else is_gone rules d past || is_some_and o (is_answered past)) || gets_outcome rules e past d) is
+      ∙ ap (λ o. is_complete d past && (if is_of_multicast rules d then has_all_verdicts rules d past else is_gone rules d past || is_answered past j)
+      || (if is_of_multicast rules d then gets_last_verdict rules e past d else completes d e && not (has_consumer (address_of d) (e ∷ past))
       || is_waiting rules d past && not (has_consumer (address_of d) (e ∷ past)) && not (pairs d e) || is_some_and o (answers_now e past))) still)))
     where
       waits_not : (many complete paired had : Bool) → paired ≡ true → not many && complete && not paired && had ≡ false
@@ -313,14 +331,14 @@ module _ (rules : List RuleText) (e : Event) (past : List Event) (are : AreJudge
       let now : pairing d (e ∷ past) ≡ Some j = pairing-begun e past d j begun named in
       let none : pairing d past ≡ None = none_is (pairing d past) (first.alone anycast) in
       let pairs_it : pairs d e ≡ true = ap (λ o. is_some_and o (λ (x : Outgoing). names d.number x.note)) begun ∙ named in
-      ap (λ o. is_complete d (e ∷ past) && (is_of_multicast rules d || is_gone rules d (e ∷ past) || is_some_and o (is_answered (e ∷ past)))) now
-      ∙ (ap (λ x. is_complete d (e ∷ past) && (is_of_multicast rules d || is_gone rules d (e ∷ past) || x)) (answered-begun rules e past are lawful j begun)
-      ∙ (begun-bits (is_of_multicast rules d) (completes d e) (is_complete d past) (is_gone rules d past) (is_gone rules d (e ∷ past)) (is_waiting rules d past) (answers_now e past j)
-      (not (has_consumer (address_of d) (e ∷ past))) (not (pairs d e)) anycast (completed_once rules e past are d complete) complete
+      ap (λ o. is_complete d (e ∷ past) && (if is_of_multicast rules d then has_all_verdicts rules d (e ∷ past) else is_gone rules d (e ∷ past) || is_some_and o (is_answered (e ∷ past)))) now
+      ∙ (ap (λ x. is_complete d (e ∷ past) && (if is_of_multicast rules d then has_all_verdicts rules d (e ∷ past) else is_gone rules d (e ∷ past) || x)) (answered-begun rules e past are lawful j begun)
+      ∙ (begun-bits (is_of_multicast rules d) (completes d e) (is_complete d past) (has_all_verdicts rules d past) (has_all_verdicts rules d (e ∷ past)) (is_gone rules d past) (is_gone rules d (e ∷ past)) (is_waiting rules d past) (answers_now e past j)
+      (not (has_consumer (address_of d) (e ∷ past))) (not (pairs d e)) (gets_last_verdict rules e past d) anycast (completed_once rules e past are d complete) complete
       first.whole (paired-not_gone rules d (e ∷ past) (ap is_some now)) (ap not pairs_it)
-      ∙ sym (ap (λ o. is_complete d past && (is_of_multicast rules d || is_gone rules d past || is_some_and o (is_answered past)) || gets_outcome rules e past d) none
-      ∙ ap (λ o. is_complete d past && (is_of_multicast rules d || is_gone rules d past || false)
-      || (if is_of_multicast rules d then completes d e else completes d e && not (has_consumer (address_of d) (e ∷ past))
+      ∙ sym (ap (λ o. is_complete d past && (if is_of_multicast rules d then has_all_verdicts rules d past else is_gone rules d past || is_some_and o (is_answered past)) || gets_outcome rules e past d) none
+      ∙ ap (λ o. is_complete d past && (if is_of_multicast rules d then has_all_verdicts rules d past else is_gone rules d past || false)
+      || (if is_of_multicast rules d then gets_last_verdict rules e past d else completes d e && not (has_consumer (address_of d) (e ∷ past))
       || is_waiting rules d past && not (has_consumer (address_of d) (e ∷ past)) && not (pairs d e) || is_some_and o (answers_now e past))) now)))
     where
       none_is : (o : Option Outgoing) → is_some o ≡ false → o ≡ None
@@ -331,7 +349,7 @@ module _ (rules : List RuleText) (e : Event) (past : List Event) (are : AreJudge
   step_none : is_of_multicast rules d ≡ false → pairing d past ≡ None → pairs d e ≡ false → Moves
   step_none anycast none apart =
       none-bits (is_answered past) (is_answered (e ∷ past)) (answers_now e past) (is_of_multicast rules d) (pairing d past) (pairing d (e ∷ past)) (pairs d e) (completes d e) (is_complete d past)
-      (has_consumer (address_of d) (e ∷ past)) (always_had_consumer d past) anycast none (still_none (outgoing_begun e) refl) apart (completed_once rules e past are d)
+      (has_consumer (address_of d) (e ∷ past)) (always_had_consumer d past) (has_all_verdicts rules d past) (has_all_verdicts rules d (e ∷ past)) (gets_last_verdict rules e past d) anycast none (still_none (outgoing_begun e) refl) apart (completed_once rules e past are d)
     where
       still_none : (o : Option Outgoing) → outgoing_begun e ≡ o → pairing d (e ∷ past) ≡ None
       still_none None is = pairing-same e past d is ∙ none
@@ -351,8 +369,12 @@ module _ (rules : List RuleText) (e : Event) (past : List Event) (are : AreJudge
 
   by_kind : (b : Bool) → is_of_multicast rules d ≡ b → Moves
   by_kind true many =
-      many-bits (is_of_multicast rules d) (completes d e) (is_complete d past) (is_gone rules d past) (is_gone rules d (e ∷ past)) (is_some_and (pairing d past) (is_answered past))
-      (is_some_and (pairing d (e ∷ past)) (is_answered (e ∷ past))) _ many
+      many-bits (is_of_multicast rules d) (completes d e) (is_complete d past) (has_all_verdicts rules d past) (has_all_verdicts rules d (e ∷ past))
+      (is_gone rules d past || is_some_and (pairing d past) (is_answered past)) (is_gone rules d (e ∷ past) || is_some_and (pairing d (e ∷ past)) (is_answered (e ∷ past))) _ many
+      (has_all-stays rules e past are lawful d still)
+    where
+      still : incoming_at d.number (e ∷ past) ≡ Some d
+      still = at-step e past (judged-number rules e past are) (judged-part rules e past are) (judged-sound rules past are.1) d.number kept.before ∙ kept.at
   by_kind false anycast = by_pairing anycast (pairing d past) refl
 
   -- one that had an outcome has it still, and gets one by the event

@@ -57,7 +57,7 @@ made_up_by_name : broken_of [] (made_up ++ (write 0 (written_to_consumer 0 (code
 unfolding broken_of
 made_up_by_name = refl
 
-made_up_multicast : broken_of (rule Multicast (codes "dyn") ∷ []) (made_up ++ (write 0 (written_to_consumer 0 (codes "l") 0 Mixed First (codes "dyn/5") true) ∷ [])) ≡ Some (6, L3)
+made_up_multicast : broken_of (rule Multicast (codes "dyn") ∷ []) (made_up ++ (write 0 (written_to_consumer 0 (codes "l") 0 Settled First (codes "dyn/5") true) ∷ [])) ≡ Some (6, L3)
 unfolding broken_of
 made_up_multicast = refl
 

@@ -26,7 +26,7 @@ begin_meets rules e session link spoken past begin clause = refl
 -- an attach by its session and note
 attach_meets : (rules : List RuleText) (e : Event) (session : Option Session) (link : Option Link) (spoken : Spoken) (past : List Event) (fields : AttachFields) → session ≡ e.session → (clause : Clause)
     → meaning_meets rules (record e { session = session; link = link }) spoken past (AnAttach fields) clause ≡ meaning_meets rules e spoken past (AnAttach fields) clause
-attach_meets rules e session link spoken past fields same L3 = ap (λ (s : Option Session). is_some_and s (answers_attach rules fields past)) same
+attach_meets rules e session link spoken past fields same L3 = ap (λ (s : Option Session). is_some_and s (answers_attach fields past)) same
 attach_meets rules e session link spoken past fields same clause = refl
 
 module _ (rules : List RuleText) (e : Event) (past : List Event) where

@@ -222,10 +222,14 @@ not_answered : is_answered_in [] carried 17 ≡ false
 unfolding is_answered_in
 not_answered = refl
 
--- complete, and of multicast, gone or answered
-outcome_of_copies : has_outcome_in (rule Multicast q ∷ []) sent 16 ≡ true
+-- complete, and gone or answered; one of multicast with a verdict of each copy
+outcome_of_copies : has_outcome_in (rule Multicast q ∷ []) (carried ++ (accepts ∷ [])) 16 ≡ true
 unfolding has_outcome_in
 outcome_of_copies = refl
+
+none_without_verdict : has_outcome_in (rule Multicast q ∷ []) carried 16 ≡ false
+unfolding has_outcome_in
+none_without_verdict = refl
 
 outcome_of_gone : has_outcome_in [] (sent ++ (from 1 (detach_of true) ∷ [])) 16 ≡ true
 unfolding has_outcome_in
@@ -265,10 +269,26 @@ answers_unsettled_no : answers_by [] (sent ++ (carry 1 16 (with_more (first 0)) 
 unfolding answers_by
 answers_unsettled_no = refl
 
--- and gives an outcome
+-- and gives an outcome: of multicast with the completion, where no copy is due, and with the last verdict
 gets_complete : gets_by (rule Multicast q ∷ []) (pair_by Settled ++ (from_with 0 (ATransfer (with_more (first 0))) hi ∷ [])) (from_with 0 (ATransfer (next false)) hi) 15 ≡ true
 unfolding gets_by
 gets_complete = refl
+
+gets_last : gets_by (rule Multicast q ∷ []) carried accepts 16 ≡ true
+unfolding gets_by
+gets_last = refl
+
+gets_no_verdict : gets_by (rule Multicast q ∷ []) sent (carry 1 16 (first 0) hi) 16 ≡ false
+unfolding gets_by
+gets_no_verdict = refl
+
+gets_once : gets_by (rule Multicast q ∷ []) (carried ++ (accepts ∷ [])) (from 1 (detach_of true)) 16 ≡ false
+unfolding gets_by
+gets_once = refl
+
+due_copy_unsent : gets_by (rule Multicast q ∷ []) (pair_by Settled ++ (from 1 (AFlow (gives 0 0 1)) ∷ from_with 0 (ATransfer (with_more (first 0))) hi ∷ [])) (from_with 0 (ATransfer (next false)) hi) 16 ≡ false
+unfolding gets_by
+due_copy_unsent = refl
 
 -- completed where its address has a consumer, it waits; where there is none it is gone at once
 gets_waiting : gets_by [] (pair_by Settled ++ (from_with 0 (ATransfer (with_more (first 0))) hi ∷ [])) (from_with 0 (ATransfer (next false)) hi) 15 ≡ false

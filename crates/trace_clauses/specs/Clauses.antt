@@ -55,7 +55,7 @@ disposition_meets rules e fields past Sender clause = settling_meets e fields cl
 -- all others
 abbrev pub other_meets : List RuleText → Event → ℕ → List Event → Meaning → Clause → Bool
 other_meets rules e channel past (ABegin begin) L2 = answers_begin e.connection channel begin past
-other_meets rules e channel past (AnAttach fields) L3 = is_some_and e.session (answers_attach rules fields past)
+other_meets rules e channel past (AnAttach fields) L3 = is_some_and e.session (answers_attach fields past)
 other_meets rules e channel past (AFlow flow) L10 = tells_counts rules e flow past
 other_meets rules e channel past (ADetach fields) L13 = may_detach e fields past
 other_meets rules e channel past (AnEnd error) L13 = may_end e channel past

@@ -1,4 +1,6 @@
 pub mod Written
+pub mod CopyVerdict
+pub mod BestVerdict
 pub mod Outcome
 pub mod Telling
 pub mod ConnectionClause

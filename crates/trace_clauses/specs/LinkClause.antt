@@ -7,7 +7,6 @@ use Rattle.amqp_perf.specs.declared.attach.SenderSettleMode.TheVariants.{Unsettl
 use Rattle.amqp_perf.specs.declared.attach.ReceiverSettleMode.{ReceiverSettleMode}
 use Rattle.amqp_perf.specs.declared.attach.ReceiverSettleMode.TheVariants.{First, Second}
 use Rattle.amqp_perf.specs.Meaning.{AttachFields, DetachFields, flag, sender_mode, receiver_mode}
-use Rattle.capture_form.specs.Rules.{RuleText}
 use Rattle.trace_events.specs.declared.fault.Fault.{Fault}
 use Rattle.trace_events.specs.declared.fault.Fault.TheVariants.{Close, End, Refuse, Detach}
 use Rattle.trace_events.specs.Words.{is_some_and}
@@ -15,7 +14,6 @@ use Rattle.trace_events.specs.Event.{Event}
 use Rattle.trace_events.specs.declared.session.Session.{Session}
 use Rattle.trace_events.specs.Said.{in_attach}
 use Rattle.trace_events.specs.Link.{is_receiver, opens_link, address_at, unanswered_attach, owes_detach}
-use Rattle.trace_events.specs.Address.{has_multicast}
 
 abbrev pub opposite : Role → Role
 opposite Sender = Receiver
@@ -47,15 +45,8 @@ abbrev pub asked_address : ℕ → AttachFields → List ℕ
 asked_address number theirs =
     if has_dynamic_source theirs then codes "dyn/" ++ decimal number else address_at (opposite theirs.role) theirs
 
--- how the router's sender settles: as the consumer asks, and settled where its address is multicast (own rule)
-abbrev pub sending_mode : List RuleText → List ℕ → SenderSettleMode → SenderSettleMode
-sending_mode rules address asked = if has_multicast rules address then Settled else asked
-
--- the settle modes of the answer: to a producer its own and first, to a consumer the sending mode and its own
-abbrev pub answering_sender_mode : List RuleText → List ℕ → SenderSettleMode → Role → SenderSettleMode
-answering_sender_mode rules address asked Sender = asked
-answering_sender_mode rules address asked Receiver = sending_mode rules address asked
-
+-- the settle mode of the receiver in the answer, whose sender settles as the client asks: first to a producer, and to a
+-- consumer its own
 abbrev pub answering_receiver_mode : ReceiverSettleMode → Role → ReceiverSettleMode
 answering_receiver_mode asked Sender = First
 answering_receiver_mode asked Receiver = asked
@@ -83,27 +74,27 @@ asked_by e fields = record {
 abbrev pub asking : Session → ℕ → List Event → Option Asking
 asking s handle past = option_and_then (λ e. option_map (asked_by e) (in_attach e)) (unanswered_attach s handle past)
 
-abbrev pub accepts : List RuleText → Asking → AttachFields → Bool
-accepts rules asked ours =
+abbrev pub accepts : Asking → AttachFields → Bool
+accepts asked ours =
     opens_link ours && bytes_eq (address_at ours.role ours) asked.address
-    && is_same_sender_mode (sender_mode ours) (answering_sender_mode rules asked.address asked.sender_mode asked.role)
+    && is_same_sender_mode (sender_mode ours) asked.sender_mode
     && is_same_receiver_mode (receiver_mode ours) (answering_receiver_mode asked.receiver_mode asked.role)
 
 -- by the fault of the client's attach
-abbrev pub accepts_or_refuses : List RuleText → Asking → AttachFields → Option Fault → Bool
-accepts_or_refuses rules asked ours None = accepts rules asked ours
-accepts_or_refuses rules asked ours (Some (Refuse condition)) = is_none ours.source && is_none ours.target
-accepts_or_refuses rules asked ours (Some (Close condition)) = false
-accepts_or_refuses rules asked ours (Some (End condition)) = false
-accepts_or_refuses rules asked ours (Some (Detach condition)) = false
+abbrev pub accepts_or_refuses : Asking → AttachFields → Option Fault → Bool
+accepts_or_refuses asked ours None = accepts asked ours
+accepts_or_refuses asked ours (Some (Refuse condition)) = is_none ours.source && is_none ours.target
+accepts_or_refuses asked ours (Some (Close condition)) = false
+accepts_or_refuses asked ours (Some (End condition)) = false
+accepts_or_refuses asked ours (Some (Detach condition)) = false
 
-abbrev pub answers_one : List RuleText → AttachFields → Asking → Bool
-answers_one rules ours asked =
+abbrev pub answers_one : AttachFields → Asking → Bool
+answers_one ours asked =
     bytes_eq ours.name asked.name && is_same_role ours.role (opposite asked.role)
-    && accepts_or_refuses rules asked ours asked.fault
+    && accepts_or_refuses asked ours asked.fault
 
-abbrev pub answers_attach : List RuleText → AttachFields → List Event → Session → Bool
-answers_attach rules ours past s = is_some_and (asking s ours.handle past) (answers_one rules ours)
+abbrev pub answers_attach : AttachFields → List Event → Session → Bool
+answers_attach ours past s = is_some_and (asking s ours.handle past) (answers_one ours)
 
 abbrev pub may_detach : Event → DetachFields → List Event → Bool
 may_detach e fields past = is_some e.link || is_some_and e.session (λ s. owes_detach s fields.handle past)

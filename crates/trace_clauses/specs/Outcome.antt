@@ -16,6 +16,7 @@ use Rattle.trace_events.specs.Incoming.{is_complete, is_settled, is_told}
 use Rattle.trace_events.specs.Outgoing.{pairing, decision, is_sent}
 use Rattle.trace_events.specs.Waiting.{is_of_multicast, is_gone}
 use Rattle.trace_clauses.specs.Written.{spoken_octets, written_outcome}
+use Rattle.trace_clauses.specs.BestVerdict.{multicast_row}
 
 -- ---- states, as octets
 
@@ -59,10 +60,10 @@ abbrev pub anycast_row : Incoming → List Event → Why → Option Outgoing →
 anycast_row d past why None = None
 anycast_row d past why (Some j) = paired_row d j past (decision j past) why
 
--- N: released, where the delivery is gone. M: accepted, of a multicast delivery.
+-- N: released, where the delivery is gone. M: of a multicast delivery the best verdict of its copies, once each has its own.
 abbrev pub row : List RuleText → Incoming → List Event → Why → Option (Option (List ℕ))
 row rules d past N = if is_gone rules d past then Some (Some (bare_octets Released)) else None
-row rules d past M = if is_of_multicast rules d then Some (Some (bare_octets Accepted)) else None
+row rules d past M = multicast_row rules d past
 row rules d past why = if is_of_multicast rules d then None else anycast_row d past why (pairing d past)
 
 -- it may be told: complete, of a live link, neither settled nor told

@@ -14,6 +14,7 @@ use Rattle.trace_events.specs.Outgoing.{is_part, pairing, decision}
 use Rattle.trace_events.specs.Waiting.{is_of_multicast, is_waiting, is_gone}
 use Rattle.trace_events.specs.Queue.{pairs}
 use Rattle.trace_events.specs.Work.{decides_now}
+use Rattle.trace_clauses.specs.BestVerdict.{has_all_verdicts}
 use Rattle.trace_clauses.specs.Outcome.{is_sent_settled, is_to_tell}
 
 -- all that are to be told, the first begun first
@@ -24,10 +25,13 @@ outcomes_to_tell rules past = filter (is_to_tell rules past) (reverse (incoming_
 abbrev pub is_answered : List Event → Outgoing → Bool
 is_answered past j = is_some (decision j past) || is_sent_settled j past || not (is_live past j.link)
 
--- a complete delivery has an outcome where it is of multicast, or gone, or what carries it is answered
+-- a complete delivery has an outcome where it is gone, or what carries it is answered; one of multicast, where each copy that
+-- is due has its verdict
 abbrev pub has_outcome : List RuleText → List Event → Incoming → Bool
 has_outcome rules past d =
-    is_complete d past && (is_of_multicast rules d || is_gone rules d past || is_some_and (pairing d past) (is_answered past))
+    is_complete d past
+    && (if is_of_multicast rules d then has_all_verdicts rules d past
+    else is_gone rules d past || is_some_and (pairing d past) (is_answered past))
 
 -- the event answers a delivery to a client: its consumer decides it, or it is the last part on a pre-settled link, or the
 -- link ends
@@ -36,11 +40,16 @@ answers_now e past j =
     is_live past j.link && decides_now e j
     || j.link.is_pre_settled && (is_part j e && is_some_and (out_transfer e) (λ fields. not (flag fields.more))) || ends_link j.link e
 
--- the event gives a delivery its outcome: it completes one of multicast, or one whose address has no consumer; it leaves
--- one that waits without a consumer; or it answers what carries it
+-- the event completes a delivery of multicast of which no copy is due, or gives its last verdict to one that lacked some
+abbrev pub gets_last_verdict : List RuleText → Event → List Event → Incoming → Bool
+gets_last_verdict rules e past d =
+    (completes d e || is_complete d past && not (has_all_verdicts rules d past)) && has_all_verdicts rules d (e ∷ past)
+
+-- the event gives a delivery its outcome: the last verdict of one of multicast; it completes one whose address has no
+-- consumer; it leaves one that waits without a consumer; or it answers what carries it
 abbrev pub gets_outcome : List RuleText → Event → List Event → Incoming → Bool
 gets_outcome rules e past d =
-    if is_of_multicast rules d then completes d e
+    if is_of_multicast rules d then gets_last_verdict rules e past d
     else completes d e && not (has_consumer (address_of d) (e ∷ past))
     || is_waiting rules d past && not (has_consumer (address_of d) (e ∷ past)) && not (pairs d e)
     || is_some_and (pairing d (e ∷ past)) (answers_now e past)

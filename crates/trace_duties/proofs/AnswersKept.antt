@@ -225,10 +225,10 @@ dynamic_source_beside_number : duties_of [] (producer_begun ++ (
 unfolding duties_of
 dynamic_source_beside_number = refl
 
--- a made-up address has the distribution that the rules give it
+-- where the rules make it multicast, the consumer gets the mode that it asks for, too
 dynamic_source_multicast : duties_of (rule Multicast (codes "dyn") ∷ []) (producer_begun ++ (
     client 0 (hex (codes "0000002002000000005312C01306A1017243414040005328C006054040404041"))
-    ∷ router 0 (hex (codes "0000002F02000000005312C0220AA10172434250015000005328C00C05A10564796E2F354040404100532945404043"))
+    ∷ router 0 (hex (codes "0000002F02000000005312C0220AA10172434250025000005328C00C05A10564796E2F354040404100532945404043"))
     ∷ [])) ≡ (None, true)
 unfolding duties_of
 dynamic_source_multicast = refl
@@ -309,15 +309,16 @@ heard_garbage_on_awaiting_channel : duties_of [] (producer_begun ++ (
 unfolding duties_of
 heard_garbage_on_awaiting_channel = refl
 
--- the longest rule that fits counts, where it stands first
+-- the longest rule that fits counts, where it stands first: a producer of multicast gets credit though there is no consumer
 rule_longest_first : duties_of (rule Multicast (codes "q/a") ∷ rule Balanced (codes "q") ∷ []) (
-    opened 1
-    ∷ client 1 consumer_open
-    ∷ router 1 router_open
-    ∷ client 1 client_begin
-    ∷ router 1 router_begin
-    ∷ client 1 (hex (codes "0000002002000000005312C01306A1017243414040005328C00601A103712F61"))
-    ∷ router 1 (hex (codes "0000002902000000005312C01C0AA10172434250015000005328C00601A103712F6100532945404043"))
+    opened 0
+    ∷ client 0 producer_open
+    ∷ router 0 router_open
+    ∷ client 0 client_begin
+    ∷ router 0 router_begin
+    ∷ client 0 (hex (codes "0000002402000000005312C0170AA101734342404040005329C00601A103712F61404043"))
+    ∷ router 0 (hex (codes "0000003202000000005312C0250BA1017343415002500000532845005329C00601A103712F61404040800000000001000000"))
+    ∷ router 0 credit_given
     ∷ []) ≡ (None, true)
 unfolding duties_of
 rule_longest_first = refl
@@ -353,13 +354,14 @@ heard_flow_behind_detach = refl
 
 -- the rule q fits the address q.a
 rule_fits_with_dot : duties_of (rule Multicast (codes "q") ∷ []) (
-    opened 1
-    ∷ client 1 consumer_open
-    ∷ router 1 router_open
-    ∷ client 1 client_begin
-    ∷ router 1 router_begin
-    ∷ client 1 (hex (codes "0000002002000000005312C01306A1017243414040005328C00601A103712E61"))
-    ∷ router 1 (hex (codes "0000002902000000005312C01C0AA10172434250015000005328C00601A103712E6100532945404043"))
+    opened 0
+    ∷ client 0 producer_open
+    ∷ router 0 router_open
+    ∷ client 0 client_begin
+    ∷ router 0 router_begin
+    ∷ client 0 (hex (codes "0000002402000000005312C0170AA101734342404040005329C00601A103712E61404043"))
+    ∷ router 0 (hex (codes "0000003202000000005312C0250BA1017343415002500000532845005329C00601A103712E61404040800000000001000000"))
+    ∷ router 0 credit_given
     ∷ []) ≡ (None, true)
 unfolding duties_of
 rule_fits_with_dot = refl

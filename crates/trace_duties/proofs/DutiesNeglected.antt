@@ -252,8 +252,7 @@ drain_in_progress = refl
 copy_left_unsent : duties_of (rule Multicast (codes "news") ∷ []) (news_producer_and_consumer ++ (
     client 1 credit_of_1
     ∷ client 0 delivery
-    ∷ told 0 M accepted
-    ∷ [])) ≡ (Some (Copies, 18), false)
+    ∷ [])) ≡ (Some (Copies, 17), false)
 unfolding duties_of
 copy_left_unsent = refl
 
@@ -261,8 +260,7 @@ copy_left_unsent = refl
 copy_left_with_credit_2 : duties_of (rule Multicast (codes "news") ∷ []) (news_producer_and_consumer ++ (
     client 1 (hex (codes "0000001802000000005313C00B0743526443526443435202"))
     ∷ client 0 delivery
-    ∷ told 0 M accepted
-    ∷ [])) ≡ (Some (Copies, 18), false)
+    ∷ [])) ≡ (Some (Copies, 17), false)
 unfolding duties_of
 copy_left_with_credit_2 = refl
 

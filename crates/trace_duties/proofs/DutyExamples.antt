@@ -81,12 +81,11 @@ drained_with_echo : neglected_of [] (pair ++ (from 1 (AFlow (echoing (draining (
 unfolding neglected_of
 drained_with_echo = refl
 
--- a multicast delivery is told, but goes to no one; a session without window holds it back
+-- a multicast delivery goes to no one; a session without window holds it back
 abbrev all_q : ℕ → List Record
 all_q window =
     producer 0 q ++ (to 0 (AFlow (shows 0 0 0 250)) ∷ []) ++ consumer 1 Settled q
-    ++ (from 1 (AFlow (let flow = gives 0 0 2 in record flow { incoming_window = window })) ∷ from_with 0 (ATransfer (first 0)) hi
-    ∷ tell 0 M (disposes Receiver 0 true accepted) ∷ [])
+    ++ (from 1 (AFlow (let flow = gives 0 0 2 in record flow { incoming_window = window })) ∷ from_with 0 (ATransfer (first 0)) hi ∷ [])
 
 not_copied : neglected_of (rule Multicast q ∷ []) (all_q 1) ≡ Copies ∷ []
 unfolding neglected_of

@@ -20,7 +20,6 @@ incoming_aborted_with_more_then_another = refl
 copy_held_back_without_credit : duties_of (rule Multicast (codes "news") ∷ []) (news_producer_and_consumer ++ (
     client 1 (hex (codes "0000001702000000005313C00A07434343526443435201"))
     ∷ client 0 delivery
-    ∷ told 0 M accepted
     ∷ client 1 (hex (codes "0000001702000000005313C00A07435264435264434343"))
     ∷ [])) ≡ (None, true)
 unfolding duties_of
@@ -30,7 +29,6 @@ copy_held_back_without_credit = refl
 copy_held_back_without_window : duties_of (rule Multicast (codes "news") ∷ []) (news_producer_and_consumer ++ (
     client 1 (hex (codes "0000001702000000005313C00A07434343526443435201"))
     ∷ client 0 delivery
-    ∷ told 0 M accepted
     ∷ [])) ≡ (None, true)
 unfolding duties_of
 copy_held_back_without_window = refl
@@ -46,10 +44,8 @@ copy_held_back_by_delivery_in_progress : duties_of (rule Multicast (codes "news"
     ∷ router 1 news_consumer_attached
     ∷ client 1 (hex (codes "0000001802000000005313C00B0743520143526443435205"))
     ∷ client 0 (hex (codes "0000039902000000005314C008054343A001314342") ++ replicate 900 120)
-    ∷ told 0 M accepted
     ∷ paired 1 16 (hex (codes "0000020002000000005314C00C064343A00400000000434141") ++ replicate 487 120)
     ∷ client 0 second_delivery
-    ∷ told 0 M (hex (codes "0000001702000000005315C00A05415201404100532445"))
     ∷ [])) ≡ (None, true)
 unfolding duties_of
 copy_held_back_by_delivery_in_progress = refl

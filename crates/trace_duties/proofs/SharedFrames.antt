@@ -54,9 +54,9 @@ news_producer_attach = hex (codes "0000002502000000005312C0180AA1017343424040400
 abbrev pub news_producer_attached : List ℕ
 news_producer_attached = hex (codes "0000003302000000005312C0260BA1017343415002500000532845005329C00701A1046E657773404040800000000001000000")
 
--- the same of the address news
+-- the same of the address news, by a consumer that asks for settled deliveries
 abbrev pub news_consumer_attach : List ℕ
-news_consumer_attach = hex (codes "0000002102000000005312C01406A1017243414040005328C00701A1046E657773")
+news_consumer_attach = hex (codes "0000002202000000005312C01506A101724341500140005328C00701A1046E657773")
 
 -- the same of the address news
 abbrev pub news_consumer_attached : List ℕ

@@ -117,7 +117,7 @@ copied =
     router 2 router_begin ∷ client 2 consumer_of_news ∷ router 2 router_to_consumer_of_news ∷ opened 3 ∷
     client 3 open_c ∷ router 3 router_open ∷ client 3 begin_100 ∷ router 3 router_begin ∷ client 3 consumer_of_news ∷
     router 3 router_to_consumer_of_news ∷ client 1 flow_100_0_1 ∷ client 2 flow_100_0_1 ∷ client 0 transfer_0 ∷
-    told 0 M accept_0 ∷ paired 1 31 settled_copy_0 ∷ paired 2 31 settled_copy_0 ∷ [])
+    paired 1 31 settled_copy_0 ∷ paired 2 31 settled_copy_0 ∷ told 0 M accept_0 ∷ [])
 
 copied_verdict : verdict_of (rule Multicast (codes "news") ∷ []) copied ≡ Ok (record { records = 35; deliveries = 2; outcomes = 1 })
 unfolding verdict_of

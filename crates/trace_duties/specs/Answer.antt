@@ -18,7 +18,7 @@ use Rattle.trace_events.specs.Connection.{has_out_open, has_out_close}
 use Rattle.trace_events.specs.Link.{is_consumer}
 use Rattle.trace_events.specs.Credit.{delivery_count, link_credit, given_credit}
 use Rattle.trace_clauses.specs.Written.{says, written_open, written_close, written_begin, written_end, written_detach, written_session_flow, written_credit, written_count}
-use Rattle.trace_clauses.specs.LinkClause.{has_dynamic_source, asked_address, answering_sender_mode}
+use Rattle.trace_clauses.specs.LinkClause.{has_dynamic_source, asked_address}
 
 -- `past` has the event that is answered at its head.
 
@@ -29,11 +29,10 @@ closing c condition past =
 
 -- ---- of a frame without fault
 
-abbrev pub attach_answer : List RuleText → ℕ → AttachFields → Role → AttachFields
-attach_answer rules number theirs Sender = attach_to_producer theirs (asked_address number theirs)
-attach_answer rules number theirs Receiver =
-    let address = asked_address number theirs in
-    attach_to_consumer theirs address (has_dynamic_source theirs) (answering_sender_mode rules address (sender_mode theirs) Receiver)
+abbrev pub attach_answer : ℕ → AttachFields → Role → AttachFields
+attach_answer number theirs Sender = attach_to_producer theirs (asked_address number theirs)
+attach_answer number theirs Receiver =
+    attach_to_consumer theirs (asked_address number theirs) (has_dynamic_source theirs) (sender_mode theirs)
 
 -- the numbers of a live link
 abbrev pub link_flow : Link → List Event → Spoken
@@ -52,7 +51,7 @@ echo_on (Some s) l flow past = if flag flow.echo then flow_on s l past ∷ [] el
 abbrev pub plain_answer : List RuleText → Event → ℕ → Meaning → List Event → List Spoken
 plain_answer rules e channel (AnOpen fields) past = written_open ∷ []
 plain_answer rules e channel (ABegin begin) past = written_begin channel ∷ []
-plain_answer rules e channel (AnAttach fields) past = says channel (AnAttach (attach_answer rules e.number fields fields.role)) ∷ []
+plain_answer rules e channel (AnAttach fields) past = says channel (AnAttach (attach_answer e.number fields fields.role)) ∷ []
 plain_answer rules e channel (AFlow flow) past = echo_on e.session e.link flow past
 plain_answer rules e channel (ATransfer fields) past = []
 plain_answer rules e channel (ADisposition fields) past = []

@@ -1,18 +1,17 @@
 -- What the producer of a multicast delivery is told: once every copy that is due has its verdict, the best of these (states:
 -- part 3 of the standard, section 3.4; which one is told is an own rule).
-use Rattle.std.specs.Prelude.{ℕ, Bool, true, false, ◌&&◌, ◌||◌, not, List, Option, Some, None, if◌then◌else◌}
+use Rattle.std.specs.Prelude.{ℕ, Bool, true, false, ◌&&◌, ◌||◌, not, List, Option, Some, None, option_map, if◌then◌else◌}
 use Rattle.std.specs.List.{list_any}
 use Rattle.amqp_perf.specs.declared.descriptor.Outcome.{Outcome}
 use Rattle.amqp_perf.specs.declared.descriptor.Outcome.TheVariants.{Accepted, Rejected, Released, Modified}
-use Rattle.amqp_perf.specs.Router.{delivery_failed}
+use Rattle.amqp_perf.specs.Router.{bare_state, delivery_failed}
 use Rattle.capture_form.specs.Rules.{RuleText}
 use Rattle.trace_events.specs.Words.{is_some_and}
 use Rattle.trace_events.specs.Event.{Event, Link, Incoming}
 use Rattle.trace_events.specs.Link.{links}
 use Rattle.trace_events.specs.Due.{is_due}
 use Rattle.trace_events.specs.Waiting.{is_of_multicast}
-use Rattle.trace_clauses.specs.Outcome.{bare_octets}
-use Rattle.trace_verdicts.specs.CopyVerdict.{copy_verdict, awaits_verdict}
+use Rattle.trace_clauses.specs.CopyVerdict.{copy_verdict, awaits_verdict}
 
 abbrev pub is_same_outcome : Outcome → Outcome → Bool
 is_same_outcome Accepted Accepted = true
@@ -46,12 +45,15 @@ best_verdict rules d past =
 -- the state that tells it: modified as delivery failed, whatever its consumer said, and the others without fields
 abbrev pub told_octets : Outcome → List ℕ
 told_octets Modified = delivery_failed.octets
-told_octets Accepted = bare_octets Accepted
-told_octets Rejected = bare_octets Rejected
-told_octets Released = bare_octets Released
+told_octets Accepted = (bare_state Accepted).octets
+told_octets Rejected = (bare_state Rejected).octets
+told_octets Released = (bare_state Released).octets
 
--- the row of a multicast delivery: where every copy has its verdict, the state that its producer is told
+-- the verdict of the whole delivery: the best one, where every copy that is due has its own
+abbrev pub whole_verdict : List RuleText → Incoming → List Event → Option Outcome
+whole_verdict rules d past = if has_all_verdicts rules d past then Some (best_verdict rules d past) else None
+
+-- the row of a multicast delivery: the state that tells its verdict
 abbrev pub multicast_row : List RuleText → Incoming → List Event → Option (Option (List ℕ))
 multicast_row rules d past =
-    if is_of_multicast rules d && has_all_verdicts rules d past
-    then Some (Some (told_octets (best_verdict rules d past))) else None
+    if is_of_multicast rules d then option_map (λ outcome. Some (told_octets outcome)) (whole_verdict rules d past) else None

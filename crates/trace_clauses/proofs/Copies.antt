@@ -19,8 +19,8 @@ use Rattle.trace_events.specs.Link.{link_at}
 use Rattle.trace_clauses.specs.Written.{spoken_octets}
 use Rattle.trace_clauses.proofs.Captures.{rule}
 use Rattle.trace_clauses.proofs.Made.{from, from_with, to, carry, gives, shows, first, disposes, detach_of, producer, consumer, q, hi}
-use Rattle.trace_verdicts.specs.CopyVerdict.{copy_verdict, verdict_by, awaits_verdict, awaits_now}
-use Rattle.trace_verdicts.specs.BestVerdict.{multicast_row}
+use Rattle.trace_clauses.specs.CopyVerdict.{copy_verdict, verdict_by, awaits_verdict, awaits_now}
+use Rattle.trace_clauses.specs.BestVerdict.{multicast_row}
 
 abbrev pub news : List RuleText
 news = rule Multicast q ∷ []

@@ -22,8 +22,8 @@ use Rattle.trace_events.specs.Due.{is_copied_to, is_due}
 use Rattle.trace_events.specs.Work.{comes_due}
 use Rattle.trace_clauses.specs.Clauses.{first_broken}
 use Rattle.trace_clauses.specs.Outcome.{is_sent_settled}
-use Rattle.trace_verdicts.specs.CopyVerdict.{copy_on, sent_verdict, copy_verdict, deciding_now, ends_settled, verdict_by, awaits_verdict, awaits_now}
-use Rattle.trace_verdicts.specs.BestVerdict.{is_same_outcome, is_verdict, has_verdict}
+use Rattle.trace_clauses.specs.CopyVerdict.{copy_on, sent_verdict, begun_verdict, copy_verdict, deciding_now, ends_settled, begun_verdict_by, verdict_by, awaits_verdict, awaits_now}
+use Rattle.trace_clauses.specs.BestVerdict.{is_same_outcome, is_verdict, has_verdict, has_all_verdicts}
 use Rattle.trace_events.proofs.Along.{and_first, and_last, and_then_some, some_passes}
 use Rattle.trace_events.proofs.Judged.{AreJudged}
 use Rattle.trace_events.proofs.LinkLives.{judged-stands}
@@ -38,7 +38,7 @@ use Rattle.trace_clauses.proofs.OneConsumer.{found-at}
 use Rattle.trace_clauses.proofs.Parts.{IsKept, delivery_kept}
 use Rattle.trace_clauses.proofs.UnsentCopies.{completed-unnamed, due_complete}
 use Rattle.trace_clauses.proofs.WaitingQueue.{all_contained, completed_once, contains_first, each_completed}
-use Rattle.trace_verdicts.proofs.VerdictSteps.{found-passes, copy_verdict_moves}
+use Rattle.trace_clauses.proofs.VerdictSteps.{found-passes, copy_verdict_moves, begun_verdict_given}
 
 -- ---- a link that a copy is due to was opened before
 
@@ -108,7 +108,7 @@ module _ (rules : List RuleText) (e : Event) (past : List Event) (are : AreJudge
   was_lawful : first_broken rules past ≡ None
   was_lawful = lawful-past rules e past lawful
 
-  completed-uncopied : (d : Incoming) (l : Link) → completes d e ≡ true → copy_on d l (e ∷ past) ≡ None
+  pub completed-uncopied : (d : Incoming) (l : Link) → completes d e ≡ true → copy_on d l (e ∷ past) ≡ None
   completed-uncopied d l here = by (copy_on d l (e ∷ past)) refl
     where
       by : (o : Option Outgoing) → copy_on d l (e ∷ past) ≡ o → o ≡ None
@@ -319,6 +319,26 @@ module _ (rules : List RuleText) (e : Event) (past : List Event) (are : AreJudge
         by true is = comes_due-live rules l e past is
         by false is = alive (is_due rules d l past) (option_and_then (λ j. sent_verdict (decision j past) (is_sent_settled j past)) (copy_on d l past)) (is_live past l) is
 
+    -- what a copy is given that awaits its verdict is the verdict that it has behind the event, as one that was begun
+    pub awaited-given : awaits_now rules e past d l ≡ true → begun_verdict d l (e ∷ past) ≡ begun_verdict_by e past d l
+    awaited-given = by (completes d e) refl
+      where
+        by : (b : Bool) → completes d e ≡ b → (if b then comes_due rules l e past else awaits_verdict rules d past l) ≡ true → begun_verdict d l (e ∷ past) ≡ begun_verdict_by e past d l
+        by true here is =
+            ap (option_and_then (λ j. sent_verdict (decision j (e ∷ past)) (is_sent_settled j (e ∷ past)))) (completed-uncopied d l here)
+            ∙ sym (ap (option_and_then (λ j. sent_verdict (deciding_now e past j) (ends_settled e j))) (completed-uncopied d l here))
+        by false other is =
+            let due : is_due rules d l past ≡ true = and_first (is_due rules d l past) (is_none (copy_verdict d l past)) is in
+            elim (found-at rules e past are d.number d (incoming_begun e) refl found) [
+              | inl old ↦
+                  begun_verdict_given rules e past are lawful d (delivery_kept rules past d.number d (judged-kept rules past are.1) old) (due-many rules past are.1 d old l due) l at
+                  (and_last (is_due rules d l past) (is_none (copy_verdict d l past)) is)
+              | inr new ↦
+                  let never : is_complete d past ≡ false = (judged-sound rules past are.1).fresh d (omega (arith, new)) in
+                  let done : is_complete d past ≡ true = due_complete rules past d l due in
+                  absurd cc
+            ]
+
   -- ---- a link that the event opens
 
   -- nothing is due to it
@@ -373,3 +393,43 @@ module _ (rules : List RuleText) (e : Event) (past : List Event) (are : AreJudge
         by (Some m) new =
             ap (λ b. b && is_some_and (copy_verdict d m (e ∷ past)) (is_same_outcome outcome) || list_any (is_verdict rules d (e ∷ past) outcome) (links past))
             (new_link-undue d m (own_link-number rules e past m are new)) ∙ old_links
+
+  -- ---- a delivery whose copies all have their verdict
+
+  either-none : (a b : Bool) → a || b ≡ false → (a ≡ false) × (b ≡ false)
+  either-none false b none = (refl, none)
+  either-none true b none = absurd cc
+
+  none_left : (p q r : Link → Bool) (ls : List Link) → AllByRecursion (λ l. p l ≡ q l && r l) ls → list_any q ls ≡ false → list_any p ls ≡ false
+  none_left p q r [] each over = refl
+  none_left p q r (l ∷ ls) each over =
+      let parts = either-none (q l) (list_any q ls) over in
+      ap (λ b. b || list_any p ls) (each.0 ∙ ap (λ b. b && r l) parts.0) ∙ none_left p q r ls each.1 parts.1
+
+  -- what was complete gets no more copies, so that each has its verdict still
+  module _ (d : Incoming) (found : incoming_at d.number (e ∷ past) ≡ Some d) (complete : is_complete d past ≡ true) where
+    later : completes d e ≡ false
+    later = completed_once rules e past are d complete
+
+    old-left : has_all_verdicts rules d past ≡ true → list_any (awaits_verdict rules d (e ∷ past)) (links past) ≡ false
+    old-left all =
+        none_left (awaits_verdict rules d (e ∷ past)) (awaits_verdict rules d past) (λ l. is_none (verdict_by e past d l)) (links past)
+        (all_by (λ l. (link_at l.number past ≡ Some l) × (l.number < length past))
+        (λ l. awaits_verdict rules d (e ∷ past) l ≡ awaits_verdict rules d past l && is_none (verdict_by e past d l))
+        (λ l known. awaits_verdict_moves d found l known.0
+        ∙ ap (λ b. (if b then comes_due rules l e past else awaits_verdict rules d past l) && is_none (verdict_by e past d l)) later)
+        (links past) (links-found rules past are.1))
+        (none-of (list_any (awaits_verdict rules d past) (links past)) all)
+      where
+        none-of : (b : Bool) → not b ≡ true → b ≡ false
+        none-of false is = refl
+        none-of true is = absurd cc
+
+    pub has_all-stays : has_all_verdicts rules d past ≡ true → has_all_verdicts rules d (e ∷ past) ≡ true
+    has_all-stays all = by (own_link e) refl
+      where
+        by : (o : Option Link) → own_link e ≡ o → not (list_any (awaits_verdict rules d (e ∷ past)) (cons_option o (links past))) ≡ true
+        by None unopened = ap not (old-left all)
+        by (Some m) new =
+            ap (λ b. not (b && is_none (copy_verdict d m (e ∷ past)) || list_any (awaits_verdict rules d (e ∷ past)) (links past)))
+            (new_link-undue d m (own_link-number rules e past m are new)) ∙ ap not (old-left all)

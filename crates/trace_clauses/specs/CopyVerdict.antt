@@ -1,6 +1,6 @@
 -- What came of the copies of a multicast delivery, each on the link that it is due to (states: part 3 of the standard,
 -- section 3.4; that copies have a verdict is an own rule).
-use Rattle.std.specs.Prelude.{Bool, ◌&&◌, not, List, ◌∷◌, Option, Some, None, is_none, option_and_then, unwrap_or, find, filter, if◌then◌else◌}
+use Rattle.std.specs.Prelude.{Bool, ◌&&◌, not, List, ◌∷◌, Option, Some, None, is_none, option_and_then, unwrap_or, find, if◌then◌else◌}
 use Rattle.amqp_perf.specs.declared.descriptor.Outcome.{Outcome}
 use Rattle.amqp_perf.specs.declared.descriptor.Outcome.TheVariants.{Accepted, Modified}
 use Rattle.amqp_perf.specs.Meaning.{DispositionFields, flag}
@@ -8,14 +8,13 @@ use Rattle.capture_form.specs.Rules.{RuleText}
 use Rattle.trace_events.specs.Words.{is_some_and, or_else}
 use Rattle.trace_events.specs.Event.{Event, Link, Incoming, Outgoing}
 use Rattle.trace_events.specs.Said.{out_transfer}
-use Rattle.trace_events.specs.Link.{is_live, links}
+use Rattle.trace_events.specs.Link.{is_live}
 use Rattle.trace_events.specs.Ends.{ends_link}
 use Rattle.trace_events.specs.Disposition.{terminal_state}
-use Rattle.trace_events.specs.Outgoing.{outgoing_deliveries, is_on, is_part, names, deciding, decision}
+use Rattle.trace_events.specs.Outgoing.{outgoing_deliveries, is_on, is_part, is_sent, names, deciding, decision}
 use Rattle.trace_events.specs.Incoming.{completes}
 use Rattle.trace_events.specs.Due.{is_due}
 use Rattle.trace_events.specs.Work.{comes_due}
-use Rattle.trace_clauses.specs.Outcome.{is_sent_settled}
 
 -- ---- one copy
 
@@ -35,22 +34,18 @@ sent_verdict None settled = if settled then Some Accepted else None
 
 -- of the copy on the link, where one was begun
 abbrev pub begun_verdict : Incoming → Link → List Event → Option Outcome
-begun_verdict d l past = option_and_then (λ j. sent_verdict (decision j past) (is_sent_settled j past)) (copy_on d l past)
+begun_verdict d l past = option_and_then (λ j. sent_verdict (decision j past) (j.link.is_pre_settled && is_sent j past)) (copy_on d l past)
 
 -- that; modified, where the link is over without it
 abbrev pub verdict_on : List Event → Link → Option Outgoing → Option Outcome
 verdict_on past l copy =
-    or_else (option_and_then (λ j. sent_verdict (decision j past) (is_sent_settled j past)) copy) (if is_live past l then None else Some Modified)
+    or_else (option_and_then (λ j. sent_verdict (decision j past) (j.link.is_pre_settled && is_sent j past)) copy) (if is_live past l then None else Some Modified)
 
 -- the verdict of the delivery's copy on a link that it is due to, if there is one yet
 abbrev pub copy_verdict : Incoming → Link → List Event → Option Outcome
 copy_verdict d l past = verdict_on past l (copy_on d l past)
 
 -- ---- all copies
-
--- the links that the delivery was due to at its completion
-abbrev pub due_links : List RuleText → Incoming → List Event → List Link
-due_links rules d past = filter (λ l. is_due rules d l past) (links past)
 
 -- a copy is due to the link, and has no verdict yet
 abbrev pub awaits_verdict : List RuleText → Incoming → List Event → Link → Bool

@@ -4,7 +4,7 @@ use Rattle.amqp_perf.specs.declared.attach.SenderSettleMode.TheVariants.{Settled
 use Rattle.amqp_perf.specs.Meaning.{AFlow, ATransfer}
 use Rattle.capture_form.specs.declared.records.Record.{Record}
 use Rattle.trace_clauses.proofs.Made.{from, from_with, carry, gives, first, as_settled, accepted, released, hi}
-use Rattle.trace_verdicts.proofs.Copies.{news, attached, completed, copy_to, says_of, leaves, rejected, modified, row_in}
+use Rattle.trace_clauses.proofs.Copies.{news, attached, completed, copy_to, says_of, leaves, rejected, modified, row_in}
 
 abbrev failed : Option (List ℕ)
 failed = Some (0x00 ∷ 0x53 ∷ 0x27 ∷ 0xC0 ∷ 0x02 ∷ 0x01 ∷ 0x41 ∷ [])

@@ -5,7 +5,7 @@ use Rattle.amqp_perf.specs.declared.descriptor.Outcome.TheVariants.{Accepted, Re
 use Rattle.amqp_perf.specs.Meaning.{AFlow, ATransfer}
 use Rattle.capture_form.specs.declared.records.Record.{Record}
 use Rattle.trace_clauses.proofs.Made.{from, from_with, gives, carry, first, with_more, as_settled, accepted, released, hi}
-use Rattle.trace_verdicts.proofs.Copies.{news, completed, copy_to, says_of, settles_with, leaves, rejected, modified, received, attached, verdict_in, awaits_in, awaits_by, given_by}
+use Rattle.trace_clauses.proofs.Copies.{news, completed, copy_to, says_of, settles_with, leaves, rejected, modified, received, attached, verdict_in, awaits_in, awaits_by, given_by}
 
 -- delivery 24 is complete; its copy goes to the consumer of the link of record 13, which wants it unsettled
 abbrev sent : List Record

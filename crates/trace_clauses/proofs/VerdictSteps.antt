@@ -1,5 +1,5 @@
 -- What one more event does to the verdict of a copy of a multicast delivery, in a lawful history, whatever the event.
-use Rattle.std.proofs.Common.{◌≡◌, refl, sym, ap, subst, ◌∙◌, ◌<◌, ◌≤◌, Bool, true, false, not, ◌&&◌, ◌||◌, ◌==◌, List, [], ◌∷◌, length, Option, Some, None, IfSome, find, option_and_then, option_map, if◌then◌else◌, inl, inr, arith, eqb-true, eq-eqb, ne_eqb}
+use Rattle.std.proofs.Common.{◌≡◌, refl, sym, ap, subst, ◌∙◌, ◌<◌, ◌≤◌, Bool, true, false, not, ◌&&◌, ◌||◌, ◌==◌, List, [], ◌∷◌, length, Option, Some, None, IfSome, find, is_none, option_and_then, option_map, if◌then◌else◌, inl, inr, arith, eqb-true, eq-eqb, ne_eqb}
 use Rattle.std.specs.List.{cons_option}
 use Rattle.amqp_perf.specs.declared.descriptor.Outcome.{Outcome}
 use Rattle.amqp_perf.specs.declared.descriptor.Outcome.TheVariants.{Modified}
@@ -25,7 +25,7 @@ use Rattle.trace_events.specs.Due.{is_due}
 use Rattle.trace_clauses.specs.Clauses.{first_broken, meaning_meets}
 use Rattle.trace_clauses.specs.Outcome.{is_sent_settled}
 use Rattle.trace_clauses.specs.TransferClause.{may_go_to, to_carry, is_first_to, is_in_order}
-use Rattle.trace_verdicts.specs.CopyVerdict.{copy_on, sent_verdict, verdict_on, copy_verdict, ends_settled, deciding_now, verdict_by}
+use Rattle.trace_clauses.specs.CopyVerdict.{copy_on, sent_verdict, begun_verdict, verdict_on, copy_verdict, ends_settled, deciding_now, begun_verdict_by, verdict_by}
 use Rattle.trace_events.proofs.Along.{standing, some_passes, and_first, and_last}
 use Rattle.trace_events.proofs.Judged.{AreJudged, AreBorn, IsBorn, IsTransfer, judged-born, judged-number, judged-transfer}
 use Rattle.trace_events.proofs.Links.{IsKnown, attach_in, passing}
@@ -76,6 +76,15 @@ none-bits : (L E : Bool) → ◌≡◌ {A = Option Outcome} (if L && not E then 
 none-bits true true = refl
 none-bits true false = refl
 none-bits false E = refl
+
+-- of a copy that had no verdict
+given-bits : (P L T S : Bool) (D W : Option DispositionFields) (over : Option Outcome) → is_none (or_else (sent_verdict (if P then None else D) (P && S)) over) ≡ true
+    → sent_verdict (if P then None else or_else D (if L then W else None)) (P && (T || S)) ≡ sent_verdict (if P then None else (if L then W else None)) (P && T)
+given-bits true L true S D W over none = refl
+given-bits true L false true D W over none = absurd cc
+given-bits true L false false D W over none = refl
+given-bits false L T S (Some fields) W over none = absurd cc
+given-bits false L T S None W over none = refl
 
 same_some : {A : Type 0} (a b : A) → Some a ≡ Some b → a ≡ b
 same_some a b is = cc
@@ -279,7 +288,15 @@ module _ (rules : List RuleText) (e : Event) (past : List Event) (are : AreJudge
         (ap (λ x. or_else (sent_verdict (decision j (e ∷ past)) (is_sent_settled j (e ∷ past))) (if x then None else Some Modified)) next
         ∙ copy-bits j.link.is_pre_settled (is_live past j.link) (ends_link j.link e) last (is_sent j past) (first_deciding j past) (where_passes is_decisive (answering j e)) goes)
 
-    -- one begins
+    -- one that begins
+    undecided_now : (j : Outgoing) → answering j e ≡ None → deciding_now e past j ≡ None
+    undecided_now j none = by j.link.is_pre_settled (is_live past j.link) (answering j e) none
+      where
+        by : (p live : Bool) (o : Option DispositionFields) → o ≡ None → (if p then None else (if live then where_passes is_decisive o else None)) ≡ None
+        by true live o is = refl
+        by false true o is = ap (where_passes is_decisive) is
+        by false false o is = refl
+
     begins_moves : (j : Outgoing) → outgoing_begun e ≡ Some j → is_copy j ≡ true → Moves l None (Some j)
     begins_moves j begun passes =
         let linked = begun-linked rules e past are lawful j begun in
@@ -299,41 +316,69 @@ module _ (rules : List RuleText) (e : Event) (past : List Event) (are : AreJudge
         ∙ (begun-bits j.link.is_pre_settled (ends_link j.link e) last
         ∙ sym (ap (λ b. or_else (if b then None else Some Modified) (or_else (sent_verdict (deciding_now e past j) (ends_settled e j)) (if ends_link j.link e then Some Modified else None))) (begun-live rules e past are lawful j begun)
         ∙ ap (λ o. or_else (if true then None else Some Modified) (or_else (sent_verdict o (ends_settled e j)) (if ends_link j.link e then Some Modified else None))) nothing)))))
-      where
-        undecided_now : (j : Outgoing) → answering j e ≡ None → deciding_now e past j ≡ None
-        undecided_now j none = by j.link.is_pre_settled (is_live past j.link) (answering j e) none
-          where
-            by : (p live : Bool) (o : Option DispositionFields) → o ≡ None → (if p then None else (if live then where_passes is_decisive o else None)) ≡ None
-            by true live o is = refl
-            by false true o is = ap (where_passes is_decisive) is
-            by false false o is = refl
 
     -- there is none
     none_moves : Moves l None None
     none_moves = ap (λ b. if b then None else Some Modified) lives_on ∙ none-bits (is_live past l) (ends_link l e)
 
-    by_begun : (was : Option Outgoing) → copy_on d l past ≡ was → (o : Option Outgoing) → outgoing_begun e ≡ o → Moves l was (find is_copy (cons_option o (outgoing_deliveries past)))
-    by_begun (Some j) is None begun = subst (Moves l (Some j)) (sym is) (stands_moves j is)
-    by_begun None is None begun = subst (Moves l None) (sym is) none_moves
-    by_begun was is (Some k) begun = passed was is (is_copy k) refl
-      where
-        passed : (was : Option Outgoing) → copy_on d l past ≡ was → (b : Bool) → is_copy k ≡ b → Moves l was (if b then Some k else copy_on d l past)
-        passed (Some j) is false other = subst (Moves l (Some j)) (sym is) (stands_moves j is)
-        passed None is false other = subst (Moves l None) (sym is) none_moves
-        passed None is true this = begins_moves k begun this
-        passed (Some j) is true this =
-            let b = found-begun rules past are.1 was_lawful is_copy j is in
-            let passes : is_copy j ≡ true = found-passes is_copy (outgoing_deliveries past) j is in
-            let named : names d.number j.note ≡ true = and_last (is_on l j) (names d.number j.note) passes in
-            let number : b.delivery.number ≡ d.number = eqb-true b.delivery.number d.number (sym (ap (names d.number) b.named) ∙ named) in
-            let carried : b.delivery ≡ d = same_some b.delivery d (sym b.kept.at ∙ (ap (λ n. incoming_at n past) number ∙ kept.at)) in
-            let mine : j.link ≡ l = same_link j.link b.linked.at (and_first (is_on l j) (names d.number j.note) passes) in
-            let theirs : k.link ≡ l = same_link k.link (begun-linked rules e past are lawful k begun).at (and_first (is_on l k) (names d.number k.note) this) in
-            let before : is_named_on d l past ≡ true = subst (λ (m : Link). is_named_on d m past ≡ true) mine (subst (λ (x : Incoming). is_named_on x j.link past ≡ true) carried b.named_on) in
-            let never : is_named_on d l past ≡ false =
-            subst (λ (m : Link). is_named_on d m past ≡ false) theirs (not_named_before k begun d kept (and_last (is_on l k) (names d.number k.note) this) many) in
-            absurd cc
+    -- which copy is there behind the event: the one that was, or one that begins where there was none
+    module _ (P : Option Outgoing → Option Outgoing → Type 0) (stands : (j : Outgoing) → copy_on d l past ≡ Some j → P (Some j) (Some j))
+        (begins : (j : Outgoing) → outgoing_begun e ≡ Some j → is_copy j ≡ true → P None (Some j)) (none : P None None) where
+      by_begun : (was : Option Outgoing) → copy_on d l past ≡ was → (o : Option Outgoing) → outgoing_begun e ≡ o → P was (find is_copy (cons_option o (outgoing_deliveries past)))
+      by_begun (Some j) is None begun = subst (P (Some j)) (sym is) (stands j is)
+      by_begun None is None begun = subst (P None) (sym is) none
+      by_begun was is (Some k) begun = passed was is (is_copy k) refl
+        where
+          passed : (was : Option Outgoing) → copy_on d l past ≡ was → (b : Bool) → is_copy k ≡ b → P was (if b then Some k else copy_on d l past)
+          passed (Some j) is false other = subst (P (Some j)) (sym is) (stands j is)
+          passed None is false other = subst (P None) (sym is) none
+          passed None is true this = begins k begun this
+          passed (Some j) is true this =
+              let b = found-begun rules past are.1 was_lawful is_copy j is in
+              let passes : is_copy j ≡ true = found-passes is_copy (outgoing_deliveries past) j is in
+              let named : names d.number j.note ≡ true = and_last (is_on l j) (names d.number j.note) passes in
+              let number : b.delivery.number ≡ d.number = eqb-true b.delivery.number d.number (sym (ap (names d.number) b.named) ∙ named) in
+              let carried : b.delivery ≡ d = same_some b.delivery d (sym b.kept.at ∙ (ap (λ n. incoming_at n past) number ∙ kept.at)) in
+              let mine : j.link ≡ l = same_link j.link b.linked.at (and_first (is_on l j) (names d.number j.note) passes) in
+              let theirs : k.link ≡ l = same_link k.link (begun-linked rules e past are lawful k begun).at (and_first (is_on l k) (names d.number k.note) this) in
+              let before : is_named_on d l past ≡ true = subst (λ (m : Link). is_named_on d m past ≡ true) mine (subst (λ (x : Incoming). is_named_on x j.link past ≡ true) carried b.named_on) in
+              let never : is_named_on d l past ≡ false =
+              subst (λ (m : Link). is_named_on d m past ≡ false) theirs (not_named_before k begun d kept (and_last (is_on l k) (names d.number k.note) this) many) in
+              absurd cc
+
+      copy-next : P (copy_on d l past) (copy_on d l (e ∷ past))
+      copy-next = by_begun (copy_on d l past) refl (outgoing_begun e) refl
 
     -- a verdict stays, and one comes where there was none just as the event says
     pub copy_verdict_moves : copy_verdict d l (e ∷ past) ≡ or_else (copy_verdict d l past) (verdict_by e past d l)
-    copy_verdict_moves = by_begun (copy_on d l past) refl (outgoing_begun e) refl
+    copy_verdict_moves = copy-next (Moves l) stands_moves begins_moves none_moves
+
+    -- of a copy that had no verdict, the one that it has behind the event is what the event gives it
+    abbrev IsGiven : Option Outgoing → Option Outgoing → Type 0
+    IsGiven was now =
+        is_none (verdict_on past l was) ≡ true
+        → option_and_then (λ j. sent_verdict (decision j (e ∷ past)) (is_sent_settled j (e ∷ past))) now ≡ option_and_then (λ j. sent_verdict (deciding_now e past j) (ends_settled e j)) now
+
+    stands_given : (j : Outgoing) → copy_on d l past ≡ Some j → IsGiven (Some j) (Some j)
+    stands_given j is =
+        given-bits j.link.is_pre_settled (is_live past j.link) (is_part j e && is_some_and (out_transfer e) (λ fields. not (flag fields.more))) (is_sent j past)
+        (first_deciding j past) (where_passes is_decisive (answering j e)) (if is_live past l then None else Some Modified)
+
+    begins_given : (j : Outgoing) → outgoing_begun e ≡ Some j → is_copy j ≡ true → IsGiven None (Some j)
+    begins_given j begun passes = λ none.
+        let own = judged-number rules e past are in
+        let n : j.number ≡ length past = eqb-true j.number e.number (passing (λ (x : Outgoing). x.number == e.number) e.outgoing j begun).1 ∙ own in
+        let last : Bool = is_part j e && is_some_and (out_transfer e) (λ fields. not (flag fields.more)) in
+        let undecided : decision j (e ∷ past) ≡ None = decision-begun rules e past j are (n ∙ sym own) in
+        let unsent : is_sent j past ≡ false = sent-not_yet past j (judged-born rules past are.1) (omega (arith, n)) in
+        let nothing : deciding_now e past j ≡ None = undecided_now j (answering-before j e (omega (arith, n, own))) in
+        ap (λ o. sent_verdict o (is_sent_settled j (e ∷ past))) undecided
+        ∙ (ap (λ b. sent_verdict None (j.link.is_pre_settled && (last || b))) unsent
+        ∙ (ap (λ b. sent_verdict None (j.link.is_pre_settled && b)) (last_alone last) ∙ sym (ap (λ o. sent_verdict o (ends_settled e j)) nothing)))
+      where
+        last_alone : (b : Bool) → b || false ≡ b
+        last_alone true = refl
+        last_alone false = refl
+
+    pub begun_verdict_given : is_none (copy_verdict d l past) ≡ true → begun_verdict d l (e ∷ past) ≡ begun_verdict_by e past d l
+    begun_verdict_given = copy-next IsGiven stands_given begins_given (λ none. refl)

@@ -1,5 +1,0 @@
-mod Copies
-mod VerdictExamples
-mod RowExamples
-pub mod VerdictSteps
-pub mod AwaitedSteps

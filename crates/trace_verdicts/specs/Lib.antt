@@ -1,2 +1,0 @@
-pub mod CopyVerdict
-pub mod BestVerdict
