@@ -38,8 +38,8 @@ module _ (rules : List RuleText) (e : Event) (past : List Event) (lawful : first
   said spoken (ABegin begin) begins attaches = (and_first (has_unanswered_begin e.connection spoken.channel past) _ (and_first _ _ begins), tt)
   said spoken (AnAttach fields) begins attaches = (
     tt,
-    passing (λ (s : Session). is_some (asking s fields.handle past) ≡ true) (answers_attach rules fields past) e.session
-        (λ s answers. some_of (asking s fields.handle past) (answers_one rules fields) answers) attaches,
+    passing (λ (s : Session). is_some (asking s fields.handle past) ≡ true) (answers_attach fields past) e.session
+        (λ s answers. some_of (asking s fields.handle past) (answers_one fields) answers) attaches,
   )
   said spoken (AnOpen fields) begins attaches = (tt, tt)
   said spoken (AFlow flow) begins attaches = (tt, tt)

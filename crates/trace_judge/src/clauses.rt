@@ -1,6 +1,7 @@
 //! The law: the clauses that each record which the router has written must meet.
 
-ghost use Rattle.std.specs.Prelude.{◌≡◌, IfSome, Some, None, if◌then◌else◌, find, length, not};
+ghost use Rattle.capture_form.specs.Rules.{RuleText};
+ghost use Rattle.std.specs.Prelude.{◌≡◌, IfSome, List, Some, None, if◌then◌else◌, find, length, not};
 ghost use Rattle.amqp_perf.specs.View.{disposition_fields, transfer_fields, attach_fields};
 ghost use Rattle.trace_events.specs.Words.{is_some_and};
 ghost use Rattle.trace_events.specs.Session.{StandsLive};
@@ -104,6 +105,7 @@ fn broken_by_disposition<'a, P: Outcomes<'a>>(
     event: &Event,
     disposition: &Disposition,
 ) -> Option<Clause>
+    requires few { P.is_short past.now }
     ensures { (history : Events) → P.stands_for past.now rules.now history →
         IfSome (event_view event.now).told (λ n. P.knows_number past.now n history) →
         (result ≡ find (λ clause. not (law.disposition_meets rules.now (event_view event.now) (disposition_fields disposition.now) history
@@ -137,7 +139,7 @@ fn broken_by_other<'a, P: Inputs<'a> + Openings<'a> + Counts>(
             first_broken(Clause::L2, is_met, note)
         }
         Performative::Attach(attach) => {
-            first_broken(Clause::L3, answers_live(past, rules, event, attach), note)
+            first_broken(Clause::L3, answers_live(past, event, attach), note)
         }
         Performative::Flow(flow) => {
             first_broken(Clause::L10, tells_counts(past, rules, event, flow), note)
@@ -153,17 +155,12 @@ fn broken_by_other<'a, P: Inputs<'a> + Openings<'a> + Counts>(
 }
 
 /// On a live session, the answer to the client's attach.
-fn answers_live<'a, P: Openings<'a>>(
-    past: &P,
-    rules: &[Rule],
-    event: &Event,
-    attach: &Attach,
-) -> bool
-    ensures { (history : Events) → P.stands_for past.now rules.now history → StandsLive (event_view event.now) history →
-        (result ≡ is_some_and (event_view event.now).session (answers_attach rules.now (attach_fields attach.now) history)) }
+fn answers_live<'a, P: Openings<'a>>(past: &P, event: &Event, attach: &Attach) -> bool
+    ensures { (rules : List RuleText) (history : Events) → P.stands_for past.now rules history → StandsLive (event_view event.now) history →
+        (result ≡ is_some_and (event_view event.now).session (answers_attach (attach_fields attach.now) history)) }
 {
     match event.session {
-        Some(session) => answers_attach(past, rules, attach, session),
+        Some(session) => answers_attach(past, attach, session),
         None => false,
     }
 }

@@ -12,6 +12,7 @@ ghost use Rattle.trace_events.specs.Waiting as waiting;
 ghost use Rattle.trace_judge.specs.Told.{asks_pairing, decided_view, told_view};
 ghost use Rattle.trace_values.specs.View.{incoming_view, outgoing_view, Events};
 ghost use Rattle.trace_judge.specs.OutcomeSize as law;
+ghost use Rattle.trace_clauses.specs.BestVerdict as verdicts;
 ghost use Rattle.trace_clauses.specs.Outcome as rows;
 
 use crate::questions::Outcomes;
@@ -176,6 +177,32 @@ fn anycast_row<'a, P: Outcomes<'a>>(past: &P, delivery: &Incoming, why: Why) -> 
     paired_row(past, delivery, &outgoing, &decision, why)
 }
 
+/// The state that tells the verdict of a multicast delivery: modified as delivery failed, whatever its consumers said.
+fn verdict_told(outcome: Outcome) -> Told<'static>
+    ensures { told_view result ≡ Some (verdicts.told_octets outcome) }
+{
+    match outcome {
+        Outcome::Modified => Told::DeliveryFailed,
+        Outcome::Accepted | Outcome::Rejected | Outcome::Released => Told::Bare(outcome),
+    }
+}
+
+/// What tells the verdict of a multicast delivery, where each copy that is due has its own.
+fn whole_told<'a, P: Outcomes<'a>>(
+    past: &P,
+    rules: &[Rule],
+    delivery: &Incoming,
+) -> Option<Told<'a>>
+    requires few { P.is_short past.now }
+    ensures { (history : Events) → P.stands_for past.now rules.now history → P.knows_incoming past.now (incoming_view delivery.now) history →
+        (option_map told_view result ≡ option_map (λ outcome. Some (verdicts.told_octets outcome)) (verdicts.whole_verdict rules.now (incoming_view delivery.now) history)) }
+{
+    match past.whole_verdict(rules, delivery) {
+        Some(outcome) => Some(verdict_told(outcome)),
+        None => None,
+    }
+}
+
 /// What row `why` tells of a delivery, where it applies.
 pub fn row<'a, P: Outcomes<'a>>(
     past: &P,
@@ -183,13 +210,14 @@ pub fn row<'a, P: Outcomes<'a>>(
     delivery: &Incoming,
     why: Why,
 ) -> Option<Told<'a>>
+    requires few { P.is_short past.now }
     ensures { (history : Events) → P.stands_for past.now rules.now history → P.knows_incoming past.now (incoming_view delivery.now) history →
         (option_map told_view result ≡ rows.row rules.now (incoming_view delivery.now) history why) }
 {
     match why {
         Why::N if past.is_gone(rules, delivery) => Some(Told::Bare(Outcome::Released)),
         Why::N => None,
-        Why::M if is_of_multicast(rules, delivery) => Some(Told::Bare(Outcome::Accepted)),
+        Why::M if is_of_multicast(rules, delivery) => whole_told(past, rules, delivery),
         Why::M => None,
         _ if is_of_multicast(rules, delivery) => None,
         _ => anycast_row(past, delivery, why),
@@ -272,6 +300,7 @@ pub fn first_row<'a, P: Outcomes<'a>>(
     rules: &[Rule],
     delivery: &Incoming,
 ) -> Option<(Why, Told<'a>)>
+    requires few { P.is_short past.now }
     ensures tells { (history : Events) → P.stands_for past.now rules.now history → P.knows_incoming past.now (incoming_view delivery.now) history →
         IfSome result (λ x. rows.row rules.now (incoming_view delivery.now) history x.0 ≡ Some (told_view x.1)) }
     ensures none { (history : Events) → P.stands_for past.now rules.now history → P.knows_incoming past.now (incoming_view delivery.now) history →
@@ -281,7 +310,7 @@ pub fn first_row<'a, P: Outcomes<'a>>(
     match first_anycast_row(past, is_multicast, delivery) {
         Some(first) => Some(first),
         None if past.is_gone(rules, delivery) => Some((Why::N, Told::Bare(Outcome::Released))),
-        None if is_multicast => Some((Why::M, Told::Bare(Outcome::Accepted))),
+        None if is_multicast => Some((Why::M, whole_told(past, rules, delivery)?)),
         None => None,
     }
 }

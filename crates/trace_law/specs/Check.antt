@@ -15,7 +15,7 @@ use Rattle.trace_events.specs.Incoming.{incoming_at, is_complete}
 use Rattle.trace_events.specs.Waiting.{is_of_multicast, is_waiting}
 use Rattle.trace_events.specs.History.{judge, history}
 use Rattle.trace_clauses.specs.Clauses.{broken_clause}
-use Rattle.trace_verdicts.specs.BestVerdict.{has_all_verdicts, best_verdict}
+use Rattle.trace_clauses.specs.BestVerdict.{whole_verdict}
 
 -- the events of the records below this number
 abbrev pub events_below : ℕ → Trace → List Event
@@ -51,10 +51,10 @@ credit_on c channel handle past = option_map (λ l. link_credit l past) (where_p
 abbrev pub waits : List RuleText → ℕ → List Event → Bool
 waits rules n past = is_some_and (incoming_at n past) (λ d. is_waiting rules d past)
 
--- what the producer of a multicast delivery would be told: once it is complete and each copy has its verdict, the best
+-- what the producer of a multicast delivery is told: once it is complete and each copy has its verdict, the best
 abbrev pub told_of : List RuleText → List Event → Incoming → Option Outcome
 told_of rules past d =
-    if is_of_multicast rules d && is_complete d past && has_all_verdicts rules d past then Some (best_verdict rules d past) else None
+    if is_of_multicast rules d && is_complete d past then whole_verdict rules d past else None
 
 -- of the delivery that begins in the record of this number
 abbrev pub best_at : List RuleText → ℕ → List Event → Option Outcome

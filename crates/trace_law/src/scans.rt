@@ -1,7 +1,7 @@
 //! The answers of the plain checker: each by a scan of the events on the stack.
 
 use crate::past::Past;
-use amqp_perf::Begin;
+use amqp_perf::{Begin, Outcome};
 use capture_form::{Record, Rule};
 use pairing_cert::Note;
 use trace_clauses::Clause;
@@ -118,6 +118,10 @@ impl<'p, 'a> Outcomes<'a> for Past<'p, 'a> {
 
     fn is_sent(&self, delivery: &Outgoing) -> bool {
         self.is_sent(delivery)
+    }
+
+    fn whole_verdict(&self, rules: &[Rule], delivery: &Incoming) -> Option<Outcome> {
+        self.whole_verdict(rules, delivery)
     }
 
     fn frame_limit(&self, connection: u32) -> u32 {

@@ -5,11 +5,9 @@ ghost use Rattle.std.specs.Prelude.{◌≡◌, decimal, codes, ◌++◌, bytes_e
 ghost use Rattle.amqp_perf.specs.View.{attach_fields};
 ghost use Rattle.trace_clauses.specs.LinkClause as law;
 
-use crate::address::has_multicast;
 use crate::event::Event;
 use crate::link::{address_at, opens_link};
 use amqp_perf::{Attach, ReceiverSettleMode, Role, SenderSettleMode};
-use capture_form::Rule;
 use trace_events::Fault;
 
 /// What the address of a dynamic source begins with; the number of the attach's record follows.
@@ -148,17 +146,6 @@ impl<'a> Asking<'a> {
         }
     }
 
-    /// How the router's sender settles: to a producer as it says; to a consumer as it asks, and settled where the address,
-    /// which is this one, is multicast.
-    pub fn answering_sender_mode(&self, rules: &[Rule], address: &[u8]) -> SenderSettleMode
-        ensures { result ≡ law.answering_sender_mode rules.now address.now self.now.sender_mode self.now.role }
-    {
-        match self.role {
-            Role::Receiver if has_multicast(rules, address) => SenderSettleMode::Settled,
-            _ => self.sender_mode,
-        }
-    }
-
     /// When the router's receiver settles: at once from a producer; from a consumer as it asks.
     pub fn answering_receiver_mode(&self) -> ReceiverSettleMode
         ensures { result ≡ law.answering_receiver_mode self.now.receiver_mode self.now.role }
@@ -170,36 +157,32 @@ impl<'a> Asking<'a> {
     }
 
     /// The answer opens the link that is asked for.
-    fn is_accepted(&self, rules: &[Rule], ours: &Attach) -> bool
-        ensures { result ≡ law.accepts rules.now (asking_view self.now) (attach_fields ours.now) }
+    fn is_accepted(&self, ours: &Attach) -> bool
+        ensures { result ≡ law.accepts (asking_view self.now) (attach_fields ours.now) }
     {
-        let address = address_at(ours.role, ours);
         opens_link(ours)
-            && self.address.is(address)
-            && is_same_sender_mode(
-                ours.sender_mode(),
-                self.answering_sender_mode(rules, address),
-            )
+            && self.address.is(address_at(ours.role, ours))
+            && is_same_sender_mode(ours.sender_mode(), self.sender_mode)
             && is_same_receiver_mode(ours.receiver_mode(), self.answering_receiver_mode())
     }
 
     /// By the fault of the client's attach.
-    fn is_accepted_or_refused(&self, rules: &[Rule], ours: &Attach) -> bool
-        ensures { result ≡ law.accepts_or_refuses rules.now (asking_view self.now) (attach_fields ours.now) self.now.fault }
+    fn is_accepted_or_refused(&self, ours: &Attach) -> bool
+        ensures { result ≡ law.accepts_or_refuses (asking_view self.now) (attach_fields ours.now) self.now.fault }
     {
         match self.fault {
-            None => self.is_accepted(rules, ours),
+            None => self.is_accepted(ours),
             Some(Fault::Refuse(_)) => ours.source.is_none() && ours.target.is_none(),
             Some(_) => false,
         }
     }
 
     /// The router's attach is an answer to it: it opens the link, or refuses it by the fault.
-    pub fn is_answered(&self, rules: &[Rule], ours: &Attach) -> bool
-        ensures { result ≡ law.answers_one rules.now (attach_fields ours.now) (asking_view self.now) }
+    pub fn is_answered(&self, ours: &Attach) -> bool
+        ensures { result ≡ law.answers_one (attach_fields ours.now) (asking_view self.now) }
     {
         ours.name == self.name
             && is_same_role(ours.role, opposite(self.role))
-            && self.is_accepted_or_refused(rules, ours)
+            && self.is_accepted_or_refused(ours)
     }
 }

@@ -27,6 +27,7 @@ fn tells_by<'a, P: Outcomes<'a>>(
     note: Note,
     disposition: &Disposition,
 ) -> bool
+    requires few { P.is_short past.now }
     ensures { (history : Events) → P.stands_for past.now rules.now history → P.knows_incoming past.now (incoming_view delivery.now) history → (result ≡ law.tells_by rules.now (incoming_view delivery.now) note
         (option_map (λ s. s.octets) (disposition_fields disposition.now).state) history) }
 {
@@ -47,6 +48,7 @@ pub(crate) fn is_outcome<'a, P: Outcomes<'a>>(
     event: &Event,
     disposition: &Disposition,
 ) -> bool
+    requires few { P.is_short past.now }
     ensures { (history : Events) → P.stands_for past.now rules.now history → IfSome (event_view event.now).told (λ n. P.knows_number past.now n history) →
         (result ≡ law.is_outcome rules.now (event_view event.now) (disposition_fields disposition.now) history) }
 {

@@ -9,22 +9,16 @@ ghost use Rattle.trace_clauses.specs.LinkClause as law;
 
 use crate::questions::Openings;
 use amqp_perf::{Attach, Detach};
-use capture_form::Rule;
 use trace_events::Session;
 use trace_values::Event;
 
 /// L3: it answers the client's last attach of the handle.
-pub(crate) fn answers_attach<'a, P: Openings<'a>>(
-    past: &P,
-    rules: &[Rule],
-    ours: &Attach,
-    session: Session,
-) -> bool
-    ensures { (history : Events) → P.stands_for past.now rules.now history → IsLiveOn session history →
-        (result ≡ law.answers_attach rules.now (attach_fields ours.now) history session) }
+pub(crate) fn answers_attach<'a, P: Openings<'a>>(past: &P, ours: &Attach, session: Session) -> bool
+    ensures { (rules : List RuleText) (history : Events) → P.stands_for past.now rules history → IsLiveOn session history →
+        (result ≡ law.answers_attach (attach_fields ours.now) history session) }
 {
     match past.asking(session, ours.handle) {
-        Some(asked) => asked.is_answered(rules, ours),
+        Some(asked) => asked.is_answered(ours),
         None => false,
     }
 }

@@ -1,6 +1,7 @@
 //! What is asked of the past when an outcome is told or a delivery is settled.
 
 use crate::questions::History;
+use amqp_perf::Outcome;
 use capture_form::Rule;
 use trace_events::Session;
 use trace_values::{Decision, Incoming, Link, Outgoing};
@@ -17,6 +18,7 @@ pub trait Outcomes<'a>: History {
     ghost use Rattle.trace_events.specs.Outgoing as sent;
     ghost use Rattle.trace_events.specs.Settling as settling;
     ghost use Rattle.trace_events.specs.Waiting as waiting;
+    ghost use Rattle.trace_clauses.specs.BestVerdict as verdicts;
     ghost use Rattle.trace_events.specs.Disposition.{terminal_state};
     ghost use Rattle.trace_events.specs.Session.{IsLiveOn};
     ghost use Rattle.trace_values.specs.View.{Events, decision_view, incoming_view, link_view, outgoing_view};
@@ -73,6 +75,12 @@ pub trait Outcomes<'a>: History {
     fn is_sent(&self, delivery: &Outgoing) -> bool
         ensures { (rules : List RuleText) (history : Events) → Self.stands_for self.now rules history → Self.knows_outgoing self.now (outgoing_view delivery.now) history →
             (result ≡ sent.is_sent (outgoing_view delivery.now) history) };
+
+    /// The verdict of a multicast delivery: the best one of its copies, where each that is due has its own.
+    fn whole_verdict(&self, rules: &[Rule], delivery: &Incoming) -> Option<Outcome>
+        requires few { Self.is_short self.now }
+        ensures { (history : Events) → Self.stands_for self.now rules.now history → Self.knows_incoming self.now (incoming_view delivery.now) history →
+            (result ≡ verdicts.whole_verdict rules.now (incoming_view delivery.now) history) };
 
     /// The longest frame that may be written on the connection, in octets.
     fn frame_limit(&self, connection: u32) -> u32

@@ -1,10 +1,10 @@
-//! What came of the copies of a multicast delivery, and what its producer would be told of them (part 3 of the standard, section
+//! What came of the copies of a multicast delivery, and what its producer is told of them (part 3 of the standard, section
 //! 3.4; own rules).
 
 ghost use Rattle.std.specs.Prelude.{◌≡◌};
 ghost use Rattle.amqp_perf.specs.View.{disposition_fields};
-ghost use Rattle.trace_verdicts.specs.BestVerdict as best;
-ghost use Rattle.trace_verdicts.specs.CopyVerdict as copies;
+ghost use Rattle.trace_clauses.specs.BestVerdict as best;
+ghost use Rattle.trace_clauses.specs.CopyVerdict as copies;
 
 use crate::past::Past;
 use amqp_perf::{Disposition, Outcome};
@@ -164,16 +164,25 @@ impl<'p, 'a> Past<'p, 'a> {
         }
     }
 
-    /// What the producer of a multicast delivery would be told: once it is complete and each copy has its verdict, the best.
+    /// The verdict of the whole delivery: the best one, where every copy that is due has its own.
+    pub(crate) fn whole_verdict(&self, rules: &[Rule], delivery: &Incoming) -> Option<Outcome>
+        requires few { length (events self.now) < 2 ^ 64 }
+        ensures { result ≡ best.whole_verdict rules.now (incoming_view delivery.now) (events self.now) }
+    {
+        if self.has_all_verdicts(rules, delivery) {
+            Some(self.best_verdict(rules, delivery))
+        } else {
+            None
+        }
+    }
+
+    /// What the producer of a multicast delivery is told: once it is complete and each copy has its verdict, the best.
     pub(crate) fn told_of(&self, rules: &[Rule], delivery: &Incoming) -> Option<Outcome>
         requires few { length (events self.now) < 2 ^ 64 }
         ensures { result ≡ told_of rules.now (events self.now) (incoming_view delivery.now) }
     {
-        if is_of_multicast(rules, delivery)
-            && self.is_complete(delivery)
-            && self.has_all_verdicts(rules, delivery)
-        {
-            Some(self.best_verdict(rules, delivery))
+        if is_of_multicast(rules, delivery) && self.is_complete(delivery) {
+            self.whole_verdict(rules, delivery)
         } else {
             None
         }

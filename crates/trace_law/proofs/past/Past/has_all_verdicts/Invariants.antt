@@ -3,7 +3,7 @@ use Rattle.std.specs.List.{list_any}
 use Rattle.trace_events.specs.Link.{links}
 use Rattle.trace_law.specs.OnStack.{events}
 use Rattle.trace_values.specs.View.{incoming_view}
-use Rattle.trace_verdicts.specs.CopyVerdict.{awaits_verdict}
+use Rattle.trace_clauses.specs.CopyVerdict.{awaits_verdict}
 use Rattle.trace_law.proofs.past.Past.has_all_verdicts.Given as goal
 
 abbrev pub invariant-loop-rest : goal.invariant-loop-rest
