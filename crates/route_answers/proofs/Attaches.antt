@@ -31,7 +31,7 @@ use Rattle.trace_events.specs.Said.{in_attach}
 use Rattle.trace_events.specs.Link.{attaches_in, attaches_out, address_at, is_receiver, address_text, source_address, target_address}
 use Rattle.trace_events.specs.Fault.{terminus_fault, address_fault, target_fault, target_address_fault, source_fault, source_address_fault}
 use Rattle.trace_events.proofs.LinkSteps.{unanswered_attach-asked}
-use Rattle.trace_clauses.specs.LinkClause.{Asking, asked_by, asking, asked_address, has_dynamic_source, answering_sender_mode, answers_one, answers_attach, opposite, is_same_sender_mode, is_same_receiver_mode}
+use Rattle.trace_clauses.specs.LinkClause.{Asking, asked_by, asking, asked_address, has_dynamic_source, answers_one, answers_attach, opposite, is_same_sender_mode, is_same_receiver_mode}
 use Rattle.trace_clauses.specs.Written.{spoken_octets, says}
 use Rattle.trace_duties.specs.Answer.{attach_answer}
 use Rattle.route_answers.proofs.Words.{same_octets}
@@ -59,23 +59,23 @@ asked theirs address role fault = record {
   fault = fault;
 }
 
-module _ (rules : List RuleText) (theirs : AttachFields) (address : List ℕ) where
-  producer_by : (role : Role) (fault : Option Fault) → role ≡ Sender → fault ≡ None → answers_one rules (attach_to_producer theirs address) (asked theirs address role fault) ≡ true
+module _ (theirs : AttachFields) (address : List ℕ) where
+  producer_by : (role : Role) (fault : Option Fault) → role ≡ Sender → fault ≡ None → answers_one (attach_to_producer theirs address) (asked theirs address role fault) ≡ true
   producer_by Sender None is none = rw (same_octets theirs.name, same_octets address, same_sender_mode (sender_mode theirs)) refl
   producer_by Sender (Some fault) is none = absurd cc
   producer_by Receiver fault is none = absurd cc
 
   consumer_by : (role : Role) (fault : Option Fault) (dynamic : Bool) → role ≡ Receiver → fault ≡ None
-      → answers_one rules (attach_to_consumer theirs address dynamic (answering_sender_mode rules address (sender_mode theirs) Receiver)) (asked theirs address role fault) ≡ true
+      → answers_one (attach_to_consumer theirs address dynamic (sender_mode theirs)) (asked theirs address role fault) ≡ true
   consumer_by Receiver None true is none =
-      rw (same_octets theirs.name, same_octets address, same_sender_mode (answering_sender_mode rules address (sender_mode theirs) Receiver), same_receiver_mode (receiver_mode theirs)) refl
+      rw (same_octets theirs.name, same_octets address, same_sender_mode (sender_mode theirs), same_receiver_mode (receiver_mode theirs)) refl
   consumer_by Receiver None false is none =
-      rw (same_octets theirs.name, same_octets address, same_sender_mode (answering_sender_mode rules address (sender_mode theirs) Receiver), same_receiver_mode (receiver_mode theirs)) refl
+      rw (same_octets theirs.name, same_octets address, same_sender_mode (sender_mode theirs), same_receiver_mode (receiver_mode theirs)) refl
   consumer_by Receiver (Some fault) dynamic is none = absurd cc
   consumer_by Sender fault dynamic is none = absurd cc
 
   refused_by : (role : Role) (fault : Option Fault) (condition : ErrorCondition) → theirs.role ≡ role → fault ≡ Some (Refuse condition)
-      → answers_one rules (attach_refused theirs) (asked theirs address role fault) ≡ true
+      → answers_one (attach_refused theirs) (asked theirs address role fault) ≡ true
   refused_by Sender (Some (Refuse given)) condition same is = rw (same_octets theirs.name, same) refl
   refused_by Receiver (Some (Refuse given)) condition same is = rw (same_octets theirs.name, same) refl
   refused_by role None condition same is = absurd cc
@@ -91,18 +91,18 @@ module _ (s : Session) (e : Event) (past : List Event) (theirs : AttachFields) (
       ap (option_and_then (λ (x : Event). option_map (asked_by x) (in_attach x))) (unanswered_attach-asked s theirs.handle e past apart here heard)
       ∙ ap (option_map (asked_by e)) says_so
 
-  answers_by : (rules : List RuleText) (ours : AttachFields) → ours.handle ≡ theirs.handle → answers_one rules ours (asked_by e theirs) ≡ true → answers_attach rules ours (e ∷ past) s ≡ true
-  answers_by rules ours same one =
-      ap (λ h. is_some_and (asking s h (e ∷ past)) (answers_one rules ours)) same ∙ (ap (λ o. is_some_and o (answers_one rules ours)) asked_here ∙ one)
+  answers_by : (ours : AttachFields) → ours.handle ≡ theirs.handle → answers_one ours (asked_by e theirs) ≡ true → answers_attach ours (e ∷ past) s ≡ true
+  answers_by ours same one =
+      ap (λ h. is_some_and (asking s h (e ∷ past)) (answers_one ours)) same ∙ (ap (λ o. is_some_and o (answers_one ours)) asked_here ∙ one)
 
-  pub accepted : (rules : List RuleText) (role : Role) → theirs.role ≡ role → e.fault ≡ None → answers_attach rules (attach_answer rules e.number theirs role) (e ∷ past) s ≡ true
-  accepted rules Sender same none =
-      answers_by rules (attach_to_producer theirs (asked_address e.number theirs)) refl (producer_by rules theirs (asked_address e.number theirs) theirs.role e.fault same none)
-  accepted rules Receiver same none =
-      answers_by rules (attach_answer rules e.number theirs Receiver) refl (consumer_by rules theirs (asked_address e.number theirs) theirs.role e.fault (has_dynamic_source theirs) same none)
+  pub accepted : (role : Role) → theirs.role ≡ role → e.fault ≡ None → answers_attach (attach_answer e.number theirs role) (e ∷ past) s ≡ true
+  accepted Sender same none =
+      answers_by (attach_to_producer theirs (asked_address e.number theirs)) refl (producer_by theirs (asked_address e.number theirs) theirs.role e.fault same none)
+  accepted Receiver same none =
+      answers_by (attach_answer e.number theirs Receiver) refl (consumer_by theirs (asked_address e.number theirs) theirs.role e.fault (has_dynamic_source theirs) same none)
 
-  pub refused : (rules : List RuleText) (condition : ErrorCondition) → e.fault ≡ Some (Refuse condition) → answers_attach rules (attach_refused theirs) (e ∷ past) s ≡ true
-  refused rules condition is = answers_by rules (attach_refused theirs) refl (refused_by rules theirs (asked_address e.number theirs) theirs.role e.fault condition refl is)
+  pub refused : (condition : ErrorCondition) → e.fault ≡ Some (Refuse condition) → answers_attach (attach_refused theirs) (e ∷ past) s ≡ true
+  refused condition is = answers_by (attach_refused theirs) refl (refused_by theirs (asked_address e.number theirs) theirs.role e.fault condition refl is)
 
 -- ---- addresses are short
 
@@ -243,10 +243,10 @@ module _ (channel : ℕ) (theirs : AttachFields) (named : length theirs.name ≤
         )
         (omega arith)
 
-  pub accepted_fits : (rules : List RuleText) (number : ℕ) (role : Role) → length (asked_address number theirs) ≤ MAX_ADDRESS → length (spoken_octets (says channel (AnAttach (attach_answer rules number theirs role)))) ≤ 512
-  accepted_fits rules number Sender short = producer_fits (asked_address number theirs) short
-  accepted_fits rules number Receiver short =
-      consumer_fits (asked_address number theirs) short (has_dynamic_source theirs) (answering_sender_mode rules (asked_address number theirs) (sender_mode theirs) Receiver)
+  pub accepted_fits : (number : ℕ) (role : Role) → length (asked_address number theirs) ≤ MAX_ADDRESS → length (spoken_octets (says channel (AnAttach (attach_answer number theirs role)))) ≤ 512
+  accepted_fits number Sender short = producer_fits (asked_address number theirs) short
+  accepted_fits number Receiver short =
+      consumer_fits (asked_address number theirs) short (has_dynamic_source theirs) (sender_mode theirs)
 
   count_long : (role : Role) → IsWithin 5 (option_map uint_value (count_of_sender role))
   count_long Sender = uint_long 0

@@ -111,9 +111,9 @@ module _ (rules : List RuleText) (c channel : ℕ) (past : List Event) where
       detach_fine fits =
           fine_by (ADetach (detach_with handle closed condition)) (speaks_written c past speaks (ADetach (detach_with handle closed condition)) refl) fits detach_meets refl
 
-    module _ (s : Session) (live : live_session c channel past ≡ Some s) (fields : AttachFields) (answers : answers_attach rules fields past s ≡ true) where
+    module _ (s : Session) (live : live_session c channel past ≡ Some s) (fields : AttachFields) (answers : answers_attach fields past s ≡ true) where
       attach_meets : (clause : Clause) → meaning_meets rules (writing rules c past (says channel (AnAttach fields))) (says channel (AnAttach fields)) past (AnAttach fields) clause ≡ true
-      attach_meets L3 = ap (λ o. is_some_and o (answers_attach rules fields past)) live ∙ answers
+      attach_meets L3 = ap (λ o. is_some_and o (answers_attach fields past)) live ∙ answers
       attach_meets L14 = refl
       attach_meets clause = refl
 

@@ -185,17 +185,17 @@ module _ (rules : List RuleText) (c channel : ℕ) (past : List Event) (octets p
     attached_here s live =
         both (fields.handle == fields.handle) (is_on_session s (e m)) (eq-eqb fields.handle fields.handle refl) (stands_on rules c channel past octets payload m s live)
 
-    attach_goes : (role : Role) → fields.role ≡ role → (e m).fault ≡ None → Goes rules c (says channel (AnAttach (attach_answer rules (e m).number fields role)) ∷ []) (hist m)
+    attach_goes : (role : Role) → fields.role ≡ role → (e m).fault ≡ None → Goes rules c (says channel (AnAttach (attach_answer (e m).number fields role)) ∷ []) (hist m)
     attach_goes role same none =
         let on = on_kind m None refl (found rules c past octets (spoken m) None heard none) in
         let s = on.session in
         let named = attach_named s fields past None refl refl on.fault in
         let short = address_short (length past) ready.short fields role same (subst (λ r. terminus_fault fields r ≡ None) same named.1) in
-        let ours = attach_answer rules (e m).number fields role in
+        let ours = attach_answer (e m).number fields role in
         goes_one rules c (hist m) (says channel (AnAttach ours))
         (attach_fine rules c channel (hist m) (talks m s on.live refl refl) s (lives m s on.live refl refl) ours
-        (accepted s (e m) past fields refl refl (attached_here s on.live) heard rules role same none)
-        (fits_all c (hist m) (spoken_octets (says channel (AnAttach ours))) (accepted_fits channel fields named.0 rules (length past) role short)))
+        (accepted s (e m) past fields refl refl (attached_here s on.live) heard role same none)
+        (fits_all c (hist m) (spoken_octets (says channel (AnAttach ours))) (accepted_fits channel fields named.0 (length past) role short)))
         (λ over. still m s on.live)
 
     module _ (condition : ErrorCondition) (s : Session) (live : live_session c channel past ≡ Some s) where
@@ -235,7 +235,7 @@ module _ (rules : List RuleText) (c channel : ℕ) (past : List Event) (octets p
       refuse_on named is =
           goes_two rules c (hist m) (says channel (AnAttach (attach_refused fields))) (written_detach channel fields.handle true (Some condition))
           (attach_fine rules c channel (hist m) (talks m s live refl refl) s (lives m s live refl refl) (attach_refused fields)
-          (refused s (e m) past fields refl refl (attached_here s live) heard rules condition is)
+          (refused s (e m) past fields refl refl (attached_here s live) heard condition is)
           (fits_all c (hist m) (spoken_octets (says channel (AnAttach (attach_refused fields)))) (refused_fits channel fields named)))
           detach_next
           (λ over. still m s live)

@@ -1,6 +1,6 @@
 //! The direct answer to what a client does.
 
-ghost use Rattle.std.specs.Prelude.{◌≡◌, ℕ, List, [], ◌∷◌, None, Some, IfOk, IsTrue, true};
+ghost use Rattle.std.specs.Prelude.{◌≡◌, ℕ, List, [], ◌∷◌, None, Some, IsTrue, true};
 ghost use Rattle.pairing_cert.specs.declared.note.Note.TheVariants as notes;
 ghost use Rattle.capture_form.specs.Rules.{RuleText};
 ghost use Rattle.amqp_perf.specs.Meaning.{AFlow};
@@ -21,7 +21,6 @@ use crate::attach::accepted;
 use crate::reply::{Answer, Reply, Saying};
 use amqp_perf::{ErrorCondition, Flow, Performative, Role};
 use capture_form::Rule;
-use std::alloc::{AllocError, Global};
 use trace_events::{Fault, Session};
 use trace_judge::{Counts, Inputs, Openings};
 use trace_values::{Body, Event, Link, Moment, Spoken, handle_in};
@@ -112,29 +111,22 @@ fn echo<'p, 'a, P: Inputs<'p> + Counts>(past: &P, event: &Event, flow: &Flow) ->
 }
 
 /// The answer to a frame without fault.
-///
-/// # Errors
-///
-/// Where the memory for a made up address is refused.
 fn plain_answer<'p, 'a, P: Inputs<'p> + Openings<'p> + Counts>(
-    alloc: Global,
     past: &P,
     rules: &[Rule],
     event: &Event,
     channel: u16,
     performative: &Performative<'a>,
-) -> Result<Answer<'a>, AllocError>
+) -> Answer<'a>
     ensures says { (history : Events) → P.stands_for past.now rules.now history → first_broken rules.now history ≡ None →
         EchoesLive (event_view event.now) history (view performative.now) →
-        IfOk result (λ answer. answer_view answer ≡ duties.plain_answer rules.now (event_view event.now) channel (view performative.now) history) }
-    ensures short { AreShortTexts event.now.number None (view performative.now) → IfOk result CanBeWritten }
+        answer_view result ≡ duties.plain_answer rules.now (event_view event.now) channel (view performative.now) history }
+    ensures short { AreShortTexts event.now.number None (view performative.now) → CanBeWritten result }
 {
-    Ok(match *performative {
+    match *performative {
         Performative::Open(_) => Answer::one(0, Saying::Open),
         Performative::Begin(_) => Answer::one(channel, Saying::Begin),
-        Performative::Attach(theirs) => {
-            Answer::One(accepted(alloc, rules, event.number, channel, theirs)?)
-        }
+        Performative::Attach(theirs) => Answer::One(accepted(event.number, channel, theirs)),
         Performative::Flow(flow) => echo(past, event, &flow),
         Performative::Transfer(_) | Performative::Disposition(_) => Answer::Nothing,
         Performative::Detach(detach) => {
@@ -143,7 +135,7 @@ fn plain_answer<'p, 'a, P: Inputs<'p> + Openings<'p> + Counts>(
         }
         Performative::End(_) => Answer::one(channel, Saying::End(None)),
         Performative::Close(_) => closing(past, event.connection, None),
-    })
+    }
 }
 
 /// The answer to an attach that is refused.
@@ -193,32 +185,27 @@ fn fault_answer<'p, 'a, P: Openings<'p>>(
 }
 
 /// The answer to a performative: by its fault where it is heard; of those that are passed over a flow is echoed.
-///
-/// # Errors
-///
-/// Where the memory for a made up address is refused.
 fn spoken_answer<'p, 'a, P: Inputs<'p> + Openings<'p> + Counts>(
-    alloc: Global,
     past: &P,
     rules: &[Rule],
     event: &Event,
     channel: u16,
     performative: &Performative<'a>,
-) -> Result<Answer<'a>, AllocError>
+) -> Answer<'a>
     ensures says { (history : Events) → P.stands_for past.now rules.now history → first_broken rules.now history ≡ None →
         EchoesLive (event_view event.now) history (view performative.now) →
-        IfOk result (λ answer. answer_view answer ≡ said_answer rules.now (event_view event.now) channel (view performative.now) history) }
-    ensures short { IsHeardShort event.now.is_heard event.now.number event.now.fault (view performative.now) → IfOk result CanBeWritten }
+        answer_view result ≡ said_answer rules.now (event_view event.now) channel (view performative.now) history }
+    ensures short { IsHeardShort event.now.is_heard event.now.number event.now.fault (view performative.now) → CanBeWritten result }
 {
     if !event.is_heard {
-        return Ok(match performative {
+        return match performative {
             Performative::Flow(flow) => echo(past, event, flow),
             _ => Answer::Nothing,
-        });
+        };
     }
     match event.fault {
-        Some(fault) => Ok(fault_answer(past, event, channel, performative, fault)),
-        None => plain_answer(alloc, past, rules, event, channel, performative),
+        Some(fault) => fault_answer(past, event, channel, performative, fault),
+        None => plain_answer(past, rules, event, channel, performative),
     }
 }
 
@@ -235,58 +222,41 @@ fn unread_answer<'p, 'a, P: Openings<'p>>(past: &P, event: &Event) -> Answer<'a>
 }
 
 /// The answer to a frame.
-///
-/// # Errors
-///
-/// Where the memory for a made up address is refused.
 fn body_answer<'p, 'a, P: Inputs<'p> + Openings<'p> + Counts>(
-    alloc: Global,
     past: &P,
     rules: &[Rule],
     event: &Event,
     body: &Body<'a>,
-) -> Result<Answer<'a>, AllocError>
+) -> Answer<'a>
     ensures says { (history : Events) → P.stands_for past.now rules.now history → first_broken rules.now history ≡ None →
         IsAnswerableBody (event_view event.now) history (body_view body.now) →
-        IfOk result (λ answer. answer_view answer ≡ duties.body_answer rules.now (event_view event.now) (body_view body.now) history) }
-    ensures short { (history : Events) → IsAnswerableBody (event_view event.now) history (body_view body.now) → IfOk result CanBeWritten }
+        answer_view result ≡ duties.body_answer rules.now (event_view event.now) (body_view body.now) history }
+    ensures short { (history : Events) → IsAnswerableBody (event_view event.now) history (body_view body.now) → CanBeWritten result }
 {
     match body {
         Body::Says(spoken) => {
-            spoken_answer(
-                alloc,
-                past,
-                rules,
-                event,
-                spoken.channel,
-                &spoken.performative,
-            )
+            spoken_answer(past, rules, event, spoken.channel, &spoken.performative)
         }
-        _ => Ok(unread_answer(past, event)),
+        _ => unread_answer(past, event),
     }
 }
 
 /// The answer to what happens on a connection.
-///
-/// # Errors
-///
-/// Where the memory for a made up address is refused.
 fn moment_answer<'p, 'a, P: Inputs<'p> + Openings<'p> + Counts>(
-    alloc: Global,
     past: &P,
     rules: &[Rule],
     event: &Event<'_, 'a>,
-) -> Result<Answer<'a>, AllocError>
+) -> Answer<'a>
     ensures says { (history : Events) → P.stands_for past.now rules.now history → IsAnswerable rules.now (event_view event.now) history →
-        IfOk result (λ answer. answer_view answer ≡ duties.answer rules.now (event_view event.now) history) }
-    ensures short { (history : Events) → IsAnswerable rules.now (event_view event.now) history → IfOk result CanBeWritten }
+        answer_view result ≡ duties.answer rules.now (event_view event.now) history }
+    ensures short { (history : Events) → IsAnswerable rules.now (event_view event.now) history → CanBeWritten result }
 {
     match &event.moment {
-        Moment::In(frame) => body_answer(alloc, past, rules, event, &frame.body),
+        Moment::In(frame) => body_answer(past, rules, event, &frame.body),
         Moment::Broken if !past.was_finished(event.connection) => {
-            Ok(closing(past, event.connection, Some(ErrorCondition::FramingError)))
+            closing(past, event.connection, Some(ErrorCondition::FramingError))
         }
-        _ => Ok(Answer::Nothing),
+        _ => Answer::Nothing,
     }
 }
 
@@ -301,23 +271,18 @@ pub fn owes_nothing(event: &Event) -> bool
 
 /// The frames that a router owes for an event of a client: its direct answer. It is asked of what stands for the events up to
 /// this one, which it has taken.
-///
-/// # Errors
-///
-/// Where the memory for an address that is made up is refused.
 pub fn answer_to<'p, 'a, P: Inputs<'p> + Openings<'p> + Counts>(
-    alloc: Global,
     past: &P,
     rules: &[Rule],
     event: &Event<'_, 'a>,
-) -> Result<Answer<'a>, AllocError>
+) -> Answer<'a>
     // They are exactly those that are owed.
     ensures says { (history : Events) (c : ℕ) (m : law.Moment) → IsReady rules.now history → IsTrue (may_happen c m history) →
         event_view event.now ≡ judge_moment rules.now history c m notes.None → P.stands_for past.now rules.now (event_view event.now ∷ history) →
-        IfOk result (λ answer. answer_view answer ≡ duties.answer rules.now (event_view event.now) (event_view event.now ∷ history)) }
+        answer_view result ≡ duties.answer rules.now (event_view event.now) (event_view event.now ∷ history) }
     // Each can be written.
     ensures short { (history : Events) (c : ℕ) (m : law.Moment) → IsReady rules.now history → IsTrue (may_happen c m history) →
-        event_view event.now ≡ judge_moment rules.now history c m notes.None → IfOk result CanBeWritten }
+        event_view event.now ≡ judge_moment rules.now history c m notes.None → CanBeWritten result }
 {
-    moment_answer(alloc, past, rules, event)
+    moment_answer(past, rules, event)
 }

@@ -1,6 +1,6 @@
 //! The answers to an attach (part 2 of the standard, section 2.7.3).
 
-ghost use Rattle.std.specs.Prelude.{◌≡◌, ◌≤◌, length, IfOk, option_map};
+ghost use Rattle.std.specs.Prelude.{◌≡◌, ◌≤◌, length, option_map};
 ghost use Rattle.flow_counts.specs.declared.profile.TheConstants.{MAX_LINK_NAME, MAX_ADDRESS};
 ghost use Rattle.amqp_perf.specs.Meaning.{AnAttach};
 ghost use Rattle.amqp_perf.specs.declared.attach.Role.TheVariants as roles;
@@ -14,9 +14,7 @@ ghost use Rattle.trace_duties.specs.Answer.{attach_answer};
 ghost use Rattle.route_answers.specs.Replies.{reply_view, source_text, is_made, CanBeSaid};
 
 use crate::reply::{Reply, Saying, Source};
-use amqp_perf::{Address, Attach, Role, SenderSettleMode, Target, Terminus};
-use capture_form::{Distribution, Rule, distribution_of};
-use std::alloc::{AllocError, Global};
+use amqp_perf::{Address, Attach, Role, Target, Terminus};
 
 /// An address that is a text; any other is empty.
 fn text_of(address: Option<Address<'_>>) -> &str
@@ -60,61 +58,18 @@ fn asked_source<'a>(number: u64, theirs: &Attach<'a>) -> Source<'a>
     }
 }
 
-/// How the router's sender settles at an address: as the consumer asks, and settled where the address is multicast.
-fn sending_mode(rules: &[Rule], address: &str, asked: SenderSettleMode) -> SenderSettleMode
-    ensures { result ≡ law.sending_mode rules.now address.now asked }
-{
-    match distribution_of(rules, address.as_bytes()) {
-        Distribution::Multicast => SenderSettleMode::Settled,
-        _ => asked,
-    }
-}
-
-/// The same at the address of a link.
-///
-/// # Errors
-///
-/// Where the memory for a made up address is refused.
-fn source_mode(
-    alloc: Global,
-    rules: &[Rule],
-    source: Source<'_>,
-    asked: SenderSettleMode,
-) -> Result<SenderSettleMode, AllocError>
-    ensures { IfOk result (λ mode. mode ≡ law.sending_mode rules.now (source_text source.entry) asked) }
-{
-    match source {
-        Source::Given(address) => Ok(sending_mode(rules, address, asked)),
-        Source::Made(number) => {
-            let address = format!(in alloc; "dyn/{number}")?;
-            Ok(sending_mode(rules, &address, asked))
-        }
-    }
-}
-
-/// The answer to the attach in this record that is accepted.
-///
-/// # Errors
-///
-/// Where the memory for a made up address is refused.
-pub(crate) fn accepted<'a>(
-    alloc: Global,
-    rules: &[Rule],
-    number: u64,
-    channel: u16,
-    theirs: Attach<'a>,
-) -> Result<Reply<'a>, AllocError>
-    ensures says { IfOk result (λ reply. reply_view reply ≡ says channel (AnAttach (attach_answer rules.now number (attach_fields theirs.entry) theirs.entry.role))) }
+/// The answer to the attach in this record that is accepted. The router's sender settles as the client asks.
+pub(crate) fn accepted<'a>(number: u64, channel: u16, theirs: Attach<'a>) -> Reply<'a>
+    ensures says { reply_view result ≡ says channel (AnAttach (attach_answer number (attach_fields theirs.entry) theirs.entry.role)) }
     ensures short { length theirs.entry.name.now ≤ MAX_LINK_NAME → length (law.asked_address number (attach_fields theirs.entry)) ≤ MAX_ADDRESS
-        → IfOk result (λ reply. CanBeSaid reply.saying) }
+        → CanBeSaid result.saying }
 {
     let saying = match theirs.role {
         Role::Sender => Saying::ToProducer(theirs, target_text(theirs.target)),
         Role::Receiver => {
             let source = asked_source(number, &theirs);
-            let mode = source_mode(alloc, rules, source, theirs.sender_mode())?;
-            Saying::ToConsumer(theirs, source, mode)
+            Saying::ToConsumer(theirs, source, theirs.sender_mode())
         }
     };
-    Ok(Reply { channel, saying })
+    Reply { channel, saying }
 }

@@ -8,7 +8,7 @@ use Rattle.trace_clauses.specs.Written.{spoken_octets, says, written_outcome}
 use Rattle.route_dues.specs.Outcomes.{octets_in}
 use Rattle.amqp_types.specs.Writing.{fits_octet}
 use Rattle.amqp_perf.specs.declared.descriptor.Outcome.{Outcome}
-use Rattle.amqp_perf.specs.declared.descriptor.Outcome.TheVariants.{Accepted, Released}
+use Rattle.amqp_perf.specs.declared.descriptor.Outcome.TheVariants.{Accepted, Rejected, Released, Modified}
 use Rattle.amqp_perf.specs.Nested.{StateFields}
 use Rattle.pairing_cert.specs.declared.note.Why.{Why}
 use Rattle.pairing_cert.specs.declared.note.Why.TheVariants.{C, Z, S, L, N, M}
@@ -18,6 +18,7 @@ use Rattle.trace_events.specs.Link.{is_live}
 use Rattle.trace_events.specs.Disposition.{terminal_state}
 use Rattle.trace_events.specs.Outgoing.{pairing, decision}
 use Rattle.trace_events.specs.Waiting.{is_gone, is_of_multicast}
+use Rattle.trace_clauses.specs.BestVerdict.{told_octets, whole_verdict}
 use Rattle.trace_clauses.specs.Outcome.{row, anycast_row, paired_row, fits_producer, outcome_octets, bare_outcome, bare_octets, is_sent_settled}
 use Rattle.trace_judge.specs.OutcomeSize.{state_size, uint_size}
 use Rattle.trace_judge.proofs.OutcomeSizes.{outcome_long}
@@ -78,6 +79,14 @@ module _ (d : Incoming) (past : List Event) (state : Option (List ℕ)) where
   small_one : (b : Bool) (small : Option (List ℕ)) → IsSmall small → (if b then Some small else None) ≡ Some state → Fits d past state
   small_one b small is h = subst (Fits d past) (where_true b small state h).1 (small_fits d past small is)
 
+  told_small : (b : Bool) (verdict : Option Outcome) → (if b then option_map (λ outcome. Some (told_octets outcome)) verdict else None) ≡ Some state → Fits d past state
+  told_small true (Some Accepted) h = small_one true (Some (bare_octets Accepted)) (omega arith) h
+  told_small true (Some Rejected) h = small_one true (Some (bare_octets Rejected)) (omega arith) h
+  told_small true (Some Released) h = small_one true (Some (bare_octets Released)) (omega arith) h
+  told_small true (Some Modified) h = small_one true (Some delivery_failed.octets) (omega arith) h
+  told_small true None h = absurd cc
+  told_small false verdict h = absurd cc
+
   paired_fits : (j : Outgoing) (decided : Option DispositionFields) (why : Why) → paired_row d j past decided why ≡ Some state → Fits d past state
   paired_fits j (Some fields) C h = let t = where_true (fits_producer d (outcome_octets fields) past) (outcome_octets fields) state h in subst (Fits d past) t.1 t.0
   paired_fits j (Some fields) Z h =
@@ -102,7 +111,7 @@ module _ (d : Incoming) (past : List Event) (state : Option (List ℕ)) where
 
 pub row_fits : (rules : List RuleText) (d : Incoming) (past : List Event) (why : Why) (state : Option (List ℕ)) → row rules d past why ≡ Some state → Fits d past state
 row_fits rules d past N state is = small_one d past state (is_gone rules d past) (Some (bare_octets Released)) (omega arith) is
-row_fits rules d past M state is = small_one d past state (is_of_multicast rules d) (Some (bare_octets Accepted)) (omega arith) is
+row_fits rules d past M state is = told_small d past state (is_of_multicast rules d) (whole_verdict rules d past) is
 row_fits rules d past C state is = anycast_fits d past state (is_of_multicast rules d) (pairing d past) C is
 row_fits rules d past Z state is = anycast_fits d past state (is_of_multicast rules d) (pairing d past) Z is
 row_fits rules d past S state is = anycast_fits d past state (is_of_multicast rules d) (pairing d past) S is

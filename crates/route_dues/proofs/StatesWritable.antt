@@ -9,7 +9,7 @@ use Rattle.amqp_frames.specs.Frame as frames
 use Rattle.amqp_frames.specs.Reading.{whole_frame}
 use Rattle.amqp_perf.specs.declared.fault.PerfFault.{PerfFault}
 use Rattle.amqp_perf.specs.declared.descriptor.Outcome.{Outcome}
-use Rattle.amqp_perf.specs.declared.descriptor.Outcome.TheVariants.{Accepted, Released}
+use Rattle.amqp_perf.specs.declared.descriptor.Outcome.TheVariants.{Accepted, Rejected, Released, Modified}
 use Rattle.amqp_perf.specs.Nested.{StateFields}
 use Rattle.amqp_perf.specs.Meaning.{Meaning, AnOpen, ABegin, AnAttach, AFlow, ATransfer, ADisposition, ADetach, AnEnd, AClose, DispositionFields, state_told}
 use Rattle.amqp_perf.specs.Reading.{performative_at}
@@ -36,6 +36,7 @@ use Rattle.trace_events.specs.History.{moment_of}
 use Rattle.trace_events.proofs.Along.{if_some}
 use Rattle.trace_events.proofs.Judged.{AreJudged}
 use Rattle.trace_events.proofs.Links.{passing}
+use Rattle.trace_clauses.specs.BestVerdict.{told_octets, whole_verdict}
 use Rattle.trace_clauses.specs.Outcome.{row, anycast_row, paired_row, fits_producer, outcome_octets, bare_outcome, bare_octets, is_sent_settled}
 use Rattle.trace_clauses.specs.Written.{spoken_octets, written_outcome}
 use Rattle.trace_judge.specs.OutcomeSize.{uint_size}
@@ -159,6 +160,15 @@ module _ (rules : List RuleText) (d : Incoming) (past : List Event) (are : AreJu
   bare_if : (b : Bool) (outcome : Outcome) → (if b then Some (Some (bare_octets outcome)) else None) ≡ Some (Some octets) → Made octets
   bare_if b outcome is = bare_made outcome octets (same_some (bare_octets outcome) octets (where_true b (Some (bare_octets outcome)) (Some octets) is))
 
+  verdict_made : (b : Bool) (verdict : Option Outcome) → (if b then option_map (λ outcome. Some (told_octets outcome)) verdict else None) ≡ Some (Some octets) → Made octets
+  verdict_made true (Some Accepted) is = bare_if true Accepted is
+  verdict_made true (Some Rejected) is = bare_if true Rejected is
+  verdict_made true (Some Released) is = bare_if true Released is
+  verdict_made true (Some Modified) is =
+      (delivery_failed, same_some delivery_failed.octets octets (where_true true (Some delivery_failed.octets) (Some octets) is), delivery_failed_writable)
+  verdict_made true None is = absurd cc
+  verdict_made false verdict is = absurd cc
+
   paired_made : (j : Outgoing) (decided : Option DispositionFields) (why : Why) → decision j past ≡ decided → paired_row d j past decided why ≡ Some (Some octets) → Made octets
   paired_made j (Some fields) C at is =
       own_made fields.state octets (decision_writable rules past j fields are at) (where_true (fits_producer d (outcome_octets fields) past) (outcome_octets fields) (Some octets) is)
@@ -183,7 +193,7 @@ module _ (rules : List RuleText) (d : Incoming) (past : List Event) (are : AreJu
 
   row_made : (why : Why) → row rules d past why ≡ Some (Some octets) → Made octets
   row_made N is = bare_if (is_gone rules d past) Released is
-  row_made M is = bare_if (is_of_multicast rules d) Accepted is
+  row_made M is = verdict_made (is_of_multicast rules d) (whole_verdict rules d past) is
   row_made C is = anycast_made (is_of_multicast rules d) (pairing d past) C is
   row_made Z is = anycast_made (is_of_multicast rules d) (pairing d past) Z is
   row_made S is = anycast_made (is_of_multicast rules d) (pairing d past) S is

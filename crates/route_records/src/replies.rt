@@ -65,24 +65,18 @@ fn records_of(alloc: Global, connection: u32, answer: &Answer<'_>) -> Result<Rep
 }
 
 /// The direct answer to what a client did, by the tables of what was recorded up to it.
-///
-/// # Errors
-///
-/// Where memory is refused.
 fn answer_by<'m>(
-    alloc: Global,
     looked: &Looked<'_>,
     rules: &[Rule],
     held: &HeldEvent,
     entry: &ReadRecord<'m>,
-) -> Result<Answer<'m>, AllocError>
+) -> Answer<'m>
     requires answerable { IsAnswerable rules.now (held_event_view held.now (moment_of entry.now.what)) }
-    ensures says { IfOk result (λ answer. IsAnswerOf rules.now looked.now (held_event_view held.now (moment_of entry.now.what)) (answer_view answer)) }
-    ensures short { IfOk result CanBeWritten }
+    ensures says { IsAnswerOf rules.now looked.now (held_event_view held.now (moment_of entry.now.what)) (answer_view result) }
+    ensures short { CanBeWritten result }
 {
     let event = held.event(entry);
-    let answer = answer_to(alloc, looked, rules, &event)?;
-    Ok(answer)
+    answer_to(looked, rules, &event)
 }
 
 /// The records that answer what a client did, by the tables of what was recorded up to it.
@@ -101,7 +95,7 @@ pub(crate) fn replies_to(
     requires connected { (held_event_view held.now (moment_of entry.now.what)).connection ≡ entry.now.connection }
     ensures { IfOk result (λ replies. AreAnswers rules.now looked.now (held_event_view held.now (moment_of entry.now.what)) (replies_of replies)) }
 {
-    let answer = answer_by(alloc, looked, rules, held, entry)?;
+    let answer = answer_by(looked, rules, held, entry);
     let replies = records_of(alloc, entry.connection(), &answer)?;
     Ok(replies)
 }

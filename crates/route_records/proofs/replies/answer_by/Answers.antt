@@ -9,12 +9,12 @@ returns-clause-says c =
     let is = c.event-event.ensures in
     record {
       says = λ past k m ready may judged tells.
-          c.in_ok-answer.ensures.says past k m ready may (is ∙ judged) (subst (λ e. TellsOf rules c.args.looked.now (e ∷ past)) (sym is) tells)
+          c.answer_to.ensures.says past k m ready may (is ∙ judged) (subst (λ e. TellsOf rules c.args.looked.now (e ∷ past)) (sym is) tells)
           ∙ ap (λ e. duties.answer rules e (e ∷ past)) is;
     }
 
 pub returns-clause-short : goal.returns-clause-short
 returns-clause-short c =
     let asked = c.requires.answerable in
-    c.in_ok-answer.ensures.short asked.past asked.connection asked.moment asked.ready asked.may
+    c.answer_to.ensures.short asked.past asked.connection asked.moment asked.ready asked.may
     ((c.event-event.ensures) ∙ asked.judged)
