@@ -287,6 +287,48 @@ module _ (rules : List RuleText) (e : Event) (past : List Event) (are : AreJudge
         by count None of = refl
         by count (Some d) of = of_one count d (is_of_multicast rules d) of
 
+    -- just to those with room a copy comes due
+    module _ (link : ℕ) (l : Link) (at : link_at link past ≡ Some l) where
+      room-one : (count : ℕ) (d : Incoming) (many : Bool) → IfSome (if many then Some d else None) (λ d. AreReceiversOf (address_of d) past receivers)
+          → is_some_and (if many then Some d else None) (λ d. has_room receivers link count) ≡ (many && is_consumer_of (address_of d) past l) && nat_lt count (link_credit l past)
+      room-one count d false of = refl
+      room-one count d true of = room-is (address_of d) past receivers of link count l at
+
+      room-to : (count : ℕ) (o : Option Incoming) → IfSome (where_passes (is_of_multicast rules) o) (λ d. AreReceiversOf (address_of d) past receivers)
+          → is_some_and (where_passes (is_of_multicast rules) o) (λ d. has_room receivers link count)
+          ≡ is_some_and o (λ d. is_of_multicast rules d && is_consumer_of (address_of d) past l) && nat_lt count (link_credit l past)
+      room-to count None of = refl
+      room-to count (Some d) of = room-one count d (is_of_multicast rules d) of
+
+      due-listed : comes_due rules l e past ≡ is_some_and (completed_by e) (λ d. is_of_multicast rules d && is_consumer_of (address_of d) past l) && nat_lt (length (unsent_copies rules l past)) (link_credit l past)
+      due-listed = comes_due_listed rules e past are.1 (lawful-past rules e past lawful) l (ap (λ k. link_at k past) (judged-found rules past are.1 link l at).0 ∙ at)
+
+      due-over : is_live past l ≡ false → (o : Option Incoming) → is_some_and o (λ d. is_of_multicast rules d && is_consumer_of (address_of d) past l) ≡ false
+      due-over gone None = refl
+      due-over gone (Some d) =
+          ap (λ b. is_of_multicast rules d && (is_consumer l && bytes_eq l.address (address_of d) && b)) gone
+          ∙ (ap (λ b. is_of_multicast rules d && b) (and_false (is_consumer l && bytes_eq l.address (address_of d))) ∙ and_false (is_of_multicast rules d))
+
+      room-due : (live : Bool) → is_live past l ≡ live
+          → is_some_and (copied_by rules e) (λ d. has_room receivers link (length (copies_on rules past (if live then Some l else None)))) ≡ comes_due rules l e past
+      room-due true live = room-to (length (unsent_copies rules l past)) (completed_by e) given ∙ sym due-listed
+      room-due false gone =
+          room-to 0 (completed_by e) given
+          ∙ (ap (λ b. b && nat_lt 0 (link_credit l past)) (due-over gone (completed_by e))
+          ∙ sym (due-listed ∙ ap (λ b. b && nat_lt (length (unsent_copies rules l past)) (link_credit l past)) (due-over gone (completed_by e))))
+
+    pub comes-room : (link : ℕ) → is_some_and (copied_by rules e) (λ d. has_room receivers link (length (copies_at rules link past))) ≡ is_some_and (link_at link past) (λ l. comes_due rules l e past)
+    comes-room link = of_link (link_at link past) refl
+      where
+        no_link : (count : ℕ) → link_at link past ≡ None → (o : Option Incoming) → IfSome o (λ d. AreReceiversOf (address_of d) past receivers) → is_some_and o (λ d. has_room receivers link count) ≡ false
+        no_link count none None of = refl
+        no_link count none (Some d) of = room-none (address_of d) past receivers of link count none
+
+        of_link : (o : Option Link) → link_at link past ≡ o
+            → is_some_and (copied_by rules e) (λ d. has_room receivers link (length (copies_on rules past (where_passes (is_live past) o)))) ≡ is_some_and o (λ l. comes_due rules l e past)
+        of_link None none = no_link 0 none (copied_by rules e) given
+        of_link (Some l) at = room-due link l at (is_live past l) refl
+
     -- what comes due is not named
     comes-unnamed : (count link n : ℕ) → comes_to rules e receivers count link n ≡ true → names_at link n e ≡ false
     comes-unnamed count link n comes =

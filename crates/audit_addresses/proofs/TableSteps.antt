@@ -1,7 +1,7 @@
 -- What the steps of the table do to its numbers.
-use Rattle.std.proofs.Common.{◌≡◌, refl, sym, ap, subst, ◌∙◌, ℕ, ◌+◌, ◌-◌, ◌≤◌, ◌<◌, Bool, true, false, ◌&&◌, ◌||◌, not, List, [], ◌∷◌, length, take, get_or, Some, None, nat_eq, ◌==◌, arith, add-one, eqb-true, eq-eqb}
+use Rattle.std.proofs.Common.{◌≡◌, refl, sym, ap, subst, ◌∙◌, ℕ, ◌+◌, ◌-◌, ◌≤◌, ◌<◌, Bool, true, false, ◌&&◌, ◌||◌, not, List, [], ◌∷◌, ◌++◌, length, take, get_or, Some, None, nat_eq, ◌==◌, arith, add-one, eqb-true, eq-eqb}
 use Rattle.std.specs.Prelude.{nat_lt}
-use Rattle.std.specs.List.{AllByRecursion, IsDistinct, slice_get}
+use Rattle.std.specs.List.{AllByRecursion, IsDistinct, list_any, slice_get}
 use Rattle.std.proofs.Math.Seq.{take-suc}
 use Rattle.std.proofs.lemmas.Cmp.{nat_eq_equiv}
 use Rattle.std.proofs.lemmas.List.{map-append}
@@ -59,6 +59,25 @@ module _ (receivers : List Receiver) (i : ℕ) (x : Receiver) (below : i < lengt
       here same none =
           let is = eqb-true r.link link same in
           told (λ m. subst (λ k. now k m ≡ old k m) (sym is) (unmoved link none m)) ∙ ap (λ k. nat_lt (counts k) r.credit) is
+
+-- whose link joins those with room
+module _ (receivers : List Receiver) (i : ℕ) (x : Receiver) (below : i < length receivers) (counts : ℕ → ℕ) (link : ℕ) where
+  abbrev next : Receiver
+  next = get_or receivers i x
+
+  pub room-more : (now then_ room : Bool) → now ≡ has_room (take i receivers) link (counts link) → room ≡ nat_lt (counts next.link) next.credit → then_ ≡ now || room && (next.link == link)
+      → then_ ≡ has_room (take (i + 1) receivers) link (counts link)
+  room-more now then_ room was told moved =
+      moved
+      ∙ (ap (λ b. b || room && (next.link == link)) was
+      ∙ (by (next.link == link) refl ∙ sym (list_any_more (λ (y : Receiver). y.link == link && nat_lt (counts link) y.credit) receivers i x below)))
+    where
+      by : (same : Bool) → (next.link == link) ≡ same → has_room (take i receivers) link (counts link) || room && same ≡ has_room (take i receivers) link (counts link) || same && nat_lt (counts link) next.credit
+      by true is = ap (λ c. has_room (take i receivers) link (counts link) || c) (and_true room ∙ (told ∙ ap (λ k. nat_lt (counts k) next.credit) (eqb-true next.link link is)))
+      by false is = ap (λ c. has_room (take i receivers) link (counts link) || c) (and_false room)
+
+pub joined-any : (link m : ℕ) (ns : List ℕ) → list_any (λ k. k == link) (ns ++ (m ∷ [])) ≡ list_any (λ k. k == link) ns || (m == link)
+joined-any link m ns = list_any-append (λ (k : ℕ). k == link) ns (m ∷ []) ∙ ap (λ b. list_any (λ (k : ℕ). k == link) ns || b) (or_false (m == link))
 
 -- ---- one number less
 

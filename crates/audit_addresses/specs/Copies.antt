@@ -14,7 +14,7 @@ use Rattle.trace_events.specs.Incoming.{address_of, completed_by}
 use Rattle.trace_events.specs.Link.{is_live, link_at}
 use Rattle.trace_events.specs.Outgoing.{names}
 use Rattle.trace_events.specs.Waiting.{is_of_multicast}
-use Rattle.trace_events.specs.Work.{unsent_copies}
+use Rattle.trace_events.specs.Work.{comes_due, unsent_copies}
 use Rattle.audit_addresses.specs.declared.copies.Copies.{Copies}
 use Rattle.audit_addresses.specs.declared.copies.Receiver.{Receiver}
 
@@ -66,6 +66,10 @@ has_room receivers link count = list_any (λ x. x.link == link && nat_lt count x
 -- a copy of the delivery of this number comes due to the link, of which so many are to be sent
 abbrev pub comes_to : List RuleText → Event → List Receiver → ℕ → ℕ → ℕ → Bool
 comes_to rules e receivers count link n = is_some_and (copied_by rules e) (λ d. n == d.number && has_room receivers link count)
+
+-- just to these links a copy of what the event completes comes due
+abbrev pub AreDue : List RuleText → Event → List Event → List ℕ → Type 0
+AreDue rules e past due = (link : ℕ) → list_any (λ m. m == link) due ≡ is_some_and (link_at link past) (λ l. comes_due rules l e past)
 
 -- a transfer to the client names the delivery of this number on the link of this number
 abbrev pub names_at : ℕ → ℕ → Event → Bool

@@ -1,7 +1,7 @@
 //! The copies of multicast deliveries that are still to be sent, by the link.
 
-ghost use Rattle.std.specs.Prelude.{◌≡◌, ◌≤◌, ◌-◌, ◌||◌, ◌&&◌, ◌==◌, ℕ, List, [], ◌∷◌, Some, true, false, OnOk, OnErr, is_some, length, map, nat_eq, nat_lt, not, option_map};
-ghost use Rattle.std.specs.List.{IsDistinct};
+ghost use Rattle.std.specs.Prelude.{◌≡◌, ◌≤◌, ◌-◌, ◌||◌, ◌&&◌, ◌==◌, ℕ, List, [], ◌∷◌, Some, true, false, IfOk, OnOk, OnErr, is_some, length, map, nat_eq, nat_lt, not, option_map};
+ghost use Rattle.std.specs.List.{IsDistinct, list_any};
 ghost use Rattle.capture_form.specs.Rules.{RuleText};
 ghost use Rattle.capture_form.specs.declared.records.Record.{Record};
 ghost use Rattle.number_groups.specs.Groups.{numbers};
@@ -15,7 +15,7 @@ ghost use Rattle.trace_events.specs.Words.{is_some_and};
 ghost use Rattle.trace_values.specs.View.{event_view, incoming_view, link_view};
 ghost use Rattle.audit_tables.specs.Connections.{IsLawfulNext};
 ghost use Rattle.audit_tables.specs.EndedLinks.{AreEnded, views};
-ghost use Rattle.audit_addresses.specs.Copies.{AreCopies, AreCounted, AreReceivers, comes_to, copied_by, has_room, is_ended, names_at, stands};
+ghost use Rattle.audit_addresses.specs.Copies.{AreCopies, AreCounted, AreDue, AreReceivers, comes_to, copied_by, has_room, is_ended, names_at, stands};
 
 use capture_form::Rule;
 use number_groups::Groups;
@@ -103,6 +103,45 @@ impl Copies {
         self.send(event);
         self.end(ended);
         Ok(())
+    }
+
+    /// The links to which a copy of what the event completes comes due, by their numbers: of the receivers, which are those
+    /// that the event is taken with, the ones that have room. The table has the records before the event.
+    ///
+    /// # Errors
+    ///
+    /// Memory was refused, for an event that completes a delivery of multicast.
+    pub fn due_to(
+        &self,
+        alloc: Global,
+        rules: &[Rule],
+        event: &Event,
+        receivers: &[Receiver],
+    ) -> Result<Vec<u64>, AllocError>
+        ensures known { IfOk result (λ due. (records : List Record) (r : Record) → IsLawfulNext rules.now records r (event_view event.now) →
+            AreCopies rules.now self.now (history rules.now records) →
+            AreReceivers rules.now (event_view event.now) (history rules.now records) receivers.now →
+            AreDue rules.now (event_view event.now) (history rules.now records) due.items) }
+        ensures refused { OnErr result (is_some (copied_by rules.now (event_view event.now)) ≡ true) }
+    {
+        match copied(rules, event) {
+            Some(_) => self.with_room(alloc, receivers),
+            None => Ok(Vec::new(alloc)),
+        }
+    }
+
+    /// The links of those receivers that have more credit than copies that are to be sent.
+    fn with_room(&self, alloc: Global, receivers: &[Receiver]) -> Result<Vec<u64>, AllocError>
+        ensures { IfOk result (λ due. (counts : ℕ → ℕ) → AreCounted self.now counts → (link : ℕ) →
+            list_any (λ m. m == link) due.items ≡ has_room receivers.now link (counts link)) }
+    {
+        let mut due = Vec::with_capacity(alloc, receivers.len())?;
+        for receiver in receivers {
+            if self.has_room(receiver) {
+                due.push(receiver.link)?;
+            }
+        }
+        Ok(due)
     }
 
     /// Copies of what the event completes come due to these receivers.

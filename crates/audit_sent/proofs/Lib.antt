@@ -1,7 +1,7 @@
 mod SentSteps
 mod SentLinks
 mod SentBegun
-mod SentDecided
+pub mod SentDecided
 mod SentFollowed
 mod SentKnown
 mod SentUntouched
@@ -17,6 +17,8 @@ mod GroupLists
 mod SentRegrouped
 mod SentFound
 mod SentTaken
+mod VerdictsGiven
+mod AnsweredCarried
 mod SentExamples
 mod LastExamples
 mod EarliestExamples

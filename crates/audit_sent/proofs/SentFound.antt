@@ -121,7 +121,7 @@ module _ (groups : SentGroups) (kept : ℕ → Option Sent) (grouped : AreGroupe
             one-or-more f t (same-sym t.number j.link.session.number on) both.1 both.0 small
         by false is says = absurd cc
 
-    speaks : (e : Event) → IfSome (answered_id e) (λ key. key.id < 2 ^ 32) → is_some (answering j e) ≡ true → finds (answered_id e) (answered_session e) ≡ true
+    pub speaks : (e : Event) → IfSome (answered_id e) (λ key. key.id < 2 ^ 32) → is_some (answering j e) ≡ true → finds (answered_id e) (answered_session e) ≡ true
     speaks e small is = by (e.is_heard && is_on_session j.link.session e && nat_lt j.number e.number) refl is
       where
         by : (b : Bool) → e.is_heard && is_on_session j.link.session e && nat_lt j.number e.number ≡ b

@@ -30,7 +30,7 @@ module _ (e : Event) where
         by true is = absurd cc
         by false is = within n is
 
-    here : (n : ℕ) → k ≡ n → on (now n) ≡ on (first n)
+    pub here : (n : ℕ) → k ≡ n → on (now n) ≡ on (first n)
     here n same = ap on (was n ∙ (ap (λ b. if all n && not b then on (first n) else first n) (sym (ap rest same) ∙ left) ∙ unmoved (all n)))
       where
         unmoved : (b : Bool) → (if b && not true then on (first n) else first n) ≡ first n
@@ -68,6 +68,29 @@ popped-in keys left k is = ap (list_any (nat_eq k)) is ∙ (list_any-append (nat
 pub none-left : (keys : List ℕ) (n : ℕ) → (0 < length keys → false ≡ true) → list_any (nat_eq n) keys ≡ false
 none-left [] n empty = refl
 none-left (k ∷ keys) n empty = let never : false ≡ true = empty (omega arith) in absurd cc
+
+-- what is said by those that are gone and by those that are left is said by all
+or_false : (a : Bool) → a || false ≡ a
+or_false true = refl
+or_false false = refl
+
+shuffled : (before said rest : Bool) → (before || said) || rest ≡ before || (rest || (said || false))
+shuffled true said rest = refl
+shuffled false true true = refl
+shuffled false true false = refl
+shuffled false false true = refl
+shuffled false false false = refl
+
+pub said-one : (f : ℕ → Bool) (keys left : List ℕ) (k : ℕ) → keys ≡ left ++ k ∷ [] → (before now said all : Bool) → before || list_any f keys ≡ all → now ≡ before || said → said ≡ f k
+    → now || list_any f left ≡ all
+said-one f keys left k is before now said all was more of =
+    ap (λ b. b || list_any f left) more
+    ∙ (shuffled before said (list_any f left)
+    ∙ (ap (λ b. before || (list_any f left || (b || false))) of ∙ (sym (ap (λ b. before || b) (ap (list_any f) is ∙ list_any-append f left (k ∷ []))) ∙ was)))
+
+pub said-all : (f : ℕ → Bool) (keys : List ℕ) → (0 < length keys → false ≡ true) → (now all : Bool) → now || list_any f keys ≡ all → now ≡ all
+said-all f [] empty now all was = sym (or_false now) ∙ was
+said-all f (k ∷ keys) empty now all was = let never : false ≡ true = empty (omega arith) in absurd cc
 
 -- ---- behind the event
 

@@ -1,5 +1,6 @@
 pub mod Sent
 pub mod SentViews
+pub mod Given
 pub mod SentGrouped
 pub mod SentTouched
 pub mod Earliest

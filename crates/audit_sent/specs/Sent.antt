@@ -1,5 +1,7 @@
 -- What the entry of a delivery to a client stands for, and what one event makes of it (own rules).
-use Rattle.std.specs.Prelude.{◌≡◌, ◌⊎◌, ℕ, ◌+◌, ◌%◌, ◌^◌, Bool, false, ◌&&◌, ◌||◌, not, List, ◌∷◌, length, drop, Option, None, Some, is_none, is_some, option_map, find, if◌then◌else◌, ◌==◌}
+use Rattle.std.specs.Prelude.{◌≡◌, ◌⊎◌, ℕ, ◌+◌, ◌%◌, ◌^◌, Bool, false, ◌&&◌, ◌||◌, not, List, ◌∷◌, length, drop, Option, None, Some, is_none, is_some, option_and_then, option_map, unwrap_or, find, if◌then◌else◌, ◌==◌}
+use Rattle.amqp_perf.specs.declared.descriptor.Outcome.{Outcome}
+use Rattle.amqp_perf.specs.declared.descriptor.Outcome.TheVariants.{Accepted}
 use Rattle.amqp_perf.specs.Nested.{StateFields}
 use Rattle.amqp_perf.specs.Meaning.{flag}
 use Rattle.capture_form.specs.Rules.{RuleText}
@@ -105,6 +107,18 @@ sent_behind e n earlier = if begins_number e n then sent_begun e else option_map
 -- the router is to settle it, where nothing more is to be told of what it carries or something is
 abbrev pub to_settle : Sent → Bool → Bool
 to_settle x closed = x.is_unsettled && is_some x.decision && closed
+
+-- the outcome that a decision tells, accepted where it tells none
+abbrev pub outcome_of : Option StateFields → Outcome
+outcome_of state = unwrap_or (option_and_then (λ fields. fields.outcome) state) Accepted
+
+-- what came of a delivery: what its consumer decided; accepted without a decision, where it was sent settled
+abbrev pub verdict_said : Option (Option StateFields) → Bool → Option Outcome
+verdict_said (Some state) settled = Some (outcome_of state)
+verdict_said None settled = if settled then Some Accepted else None
+
+abbrev pub verdict_of : Sent → Option Outcome
+verdict_of x = verdict_said x.decision (x.delivery.link.is_pre_settled && x.is_sent)
 
 -- behind so many octets of a payload these are its next ones, and where no more follows its last ones
 abbrev pub goes_on_with : Bool → List ℕ → ℕ → List ℕ → Bool

@@ -43,6 +43,11 @@ answered_id e =
 abbrev pub answered_session : Event → Option ℕ
 answered_session e = option_and_then (λ fields. if names_more fields then option_map (λ s. s.number) e.session else None) (in_disposition e)
 
+-- its consumer speaks of it
+abbrev pub is_spoken_of : SentGroups → Event → ℕ → Bool
+is_spoken_of groups e n =
+    is_some_and (answered_id e) (λ at. is_member same_id groups.of_id at n) || is_some_and (answered_session e) (λ session. is_member nat_eq groups.of_session session n)
+
 -- these links end with the event
 abbrev pub may_touch : SentGroups → List Link → Event → ℕ → Bool
 may_touch groups ended e n =

@@ -1,6 +1,7 @@
 //! What the consumer of a delivery decided, with octets of its own (part 3 of the standard, section 3.4).
 
 ghost use Rattle.std.specs.Prelude.{◌≡◌, IfOk, OnErr, is_some, true};
+ghost use Rattle.audit_sent.specs.Sent.{outcome_of};
 ghost use Rattle.audit_sent.specs.SentViews.{decided_view};
 ghost use Rattle.trace_values.specs.View.{decision_view};
 
@@ -43,6 +44,16 @@ impl Decided {
         match self {
             Decided::Settled => Decision::Settled,
             Decided::Terminal(outcome, octets) => Decision::Terminal(*outcome, octets),
+        }
+    }
+
+    /// Its outcome; accepted, where it told none.
+    pub(crate) fn outcome(&self) -> Outcome
+        ensures { result ≡ outcome_of (decided_view self.now) }
+    {
+        match self {
+            Decided::Settled => Outcome::Accepted,
+            Decided::Terminal(outcome, _) => *outcome,
         }
     }
 }

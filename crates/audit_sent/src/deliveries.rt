@@ -1,31 +1,39 @@
 //! The deliveries to clients, by the record that began each, and in groups.
 
-ghost use Rattle.std.specs.Prelude.{◌≡◌, ◌∷◌, ◌++◌, List, [], None, OnOk, map, nat_eq, option_map};
+ghost use Rattle.std.specs.Prelude.{◌≡◌, ◌∷◌, ◌++◌, ◌<◌, ◌^◌, ℕ, List, [], None, IfOk, IfSome, OnOk, map, nat_eq, option_map};
+ghost use Rattle.std.specs.List.{list_any};
 ghost use Rattle.std.specs.Option.{option_copied};
+ghost use Rattle.amqp_perf.specs.declared.descriptor.Outcome.{Outcome};
 ghost use Rattle.number_groups.specs.Numbers.{is_among};
 ghost use Rattle.capture_form.specs.Rules.{RuleText};
 ghost use Rattle.capture_form.specs.declared.records.Record.{Record};
-ghost use Rattle.trace_events.specs.Words.{or_else};
+ghost use Rattle.trace_events.specs.Words.{is_some_and, or_else};
 ghost use Rattle.trace_events.specs.Event.{Incoming, Outgoing};
 ghost use Rattle.trace_events.specs.Incoming as received;
 ghost use Rattle.trace_events.specs.Outgoing as law;
 ghost use Rattle.trace_events.specs.History.{judge, history};
 ghost use Rattle.trace_clauses.specs.Clauses.{first_broken};
 ghost use Rattle.trace_clauses.specs.TransferClause.{is_payload_so_far};
+ghost use Rattle.audit_tables.specs.Connections.{IsLawfulNext};
 ghost use Rattle.audit_tables.specs.EndedLinks.{AreEnded};
+ghost use Rattle.audit_sent.specs.Given.{gives, says};
+ghost use Rattle.audit_verdicts.specs.Verdicts.{AreGiven};
 ghost use Rattle.audit_sent.specs.LastBegun.{last_number, carrier_number};
 ghost use Rattle.audit_sent.specs.Sent as kept;
 ghost use Rattle.audit_sent.specs.Sent.{IsKnownTo, sent_begun, sent_next};
 ghost use Rattle.audit_sent.specs.SentGrouped.{AreGrouped};
 ghost use Rattle.audit_sent.specs.SentTables.{AreMovedBy, AreSent, IsTable, MovesAt, sent_in, sent_count_in};
+ghost use Rattle.audit_sent.specs.SentTouched.{answered_id, is_spoken_of};
 ghost use Rattle.audit_sent.specs.SentViews.{sent_view};
 ghost use Rattle.trace_values.specs.Known.{IsCarriedBy};
 ghost use Rattle.trace_values.specs.View.{Events, event_view, link_view};
 
 use crate::begun::LastNumbers;
 use crate::groups::SentGroups;
+use crate::listed::push_some;
 use crate::payload::goes_on_with;
 use crate::sent::SentDelivery;
+use audit_verdicts::CopyVerdict;
 use number_groups::{Groups, IdOn, NumberSet};
 use number_map::NumberMap;
 use std::alloc::{AllocError, Global};
@@ -114,68 +122,98 @@ impl SentDeliveries {
         &self.groups.of_id
     }
 
-    /// The event follows those so far. These links live before it and end with it.
+    /// The unsettled ones of which the event's consumer speaks.
+    ///
+    /// # Errors
+    ///
+    /// Memory was refused.
+    pub(crate) fn spoken_of(&self, alloc: Global, event: &Event) -> Result<NumberSet, AllocError>
+        ensures spoken { IfOk result (λ spoken. (n : ℕ) → is_among spoken n ≡ is_spoken_of self.now.groups (event_view event.now) n) }
+        ensures counted { OnOk result (IfSome (answered_id (event_view event.now)) (λ at. at.id < 2 ^ 32)) }
+    {
+        self.groups.spoken_of(alloc, event)
+    }
+
+    /// The event follows those so far. These links live before it and end with it. It gives what stands behind the event, of
+    /// the deliveries that it touches or begins, of each that carries one from a client: what its consumer decided, and
+    /// accepted where it went out settled. So of each copy of a multicast delivery that awaited its verdict.
     ///
     /// # Errors
     ///
     /// Memory was refused; then the table may agree with no records any more.
-    pub fn take(&mut self, event: &Event, ended: &[Link]) -> Result<(), AllocError>
-        ensures { OnOk result ((rules : List RuleText) (records : List Record) (r : Record) → event_view event.now ≡ judge rules (history rules records) r →
+    pub fn take(&mut self, event: &Event, ended: &[Link]) -> Result<Vec<CopyVerdict>, AllocError>
+        ensures kept { OnOk result ((rules : List RuleText) (records : List Record) (r : Record) → event_view event.now ≡ judge rules (history rules records) r →
             IsTable self.old (history rules records) → AreEnded (event_view event.now) (history rules records) (map link_view ended.now) →
             IsTable self.new (event_view event.now ∷ history rules records)) }
+        ensures given { IfOk result (λ given. (rules : List RuleText) (records : List Record) (r : Record) → IsLawfulNext rules records r (event_view event.now) →
+            IsTable self.old (history rules records) → AreEnded (event_view event.now) (history rules records) (map link_view ended.now) →
+            AreGiven rules (event_view event.now) (history rules records) given.items) }
     {
         let touched = self.groups.touched(self.alloc, ended, event)?;
-        self.touch_all(touched, event)?;
-        self.begin(event)?;
+        let mut given = self.touch_all(touched, event)?;
+        push_some(&mut given, self.begin(event)?)?;
         self.begun.take(event)?;
-        Ok(())
+        Ok(given)
     }
 
-    /// The event begins a delivery, or none.
+    /// The event begins a delivery, or none. What came of it stands with the event, or not yet.
     ///
     /// # Errors
     ///
     /// Memory was refused, for a delivery that the event begins; then the groups may not fit the deliveries any more.
-    fn begin(&mut self, event: &Event) -> Result<(), AllocError>
+    fn begin(&mut self, event: &Event) -> Result<Option<CopyVerdict>, AllocError>
         ensures begun { OnOk result (MovesAt (event_view event.now).number (or_else (sent_begun (event_view event.now))) self.old self.new) }
         ensures grouped { OnOk result (AreGrouped self.old.groups (sent_in self.old) → sent_in self.old (event_view event.now).number ≡ None →
             AreGrouped self.new.groups (sent_in self.new)) }
         ensures same { OnOk result (self.new.begun ≡ self.old.begun) }
+        ensures given { IfOk result (λ given. (link n : ℕ) (outcome : Outcome) →
+            is_some_and given (says link n outcome) ≡ gives link n outcome (sent_begun (event_view event.now))) }
     {
-        if let Some(own) = SentDelivery::begin(self.alloc, event)? {
-            self.groups.put(&own.delivery(), own.is_unsettled())?;
-            self.entries.insert(event.number, own)?;
-        }
-        Ok(())
+        let Some(own) = SentDelivery::begin(self.alloc, event)? else {
+            return Ok(None);
+        };
+        let given = own.copy_verdict();
+        self.groups.put(&own.delivery(), own.is_unsettled())?;
+        self.entries.insert(event.number, own)?;
+        Ok(given)
     }
 
-    /// The event touches the delivery of this number.
+    /// The event touches the delivery of this number. What came of it stands behind the event, or not yet.
     ///
     /// # Errors
     ///
     /// Memory was refused; then the groups may not fit the deliveries any more.
-    fn touch(&mut self, number: u64, event: &Event) -> Result<(), AllocError>
+    fn touch(&mut self, number: u64, event: &Event) -> Result<Option<CopyVerdict>, AllocError>
         ensures touched { OnOk result (MovesAt number (option_map (sent_next (event_view event.now))) self.old self.new) }
         ensures grouped { OnOk result (AreGrouped self.old.groups (sent_in self.old) → AreGrouped self.new.groups (sent_in self.new)) }
         ensures same { OnOk result (self.new.begun ≡ self.old.begun) }
+        ensures given { IfOk result (λ given. (link n : ℕ) (outcome : Outcome) →
+            is_some_and given (says link n outcome) ≡ gives link n outcome (option_map (sent_next (event_view event.now)) (sent_in self.old number))) }
     {
         let Some(own) = self.entries.get_mut(&number) else {
-            return Ok(());
+            return Ok(None);
         };
         own.take(event)?;
         self.groups.put(&own.delivery(), own.is_unsettled())?;
-        Ok(())
+        Ok(own.copy_verdict())
     }
 
-    /// The event touches each of these.
-    fn touch_all(&mut self, mut touched: NumberSet, event: &Event) -> Result<(), AllocError>
+    /// The event touches each of these. What came of them stands behind the event.
+    fn touch_all(
+        &mut self,
+        mut touched: NumberSet,
+        event: &Event,
+    ) -> Result<Vec<CopyVerdict>, AllocError>
         ensures touched { OnOk result (AreMovedBy (is_among touched) (event_view event.now) self.old self.new) }
         ensures grouped { OnOk result (AreGrouped self.old.groups (sent_in self.old) → AreGrouped self.new.groups (sent_in self.new)) }
         ensures same { OnOk result (self.new.begun ≡ self.old.begun) }
+        ensures given { IfOk result (λ given. (link n : ℕ) (outcome : Outcome) → list_any (says link n outcome) given.items
+            ≡ list_any (λ m. gives link n outcome (option_map (sent_next (event_view event.now)) (sent_in self.old m))) touched) }
     {
+        let mut given = Vec::new(self.alloc);
         while let Some(number) = touched.pop() {
-            self.touch(number, event)?;
+            push_some(&mut given, self.touch(number, event)?)?;
         }
-        Ok(())
+        Ok(given)
     }
 }

@@ -6,6 +6,7 @@
 //! - `groups`: which of them are still unsettled;
 //! - `earliest`: the earliest of a group that passes a test;
 //! - `touched`: which of them an event may touch;
+//! - `listed`: a list that grows by what may be there;
 //! - `begun`: which of them began last on each link, and of those that carry the same delivery;
 //! - `deliveries`: all of them, by number;
 //! - `answers`: what the table answers of them, with `closings`, of which deliveries from clients nothing more is to be told.
@@ -18,6 +19,7 @@ mod decided;
 mod deliveries;
 mod earliest;
 mod groups;
+mod listed;
 mod payload;
 mod sent;
 mod touched;

@@ -1,8 +1,9 @@
 //! A delivery to a client from its first part on: how far it is sent, how its consumer decided, and whether it is still
 //! unsettled (part 2 of the standard, sections 2.6.12 and 2.6.14).
 
-ghost use Rattle.std.specs.Prelude.{◌≡◌, ◌++◌, List, Some, None, OnOk, OnErr, IfOk, is_some, option_map, true};
+ghost use Rattle.std.specs.Prelude.{◌≡◌, ◌++◌, ℕ, List, Some, None, OnOk, OnErr, IfOk, is_some, option_map, true};
 ghost use Rattle.amqp_perf.specs.Meaning.{flag};
+ghost use Rattle.amqp_perf.specs.declared.descriptor.Outcome.{Outcome};
 ghost use Rattle.capture_form.specs.Rules.{RuleText};
 ghost use Rattle.capture_form.specs.declared.records.Record.{Record};
 ghost use Rattle.trace_events.specs.Said.{out_spoken};
@@ -16,6 +17,7 @@ ghost use Rattle.trace_events.specs.Work as work;
 ghost use Rattle.trace_events.specs.History.{history};
 ghost use Rattle.trace_clauses.specs.Clauses.{first_broken};
 ghost use Rattle.trace_clauses.specs.TransferClause.{is_payload_so_far};
+ghost use Rattle.audit_sent.specs.Given.{gives, says};
 ghost use Rattle.audit_sent.specs.Sent as kept;
 ghost use Rattle.audit_sent.specs.Sent.{IsEntry, Follows, Begins};
 ghost use Rattle.audit_sent.specs.SentViews.{sent_view, decided_view};
@@ -23,7 +25,9 @@ ghost use Rattle.trace_values.specs.View.{Events, decision_view, event_view, out
 
 use crate::decided::Decided;
 use crate::payload::goes_on_with;
+use amqp_perf::Outcome;
 use audit_tables::HeldLink;
+use audit_verdicts::CopyVerdict;
 use pairing_cert::Note;
 use std::alloc::{AllocError, Global};
 use trace_values::{Decision, Event, Outgoing, is_decisive};
@@ -137,6 +141,33 @@ impl SentDelivery {
             Some(own) => Some(own.decision()),
             None => None,
         }
+    }
+
+    /// What came of it, if that stands: what its consumer decided; accepted on a pre-settled link, once its last part is
+    /// written.
+    fn verdict(&self) -> Option<Outcome>
+        ensures { result ≡ kept.verdict_of (sent_view self.now) }
+    {
+        match &self.decision {
+            Some(own) => Some(own.outcome()),
+            None if self.is_sent && self.link.link().is_pre_settled => Some(Outcome::Accepted),
+            None => None,
+        }
+    }
+
+    /// The same, as the verdict of the copy that it is, where its note says which delivery it carries.
+    pub(crate) fn copy_verdict(&self) -> Option<CopyVerdict>
+        ensures { (link n : ℕ) (outcome : Outcome) → is_some_and result (says link n outcome) ≡ gives link n outcome (Some (sent_view self.now)) }
+    {
+        let Note::Pair(delivery) = self.note else {
+            return None;
+        };
+        let outcome = self.verdict()?;
+        Some(CopyVerdict {
+            link: self.link.link().number,
+            delivery,
+            outcome,
+        })
     }
 
     /// It is still unsettled: sent unsettled, on a link that lives, and settled by neither side.

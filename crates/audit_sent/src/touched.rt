@@ -131,6 +131,22 @@ impl SentGroups {
         }
     }
 
+    /// The unsettled deliveries of which the event's consumer speaks.
+    ///
+    /// # Errors
+    ///
+    /// Memory was refused.
+    pub(crate) fn spoken_of(&self, alloc: Global, event: &Event) -> Result<NumberSet, AllocError>
+        ensures spoken { IfOk result (λ spoken. (n : ℕ) → is_among spoken n ≡ law.is_spoken_of self.now (event_view event.now) n) }
+        ensures counted { OnOk result (IfSome (law.answered_id (event_view event.now)) (λ at. at.id < 2 ^ 32)) }
+    {
+        let mut spoken = NumberSet::new(alloc);
+        let id = answered_id(event);
+        self.add_answered(&mut spoken, id)?;
+        self.add_session(&mut spoken, answered_session(event))?;
+        Ok(spoken)
+    }
+
     /// What stands on the links that ended.
     fn add_all_of(&self, touched: &mut NumberSet, ended: &[Link]) -> Result<(), AllocError>
         ensures { OnOk result ((n : ℕ) → is_among touched.new n

@@ -9,15 +9,15 @@ use Rattle.trace_events.specs.Event.{Event, Link, Incoming}
 use Rattle.trace_events.specs.Due.{is_due}
 use Rattle.trace_events.specs.Incoming.{incoming_at}
 use Rattle.trace_events.specs.Link.{link_at, links}
-use Rattle.trace_events.proofs.Along.{and_first, and_last}
+use Rattle.trace_events.proofs.Along.{and_first}
 use Rattle.trace_events.proofs.Judged.{AreJudged}
 use Rattle.trace_events.proofs.LinkNumbers.{links-found}
 use Rattle.trace_clauses.proofs.WaitingQueue.{find_has}
-use Rattle.trace_verdicts.specs.CopyVerdict.{copy_verdict, awaits_verdict}
-use Rattle.trace_verdicts.specs.BestVerdict.{is_same_outcome, is_verdict, has_verdict, is_due_to_some, has_all_verdicts, best_verdict}
+use Rattle.trace_clauses.specs.CopyVerdict.{copy_verdict, awaits_verdict}
+use Rattle.trace_clauses.specs.BestVerdict.{is_same_outcome, is_verdict, has_verdict, is_due_to_some, has_all_verdicts, best_verdict}
 use Rattle.audit_verdicts.specs.Verdicts.{awaits_at, verdict_at, best_of}
 use Rattle.audit_verdicts.proofs.TableSteps.{any-gives, any-from}
-use Rattle.audit_verdicts.proofs.VerdictsNext.{contained, same-self}
+use Rattle.audit_verdicts.proofs.VerdictsNext.{same-self}
 
 none_any : (test : Link → Bool) (ls : List Link) → AllByRecursion (λ l. test l ≡ false) ls → list_any test ls ≡ false
 none_any test [] all = refl

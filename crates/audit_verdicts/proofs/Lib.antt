@@ -1,3 +1,4 @@
 mod TableSteps
 mod VerdictsNext
 mod Answered
+mod Refused

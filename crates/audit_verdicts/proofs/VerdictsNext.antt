@@ -17,7 +17,7 @@ use Rattle.trace_events.specs.Queue.{completed_deliveries}
 use Rattle.trace_events.specs.Session.{last_session}
 use Rattle.trace_events.specs.Due.{is_due}
 use Rattle.trace_events.specs.Work.{comes_due}
-use Rattle.trace_events.proofs.Along.{and_first, and_last, some_passes}
+use Rattle.trace_events.proofs.Along.{and_first, and_last}
 use Rattle.trace_events.proofs.Judged.{AreJudged}
 use Rattle.trace_events.proofs.LinkLives.{judged-stands}
 use Rattle.trace_events.proofs.LinkNumbers.{judged-found, link_at-later, links-found, own_link-number}
@@ -31,10 +31,11 @@ use Rattle.trace_clauses.proofs.OneConsumer.{found-at, incoming_at-is}
 use Rattle.trace_clauses.proofs.Parts.{IsKept}
 use Rattle.trace_clauses.proofs.UnsentCopies.{due_complete}
 use Rattle.trace_clauses.proofs.WaitingQueue.{all_contained, completed_once, contains_cases, contains_first, contains_none, each_completed, find_has}
-use Rattle.trace_verdicts.specs.CopyVerdict.{copy_verdict, begun_verdict_by, verdict_by, awaits_verdict, awaits_now}
-use Rattle.trace_verdicts.specs.BestVerdict.{is_same_outcome, is_verdict, has_verdict}
-use Rattle.trace_verdicts.proofs.AwaitedSteps.{awaits_verdict_moves, awaits_now-live, has_verdict_moves, new_link-undue}
-use Rattle.audit_verdicts.specs.Verdicts.{AreDue, AreGiven, awaits_at, verdict_at, comes_now, is_ended, is_given, is_of_copy, is_verdict_of}
+use Rattle.trace_clauses.specs.CopyVerdict.{copy_verdict, begun_verdict_by, verdict_by, awaits_verdict, awaits_now}
+use Rattle.trace_clauses.specs.BestVerdict.{is_same_outcome, is_verdict, has_verdict}
+use Rattle.trace_clauses.proofs.AwaitedSteps.{awaits_verdict_moves, awaits_now-live, awaited-given, has_verdict_moves, new_link-undue}
+use Rattle.audit_addresses.specs.Copies.{AreDue}
+use Rattle.audit_verdicts.specs.Verdicts.{AreGiven, awaits_at, verdict_at, comes_now, is_ended, is_given, is_of_copy, is_verdict_of}
 use Rattle.audit_verdicts.specs.declared.verdicts.CopyVerdict.{CopyVerdict}
 use Rattle.audit_verdicts.proofs.TableSteps.{and_false, any-gives, any-from, both-ways}
 
@@ -180,23 +181,18 @@ module _ (rules : List RuleText) (e : Event) (past : List Event) (are : AreJudge
               not_before false is = refl
               not_before true is = let never : completes d e ≡ false = completed_once rules e past are d (due_complete rules past d l is) in absurd cc
 
-      abbrev says_such : Outcome → Bool
-      says_such outcome = awaits_now rules e past d l && is_some_and (begun_verdict_by e past d l) (is_same_outcome outcome)
+      gives-is : awaits_now rules e past d l ≡ true → (outcome : Outcome)
+          → list_any (λ v. v.link == l.number && is_verdict_of d.number outcome v) given ≡ is_some_and (begun_verdict_by e past d l) (is_same_outcome outcome)
+      gives-is waits outcome = gives l.number d.number l d at found waits outcome ∙ ap (λ o. is_some_and o (is_same_outcome outcome)) (awaited-given rules e past are lawful d found l at waits)
 
-      gives-is : (outcome : Outcome) → list_any (λ v. v.link == l.number && is_verdict_of d.number outcome v) given ≡ says_such outcome
-      gives-is outcome =
-          gives l.number d.number outcome
-          ∙ (ap (λ o. is_some_and o (λ m. is_some_and (incoming_at d.number (e ∷ past)) (λ x. awaits_now rules e past x m && is_some_and (begun_verdict_by e past x m) (is_same_outcome outcome)))) at
-          ∙ ap (λ o. is_some_and o (λ x. awaits_now rules e past x l && is_some_and (begun_verdict_by e past x l) (is_same_outcome outcome))) found)
-
-      given-is : is_given given l.number d.number ≡ awaits_now rules e past d l && is_some (begun_verdict_by e past d l)
-      given-is = both-ways (is_given given l.number d.number) (awaits_now rules e past d l && is_some (begun_verdict_by e past d l)) there back
+      given-is : awaits_now rules e past d l ≡ true → is_given given l.number d.number ≡ is_some (begun_verdict_by e past d l)
+      given-is waits = both-ways (is_given given l.number d.number) (is_some (begun_verdict_by e past d l)) there back
         where
           some_such : (o : Option Outcome) (outcome : Outcome) → is_some_and o (is_same_outcome outcome) ≡ true → is_some o ≡ true
           some_such None outcome is = absurd cc
           some_such (Some x) outcome is = refl
 
-          there : is_given given l.number d.number ≡ true → awaits_now rules e past d l && is_some (begun_verdict_by e past d l) ≡ true
+          there : is_given given l.number d.number ≡ true → is_some (begun_verdict_by e past d l) ≡ true
           there is =
               let v = any-from (is_of_copy l.number d.number) given is in
               let link = and_first (v.0.link == l.number) (v.0.delivery == d.number) v.1.1 in
@@ -204,31 +200,28 @@ module _ (rules : List RuleText) (e : Event) (past : List Event) (are : AreJudge
               let one : list_any (λ w. w.link == l.number && is_verdict_of d.number v.0.outcome w) given ≡ true =
               any-gives (λ (w : CopyVerdict). w.link == l.number && is_verdict_of d.number v.0.outcome w) given v.0 v.1.0
               (ap (λ b. b && is_verdict_of d.number v.0.outcome v.0) link ∙ (ap (λ b. b && is_same_outcome v.0.outcome v.0.outcome) delivery ∙ same-self v.0.outcome)) in
-              let says : says_such v.0.outcome ≡ true = sym (gives-is v.0.outcome) ∙ one in
-              ap (λ b. b && is_some (begun_verdict_by e past d l)) (and_first (awaits_now rules e past d l) _ says)
-              ∙ some_such (begun_verdict_by e past d l) v.0.outcome (and_last (awaits_now rules e past d l) (is_some_and (begun_verdict_by e past d l) (is_same_outcome v.0.outcome)) says)
+              some_such (begun_verdict_by e past d l) v.0.outcome (sym (gives-is waits v.0.outcome) ∙ one)
 
-          back : awaits_now rules e past d l && is_some (begun_verdict_by e past d l) ≡ true → is_given given l.number d.number ≡ true
+          back : is_some (begun_verdict_by e past d l) ≡ true → is_given given l.number d.number ≡ true
           back is =
-              let x = is_there (begun_verdict_by e past d l) (and_last (awaits_now rules e past d l) (is_some (begun_verdict_by e past d l)) is) in
-              let says : says_such x.0 ≡ true =
-              ap (λ b. b && is_some_and (begun_verdict_by e past d l) (is_same_outcome x.0)) (and_first (awaits_now rules e past d l) (is_some (begun_verdict_by e past d l)) is)
-              ∙ (ap (λ o. is_some_and o (is_same_outcome x.0)) x.1 ∙ same-self x.0) in
-              let v = any-from (λ (w : CopyVerdict). w.link == l.number && is_verdict_of d.number x.0 w) given (gives-is x.0 ∙ says) in
+              let x = is_there (begun_verdict_by e past d l) is in
+              let says : is_some_and (begun_verdict_by e past d l) (is_same_outcome x.0) ≡ true = ap (λ o. is_some_and o (is_same_outcome x.0)) x.1 ∙ same-self x.0 in
+              let v = any-from (λ (w : CopyVerdict). w.link == l.number && is_verdict_of d.number x.0 w) given (gives-is waits x.0 ∙ says) in
               any-gives (is_of_copy l.number d.number) given v.0 v.1.0
               (ap (λ b. b && (v.0.delivery == d.number)) (and_first (v.0.link == l.number) (is_verdict_of d.number x.0 v.0) v.1.1)
               ∙ and_first (v.0.delivery == d.number) (is_same_outcome x.0 v.0.outcome) (and_last (v.0.link == l.number) (is_verdict_of d.number x.0 v.0) v.1.1))
 
       -- what is left when the verdicts are given
       left-is : came l.number d.number && not (is_given given l.number d.number) ≡ awaits_now rules e past d l && is_none (begun_verdict_by e past d l)
-      left-is =
-          ap (λ b. b && not (is_given given l.number d.number)) came-is
-          ∙ (ap (λ b. awaits_now rules e past d l && not b) given-is ∙ by (awaits_now rules e past d l) (begun_verdict_by e past d l))
+      left-is = ap (λ b. b && not (is_given given l.number d.number)) came-is ∙ by (awaits_now rules e past d l) refl
         where
-          by : (a : Bool) (o : Option Outcome) → a && not (a && is_some o) ≡ a && is_none o
-          by false o = refl
-          by true None = refl
-          by true (Some x) = refl
+          off : (o : Option Outcome) → not (is_some o) ≡ is_none o
+          off None = refl
+          off (Some x) = refl
+
+          by : (a : Bool) → awaits_now rules e past d l ≡ a → a && not (is_given given l.number d.number) ≡ a && is_none (begun_verdict_by e past d l)
+          by false is = refl
+          by true waits = ap not (given-is waits) ∙ off (begun_verdict_by e past d l)
 
       awaits-here : (came l.number d.number && not (is_given given l.number d.number)) && not (is_ended ended l.number) ≡ awaits_verdict rules d (e ∷ past) l
       awaits-here =
@@ -290,6 +283,10 @@ module _ (rules : List RuleText) (e : Event) (past : List Event) (are : AreJudge
 
   -- ---- which verdicts a delivery has behind it
 
+  -- of those that are given, the ones that count
+  abbrev pub taken_as : ℕ → Outcome → CopyVerdict → Bool
+  taken_as n outcome v = came v.link v.delivery && is_verdict_of n outcome v
+
   abbrev pub modified_at : ℕ → Link → Bool
   modified_at n l = came l.number n && not (is_given given l.number n)
 
@@ -298,7 +295,7 @@ module _ (rules : List RuleText) (e : Event) (past : List Event) (are : AreJudge
     gets l = awaits_now rules e past d l && is_some_and (verdict_by e past d l) (is_same_outcome outcome)
 
     abbrev added : Bool
-    added = list_any (is_verdict_of d.number outcome) given || is_same_outcome outcome Modified && list_any (modified_at d.number) ended
+    added = list_any (taken_as d.number outcome) given || is_same_outcome outcome Modified && list_any (modified_at d.number) ended
 
     begun_such : (sent : Option Outcome) (ends : Bool) → is_some_and sent (is_same_outcome outcome) ≡ true → is_some_and (or_else sent (if ends then Some Modified else None)) (is_same_outcome outcome) ≡ true
     begun_such None ends is = absurd cc
@@ -308,17 +305,32 @@ module _ (rules : List RuleText) (e : Event) (past : List Event) (are : AreJudge
     ended_such None none is = is
     ended_such (Some x) none is = absurd cc
 
-    of_given : (v : CopyVerdict) → Contains given v → is_verdict_of d.number outcome v ≡ true → list_any gets (law.links past) ≡ true
-    of_given v there is =
-        let one : list_any (λ w. w.link == v.link && is_verdict_of d.number outcome w) given ≡ true =
-        any-gives (λ (w : CopyVerdict). w.link == v.link && is_verdict_of d.number outcome w) given v there (ap (λ b. b && is_verdict_of d.number outcome v) (eq-eqb v.link v.link refl) ∙ is) in
-        let l = some_passes (λ (m : Link). is_some_and (incoming_at d.number (e ∷ past)) (λ x. awaits_now rules e past x m && is_some_and (begun_verdict_by e past x m) (is_same_outcome outcome))) (link_at v.link past)
-        (sym (gives v.link d.number outcome) ∙ one) in
-        let says : awaits_now rules e past d l.0 && is_some_and (begun_verdict_by e past d l.0) (is_same_outcome outcome) ≡ true =
-        sym (ap (λ o. is_some_and o (λ x. awaits_now rules e past x l.0 && is_some_and (begun_verdict_by e past x l.0) (is_same_outcome outcome))) found) ∙ l.2 in
-        any-gives gets (law.links past) l.0 (find_has (λ (m : Link). m.number == v.link) (law.links past) l.0 l.1)
-        (ap (λ b. b && is_some_and (verdict_by e past d l.0) (is_same_outcome outcome)) (and_first (awaits_now rules e past d l.0) _ says)
-        ∙ begun_such (begun_verdict_by e past d l.0) (ends_link l.0 e) (and_last (awaits_now rules e past d l.0) (is_some_and (begun_verdict_by e past d l.0) (is_same_outcome outcome)) says))
+    of_given : (v : CopyVerdict) → Contains given v → taken_as d.number outcome v ≡ true → list_any gets (law.links past) ≡ true
+    of_given v there is = of_link (link_at v.link past) refl
+      where
+        such : is_verdict_of d.number outcome v ≡ true
+        such = and_last (came v.link v.delivery) (is_verdict_of d.number outcome v) is
+
+        came_there : came v.link d.number ≡ true
+        came_there =
+            subst (λ m. came v.link m ≡ true) (eqb-true v.delivery d.number (and_first (v.delivery == d.number) (is_same_outcome outcome v.outcome) such))
+            (and_first (came v.link v.delivery) (is_verdict_of d.number outcome v) is)
+
+        one : list_any (λ w. w.link == v.link && is_verdict_of d.number outcome w) given ≡ true
+        one =
+            any-gives (λ (w : CopyVerdict). w.link == v.link && is_verdict_of d.number outcome w) given v there
+            (ap (λ b. b && is_verdict_of d.number outcome v) (eq-eqb v.link v.link refl) ∙ such)
+
+        of_link : (o : Option Link) → link_at v.link past ≡ o → list_any gets (law.links past) ≡ true
+        of_link None none = let never : false ≡ true = sym (came-none v.link d.number none) ∙ came_there in absurd cc
+        of_link (Some l) at =
+            let number = (judged-found rules past are.1 v.link l at).0 in
+            let own : link_at l.number past ≡ Some l = ap (λ k. link_at k past) number ∙ at in
+            let waits : awaits_now rules e past d l ≡ true = sym (came-is d found l own) ∙ (ap (λ k. came k d.number) number ∙ came_there) in
+            any-gives gets (law.links past) l (find_has (λ (m : Link). m.number == v.link) (law.links past) l at)
+            (ap (λ b. b && is_some_and (verdict_by e past d l) (is_same_outcome outcome)) waits
+            ∙ begun_such (begun_verdict_by e past d l) (ends_link l e)
+            (sym (gives-is d found l own waits outcome) ∙ (ap (λ k. list_any (λ (w : CopyVerdict). w.link == k && is_verdict_of d.number outcome w) given) number ∙ one)))
 
     of_ended : (l : Link) → Contains ended l → modified_at d.number l ≡ true → is_same_outcome outcome Modified ≡ true → list_any gets (law.links past) ≡ true
     of_ended l there is such =
@@ -331,10 +343,10 @@ module _ (rules : List RuleText) (e : Event) (past : List Event) (are : AreJudge
         ∙ ended_such (begun_verdict_by e past d l) (and_last (awaits_now rules e past d l) (is_none (begun_verdict_by e past d l)) left) such))
 
     to_link : added ≡ true → list_any gets (law.links past) ≡ true
-    to_link is = by (list_any (is_verdict_of d.number outcome) given) refl is
+    to_link is = by (list_any (taken_as d.number outcome) given) refl is
       where
-        by : (b : Bool) → list_any (is_verdict_of d.number outcome) given ≡ b → b || is_same_outcome outcome Modified && list_any (modified_at d.number) ended ≡ true → list_any gets (law.links past) ≡ true
-        by true some is = let v = any-from (is_verdict_of d.number outcome) given some in of_given v.0 v.1.0 v.1.1
+        by : (b : Bool) → list_any (taken_as d.number outcome) given ≡ b → b || is_same_outcome outcome Modified && list_any (modified_at d.number) ended ≡ true → list_any gets (law.links past) ≡ true
+        by true some is = let v = any-from (taken_as d.number outcome) given some in of_given v.0 v.1.0 v.1.1
         by false none is =
             let l = any-from (modified_at d.number) ended (and_last (is_same_outcome outcome Modified) (list_any (modified_at d.number) ended) is) in
             of_ended l.0 l.1.0 l.1.1 (and_first (is_same_outcome outcome Modified) (list_any (modified_at d.number) ended) is)
@@ -355,16 +367,19 @@ module _ (rules : List RuleText) (e : Event) (past : List Event) (are : AreJudge
         by : awaits_now rules e past d l ≡ true → (sent : Option Outcome) → begun_verdict_by e past d l ≡ sent → (ends : Bool) → ends_link l e ≡ ends
             → is_some_and (or_else sent (if ends then Some Modified else None)) (is_same_outcome outcome) ≡ true → added ≡ true
         by waits (Some x) sent ends over such =
-            let says : awaits_now rules e past d l && is_some_and (begun_verdict_by e past d l) (is_same_outcome outcome) ≡ true =
-            ap (λ b. b && is_some_and (begun_verdict_by e past d l) (is_same_outcome outcome)) waits ∙ (ap (λ o. is_some_and o (is_same_outcome outcome)) sent ∙ such) in
-            let v = any-from (λ (w : CopyVerdict). w.link == l.number && is_verdict_of d.number outcome w) given (gives-is d found l at outcome ∙ says) in
-            or_first (list_any (is_verdict_of d.number outcome) given) (is_same_outcome outcome Modified && list_any (modified_at d.number) ended)
-            (any-gives (is_verdict_of d.number outcome) given v.0 v.1.0 (and_last (v.0.link == l.number) (is_verdict_of d.number outcome v.0) v.1.1))
+            let says : is_some_and (begun_verdict_by e past d l) (is_same_outcome outcome) ≡ true = ap (λ o. is_some_and o (is_same_outcome outcome)) sent ∙ such in
+            let v = any-from (λ (w : CopyVerdict). w.link == l.number && is_verdict_of d.number outcome w) given (gives-is d found l at waits outcome ∙ says) in
+            let link = eqb-true v.0.link l.number (and_first (v.0.link == l.number) (is_verdict_of d.number outcome v.0) v.1.1) in
+            let of = and_last (v.0.link == l.number) (is_verdict_of d.number outcome v.0) v.1.1 in
+            let delivery = eqb-true v.0.delivery d.number (and_first (v.0.delivery == d.number) (is_same_outcome outcome v.0.outcome) of) in
+            let came_there : came v.0.link v.0.delivery ≡ true = ap (λ k. came k v.0.delivery) link ∙ (ap (λ m. came l.number m) delivery ∙ (came-is d found l at ∙ waits)) in
+            or_first (list_any (taken_as d.number outcome) given) (is_same_outcome outcome Modified && list_any (modified_at d.number) ended)
+            (any-gives (taken_as d.number outcome) given v.0 v.1.0 (ap (λ b. b && is_verdict_of d.number outcome v.0) came_there ∙ of))
         by waits None sent true over such =
             let live = awaits_now-live rules e past are lawful d found l at waits in
             let left : modified_at d.number l ≡ true =
             left-is d found l at ∙ (ap (λ b. b && is_none (begun_verdict_by e past d l)) waits ∙ ap (λ (o : Option Outcome). is_none o) sent) in
-            or_second (list_any (is_verdict_of d.number outcome) given) (is_same_outcome outcome Modified && list_any (modified_at d.number) ended)
+            or_second (list_any (taken_as d.number outcome) given) (is_same_outcome outcome Modified && list_any (modified_at d.number) ended)
             (ap (λ b. b && list_any (modified_at d.number) ended) such ∙ any-gives (modified_at d.number) ended l ((all l).1 (lives-live rules past are.1 l at live, over)) left)
         by waits None sent false over such = absurd cc
 
@@ -386,11 +401,11 @@ module _ (rules : List RuleText) (e : Event) (past : List Event) (are : AreJudge
           ∙ sym (none_any (law.links past) (λ l. ap (λ b. b && is_some_and (copy_verdict d l past) (is_same_outcome outcome)) (undue_before d found new l)))
     ]
 
-    had-here : (verdict_at rules past d.number outcome || list_any (is_verdict_of d.number outcome) given) || is_same_outcome outcome Modified && list_any (modified_at d.number) ended
+    had-here : (verdict_at rules past d.number outcome || list_any (taken_as d.number outcome) given) || is_same_outcome outcome Modified && list_any (modified_at d.number) ended
         ≡ has_verdict rules d (e ∷ past) outcome
     had-here =
-        ap (λ b. (b || list_any (is_verdict_of d.number outcome) given) || is_same_outcome outcome Modified && list_any (modified_at d.number) ended) had_before
-        ∙ (shift (has_verdict rules d past outcome) (list_any (is_verdict_of d.number outcome) given) (is_same_outcome outcome Modified && list_any (modified_at d.number) ended)
+        ap (λ b. (b || list_any (taken_as d.number outcome) given) || is_same_outcome outcome Modified && list_any (modified_at d.number) ended) had_before
+        ∙ (shift (has_verdict rules d past outcome) (list_any (taken_as d.number outcome) given) (is_same_outcome outcome Modified && list_any (modified_at d.number) ended)
         ∙ (ap (λ b. has_verdict rules d past outcome || b) (both-ways added (list_any gets (law.links past)) to_link from_link) ∙ sym (has_verdict_moves rules e past are lawful d found outcome)))
       where
         shift : (a b c : Bool) → (a || b) || c ≡ a || (b || c)
@@ -398,32 +413,31 @@ module _ (rules : List RuleText) (e : Event) (past : List Event) (are : AreJudge
         shift false b c = refl
 
   pub had-next : (n : ℕ) (outcome : Outcome)
-      → (verdict_at rules past n outcome || list_any (is_verdict_of n outcome) given) || is_same_outcome outcome Modified && list_any (modified_at n) ended ≡ verdict_at rules (e ∷ past) n outcome
+      → (verdict_at rules past n outcome || list_any (taken_as n outcome) given) || is_same_outcome outcome Modified && list_any (modified_at n) ended ≡ verdict_at rules (e ∷ past) n outcome
   had-next n outcome = by (incoming_at n (e ∷ past)) refl (incoming_at-is rules (e ∷ past) n are)
     where
-      ungiven : incoming_at n (e ∷ past) ≡ None → (b : Bool) → list_any (is_verdict_of n outcome) given ≡ b → b ≡ false
-      ungiven none false is = refl
-      ungiven none true is =
-          let v = any-from (is_verdict_of n outcome) given is in
-          let one : list_any (λ w. w.link == v.0.link && is_verdict_of n outcome w) given ≡ true =
-          any-gives (λ (w : CopyVerdict). w.link == v.0.link && is_verdict_of n outcome w) given v.0 v.1.0 (ap (λ b. b && is_verdict_of n outcome v.0) (eq-eqb v.0.link v.0.link refl) ∙ v.1.1) in
-          let l = some_passes (λ (m : Link). is_some_and (incoming_at n (e ∷ past)) (λ x. awaits_now rules e past x m && is_some_and (begun_verdict_by e past x m) (is_same_outcome outcome))) (link_at v.0.link past)
-          (sym (gives v.0.link n outcome) ∙ one) in
-          let never : false ≡ true = sym (ap (λ o. is_some_and o (λ x. awaits_now rules e past x l.0 && is_some_and (begun_verdict_by e past x l.0) (is_same_outcome outcome))) none) ∙ l.2 in
-          absurd cc
+      -- of a delivery that there is none of no copy awaits
+      quiet_given : incoming_at n (e ∷ past) ≡ None → (vs : List CopyVerdict) → list_any (taken_as n outcome) vs ≡ false
+      quiet_given none [] = refl
+      quiet_given none (v ∷ vs) = ap (λ b. b || list_any (taken_as n outcome) vs) (of_one (v.delivery == n) refl) ∙ quiet_given none vs
+        where
+          of_one : (b : Bool) → (v.delivery == n) ≡ b → came v.link v.delivery && (b && is_same_outcome outcome v.outcome) ≡ false
+          of_one false other = and_false (came v.link v.delivery)
+          of_one true same =
+              ap (λ b. b && (true && is_same_outcome outcome v.outcome)) (ap (λ m. came v.link m) (eqb-true v.delivery n same) ∙ came-unbegun v.link n none)
 
       unmodified : incoming_at n (e ∷ past) ≡ None → (ls : List Link) → list_any (modified_at n) ls ≡ false
       unmodified none [] = refl
       unmodified none (l ∷ ls) = ap (λ b. b && not (is_given given l.number n) || list_any (modified_at n) ls) (came-unbegun l.number n none) ∙ unmodified none ls
 
       by : (p : Option Incoming) → incoming_at n (e ∷ past) ≡ p → IfSome p (λ d. (n < length (e ∷ past)) × (d.number ≡ n))
-          → (verdict_at rules past n outcome || list_any (is_verdict_of n outcome) given) || is_same_outcome outcome Modified && list_any (modified_at n) ended ≡ is_some_and p (λ d. has_verdict rules d (e ∷ past) outcome)
+          → (verdict_at rules past n outcome || list_any (taken_as n outcome) given) || is_same_outcome outcome Modified && list_any (modified_at n) ended ≡ is_some_and p (λ d. has_verdict rules d (e ∷ past) outcome)
       by None none of =
-          ap (λ o. (is_some_and o (λ d. has_verdict rules d past outcome) || list_any (is_verdict_of n outcome) given) || is_same_outcome outcome Modified && list_any (modified_at n) ended)
+          ap (λ o. (is_some_and o (λ d. has_verdict rules d past outcome) || list_any (taken_as n outcome) given) || is_same_outcome outcome Modified && list_any (modified_at n) ended)
           (none_before n (incoming_begun e) (incoming_deliveries past) none)
-          ∙ (ap (λ b. b || is_same_outcome outcome Modified && list_any (modified_at n) ended) (ungiven none (list_any (is_verdict_of n outcome) given) refl)
+          ∙ (ap (λ b. b || is_same_outcome outcome Modified && list_any (modified_at n) ended) (quiet_given none given)
           ∙ (ap (λ b. is_same_outcome outcome Modified && b) (unmodified none ended) ∙ and_false (is_same_outcome outcome Modified)))
       by (Some d) found of =
           let number = of.1 in
-          subst (λ m. (verdict_at rules past m outcome || list_any (is_verdict_of m outcome) given) || is_same_outcome outcome Modified && list_any (modified_at m) ended ≡ has_verdict rules d (e ∷ past) outcome) number
+          subst (λ m. (verdict_at rules past m outcome || list_any (taken_as m outcome) given) || is_same_outcome outcome Modified && list_any (modified_at m) ended ≡ has_verdict rules d (e ∷ past) outcome) number
           (had-here d (ap (λ m. incoming_at m (e ∷ past)) number ∙ found) outcome)

@@ -1,5 +1,5 @@
 -- What the table of verdicts stands for, by the numbers of links and of deliveries from clients.
-use Rattle.std.specs.Prelude.{◌≡◌, ℕ, Bool, ◌&&◌, List, ◌∷◌, nat_eq, if◌then◌else◌, ◌==◌}
+use Rattle.std.specs.Prelude.{◌≡◌, ◌<◌, ◌⊎◌, ℕ, Bool, true, ◌&&◌, List, ◌∷◌, Some, is_some, length, nat_eq, if◌then◌else◌, ◌==◌}
 use Rattle.std.specs.List.{list_any}
 use Rattle.indexmap.specs.IndexMap.{get}
 use Rattle.amqp_perf.specs.declared.descriptor.Outcome.{Outcome}
@@ -7,12 +7,11 @@ use Rattle.amqp_perf.specs.declared.descriptor.Outcome.TheVariants.{Accepted, Re
 use Rattle.capture_form.specs.Rules.{RuleText}
 use Rattle.number_groups.specs.Groups.{is_member}
 use Rattle.trace_events.specs.Words.{is_some_and}
-use Rattle.trace_events.specs.Event.{Event, Link}
+use Rattle.trace_events.specs.Event.{Event, Link, Incoming}
 use Rattle.trace_events.specs.Incoming.{completed_by, incoming_at}
 use Rattle.trace_events.specs.Link.{link_at}
-use Rattle.trace_events.specs.Work.{comes_due}
-use Rattle.trace_verdicts.specs.CopyVerdict.{awaits_verdict, awaits_now, begun_verdict_by}
-use Rattle.trace_verdicts.specs.BestVerdict.{is_same_outcome, has_verdict}
+use Rattle.trace_clauses.specs.CopyVerdict.{awaits_verdict, awaits_now, begun_verdict}
+use Rattle.trace_clauses.specs.BestVerdict.{is_same_outcome, has_verdict}
 use Rattle.audit_verdicts.specs.declared.had.Had.{Had}
 use Rattle.audit_verdicts.specs.declared.verdicts.Verdicts.{Verdicts}
 use Rattle.audit_verdicts.specs.declared.verdicts.CopyVerdict.{CopyVerdict}
@@ -67,23 +66,34 @@ is_ended ended link = list_any (λ l. l.number == link) ended
 abbrev pub comes_now : Event → List ℕ → ℕ → ℕ → Bool
 comes_now e due link n = is_some_and (completed_by e) (λ d. d.number == n) && list_any (λ m. m == link) due
 
--- just to these links a copy of what the event completes comes due
-abbrev pub AreDue : List RuleText → Event → List Event → List ℕ → Type 0
-AreDue rules e past due = (link : ℕ) → list_any (λ m. m == link) due ≡ is_some_and (link_at link past) (λ l. comes_due rules l e past)
-
--- a verdict is of the delivery of number n, and says this; it is of the copy there on the link of this number
+-- a verdict is of the delivery of number n, and says this
 abbrev pub is_verdict_of : ℕ → Outcome → CopyVerdict → Bool
 is_verdict_of n outcome v = v.delivery == n && is_same_outcome outcome v.outcome
 
+-- it is of the delivery of number n, says this, and its copy awaits one in the table
+abbrev pub is_taken : Verdicts → ℕ → Outcome → CopyVerdict → Bool
+is_taken table n outcome v = awaits_in table v.link v.delivery && is_verdict_of n outcome v
+
+-- it is of the copy of that delivery on the link of this number
 abbrev pub is_of_copy : ℕ → ℕ → CopyVerdict → Bool
 is_of_copy link n v = v.link == link && (v.delivery == n)
 
 abbrev pub is_given : List CopyVerdict → ℕ → ℕ → Bool
 is_given given link n = list_any (is_of_copy link n) given
 
--- just these verdicts the event gives to copies that were begun and await theirs
+-- of each copy that awaits its verdict with the event these say the verdict that it has behind it, as one that was begun;
+-- of other copies they say anything
 abbrev pub AreGiven : List RuleText → Event → List Event → List CopyVerdict → Type 0
-AreGiven rules e past given = (link n : ℕ) (outcome : Outcome) →
-    list_any (λ v. v.link == link && is_verdict_of n outcome v) given
-    ≡ is_some_and (link_at link past) (λ l. is_some_and (incoming_at n (e ∷ past)) (λ d.
-    awaits_now rules e past d l && is_some_and (begun_verdict_by e past d l) (is_same_outcome outcome)))
+AreGiven rules e past given = (link n : ℕ) (l : Link) (d : Incoming) → link_at link past ≡ Some l → incoming_at n (e ∷ past) ≡ Some d → awaits_now rules e past d l ≡ true →
+    (outcome : Outcome) → list_any (λ v. v.link == link && is_verdict_of n outcome v) given ≡ is_some_and (begun_verdict d l (e ∷ past)) (is_same_outcome outcome)
+
+-- ---- what it needs memory for
+
+-- a copy on the link of this number awaits its verdict
+abbrev pub IsAwaited : Verdicts → ℕ → Type 0
+IsAwaited table link = (n : ℕ) × (awaits_in table link n ≡ true)
+
+-- the event completes what comes due to a link, or a verdict is given, or one of these links ends with a copy that awaits
+abbrev pub MayGrow : Verdicts → Event → List ℕ → List CopyVerdict → List Link → Type 0
+MayGrow table e due given ended =
+    ((is_some (completed_by e) ≡ true) × (0 < length due)) ⊎ ((0 < length given) ⊎ ((n : ℕ) × (list_any (λ l. awaits_in table l.number n) ended ≡ true)))

@@ -1,13 +1,13 @@
 //! What the table answers of a delivery.
 
-ghost use Rattle.std.specs.Prelude.{◌≡◌, List, Some, true};
+ghost use Rattle.std.specs.Prelude.{◌≡◌, List, Some, None, if◌then◌else◌, true};
 ghost use Rattle.capture_form.specs.Rules.{RuleText};
 ghost use Rattle.capture_form.specs.declared.records.Record.{Record};
 ghost use Rattle.trace_clauses.specs.Clauses.{first_broken};
 ghost use Rattle.trace_events.specs.History.{history};
 ghost use Rattle.trace_events.specs.Incoming.{incoming_at};
 ghost use Rattle.trace_values.specs.View.{incoming_view};
-ghost use Rattle.trace_verdicts.specs.BestVerdict.{best_verdict, has_all_verdicts};
+ghost use Rattle.trace_clauses.specs.BestVerdict.{best_verdict, has_all_verdicts, whole_verdict};
 ghost use Rattle.audit_verdicts.specs.Verdicts.{AreVerdicts, best_of, had_in};
 
 use crate::verdicts::Verdicts;
@@ -32,6 +32,19 @@ impl Verdicts {
             result ≡ best_verdict rules (incoming_view delivery.now) (history rules records) }
     {
         self.best_of(delivery.number)
+    }
+
+    /// The verdict of the whole delivery, which is one of the capture: the best one of its copies, once all have theirs.
+    pub fn whole_verdict(&self, delivery: &Incoming) -> Option<Outcome>
+        ensures { (rules : List RuleText) (records : List Record) → AreVerdicts rules self.now (history rules records) →
+            incoming_at (incoming_view delivery.now).number (history rules records) ≡ Some (incoming_view delivery.now) →
+            result ≡ whole_verdict rules (incoming_view delivery.now) (history rules records) }
+    {
+        if self.has_all(delivery) {
+            Some(self.best(delivery))
+        } else {
+            None
+        }
     }
 
     /// The best of the verdicts that there are.

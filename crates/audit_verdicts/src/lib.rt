@@ -4,8 +4,6 @@
 //! - `had`: the verdicts that the copies of one delivery have;
 //! - `verdicts`: the table, by the numbers of links and deliveries;
 //! - `answers`: what it answers of a delivery.
-//!
-//! The auditor and the router do not ask it yet (docs/STATUS.md).
 #![tactic(auto)]
 
 mod answers;

@@ -9,8 +9,8 @@ use Rattle.audit_sent.proofs.SentRegrouped.{put-grouped}
 use Rattle.audit_sent.proofs.SentTaken.{begun-own}
 use Rattle.audit_sent.proofs.deliveries.SentDeliveries.begin.Goals as goal
 
-pub returns-in_ok-insert-clause-grouped : goal.returns-in_ok-insert-clause-grouped
-returns-in_ok-insert-clause-grouped c = λ grouped none.
+pub returns-clause-grouped : goal.returns-clause-grouped
+returns-clause-grouped c = λ grouped none.
     let x = sent_view c.in-Some.own in
     let begun : sent_begun (event_view c.args.event.now) ≡ Some x = search rules in
     let number : x.delivery.number ≡ c.args.event.now.number = begun-own (event_view c.args.event.now) x begun in

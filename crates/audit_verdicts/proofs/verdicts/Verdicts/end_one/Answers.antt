@@ -1,9 +1,8 @@
-use Rattle.std.proofs.Common.{sym, ap, subst, ◌≡◌, ◌∙◌, ◌&&◌, ◌||◌, not, arith, false, nat_eq}
-use Rattle.number_groups.specs.Groups.{numbers}
+use Rattle.std.proofs.Common.{◌∙◌}
 use Rattle.amqp_perf.specs.declared.descriptor.Outcome.TheVariants.{Modified}
-use Rattle.trace_verdicts.specs.BestVerdict.{is_same_outcome}
+use Rattle.trace_clauses.specs.BestVerdict.{is_same_outcome}
 use Rattle.audit_verdicts.specs.Verdicts.{awaits_in, had_in}
-use Rattle.audit_verdicts.proofs.TableSteps.{and_true, cleared, empty-among, step-modified}
+use Rattle.audit_verdicts.proofs.TableSteps.{step-modified}
 use Rattle.audit_verdicts.proofs.verdicts.Verdicts.end_one.Goals as goal
 
 pub loop-left-preserved : goal.loop-left-preserved
