@@ -20,6 +20,7 @@ use Rattle.audit_addresses.specs.declared.consumers.Consumers.{Consumers}
 use Rattle.audit_addresses.specs.declared.consumer_links.ConsumerLinks.{ConsumerLinks}
 use Rattle.audit_held.specs.declared.deliveries.Deliveries.{Deliveries}
 use Rattle.audit_addresses.specs.declared.copies.Copies.{Copies}
+use Rattle.audit_verdicts.specs.declared.verdicts.Verdicts.{Verdicts}
 use Rattle.audit_answers.specs.Tables.{StandFor}
 use Rattle.audit_answers.proofs.CarriedKnown.{carries-known}
 use Rattle.audit_answers.proofs.OutgoingKnown.{BeginsOrGoesOn}
@@ -29,10 +30,10 @@ abbrev unopened : List RuleText → List Event → Record → Event
 unopened rules past r = judge_unopened rules past r.connection (moment_of r.what) r.note
 
 module _ (rules : List RuleText) (past : List Event) (connections : Connections) (links : Links) (consumers : Consumers) (deliveries : Deliveries) (consumer_links : ConsumerLinks) (copies : Copies)
-    (sent : SentDeliveries) (are : StandFor rules connections links consumers deliveries consumer_links copies sent past) (r : Record) where
+    (sent : SentDeliveries) (verdicts : Verdicts) (are : StandFor rules connections links consumers deliveries consumer_links copies sent verdicts past) (r : Record) where
   begun-or-going : (j : Outgoing) → BeginsOrGoesOn past j → KnowsOrBegins sent past j
   begun-or-going j (inl begins) = inr begins
-  begun-or-going j (inr (l, live, going)) = inl (progress-knows rules past (judged-of rules past are.0) sent are.1.1.1.1.1.1.1.1.entries l j going)
+  begun-or-going j (inr (l, live, going)) = inl (progress-knows rules past (judged-of rules past are.0) sent are.1.1.1.1.1.1.1.1.0.entries l j going)
 
   pub next-carries : CarriesKnown (λ n. has_number deliveries n ≡ true) (λ j. KnowsOrBegins sent past j) (unopened rules past r)
   next-carries = carries-known rules past deliveries (KnowsOrBegins sent past) are.0 are.1.1.1.1.0 begun-or-going r.connection (moment_of r.what) r.note

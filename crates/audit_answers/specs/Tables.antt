@@ -18,18 +18,20 @@ use Rattle.audit_addresses.specs.Copies.{AreCopies}
 use Rattle.audit_addresses.specs.declared.copies.Copies.{Copies}
 use Rattle.audit_sent.specs.SentTables as sent_tables
 use Rattle.audit_sent.specs.declared.deliveries.SentDeliveries.{SentDeliveries}
+use Rattle.audit_verdicts.specs.Verdicts.{AreVerdicts}
+use Rattle.audit_verdicts.specs.declared.verdicts.Verdicts.{Verdicts}
 use Rattle.audit_answers.specs.declared.tables.Tables.{Tables}
 
 -- each has what the law says of these events, which are those of some records judged by these rules, each of which meets the
 -- clauses
-abbrev pub StandFor : List RuleText → Connections → Links → Consumers → Deliveries → ConsumerLinks → Copies → SentDeliveries → List Event → Type 0
-StandFor rules connections links consumers deliveries consumer_links copies sent past =
+abbrev pub StandFor : List RuleText → Connections → Links → Consumers → Deliveries → ConsumerLinks → Copies → SentDeliveries → Verdicts → List Event → Type 0
+StandFor rules connections links consumers deliveries consumer_links copies sent verdicts past =
     IsHistory rules past × (AreKept connections past × (AreLinked links past × (AreConsumers consumers past × (IsTable rules deliveries past
-    × (AreConsumerLinks consumer_links past × (AreCopies rules copies past × ((first_broken rules past ≡ None) × sent_tables.IsTable sent past)))))))
+    × (AreConsumerLinks consumer_links past × (AreCopies rules copies past × ((first_broken rules past ≡ None) × (sent_tables.IsTable sent past × AreVerdicts rules verdicts past))))))))
 
 abbrev pub AreTables : List RuleText → Tables → List Event → Type 0
 AreTables rules tables past =
-    StandFor rules tables.connections tables.links tables.consumers tables.deliveries tables.consumer_links tables.copies tables.sent past
+    StandFor rules tables.connections tables.links tables.consumers tables.deliveries tables.consumer_links tables.copies tables.sent tables.verdicts past
 
 -- how many entries they have; a delivery to a client, and what is known of an address, is no entry of its own
 abbrev pub entries_of : Tables → ℕ

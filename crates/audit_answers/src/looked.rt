@@ -8,13 +8,15 @@ use audit_addresses::{ConsumerLinks, Consumers, Copies};
 use audit_held::Deliveries;
 use audit_sent::SentDeliveries;
 use audit_tables::{Connections, Links};
+use audit_verdicts::Verdicts;
 use capture_form::Rule;
 use trace_events::Session;
 use trace_judge::{Counts, History, Inputs, Openings, Questions};
 use trace_values::{Asking, Incoming, Link};
 
 /// The tables, lent. `consumers` has the live links of consumers by address, and `consumer_links` the same links by number;
-/// `deliveries` are those from clients, `sent` those to clients.
+/// `deliveries` are those from clients, `sent` those to clients; `copies` has what of multicast is to be sent, and `verdicts`
+/// what came of it.
 #[derive(Clone, Copy)]
 pub struct Looked<'t> {
     pub connections: &'t Connections,
@@ -24,6 +26,7 @@ pub struct Looked<'t> {
     pub consumer_links: &'t ConsumerLinks,
     pub copies: &'t Copies,
     pub sent: &'t SentDeliveries,
+    pub verdicts: &'t Verdicts,
 }
 
 impl<'t> History for Looked<'t> {
@@ -36,7 +39,7 @@ impl<'t> History for Looked<'t> {
 
     ghost stands_for = { λ looked rules history.
         StandFor rules looked.connections.now looked.links.now looked.consumers.now looked.deliveries.now
-        looked.consumer_links.now looked.copies.now looked.sent.now history };
+        looked.consumer_links.now looked.copies.now looked.sent.now looked.verdicts.now history };
 
     ghost knows_number = { λ looked number history. has_number looked.deliveries.now number ≡ true };
 

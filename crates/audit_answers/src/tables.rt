@@ -13,6 +13,7 @@ use audit_addresses::{ConsumerLinks, Consumers, Copies, receivers_of};
 use audit_held::Deliveries;
 use audit_sent::SentDeliveries;
 use audit_tables::{Connections, Links};
+use audit_verdicts::Verdicts;
 use capture_form::Rule;
 use std::alloc::{AllocError, Global};
 use trace_values::Event;
@@ -27,6 +28,7 @@ pub struct Tables {
     consumer_links: ConsumerLinks,
     copies: Copies,
     sent: SentDeliveries,
+    verdicts: Verdicts,
 }
 
 // Written out, and not derived, so that where one is let go the prover need not go through all that it owns.
@@ -41,6 +43,7 @@ impl Drop for Tables {
             consumer_links: _,
             copies: _,
             sent: _,
+            verdicts: _,
         } = self;
     }
 }
@@ -59,6 +62,7 @@ impl Tables {
             consumer_links: ConsumerLinks::new(alloc),
             copies: Copies::new(alloc),
             sent: SentDeliveries::new(alloc),
+            verdicts: Verdicts::new(alloc),
         }
     }
 
@@ -66,7 +70,7 @@ impl Tables {
     pub fn looked(&self) -> Looked<'_>
         ensures { (rules : List RuleText) (history : Events) → AreTables rules self.now history →
             StandFor rules result.connections.now result.links.now result.consumers.now result.deliveries.now
-            result.consumer_links.now result.copies.now result.sent.now history }
+            result.consumer_links.now result.copies.now result.sent.now result.verdicts.now history }
     {
         Looked {
             connections: &self.connections,
@@ -76,6 +80,7 @@ impl Tables {
             consumer_links: &self.consumer_links,
             copies: &self.copies,
             sent: &self.sent,
+            verdicts: &self.verdicts,
         }
     }
 
@@ -109,11 +114,13 @@ impl Tables {
             &self.consumer_links,
             &self.links,
         )?;
+        let due = self.copies.due_to(self.alloc, rules, event, &receivers)?;
         self.consumers.take(event, &ended)?;
         self.deliveries.take(rules, event, &ended, &self.consumers)?;
         self.consumer_links.take(event, &ended)?;
         self.copies.take(rules, event, &ended, &receivers)?;
-        self.sent.take(event, &ended)?;
+        let given = self.sent.take(event, &ended)?;
+        self.verdicts.take(event, &due, &given, &ended)?;
         drop(ended);
         self.links.take(event)?;
         self.connections.take(event)?;

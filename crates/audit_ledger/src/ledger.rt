@@ -67,7 +67,7 @@ impl Ledger {
     pub fn looked(&self) -> Looked<'_>
         ensures { (rules : List RuleText) (records : List Record) → Stands rules self.now records →
             StandFor rules result.connections.now result.links.now result.consumers.now result.deliveries.now
-            result.consumer_links.now result.copies.now result.sent.now (history rules records) }
+            result.consumer_links.now result.copies.now result.sent.now result.verdicts.now (history rules records) }
     {
         self.tables.looked()
     }

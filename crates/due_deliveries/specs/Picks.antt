@@ -19,7 +19,7 @@ use Rattle.due_deliveries.specs.declared.picks.Picks.{Picks}
 abbrev pub StandsFor : List RuleText → Looked → List Event → Type 0
 StandsFor rules looked past =
     StandFor rules looked.connections.now looked.links.now looked.consumers.now looked.deliveries.now
-    looked.consumer_links.now looked.copies.now looked.sent.now past
+    looked.consumer_links.now looked.copies.now looked.sent.now looked.verdicts.now past
 
 -- the table has counted what happened to the links of consumers, and each delivery that may still be decided is kept
 pub record ArePicks (picks : Picks) (past : List Event) : Type 0 where

@@ -14,7 +14,7 @@ use Rattle.route_work.specs.declared.books.Books.{Books}
 abbrev pub TellsOf : List RuleText → Looked → List Event → Type 0
 TellsOf rules looked past =
     StandFor rules looked.connections.now looked.links.now looked.consumers.now looked.deliveries.now
-    looked.consumer_links.now looked.copies.now looked.sent.now past
+    looked.consumer_links.now looked.copies.now looked.sent.now looked.verdicts.now past
 
 -- a record breaks no clause behind others
 abbrev pub IsUnbroken : List RuleText → List Record → Record → Type 0

@@ -2,6 +2,7 @@
 
 use crate::closings::HeldClosings;
 use crate::looked::Looked;
+use amqp_perf::Outcome;
 use capture_form::Rule;
 use trace_events::Session;
 use trace_judge::Outcomes;
@@ -49,6 +50,10 @@ impl<'t> Outcomes<'t> for Looked<'t> {
 
     fn is_sent(&self, delivery: &Outgoing) -> bool {
         self.sent.is_sent(delivery)
+    }
+
+    fn whole_verdict(&self, _rules: &[Rule], delivery: &Incoming) -> Option<Outcome> {
+        self.verdicts.whole_verdict(delivery)
     }
 
     fn frame_limit(&self, connection: u32) -> u32 {

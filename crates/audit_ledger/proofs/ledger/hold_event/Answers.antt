@@ -14,8 +14,8 @@ returns c =
     let past = history rules records in
     let lent = c.looked-looked.ensures rules past are in
     c.hold_next.ensures.answer past lent numbered
-    (next-carries rules past t.connections.now t.links.now t.consumers.now t.deliveries.now t.consumer_links.now t.copies.now t.sent.now lent r)
-    (next-opens rules past t.connections.now t.links.now t.consumers.now t.deliveries.now t.consumer_links.now t.copies.now t.sent.now lent r) in
+    (next-carries rules past t.connections.now t.links.now t.consumers.now t.deliveries.now t.consumer_links.now t.copies.now t.sent.now t.verdicts.now lent r)
+    (next-opens rules past t.connections.now t.links.now t.consumers.now t.deliveries.now t.consumer_links.now t.copies.now t.sent.now t.verdicts.now lent r) in
     record {
       lawful = when-lawful rules c.args.tables.now c.args.number r held c.hold_next.result answers;
       met = when-met rules c.args.tables.now c.args.number r held c.hold_next.result answers;

@@ -61,7 +61,7 @@ returns-clause-due c = λ rules past are.
     let short : length (incoming.payload d past) < 2 ^ 64 = omega (arith, ap length payload, c.behind.ensures.counted) in
     let window : nat_lt 0 (session_window m.session past) ≡ true =
     lt-ltb 0 (session_window m.session past) (omega (arith, c.session_window.ensures rules past are found.0.0, c.if-session_window-eq0.false)) in
-    let count = c.sent_count.ensures ∙ sent-so-far rules past judged are.1.1.1.1.1.1.1.0 m j going c.args.looked.now.sent.now are.1.1.1.1.1.1.1.1.entries d carried short in
+    let count = c.sent_count.ensures ∙ sent-so-far rules past judged are.1.1.1.1.1.1.1.0 m j going c.args.looked.now.sent.now are.1.1.1.1.1.1.1.1.0.entries d carried short in
     record {
       delivery = j;
       carried = d;

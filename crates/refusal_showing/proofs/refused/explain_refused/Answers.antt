@@ -32,7 +32,7 @@ returns-clause-clause c = λ records stands.
     let names = subst (λ (e : Event). NamesLive e past) (sym judged) (placed-names past r.connection (moment_of r.what) r.note) in
     let number : (event_view c.judge_unopened-event.result).number ≡ length past = ap (λ (e : Event). e.number) judged in
     let carries = subst (λ (e : Event). CarriesKnown (λ n. has_number t.deliveries.now n ≡ true) (KnowsOrBegins t.sent.now past) e) (sym judged)
-    (next-carries rules past t.connections.now t.links.now t.consumers.now t.deliveries.now t.consumer_links.now t.copies.now t.sent.now lent r) in
+    (next-carries rules past t.connections.now t.links.now t.consumers.now t.deliveries.now t.consumer_links.now t.copies.now t.sent.now t.verdicts.now lent r) in
     c.explain.ensures.clause past lent live names number carries
     ∙ (ap (λ (e : Event). broken_clause rules e past) judged ∙ sym (broken-unopened rules past r))
 
@@ -48,11 +48,11 @@ returns-clause-facts c = λ records stands.
     let names = subst (λ (e : Event). NamesLive e past) (sym judged) (placed-names past r.connection (moment_of r.what) r.note) in
     let number : (event_view c.judge_unopened-event.result).number ≡ length past = ap (λ (e : Event). e.number) judged in
     let carries = subst (λ (e : Event). CarriesKnown (λ n. has_number t.deliveries.now n ≡ true) (KnowsOrBegins t.sent.now past) e) (sym judged)
-    (next-carries rules past t.connections.now t.links.now t.consumers.now t.deliveries.now t.consumer_links.now t.copies.now t.sent.now lent r) in
+    (next-carries rules past t.connections.now t.links.now t.consumers.now t.deliveries.now t.consumer_links.now t.copies.now t.sent.now t.verdicts.now lent r) in
     let knows : ℕ → Type 0 = λ n. has_number t.deliveries.now n ≡ true in
     let less : ℕ → Type 0 = λ n. is_some (held_at rules n past) ≡ true in
     let known : (n : ℕ) → less n → knows n = λ n l. ap is_some (lent.1.1.1.1.0.0 n) ∙ l in
-    let tells : TellOf rules t.deliveries.now t.sent.now past = record { judged = lent.0; held = lent.1.1.1.1.0.0; sent = lent.1.1.1.1.1.1.1.1.entries } in
+    let tells : TellOf rules t.deliveries.now t.sent.now past = record { judged = lent.0; held = lent.1.1.1.1.0.0; sent = lent.1.1.1.1.1.1.1.1.0.entries } in
     let facts = c.explain.ensures.facts past lent tells (λ d k. k) (λ j k. k) live names number carries in
     let own : Event = judge_unopened rules past r.connection (moment_of r.what) r.note in
     reason-less rules knows less known own past c.explain.result

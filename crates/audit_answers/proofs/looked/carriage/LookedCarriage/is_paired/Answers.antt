@@ -9,4 +9,4 @@ pub returns : goal.returns
 returns c = λ rules past stands knows.
     let h = stands.0 in
     let Is : List Event → Type 0 = λ p. c.is_paired.result ≡ law.is_paired (incoming_view c.args.delivery.now) p in
-    subst Is (sym h.1) (c.is_paired.ensures rules h.0 (subst (IsTable c.args.self.now.sent.now) h.1 stands.1.1.1.1.1.1.1.1))
+    subst Is (sym h.1) (c.is_paired.ensures rules h.0 (subst (IsTable c.args.self.now.sent.now) h.1 stands.1.1.1.1.1.1.1.1.0))

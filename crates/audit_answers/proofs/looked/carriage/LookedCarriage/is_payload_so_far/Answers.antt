@@ -23,6 +23,6 @@ returns c = λ rules past stands knows known carries.
     let CarriedIn : List Event → Type 0 = λ p. IsCarriedBy d p j in
     let Payload : List Event → Type 0 = λ p. c.payload-payload.result.now ≡ received.payload d p in
     subst Is (sym h.1)
-    (c.is_payload_so_far.ensures.known rules h.0 j d (subst (AreSent table) h.1 stands.1.1.1.1.1.1.1.1.entries) (subst Lawful h.1 stands.1.1.1.1.1.1.1.0) refl
-    (subst KnownIn h.1 (knows-begun table past stands.1.1.1.1.1.1.1.1.entries j known)) (subst CarriedIn h.1 carries)
+    (c.is_payload_so_far.ensures.known rules h.0 j d (subst (AreSent table) h.1 stands.1.1.1.1.1.1.1.1.0.entries) (subst Lawful h.1 stands.1.1.1.1.1.1.1.0) refl
+    (subst KnownIn h.1 (knows-begun table past stands.1.1.1.1.1.1.1.1.0.entries j known)) (subst CarriedIn h.1 carries)
     (subst Payload h.1 (c.payload-payload.ensures rules past stands.1.1.1.1.0.0 knows)))

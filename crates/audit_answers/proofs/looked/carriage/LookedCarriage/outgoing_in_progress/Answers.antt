@@ -9,4 +9,4 @@ pub returns : goal.returns
 returns c = λ rules past stands live.
     let h = stands.0 in
     let Is : List Event → Type 0 = λ p. option_map outgoing_view c.outgoing_in_progress.result ≡ law.in_progress (link_view c.args.link.now) p in
-    subst Is (sym h.1) (c.outgoing_in_progress.ensures rules h.0 (subst (IsTable c.args.self.now.sent.now) h.1 stands.1.1.1.1.1.1.1.1))
+    subst Is (sym h.1) (c.outgoing_in_progress.ensures rules h.0 (subst (IsTable c.args.self.now.sent.now) h.1 stands.1.1.1.1.1.1.1.1.0))

@@ -14,4 +14,4 @@ returns c = λ rules past stands knows.
     let table = c.args.self.now.sent.now in
     let Is : List Event → Type 0 = λ p. option_map decision_view c.decision.result ≡ option_map terminal_state (law.decision j p) in
     let KnowsIn : List Event → Type 0 = λ p. KnowsOrBegins table p j in
-    subst Is (sym h.1) (c.decision.ensures rules h.0 (subst (AreSent table) h.1 stands.1.1.1.1.1.1.1.1.entries) (subst KnowsIn h.1 knows))
+    subst Is (sym h.1) (c.decision.ensures rules h.0 (subst (AreSent table) h.1 stands.1.1.1.1.1.1.1.1.0.entries) (subst KnowsIn h.1 knows))

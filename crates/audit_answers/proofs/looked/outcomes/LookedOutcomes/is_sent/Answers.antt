@@ -13,4 +13,4 @@ returns c = λ rules past stands knows.
     let table = c.args.self.now.sent.now in
     let Is : List Event → Type 0 = λ p. c.is_sent.result ≡ law.is_sent j p in
     let KnowsIn : List Event → Type 0 = λ p. KnowsOrBegins table p j in
-    subst Is (sym h.1) (c.is_sent.ensures rules h.0 (subst (AreSent table) h.1 stands.1.1.1.1.1.1.1.1.entries) (subst KnowsIn h.1 knows))
+    subst Is (sym h.1) (c.is_sent.ensures rules h.0 (subst (AreSent table) h.1 stands.1.1.1.1.1.1.1.1.0.entries) (subst KnowsIn h.1 knows))

@@ -17,5 +17,5 @@ returns c = λ rules past stands live.
     let Is : List Event → Type 0 = λ p. option_map outgoing_view c.to_settle.result ≡ settling.to_settle c.args.session c.args.id p in
     let does_close : ℕ → _ = λ n. says_closed (held_in deliveries n) in
     subst Is (sym h.1)
-    (c.to_settle.ensures rules h.0 (subst (IsTable c.args.self.now.sent.now) h.1 stands.1.1.1.1.1.1.1.1)
+    (c.to_settle.ensures rules h.0 (subst (IsTable c.args.self.now.sent.now) h.1 stands.1.1.1.1.1.1.1.1.0)
     (subst (AreClosings does_close) h.1 (closings rules past (judged-of rules past h) stands.1.1.1.1.1.1.1.0 deliveries stands.1.1.1.1.0.0)))
