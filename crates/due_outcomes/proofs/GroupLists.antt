@@ -14,7 +14,7 @@ or_false : (a : Bool) → a ≡ a || false
 or_false true = refl
 or_false false = refl
 
-swapped : (m n : ℕ) → nat_eq m n ≡ (n == m)
+pub swapped : (m n : ℕ) → nat_eq m n ≡ (n == m)
 swapped m n = by (nat_eq m n) refl (n == m) refl
   where
     by : (a : Bool) → nat_eq m n ≡ a → (b : Bool) → (n == m) ≡ b → nat_eq m n ≡ (n == m)

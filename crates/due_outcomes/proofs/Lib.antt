@@ -6,6 +6,10 @@ mod UntoldSteps
 mod SentEntries
 mod SettlingsDue
 mod LostConsumers
+mod LastVerdicts
+mod ProducerLinks
+mod Closings
+mod ParkedSteps
 mod UntoldFollowed
 mod OutcomesDue
 mod OutcomeTables

@@ -17,7 +17,7 @@ or-none false b is = (refl, is)
 or-none true b is = absurd cc
 
 -- one that passes the first test and not the second
-one-of : {A : Type 0} (P : A → Type 0) (p q : A → Bool) (xs : List A) → AllByRecursion P xs → list_any p xs ≡ true → list_any q xs ≡ false → (x : A) × P x × (p x ≡ true) × (q x ≡ false)
+pub one-of : {A : Type 0} (P : A → Type 0) (p q : A → Bool) (xs : List A) → AllByRecursion P xs → list_any p xs ≡ true → list_any q xs ≡ false → (x : A) × P x × (p x ≡ true) × (q x ≡ false)
 one-of P p q [] all is off = absurd cc
 one-of {A = A} P p q (x ∷ xs) all is off = by (p x) refl is (λ later. one-of P p q xs all.1 later (or-none (q x) (list_any q xs) off).1)
   where
@@ -28,7 +28,7 @@ one-of {A = A} P p q (x ∷ xs) all is off = by (p x) refl is (λ later. one-of 
     by true here is among = (x, all.0, here, none.0)
     by false here is among = among is
 
-cons-none : {A : Type 0} (q : A → Bool) (o : Option A) (xs : List A) → list_any q (cons_option o xs) ≡ false → list_any q xs ≡ false
+pub cons-none : {A : Type 0} (q : A → Bool) (o : Option A) (xs : List A) → list_any q (cons_option o xs) ≡ false → list_any q xs ≡ false
 cons-none q None xs off = off
 cons-none q (Some x) xs off = (or-none (q x) (list_any q xs) off).1
 

@@ -1,5 +1,5 @@
 -- What the tables say of deliveries to settle is what the law says, and what is forgotten is none of them.
-use Rattle.std.proofs.Common.{◌≡◌, refl, sym, ap, subst, ◌∙◌, ℕ, Bool, true, false, not, ◌&&◌, List, [], ◌∷◌, Option, Some, None, is_some, find, option_map, if◌then◌else◌, ◌==◌, eqb-true}
+use Rattle.std.proofs.Common.{◌≡◌, refl, sym, ap, subst, ◌∙◌, ◌⊎◌, inl, inr, ℕ, Bool, true, false, not, ◌&&◌, ◌||◌, List, [], ◌∷◌, Option, Some, None, is_some, find, option_map, if◌then◌else◌, ◌==◌, eqb-true}
 use Rattle.std.specs.Prelude.{Contains}
 use Rattle.capture_form.specs.Rules.{RuleText}
 use Rattle.trace_events.specs.Words.{is_some_and, where_passes}
@@ -16,19 +16,21 @@ use Rattle.trace_duties.specs.Quiet.{none_is_unsettled}
 use Rattle.trace_duties.proofs.QuietLists.{all-each}
 use Rattle.audit_held.specs.EntryAnswers.{says_closed}
 use Rattle.audit_held.specs.HeldTables.{held_in}
-use Rattle.audit_held.proofs.CarriedHeld.{carried-closed, carried-of}
+use Rattle.audit_held.proofs.CarriedHeld.{IsCarried, carried-closed, carried-of}
 use Rattle.audit_held.proofs.GroupAnswers.{judged-of}
 use Rattle.audit_sent.specs.Sent.{Sent, sent, outgoing_at, to_settle}
-use Rattle.audit_sent.specs.SentAnswers.{closes}
+use Rattle.audit_sent.specs.SentAnswers.{carried, closes, number_of}
 use Rattle.audit_sent.specs.SentTables.{sent_in}
 use Rattle.audit_answers.specs.declared.looked.Looked.{Looked}
 use Rattle.number_groups.specs.Ascending.{has}
 use Rattle.due_outcomes.specs.LookedTables.{AreLooked}
+use Rattle.due_outcomes.specs.Parked.{is_parked}
 use Rattle.due_outcomes.specs.SentNumbers.{IsUnder}
 use Rattle.due_outcomes.specs.Settlings.{IsDueSettling, due_in, says_open, waits_in}
-use Rattle.due_outcomes.specs.Unsettled.{HasUnsettled, is_decided, is_open}
+use Rattle.due_outcomes.specs.Unsettled.{HasUnsettled, IsParked, is_decided, is_open}
 use Rattle.due_outcomes.specs.declared.unsettled.Unsettled.{Unsettled}
 use Rattle.due_outcomes.proofs.SentEntries.{contained-at, contained-entry}
+use Rattle.due_outcomes.proofs.UnderKeys.{or-first, or-last}
 
 same_some : {A : Type 0} (a b : A) → Some a ≡ Some b → a ≡ b
 same_some a b is = cc
@@ -56,15 +58,28 @@ settle-bits true false o closed = refl
 settle-bits false true o closed = refl
 settle-bits false false o closed = refl
 
+or-cases : (a b : Bool) → a || b ≡ true → (a ≡ true) ⊎ (b ≡ true)
+or-cases true b is = inl refl
+or-cases false b is = inr is
+
 waits-bits : (a b : Bool) → a ≡ true → b ≡ true → a && b ≡ true
 waits-bits a b is so = ap (λ x. x && b) is ∙ so
 
--- what is to be settled is open, and decided
-settled-parts : (past : List Event) (j : Outgoing) → is_to_settle past j ≡ true → (is_open past j ≡ true) × (is_decided past j ≡ true)
+-- what is to be settled is open and decided, and carries what is closed
+settles-as : (past : List Event) (j : Outgoing) → is_open past j && is_decided past j && carries_closed past j ≡ is_to_settle past j
+settles-as past j = settle-bits j.link.is_pre_settled (stands_unsettled past j) (first_deciding j past) (carries_closed past j) ∙ sym (is_to_settle-parts past j)
+
+pub settled-parts : (past : List Event) (j : Outgoing) → is_to_settle past j ≡ true → (is_open past j ≡ true) × (is_decided past j ≡ true) × (carries_closed past j ≡ true)
 settled-parts past j is =
-    let all = and-both (is_open past j && is_decided past j) (carries_closed past j)
-    (settle-bits j.link.is_pre_settled (stands_unsettled past j) (first_deciding j past) (carries_closed past j) ∙ (sym (is_to_settle-parts past j) ∙ is)) in
-    and-both (is_open past j) (is_decided past j) all.0
+    let all = and-both (is_open past j && is_decided past j) (carries_closed past j) (settles-as past j ∙ is) in
+    let two = and-both (is_open past j) (is_decided past j) all.0 in
+    (two.0, two.1, all.1)
+
+pub settled-of : (past : List Event) (j : Outgoing) → is_open past j ≡ true → is_decided past j ≡ true → carries_closed past j ≡ true → is_to_settle past j ≡ true
+settled-of past j opens decides closed = sym (settles-as past j) ∙ all (is_open past j) (is_decided past j) (carries_closed past j) opens decides closed
+  where
+    all : (a b c : Bool) → a ≡ true → b ≡ true → c ≡ true → a && b && c ≡ true
+    all a b c is so too = rw (is, so, too) refl
 
 module _ (rules : List RuleText) (past : List Event) (looked : Looked) (stands : AreLooked rules looked past) where
   are : AreJudged rules past
@@ -74,7 +89,7 @@ module _ (rules : List RuleText) (past : List Event) (looked : Looked) (stands :
   lawful = stands.1.1.1.1.1.1.1.0
 
   entry : (j : Outgoing) → Contains (outgoing_deliveries past) j → sent_in looked.sent.now j.number ≡ Some (sent past j)
-  entry j there = contained-entry rules past are looked.sent.now stands.1.1.1.1.1.1.1.1.entries j there
+  entry j there = contained-entry rules past are looked.sent.now stands.1.1.1.1.1.1.1.1.0.entries j there
 
   closings : (j : Outgoing) → outgoing_at j.number past ≡ Some j → closes (λ n. says_closed (held_in looked.deliveries.now n)) j.note ≡ carries_closed past j
   closings j at =
@@ -98,7 +113,7 @@ module _ (rules : List RuleText) (past : List Event) (looked : Looked) (stands :
 
   -- what the tables give is to be settled
   pub due-is : (n : ℕ) (j : Outgoing) → due_in looked.sent.now looked.deliveries.now n ≡ Some j → IsDueSettling past j
-  due-is n j due = by (outgoing_at n past) refl (sym (ap given (stands.1.1.1.1.1.1.1.1.entries n)) ∙ due)
+  due-is n j due = by (outgoing_at n past) refl (sym (ap given (stands.1.1.1.1.1.1.1.1.0.entries n)) ∙ due)
     where
       pass : (k : Outgoing) → outgoing_at n past ≡ Some k → (b : Bool) → is_to_settle past k ≡ b → option_map (λ (x : Sent). x.delivery) (if b then Some (sent past k) else None) ≡ Some j → IsDueSettling past j
       pass k at true is gives =
@@ -122,24 +137,31 @@ module _ (rules : List RuleText) (past : List Event) (looked : Looked) (stands :
       ap (λ o. is_some (given o)) (entry j there)
       ∙ ap (λ b. is_some (option_map (λ (x : Sent). x.delivery) (if b then Some (sent past j) else None))) (entry-settles j (contained-at rules past are j there) ∙ is)
 
-  -- ---- what is forgotten
+  -- ---- with more that is parked
 
-  module _ (earlier later : Unsettled) (number : ℕ) (gone : waits_in (sent_in looked.sent.now number) ≡ false) (was : HasUnsettled earlier past)
+  pub kept-parked : (earlier later : Unsettled) → HasUnsettled earlier past → later.candidates ≡ earlier.candidates → later.numbers ≡ earlier.numbers
+      → ((n m : ℕ) → is_parked earlier.parked n m ≡ true → is_parked later.parked n m ≡ true) → HasUnsettled later past
+  kept-parked earlier later was candidates numbers kept = record {
+    due = λ j there is. ap (λ c. has c j.number) candidates ∙ was.due j there is;
+    decided = λ j there opens decides d at unclosed. elim (or-cases (has earlier.candidates j.number) (is_parked earlier.parked d.number j.number) (was.decided j there opens decides d at unclosed)) [
+      | inl among ↦ or-first (has later.candidates j.number) (is_parked later.parked d.number j.number) (ap (λ c. has c j.number) candidates ∙ among)
+      | inr under ↦ or-last (has later.candidates j.number) (is_parked later.parked d.number j.number) (kept d.number j.number under)
+    ];
+    found = λ j there opens. subst (λ x. IsUnder x j j.number) (sym numbers) (was.found j there opens);
+  }
+
+  -- ---- what is no candidate any more
+
+  module _ (earlier later : Unsettled) (number : ℕ) (was : HasUnsettled earlier past)
       (left : (n : ℕ) → has later.candidates n ≡ (has earlier.candidates n && not (number == n)))
       (settled : (j : Outgoing) (n : ℕ) → (number == n) ≡ false → IsUnder earlier.numbers j n → IsUnder later.numbers j n)
       (same : says_open (sent_in looked.sent.now number) ≡ true → later.numbers ≡ earlier.numbers) where
-    -- it is no decided one that is open
-    another : (j : Outgoing) → Contains (outgoing_deliveries past) j → is_open past j ≡ true → is_decided past j ≡ true → (number == j.number) ≡ false
-    another j there opens decides = by (number == j.number) refl
-      where
-        by : (b : Bool) → (number == j.number) ≡ b → (number == j.number) ≡ false
-        by false is = is
-        by true is =
-            let waits : waits_in (sent_in looked.sent.now number) ≡ true =
-            ap (λ n. waits_in (sent_in looked.sent.now n)) (eqb-true number j.number is)
-            ∙ (ap waits_in (entry j there) ∙ waits-bits (is_open past j) (is_some (option_map terminal_state (decision j past))) opens (some-map terminal_state (decision j past) ∙ decides)) in
-            let never : true ≡ false = sym waits ∙ gone in
-            absurd cc
+    -- all others are candidates still
+    still : (n : ℕ) → (number == n) ≡ false → has earlier.candidates n ≡ true → has later.candidates n ≡ true
+    still n another among = left n ∙ (ap (λ b. b && not (number == n)) among ∙ ap not another)
+
+    own-entry : (j : Outgoing) → Contains (outgoing_deliveries past) j → (number == j.number) ≡ true → sent_in looked.sent.now number ≡ Some (sent past j)
+    own-entry j there is = ap (sent_in looked.sent.now) (eqb-true number j.number is) ∙ entry j there
 
     stays : (j : Outgoing) → Contains (outgoing_deliveries past) j → is_open past j ≡ true → IsUnder later.numbers j j.number
     stays j there opens = by (says_open (sent_in looked.sent.now number)) refl
@@ -147,8 +169,7 @@ module _ (rules : List RuleText) (past : List Event) (looked : Looked) (stands :
         apart : says_open (sent_in looked.sent.now number) ≡ false → (b : Bool) → (number == j.number) ≡ b → (number == j.number) ≡ false
         apart shut false is = is
         apart shut true is =
-            let says : says_open (sent_in looked.sent.now number) ≡ true =
-            ap (λ n. says_open (sent_in looked.sent.now n)) (eqb-true number j.number is) ∙ (ap says_open (entry j there) ∙ opens) in
+            let says : says_open (sent_in looked.sent.now number) ≡ true = ap says_open (own-entry j there is) ∙ opens in
             let never : true ≡ false = sym says ∙ shut in
             absurd cc
 
@@ -156,12 +177,71 @@ module _ (rules : List RuleText) (past : List Event) (looked : Looked) (stands :
         by true is = subst (λ numbers. IsUnder numbers j j.number) (sym (same is)) (was.found j there opens)
         by false is = settled j j.number (apart is (number == j.number) refl) (was.found j there opens)
 
-    pub forgotten : HasUnsettled later past
-    forgotten = record {
-      decided = λ j there opens decides. left j.number
-          ∙ (ap (λ b. b && not (number == j.number)) (was.decided j there opens decides) ∙ ap not (another j there opens decides));
-      found = stays;
-    }
+    -- ---- as it is no decided one that is open
+
+    module _ (gone : waits_in (sent_in looked.sent.now number) ≡ false) (kept : (n m : ℕ) → is_parked earlier.parked n m ≡ true → is_parked later.parked n m ≡ true) where
+      another : (j : Outgoing) → Contains (outgoing_deliveries past) j → is_open past j ≡ true → is_decided past j ≡ true → (number == j.number) ≡ false
+      another j there opens decides = by (number == j.number) refl
+        where
+          by : (b : Bool) → (number == j.number) ≡ b → (number == j.number) ≡ false
+          by false is = is
+          by true is =
+              let waits : waits_in (sent_in looked.sent.now number) ≡ true =
+              ap waits_in (own-entry j there is) ∙ waits-bits (is_open past j) (is_some (option_map terminal_state (decision j past))) opens (some-map terminal_state (decision j past) ∙ decides) in
+              let never : true ≡ false = sym waits ∙ gone in
+              absurd cc
+
+      pub forgotten : HasUnsettled later past
+      forgotten = record {
+        due = λ j there is. let parts = settled-parts past j is in still j.number (another j there parts.0 parts.1) (was.due j there is);
+        decided = λ j there opens decides d at unclosed. elim (or-cases (has earlier.candidates j.number) (is_parked earlier.parked d.number j.number) (was.decided j there opens decides d at unclosed)) [
+          | inl among ↦ or-first (has later.candidates j.number) (is_parked later.parked d.number j.number) (still j.number (another j there opens decides) among)
+          | inr under ↦ or-last (has later.candidates j.number) (is_parked later.parked d.number j.number) (kept d.number j.number under)
+        ];
+        found = stays;
+      }
+
+    -- ---- as it is parked
+
+    module _ (p : IsParked later.parked looked.deliveries.now number (sent_in looked.sent.now number)) (kept : (n m : ℕ) → is_parked earlier.parked n m ≡ true → is_parked later.parked n m ≡ true) where
+      -- of what it carries more is to be told
+      module _ (j : Outgoing) (there : Contains (outgoing_deliveries past) j) (is : (number == j.number) ≡ true) where
+        c : IsCarried rules past j
+        c = carried-of rules past are lawful (λ (k : Outgoing). k.number == j.number) j (contained-at rules past are j there)
+
+        under-it : p.under ≡ c.delivery.number
+        under-it = same_some p.under c.delivery.number (sym p.carries ∙ (ap carried (own-entry j there is) ∙ ap number_of c.named))
+
+        more : carries_closed past j ≡ false
+        more =
+            sym (closings j (contained-at rules past are j there))
+            ∙ (ap (closes (λ n. says_closed (held_in looked.deliveries.now n))) c.named ∙ (ap (λ n. says_closed (held_in looked.deliveries.now n)) (sym under-it) ∙ p.opens))
+
+        parked-own : (d : Incoming) → noted j.note past ≡ Some d → is_parked later.parked d.number j.number ≡ true
+        parked-own d at =
+            let same_delivery : c.delivery ≡ d = same_some c.delivery d (sym (ap (λ note. noted note past) c.named ∙ c.at) ∙ at) in
+            subst (λ n. is_parked later.parked n j.number ≡ true) (under-it ∙ ap (λ (x : Incoming). x.number) same_delivery)
+            (subst (λ n. is_parked later.parked p.under n ≡ true) (eqb-true number j.number is) p.at)
+
+      due-by : (j : Outgoing) → Contains (outgoing_deliveries past) j → is_to_settle past j ≡ true → (b : Bool) → (number == j.number) ≡ b → has later.candidates j.number ≡ true
+      due-by j there is false other = still j.number other (was.due j there is)
+      due-by j there is true own = let never : true ≡ false = sym (settled-parts past j is).2 ∙ more j there own in absurd cc
+
+      decided-by : (j : Outgoing) → Contains (outgoing_deliveries past) j → is_open past j ≡ true → is_decided past j ≡ true → (d : Incoming) → noted j.note past ≡ Some d → is_closed past d ≡ false
+          → (b : Bool) → (number == j.number) ≡ b → has later.candidates j.number || is_parked later.parked d.number j.number ≡ true
+      decided-by j there opens decides d at unclosed true own = or-last (has later.candidates j.number) (is_parked later.parked d.number j.number) (parked-own j there own d at)
+      decided-by j there opens decides d at unclosed false other =
+          elim (or-cases (has earlier.candidates j.number) (is_parked earlier.parked d.number j.number) (was.decided j there opens decides d at unclosed)) [
+            | inl among ↦ or-first (has later.candidates j.number) (is_parked later.parked d.number j.number) (still j.number other among)
+            | inr under ↦ or-last (has later.candidates j.number) (is_parked later.parked d.number j.number) (kept d.number j.number under)
+          ]
+
+      pub parked-aside : HasUnsettled later past
+      parked-aside = record {
+        due = λ j there is. due-by j there is (number == j.number) refl;
+        decided = λ j there opens decides d at unclosed. decided-by j there opens decides d at unclosed (number == j.number) refl;
+        found = stays;
+      }
 
   -- ---- where none is given, none is left
 
@@ -172,6 +252,5 @@ module _ (rules : List RuleText) (past : List Event) (looked : Looked) (stands :
       by : (j : Outgoing) → Contains (outgoing_deliveries past) j → (b : Bool) → is_to_settle past j ≡ b → not b ≡ true
       by j there false is = refl
       by j there true is =
-          let parts = settled-parts past j is in
-          let never : true ≡ false = sym (is-due j there is) ∙ none j.number (kept.decided j there parts.0 parts.1) in
+          let never : true ≡ false = sym (is-due j there is) ∙ none j.number (kept.due j there is) in
           absurd cc

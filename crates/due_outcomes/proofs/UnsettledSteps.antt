@@ -1,28 +1,35 @@
--- The deliveries that are decided and still unsettled, behind one more event: each was so before, or is one of which its
--- consumer speaks with the event.
+-- The deliveries that are to be settled, and those that are decided and still unsettled, behind one more event: each was so
+-- before, or is one of which its consumer speaks with the event, or that carries what the event closes.
 use Rattle.std.proofs.Common.{◌≡◌, refl, sym, ap, subst, ◌∙◌, ◌⊎◌, inl, inr, ℕ, Bool, true, false, ◌&&◌, ◌||◌, not, List, ◌∷◌, Option, Some, None, IfSome, is_some, ◌==◌, eqb-true}
 use Rattle.std.specs.Prelude.{Contains}
 use Rattle.std.specs.List.{cons_option}
 use Rattle.amqp_perf.specs.Meaning.{DispositionFields}
 use Rattle.capture_form.specs.Rules.{RuleText}
 use Rattle.trace_events.specs.Words.{is_some_and}
-use Rattle.trace_events.specs.Event.{Event, Outgoing}
+use Rattle.trace_events.specs.Event.{Event, Incoming, Link, Outgoing}
 use Rattle.trace_events.specs.Link.{is_live}
 use Rattle.trace_events.specs.Disposition.{is_decisive}
-use Rattle.trace_events.specs.Outgoing.{outgoing_begun, outgoing_deliveries, answering}
-use Rattle.trace_events.specs.Work.{stands_unsettled, keeps_unsettled, decides_now}
+use Rattle.trace_events.specs.Outgoing.{outgoing_begun, outgoing_deliveries, answering, noted}
+use Rattle.trace_events.specs.Settling.{is_closed, is_to_settle}
+use Rattle.trace_events.specs.Work.{carries_closed, closes_incoming, stands_unsettled, keeps_unsettled, decides_now}
 use Rattle.trace_events.proofs.Judged.{AreJudged}
 use Rattle.trace_events.proofs.Links.{passing}
 use Rattle.trace_events.proofs.OutgoingLinks.{decision-begun}
-use Rattle.trace_events.proofs.SettlingSteps.{is_decided-step, stands_unsettled-step}
+use Rattle.trace_events.proofs.SettlingSteps.{is_closed-step, is_decided-step, stands_unsettled-step}
 use Rattle.trace_clauses.specs.Clauses.{first_broken}
-use Rattle.trace_clauses.proofs.BegunDeliveries.{IsBegun, judged-begun}
+use Rattle.trace_clauses.proofs.BegunDeliveries.{IsBegun, begun-noted, begun-noted_later, judged-begun}
 use Rattle.trace_clauses.proofs.LinkEnds.{is_live-next}
 use Rattle.trace_clauses.proofs.WaitingQueue.{all_contained, contains_cases}
 use Rattle.number_groups.specs.Ascending.{has}
+use Rattle.audit_tables.specs.EndedLinks.{AreEnded}
+use Rattle.due_outcomes.specs.Closings.{may_close}
+use Rattle.due_outcomes.specs.Parked.{IsLeft, is_parked}
 use Rattle.due_outcomes.specs.SentNumbers.{Grows, IsUnder, KeepsAll}
 use Rattle.due_outcomes.specs.Unsettled.{HasUnsettled, is_decided, is_open}
 use Rattle.due_outcomes.specs.declared.unsettled.Unsettled.{Unsettled}
+use Rattle.due_outcomes.proofs.Closings.{closing}
+use Rattle.due_outcomes.proofs.SettlingsDue.{settled-of, settled-parts}
+use Rattle.due_outcomes.proofs.UnderKeys.{or-first}
 
 pub and-both : (a b : Bool) → a && b ≡ true → (a ≡ true) × (b ≡ true)
 and-both true b is = (refl, is)
@@ -36,6 +43,13 @@ or-cases false b is = inr is
 pub first-or-earlier : {A : Type 0} (o : Option A) (xs : List A) (x : A) → Contains (cons_option o xs) x → (o ≡ Some x) ⊎ Contains xs x
 first-or-earlier None xs x there = inr there
 first-or-earlier (Some y) xs x there = elim (contains_cases y xs x there) [ inl same ↦ inl (ap Some same) | inr later ↦ inr later ]
+
+same_some : {A : Type 0} (a b : A) → Some a ≡ Some b → a ≡ b
+same_some a b is = cc
+
+or-none : (a b : Bool) → a || b ≡ false → a ≡ false
+or-none false b is = refl
+or-none true b is = absurd cc
 
 open-bits : (s stands : Bool) → not s && stands ≡ true → s ≡ false
 open-bits true stands is = absurd cc
@@ -68,19 +82,63 @@ module _ (rules : List RuleText) (e : Event) (past : List Event) (are : AreJudge
       let own = passing (λ (x : Outgoing). x.number == e.number) e.outgoing j begun in
       ap is_some (decision-begun rules e past j are (eqb-true j.number e.number own.1))
 
-  module _ (earlier later : Unsettled) (was : HasUnsettled earlier past) (kept : KeepsAll earlier.numbers later.numbers)
-      (begun : IfSome (outgoing_begun e) (λ j. j.link.is_pre_settled ≡ false → IsUnder later.numbers j j.number)) (grown : Grows earlier.candidates later.candidates)
-      (answered : (j : Outgoing) (n : ℕ) → IsUnder later.numbers j n → is_some (answering j e) ≡ true → has later.candidates n ≡ true) where
-    decided-new : (j : Outgoing) → outgoing_begun e ≡ Some j → is_decided (e ∷ past) j ≡ true → has later.candidates j.number ≡ true
-    decided-new j is decides = let never : true ≡ false = sym decides ∙ undecided-begun j is in absurd cc
+  -- what is closed behind the event was before, or the event closes it
+  closed-now : (j : Outgoing) (b : IsBegun past j) → is_closed (e ∷ past) b.delivery ≡ is_closed past b.delivery || closes_incoming e b.delivery
+  closed-now j b = is_closed-step e past b.delivery (is_live-next rules e past are b.delivery.link b.kept.link.at)
 
-    decided-old : (j : Outgoing) → Contains (outgoing_deliveries past) j → is_open (e ∷ past) j ≡ true → is_decided (e ∷ past) j ≡ true → has later.candidates j.number ≡ true
-    decided-old j there is decides =
-        let open_then = open-before j (begun-all j there) is in
-        elim (decided-before j decides) [
-          | inl then ↦ grown j.number (was.decided j there open_then then)
-          | inr now ↦ answered j j.number (kept j j.number (was.found j there open_then)) now
+  module _ (ended : List Link) (over : AreEnded e past ended) (earlier later : Unsettled) (was : HasUnsettled earlier past) (kept : KeepsAll earlier.numbers later.numbers)
+      (begun : IfSome (outgoing_begun e) (λ j. j.link.is_pre_settled ≡ false → IsUnder later.numbers j j.number)) (grown : Grows earlier.candidates later.candidates)
+      (answered : (j : Outgoing) (n : ℕ) → IsUnder later.numbers j n → is_some (answering j e) ≡ true → has later.candidates n ≡ true)
+      (released : (n m : ℕ) → may_close e ended n ≡ true → is_parked earlier.parked n m ≡ true → has later.candidates m ≡ true) (left : IsLeft later.candidates earlier.parked later.parked) where
+    undecided-new : (j : Outgoing) → outgoing_begun e ≡ Some j → {A : Type 0} → is_decided (e ∷ past) j ≡ true → A
+    undecided-new j is decides = let never : true ≡ false = sym decides ∙ undecided-begun j is in absurd cc
+
+    speaks-of : (j : Outgoing) → Contains (outgoing_deliveries past) j → is_open past j ≡ true → is_some (answering j e) ≡ true → has later.candidates j.number ≡ true
+    speaks-of j there opens now = answered j j.number (kept j j.number (was.found j there opens)) now
+
+    -- ---- those to settle
+
+    module _ (j : Outgoing) (there : Contains (outgoing_deliveries past) j) (b : IsBegun past j) (opens : is_open past j ≡ true) (decides : is_decided past j ≡ true) where
+      due-by : (closed : Bool) → is_closed past b.delivery ≡ closed → closed || closes_incoming e b.delivery ≡ true → has later.candidates j.number ≡ true
+      due-by true closed closes = grown j.number (was.due j there (settled-of past j opens decides (ap (λ o. is_some_and o (is_closed past)) (begun-noted past j b) ∙ closed)))
+      due-by false unclosed closes =
+          elim (or-cases (has earlier.candidates j.number) (is_parked earlier.parked b.delivery.number j.number) (was.decided j there opens decides b.delivery (begun-noted past j b) unclosed)) [
+            | inl among ↦ grown j.number among
+            | inr parked ↦ released b.delivery.number j.number (closing rules e past are b.delivery b.kept unclosed ended over closes) parked
+          ]
+
+    due-old : (j : Outgoing) → Contains (outgoing_deliveries past) j → is_to_settle (e ∷ past) j ≡ true → has later.candidates j.number ≡ true
+    due-old j there is =
+        let b = begun-all j there in
+        let parts = settled-parts (e ∷ past) j is in
+        let opens = open-before j b parts.0 in
+        let carries : carries_closed (e ∷ past) j ≡ is_closed (e ∷ past) b.delivery = ap (λ o. is_some_and o (is_closed (e ∷ past))) (begun-noted_later rules e past are j b) in
+        elim (decided-before j parts.1) [
+          | inl then ↦ due-by j there b opens then (is_closed past b.delivery) refl (sym (closed-now j b) ∙ (sym carries ∙ parts.2))
+          | inr now ↦ speaks-of j there opens now
         ]
+
+    -- ---- those that are decided
+
+    decided-old : (j : Outgoing) → Contains (outgoing_deliveries past) j → is_open (e ∷ past) j ≡ true → is_decided (e ∷ past) j ≡ true → (d : Incoming) → noted j.note (e ∷ past) ≡ Some d → is_closed (e ∷ past) d ≡ false
+        → has later.candidates j.number || is_parked later.parked d.number j.number ≡ true
+    decided-old j there is decides d at unclosed =
+        let b = begun-all j there in
+        let opens = open-before j b is in
+        let same : b.delivery ≡ d = same_some b.delivery d (sym (begun-noted_later rules e past are j b) ∙ at) in
+        let before : is_closed past b.delivery ≡ false =
+        or-none (is_closed past b.delivery) (closes_incoming e b.delivery) (sym (closed-now j b) ∙ (ap (is_closed (e ∷ past)) same ∙ unclosed)) in
+        let then_by : is_decided past j ≡ true → has later.candidates j.number || is_parked later.parked b.delivery.number j.number ≡ true =
+        λ then. elim (or-cases (has earlier.candidates j.number) (is_parked earlier.parked b.delivery.number j.number) (was.decided j there opens then b.delivery (begun-noted past j b) before)) [
+          | inl among ↦ or-first (has later.candidates j.number) (is_parked later.parked b.delivery.number j.number) (grown j.number among)
+          | inr parked ↦ left b.delivery.number j.number parked
+        ] in
+        elim (decided-before j decides) [
+          | inl then ↦ subst (λ (x : Incoming). has later.candidates j.number || is_parked later.parked x.number j.number ≡ true) same (then_by then)
+          | inr now ↦ or-first (has later.candidates j.number) (is_parked later.parked d.number j.number) (speaks-of j there opens now)
+        ]
+
+    -- ---- those that are unsettled
 
     found-new : (j : Outgoing) → outgoing_begun e ≡ Some j → is_open (e ∷ past) j ≡ true → IsUnder later.numbers j j.number
     found-new j at is =
@@ -89,9 +147,13 @@ module _ (rules : List RuleText) (e : Event) (past : List Event) (are : AreJudge
     -- so the list follows the event
     pub unsettled-next : HasUnsettled later (e ∷ past)
     unsettled-next = record {
-      decided = λ j there is decides. elim (first-or-earlier (outgoing_begun e) (outgoing_deliveries past) j there) [
-        | inl new ↦ decided-new j new decides
-        | inr old ↦ decided-old j old is decides
+      due = λ j there is. elim (first-or-earlier (outgoing_begun e) (outgoing_deliveries past) j there) [
+        | inl new ↦ undecided-new j new (settled-parts (e ∷ past) j is).1
+        | inr old ↦ due-old j old is
+      ];
+      decided = λ j there is decides d at unclosed. elim (first-or-earlier (outgoing_begun e) (outgoing_deliveries past) j there) [
+        | inl new ↦ undecided-new j new decides
+        | inr old ↦ decided-old j old is decides d at unclosed
       ];
       found = λ j there is. elim (first-or-earlier (outgoing_begun e) (outgoing_deliveries past) j there) [
         | inl new ↦ found-new j new is

@@ -1,5 +1,5 @@
 -- The deliveries of which an outcome is to be told, behind one more event: each was so before, or is one that the event
--- completes, that waits where it leaves no consumer, or whose carrier it answers.
+-- completes, that waits where it leaves no consumer, whose carrier it answers, or that it gives its last verdict.
 use Rattle.std.proofs.Common.{◌≡◌, refl, sym, ap, subst, ◌∙◌, inl, inr, ℕ, Bool, true, false, ◌&&◌, ◌||◌, not, List, [], ◌∷◌, length, Option, Some, None, IfSome, is_some, find, ◌==◌, eqb-true, eq-eqb, arith, if◌then◌else◌}
 use Rattle.std.specs.Prelude.{Contains}
 use Rattle.std.specs.List.{list_any}
@@ -8,14 +8,14 @@ use Rattle.capture_form.specs.Rules.{RuleText}
 use Rattle.pairing_cert.specs.declared.note.Note.{Note}
 use Rattle.pairing_cert.specs.declared.note.Note.TheVariants as notes
 use Rattle.trace_events.specs.Words.{is_some_and}
-use Rattle.trace_events.specs.Event.{Event, Incoming, Outgoing}
+use Rattle.trace_events.specs.Event.{Event, Incoming, Link, Outgoing}
 use Rattle.trace_events.specs.Said.{in_transfer, out_transfer}
 use Rattle.trace_events.specs.Link.{is_live, IsLiveLink}
 use Rattle.trace_events.specs.Ends.{ends_link}
 use Rattle.trace_events.specs.Address.{has_consumer, has_multicast}
 use Rattle.trace_events.specs.Disposition.{is_decisive}
 use Rattle.trace_events.specs.Incoming.{address_of, completed_by, completes, incoming_at, incoming_begun, incoming_deliveries, is_complete, is_last_part}
-use Rattle.trace_events.specs.Outgoing.{answering, decision, is_part, is_paired, names, noted, outgoing_begun, outgoing_deliveries, pairing}
+use Rattle.trace_events.specs.Outgoing.{answering, decision, is_part, is_settled_by_consumer, is_settled_by_router, is_paired, names, noted, outgoing_begun, outgoing_deliveries, pairing}
 use Rattle.trace_events.specs.Queue.{pairs, stays}
 use Rattle.trace_events.specs.Settling.{is_closed}
 use Rattle.trace_events.specs.Waiting.{always_had_consumer, is_gone, is_of_multicast, is_unpaired, is_waiting}
@@ -25,9 +25,11 @@ use Rattle.trace_events.proofs.Links.{passing}
 use Rattle.trace_events.proofs.OutgoingSteps.{pairing-same, pairing-another}
 use Rattle.trace_events.proofs.QueueSteps.{is_waiting-step}
 use Rattle.trace_events.proofs.SettlingSteps.{is_closed-step}
+use Rattle.trace_clauses.specs.BestVerdict.{has_all_verdicts}
 use Rattle.trace_clauses.specs.Clauses.{first_broken}
+use Rattle.trace_clauses.specs.CopyVerdict.{awaits_verdict}
 use Rattle.trace_clauses.specs.Outcome.{is_sent_settled, is_to_tell}
-use Rattle.trace_clauses.specs.Telling.{answers_now, gets_outcome, has_outcome, is_answered}
+use Rattle.trace_clauses.specs.Telling.{answers_now, gets_last_verdict, gets_outcome, has_outcome, is_answered}
 use Rattle.trace_clauses.proofs.BegunDeliveries.{IsBegun, begun-carries, begun-noted, begun-noted_later, begun-noted_now, begun-own, judged-begun}
 use Rattle.trace_clauses.proofs.ClausesMet.{lawful-past}
 use Rattle.trace_clauses.proofs.IncomingProgress.{judged-kept}
@@ -40,9 +42,13 @@ use Rattle.trace_clauses.proofs.OutgoingProgress.{IsPartOf as PartOut}
 use Rattle.trace_clauses.proofs.Parts.{IsKept, each_delivery}
 use Rattle.trace_clauses.proofs.WaitingQueue.{all_contained, find_has}
 use Rattle.number_groups.specs.Ascending.{has}
+use Rattle.audit_sent.specs.Sent.{is_left_unsettled}
+use Rattle.audit_sent.proofs.SentDecided.{judged-decided}
+use Rattle.audit_verdicts.specs.Verdicts.{awaits_at}
 use Rattle.due_outcomes.specs.SentNumbers.{Grows, IsUnder, KeepsAll}
 use Rattle.due_outcomes.specs.Untold.{HasUntold, waits_in}
 use Rattle.due_outcomes.specs.declared.untold.Untold.{Untold}
+use Rattle.due_outcomes.proofs.LastVerdicts.{IsLast, IsSpokenOf, last-verdict}
 use Rattle.due_outcomes.proofs.SentEntries.{contained-at}
 use Rattle.due_outcomes.proofs.UnsettledSteps.{and-both, first-or-earlier, or-cases, some-of}
 
@@ -88,6 +94,9 @@ pub record IsFollowed (rules : List RuleText) (e : Event) (past : List Event) (e
   -- so is what it answers, and what it leaves without a consumer
   pub answered : (j : Outgoing) (n : ℕ) → IsUnder later.carried j n → is_some (answering j e) ≡ true → has later.candidates n ≡ true
   pub over : (j : Outgoing) (n : ℕ) → IsUnder later.carried j n → IsLiveLink j.link past → ends_link j.link e ≡ true → has later.candidates n ≡ true
+  -- what has a copy of which its consumer speaks, and what awaits a verdict on a link that it ends
+  pub spoken : (j : Outgoing) → Contains (outgoing_deliveries past) j → is_left_unsettled past j ≡ true → is_some (answering j e) ≡ true → (n : ℕ) → names n j.note ≡ true → has later.candidates n ≡ true
+  pub awaited : (l : Link) (n : ℕ) → IsLiveLink l past → ends_link l e ≡ true → awaits_at rules past l.number n ≡ true → has later.candidates n ≡ true
   pub lost : (address : List ℕ) (n : ℕ) → has_consumer address past ≡ true → has_consumer address (e ∷ past) ≡ false → waits_in later address n ≡ true → has later.candidates n ≡ true
 
 had-now : (d : Incoming) (past : List Event) → always_had_consumer d past ≡ true → has_consumer (address_of d) past ≡ true
@@ -103,10 +112,18 @@ over-answers true settled live is = refl
 over-answers false true live is = refl
 over-answers false false live is = ap not is
 
-outcome-bits : (complete many gone answered : Bool) → complete ≡ true → answered ≡ true → complete && (many || gone || answered) ≡ true
-outcome-bits complete true gone answered is so = ap (λ b. b && true) is
-outcome-bits complete false true answered is so = ap (λ b. b && true) is
-outcome-bits complete false false answered is so = ap (λ b. b && answered) is ∙ so
+outcome-bits : (complete many all gone answered : Bool) → complete ≡ true → many ≡ false → answered ≡ true → complete && (if many then all else gone || answered) ≡ true
+outcome-bits complete true all gone answered is one so = absurd cc
+outcome-bits complete false all true answered is one so = ap (λ b. b && true) is
+outcome-bits complete false all false answered is one so = ap (λ b. b && answered) is ∙ so
+
+-- one that neither side has settled, as it is not decided
+left-bits : (settled live c r decided : Bool) → settled ≡ false → live ≡ true → decided ≡ false → (c || r ≡ true → decided ≡ true) → not settled && (live && not c && not r) ≡ true
+left-bits false true false false decided unsettled lives none so = refl
+left-bits false true true r decided unsettled lives none so = let never : true ≡ false = sym (so refl) ∙ none in absurd cc
+left-bits false true false true decided unsettled lives none so = let never : true ≡ false = sym (so refl) ∙ none in absurd cc
+left-bits true live c r decided unsettled lives none so = absurd cc
+left-bits false false c r decided unsettled lives none so = absurd cc
 
 module _ (rules : List RuleText) (e : Event) (past : List Event) (are : AreJudged rules (e ∷ past)) (lawful : first_broken rules (e ∷ past) ≡ None)
     (earlier later : Untold) (was : HasUntold rules earlier past) (f : IsFollowed rules e past earlier later) where
@@ -177,8 +194,8 @@ module _ (rules : List RuleText) (e : Event) (past : List Event) (are : AreJudge
       over-before off =
           let answered = over-answers (is_some (decision j past)) (is_sent_settled j past) (is_live past j.link) off in
           let outcome : has_outcome rules past d ≡ true =
-          outcome-bits (is_complete d past) (is_of_multicast rules d) (is_gone rules d past) (is_some_and (pairing d past) (is_answered past))
-          (sym (ap (λ n. list_any (λ (y : Event). is_some_and (completed_by y) (λ x. x.number == n)) past) number_j) ∙ b.complete) (passed (is_answered past) (pairing d past) j is answered) in
+          outcome-bits (is_complete d past) (is_of_multicast rules d) (has_all_verdicts rules d past) (is_gone rules d past) (is_some_and (pairing d past) (is_answered past))
+          (sym (ap (λ n. list_any (λ (y : Event). is_some_and (completed_by y) (λ x. x.number == n)) past) number_j) ∙ b.complete) anycast (passed (is_answered past) (pairing d past) j is answered) in
           was-due (is_to_tell-parts rules past d ∙ (ap (λ x. x && not (is_closed past d)) outcome ∙ ap not opens))
 
       ended : (live : Bool) → is_live past j.link ≡ live → ends_link j.link e ≡ true → Found
@@ -216,11 +233,40 @@ module _ (rules : List RuleText) (e : Event) (past : List Event) (are : AreJudge
             by-pairing anycast opens (pairing d past) refl
             (sym (ap (λ o. is_some_and o (answers_now e past)) (pairing-another e past d j begun other)) ∙ ans)
 
+    -- its last verdict comes
+    module _ (other : completes d e ≡ false) (lacks : has_all_verdicts rules d past ≡ false) (has_all : has_all_verdicts rules d (e ∷ past) ≡ true) where
+      last : IsLast rules e past d
+      last = last-verdict rules e past are lawful d k other lacks has_all
+
+      spoken-of : IsSpokenOf e past d → Found
+      spoken-of s =
+          f.spoken s.copy s.begun
+          (left-bits s.copy.link.is_pre_settled (is_live past s.copy.link) (is_settled_by_consumer s.copy past) (is_settled_by_router s.copy past) (is_some (decision s.copy past))
+          s.unsettled s.lives (ap is_some s.undecided) (judged-decided rules past are.1 s.copy.number s.copy s.at s.unsettled s.lives))
+          s.speaks d.number s.named
+
+      last-found : Found
+      last-found = elim last.gives [
+        | inl ends ↦ f.awaited last.link d.number last.lives ends
+            (ap (λ o. is_some_and o (λ l. is_some_and (incoming_at d.number past) (λ x. awaits_verdict rules x past l))) last.at
+            ∙ (ap (λ o. is_some_and o (λ x. awaits_verdict rules x past last.link)) k.at ∙ last.awaits))
+        | inr copy ↦ elim copy [
+          | inl part ↦ f.named d.number part
+          | inr says ↦ spoken-of says
+        ]
+      ]
+
+    by-many : (now : Bool) → completes d e ≡ now → (now || is_complete d past && not (has_all_verdicts rules d past)) && has_all_verdicts rules d (e ∷ past) ≡ true → Found
+    by-many true now gets = f.completed d now
+    by-many false other gets =
+        let both = and-both (is_complete d past && not (has_all_verdicts rules d past)) (has_all_verdicts rules d (e ∷ past)) gets in
+        last-found other (not-true (has_all_verdicts rules d past) (and-both (is_complete d past) (not (has_all_verdicts rules d past)) both.0).1) both.1
+
     by-kind : is_closed past d ≡ false → (many : Bool) → is_of_multicast rules d ≡ many
-        → (if many then completes d e
+        → (if many then gets_last_verdict rules e past d
         else completes d e && not (has_consumer (address_of d) (e ∷ past)) || is_waiting rules d past && not (has_consumer (address_of d) (e ∷ past)) && not (pairs d e)
         || is_some_and (pairing d (e ∷ past)) (answers_now e past)) ≡ true → Found
-    by-kind opens true many gets = f.completed d gets
+    by-kind opens true many gets = by-many (completes d e) refl gets
     by-kind opens false anycast gets =
         let none = not (has_consumer (address_of d) (e ∷ past)) in
         elim (or-cases (completes d e && none || is_waiting rules d past && none && not (pairs d e)) (is_some_and (pairing d (e ∷ past)) (answers_now e past)) gets) [

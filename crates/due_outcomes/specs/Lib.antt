@@ -1,5 +1,7 @@
 pub mod Answered
 pub mod SentNumbers
+pub mod Parked
+pub mod Closings
 pub mod Unsettled
 pub mod Untold
 pub mod DueOutcomes

@@ -9,4 +9,4 @@ use Rattle.audit_answers.specs.declared.looked.Looked.{Looked}
 -- the clauses
 abbrev pub AreLooked : List RuleText → Looked → List Event → Type 0
 AreLooked rules looked past =
-    StandFor rules looked.connections.now looked.links.now looked.consumers.now looked.deliveries.now looked.consumer_links.now looked.copies.now looked.sent.now past
+    StandFor rules looked.connections.now looked.links.now looked.consumers.now looked.deliveries.now looked.consumer_links.now looked.copies.now looked.sent.now looked.verdicts.now past

@@ -1,10 +1,18 @@
 -- The deliveries to settle with their consumers, as candidates (part 2 of the standard, section 2.6.12; own rules).
-use Rattle.std.specs.Prelude.{◌≡◌, Bool, true, ◌&&◌, not, List, Contains, is_some}
-use Rattle.trace_events.specs.Event.{Event, Outgoing}
-use Rattle.trace_events.specs.Outgoing.{decision, outgoing_deliveries}
+use Rattle.std.specs.Prelude.{◌≡◌, ℕ, Bool, true, false, ◌&&◌, ◌||◌, not, List, Option, Some, Contains, is_some}
+use Rattle.trace_events.specs.Event.{Event, Incoming, Outgoing}
+use Rattle.trace_events.specs.Outgoing.{decision, noted, outgoing_deliveries}
+use Rattle.trace_events.specs.Settling.{is_closed, is_to_settle}
 use Rattle.trace_events.specs.Work.{stands_unsettled}
 use Rattle.number_groups.specs.Ascending.{has}
+use Rattle.audit_held.specs.EntryAnswers.{says_closed}
+use Rattle.audit_held.specs.HeldTables.{held_in}
+use Rattle.audit_held.specs.declared.deliveries.Deliveries.{Deliveries}
+use Rattle.audit_sent.specs.Sent.{Sent}
+use Rattle.audit_sent.specs.SentAnswers.{carried}
+use Rattle.due_outcomes.specs.Parked.{is_parked}
 use Rattle.due_outcomes.specs.SentNumbers.{IsUnder}
+use Rattle.due_outcomes.specs.declared.parked.Parked.{Parked}
 use Rattle.due_outcomes.specs.declared.unsettled.Unsettled.{Unsettled}
 
 -- it was sent unsettled, its link lives, and neither side has settled it
@@ -15,8 +23,17 @@ is_open past j = not j.link.is_pre_settled && stands_unsettled past j
 abbrev pub is_decided : List Event → Outgoing → Bool
 is_decided past j = is_some (decision j past)
 
--- Every delivery that is decided and still unsettled is a candidate: so is each that is to be settled, which is one of which
--- nothing more is to be told. And each that is still unsettled is found by what its consumer says.
+-- Every delivery that is to be settled is a candidate. So is each that is decided and still unsettled, or it is parked under
+-- what it carries, of which more is to be told. And each that is still unsettled is found by what its consumer says.
 pub record HasUnsettled (unsettled : Unsettled) (past : List Event) : Type 0 where
-  pub decided : (j : Outgoing) → Contains (outgoing_deliveries past) j → is_open past j ≡ true → is_decided past j ≡ true → has unsettled.candidates j.number ≡ true
+  pub due : (j : Outgoing) → Contains (outgoing_deliveries past) j → is_to_settle past j ≡ true → has unsettled.candidates j.number ≡ true
+  pub decided : (j : Outgoing) → Contains (outgoing_deliveries past) j → is_open past j ≡ true → is_decided past j ≡ true → (d : Incoming) → noted j.note past ≡ Some d → is_closed past d ≡ false
+      → has unsettled.candidates j.number || is_parked unsettled.parked d.number j.number ≡ true
   pub found : (j : Outgoing) → Contains (outgoing_deliveries past) j → is_open past j ≡ true → IsUnder unsettled.numbers j j.number
+
+-- the entry of the number is parked under what it carries, of which more is to be told
+pub record IsParked (parked : Parked) (deliveries : Deliveries) (number : ℕ) (entry : Option Sent) : Type 0 where
+  pub under : ℕ
+  pub carries : carried entry ≡ Some under
+  pub opens : says_closed (held_in deliveries under) ≡ false
+  pub at : is_parked parked under number ≡ true

@@ -4,11 +4,13 @@
 //! clause says it.
 //!
 //! - `sent_numbers`: numbers by the deliveries to clients that they stand for: by their link, their session and their id there;
+//! - `parked`: deliveries to clients that are not to be settled yet, by what they carry;
 //! - `unsettled`: the deliveries to settle with their consumers;
 //! - `untold`: the outcomes to tell, each with its row (`outcome`) and the state that it tells (`state`).
 #![tactic(auto)]
 
 mod outcome;
+mod parked;
 mod sent_numbers;
 mod state;
 mod unsettled;

@@ -42,7 +42,7 @@ fn add(candidates: &mut Ascending, number: Option<u64>) -> Result<(), AllocError
 }
 
 /// All numbers of the group become candidates.
-fn add_group<K: NumberKey>(
+pub(crate) fn add_group<K: NumberKey>(
     candidates: &mut Ascending,
     groups: &Groups<K>,
     key: &K,
@@ -51,6 +51,21 @@ fn add_group<K: NumberKey>(
 {
     for index in 0..groups.count(key) {
         add(candidates, groups.get(key, index))?;
+    }
+    Ok(())
+}
+
+/// All numbers of the groups of these links become candidates.
+pub(crate) fn add_of_links(
+    candidates: &mut Ascending,
+    groups: &Groups<u64>,
+    links: &[Link],
+) -> Result<(), AllocError>
+    ensures { OnOk result ((n : ℕ) → has candidates.new n
+        ≡ (has candidates.old n || list_any (λ l. is_member nat_eq groups.now (link_view l).number n) links.now)) }
+{
+    for link in links {
+        add_group(candidates, groups, &link.number)?;
     }
     Ok(())
 }
@@ -210,9 +225,6 @@ impl SentNumbers {
         ensures { OnOk result ((n : ℕ) → has candidates.new n
             ≡ (has candidates.old n || list_any (λ l. is_member nat_eq self.now.of_link (link_view l).number n) links.now)) }
     {
-        for link in links {
-            add_group(candidates, &self.of_link, &link.number)?;
-        }
-        Ok(())
+        add_of_links(candidates, &self.of_link, links)
     }
 }

@@ -1,12 +1,16 @@
 //! The deliveries to settle with their consumers (part 2 of the standard, section 2.6.12).
 
-ghost use Rattle.std.specs.Prelude.{◌≡◌, ◌<◌, ◌∷◌, ◌&&◌, ◌==◌, ℕ, not, List, [], true, false, None, Some, IfSome, OnOk, is_some, option_and_then, option_map, nat_eq};
+ghost use Rattle.std.specs.Prelude.{◌≡◌, ◌<◌, ◌∷◌, ◌&&◌, ◌==◌, ◌⊎◌, ℕ, not, List, [], true, false, None, Some, IfSome, OnOk, is_some, option_map};
+ghost use Rattle.std.specs.List.{list_any};
 ghost use Rattle.std.specs.Option.{option_copied};
 ghost use Rattle.capture_form.specs.Rules.{RuleText};
 ghost use Rattle.capture_form.specs.declared.records.Record.{Record};
 ghost use Rattle.trace_events.specs.History.{history};
 ghost use Rattle.trace_events.specs.Event as events;
+ghost use Rattle.trace_events.specs.Link.{is_producer};
 ghost use Rattle.trace_events.specs.Outgoing.{outgoing_begun};
+ghost use Rattle.trace_events.specs.Words.{is_number, is_some_and};
+ghost use Rattle.amqp_perf.specs.View.{disposition_fields};
 ghost use Rattle.trace_duties.specs.Quiet.{none_is_unsettled};
 ghost use Rattle.trace_values.specs.View.{event_view, outgoing_view};
 ghost use Rattle.audit_sent.specs.SentAnswers as sent;
@@ -15,25 +19,32 @@ ghost use Rattle.audit_sent.specs.SentViews.{sent_view};
 ghost use Rattle.audit_held.specs.EntryAnswers.{says_closed};
 ghost use Rattle.audit_held.specs.HeldTables.{held_in};
 ghost use Rattle.audit_tables.specs.Connections.{IsLawfulNext};
+ghost use Rattle.audit_tables.specs.EndedLinks.{views};
 ghost use Rattle.number_groups.specs.Ascending.{count_of, has};
 ghost use Rattle.due_outcomes.specs.LookedTables.{AreLooked};
-ghost use Rattle.due_outcomes.specs.SentNumbers.{IsUnder, KeepsAll};
+ghost use Rattle.due_outcomes.specs.Closings as law;
+ghost use Rattle.due_outcomes.specs.Parked.{IsLeft, is_parked};
+ghost use Rattle.due_outcomes.specs.SentNumbers.{Grows, IsUnder, KeepsAll};
 ghost use Rattle.due_outcomes.specs.Settlings.{IsDueSettling, due_in, says_open, waits_in};
-ghost use Rattle.due_outcomes.specs.Unsettled.{HasUnsettled};
+ghost use Rattle.due_outcomes.specs.Unsettled.{HasUnsettled, IsParked};
 
+use crate::parked::Parked;
 use crate::sent_numbers::SentNumbers;
+use amqp_perf::{Disposition, Role};
 use audit_answers::Looked;
 use audit_sent::SentDelivery;
 use number_groups::{Ascending, NumberTest};
 use pairing_cert::Note;
 use std::alloc::{AllocError, Global};
-use trace_values::{Event, Outgoing};
+use trace_values::{Event, Link, Outgoing};
 
 /// The deliveries to settle with their consumers, among those that are decided and still unsettled.
 #[derive(Drop)]
 pub struct Unsettled {
     alloc: Global,
     candidates: Ascending,
+    /// Those that wait until nothing more is to be told of what they carry.
+    parked: Parked,
     /// Those that are unsettled, under themselves.
     numbers: SentNumbers,
 }
@@ -46,12 +57,14 @@ impl Unsettled {
         Unsettled {
             alloc,
             candidates: Ascending::new(alloc),
+            parked: Parked::new(alloc),
             numbers: SentNumbers::new(alloc),
         }
     }
 
     /// The event follows; `before` are the tables without it. It takes the time of the unsettled deliveries of which their
-    /// consumer speaks with it, and of those on the links that it ends.
+    /// consumer speaks with it, of those on the links that it ends, and of those that carry what it tells; where a producer
+    /// settles ids or its link ends, of all that are parked.
     ///
     /// # Errors
     ///
@@ -65,12 +78,13 @@ impl Unsettled {
         self.numbers.add_answered(&mut self.candidates, event)?;
         let ended = before.links.ended(self.alloc, event)?;
         self.numbers.add_links(&mut self.candidates, &ended)?;
+        self.release(event, &ended)?;
         Ok(())
     }
 
     /// The delivery that is to be settled next, the lowest number first; those that are settled are forgotten. The one that is
-    /// answered stays a candidate. It passes over decided deliveries that carry one of which more is to be told: so it takes
-    /// their time too, and is best asked where all outcomes are told.
+    /// answered stays a candidate. Decided deliveries that carry one of which more is to be told are parked, each once; where
+    /// memory is refused for that, it passes over them.
     pub fn first_due<'t>(&mut self, looked: &Looked<'t>) -> Option<Outgoing<'t>>
         ensures due { IfSome result (λ j. (rules : List RuleText) (records : List Record) → AreLooked rules looked.now (history rules records) →
             IsDueSettling (history rules records) (outgoing_view j)) }
@@ -79,7 +93,7 @@ impl Unsettled {
         ensures quiet { result ≡ None → (rules : List RuleText) (records : List Record) → AreLooked rules looked.now (history rules records) →
             HasUnsettled self.old (history rules records) → none_is_unsettled (history rules records) ≡ true }
     {
-        self.forget_settled(looked);
+        self.sort_lowest(looked);
         let number = self.candidates.first_passing(&IsToSettle { looked })?;
         settling_of(looked, number)
     }
@@ -89,6 +103,7 @@ impl Unsettled {
         ensures begun { OnOk result (IfSome (outgoing_begun (event_view event.now)) (λ j. j.link.is_pre_settled ≡ false → IsUnder self.new.numbers j j.number)) }
         ensures kept { OnOk result (KeepsAll self.old.numbers self.new.numbers) }
         ensures same { self.new.candidates ≡ self.old.candidates }
+        ensures parked { self.new.parked ≡ self.old.parked }
     {
         match event.outgoing_begun() {
             Some(delivery) if !delivery.link.is_pre_settled => self
@@ -98,17 +113,70 @@ impl Unsettled {
         }
     }
 
-    /// The lowest are forgotten, up to one that is decided and unsettled.
-    fn forget_settled(&mut self, looked: &Looked<'_>)
+    /// What carries a delivery of which nothing more is to be told with the event becomes a candidate.
+    fn release(&mut self, event: &Event, ended: &[Link]) -> Result<(), AllocError>
+        ensures grown { OnOk result (Grows self.old.candidates self.new.candidates) }
+        ensures released { OnOk result ((n m : ℕ) → law.may_close (event_view event.now) (views ended.now) n ≡ true → is_parked self.old.parked n m ≡ true →
+            has self.new.candidates m ≡ true) }
+        ensures left { OnOk result (IsLeft self.new.candidates self.old.parked self.new.parked) }
+        ensures same { self.new.numbers ≡ self.old.numbers }
+    {
+        if settles_ids(event) || has_producer(ended) {
+            return self.parked.release_all(&mut self.candidates);
+        }
+        self.release_of(event.told)?;
+        self.release_of(part_number(event))
+    }
+
+    /// What carries the delivery of the number becomes a candidate, if there is one.
+    fn release_of(&mut self, carried: Option<u64>) -> Result<(), AllocError>
+        ensures grown { OnOk result (Grows self.old.candidates self.new.candidates) }
+        ensures released { OnOk result ((n m : ℕ) → is_number carried n ≡ true → is_parked self.old.parked n m ≡ true → has self.new.candidates m ≡ true) }
+        ensures left { OnOk result (IsLeft self.new.candidates self.old.parked self.new.parked) }
+        ensures same { self.new.numbers ≡ self.old.numbers }
+    {
+        match carried {
+            Some(number) => self.parked.release(&mut self.candidates, number),
+            None => Ok(()),
+        }
+    }
+
+    /// The lowest are forgotten or parked, up to one that is to be settled.
+    fn sort_lowest(&mut self, looked: &Looked<'_>)
         ensures { (rules : List RuleText) (records : List Record) → AreLooked rules looked.now (history rules records) →
             HasUnsettled self.old (history rules records) → HasUnsettled self.new (history rules records) }
     {
         while let Some(number) = self.candidates.first() {
             let entry = looked.sent.get(number);
-            if waits(entry) {
+            if self.stays(looked, number, entry) {
                 return;
             }
             self.forget(number, entry);
+        }
+    }
+
+    /// The delivery of the number stays a candidate: it is decided and unsettled, and cannot be parked.
+    fn stays(&mut self, looked: &Looked<'_>, number: u64, entry: Option<&SentDelivery>) -> bool
+        ensures goes { result ≡ false → (waits_in (option_map sent_view (option_copied entry.entry)) ≡ false)
+            ⊎ IsParked self.new.parked looked.now.deliveries.now number (option_map sent_view (option_copied entry.entry)) }
+        ensures kept { (n m : ℕ) → is_parked self.old.parked n m ≡ true → is_parked self.new.parked n m ≡ true }
+        ensures candidates { self.new.candidates ≡ self.old.candidates }
+        ensures numbers { self.new.numbers ≡ self.old.numbers }
+    {
+        waits(entry) && !self.park(looked, number, entry)
+    }
+
+    /// The delivery of the number is parked, and this is said, if more is to be told of what it carries and memory is not
+    /// refused.
+    fn park(&mut self, looked: &Looked<'_>, number: u64, entry: Option<&SentDelivery>) -> bool
+        ensures parked { result ≡ true → IsParked self.new.parked looked.now.deliveries.now number (option_map sent_view (option_copied entry.entry)) }
+        ensures kept { (n m : ℕ) → is_parked self.old.parked n m ≡ true → is_parked self.new.parked n m ≡ true }
+        ensures candidates { self.new.candidates ≡ self.old.candidates }
+        ensures numbers { self.new.numbers ≡ self.old.numbers }
+    {
+        match carried_open(looked, entry) {
+            Some(carried) => self.parked.put(carried, number).is_ok(),
+            None => false,
         }
     }
 
@@ -119,6 +187,7 @@ impl Unsettled {
         ensures shorter { has self.old.candidates number ≡ true → count_of self.new.candidates < count_of self.old.candidates }
         ensures settled { (j : events.Outgoing) (n : ℕ) → (number == n) ≡ false → IsUnder self.old.numbers j n → IsUnder self.new.numbers j n }
         ensures unsettled { says_open (option_map sent_view (option_copied entry.entry)) ≡ true → self.new.numbers ≡ self.old.numbers }
+        ensures parked { self.new.parked ≡ self.old.parked }
     {
         self.candidates.remove(number);
         if let Some(own) = entry
@@ -137,6 +206,58 @@ fn waits(entry: Option<&SentDelivery>) -> bool
         Some(own) => own.is_unsettled() && own.decision().is_some(),
         None => false,
     }
+}
+
+/// The number of what it carries, if more is to be told of that.
+fn carried_open(looked: &Looked<'_>, entry: Option<&SentDelivery>) -> Option<u64>
+    ensures { IfSome result (λ n. (sent.carried (option_map sent_view (option_copied entry.entry)) ≡ Some n)
+        × (says_closed (held_in looked.now.deliveries.now n) ≡ false)) }
+{
+    match entry?.delivery().note {
+        Note::Pair(number) if !looked.deliveries.says_closed(number) => Some(number),
+        _ => None,
+    }
+}
+
+/// The number of the delivery from a client that the event is a part of.
+fn part_number(event: &Event) -> Option<u64>
+    ensures { (n : ℕ) → is_number result n ≡ is_some_and (event_view event.now).incoming (λ d. d.number == n) }
+{
+    match &event.incoming {
+        Some(delivery) => Some(delivery.number),
+        None => None,
+    }
+}
+
+/// A producer settles deliveries by their ids.
+fn settles_ids(event: &Event) -> bool
+    ensures { result ≡ law.settles_ids (event_view event.now) }
+{
+    match event.in_disposition() {
+        Some(fields) => settles_sent(&fields),
+        None => false,
+    }
+}
+
+/// A disposition is of a producer, and settles.
+fn settles_sent(fields: &Disposition) -> bool
+    ensures { result ≡ law.settles_sent (disposition_fields fields.now) }
+{
+    match fields.role {
+        Role::Sender => fields.is_settled(),
+        Role::Receiver => false,
+    }
+}
+
+/// Some link is a producer's.
+fn has_producer(links: &[Link]) -> bool
+    ensures { result ≡ list_any is_producer (views links.now) }
+{
+    let mut has = false;
+    for link in links {
+        has = has || link.is_producer();
+    }
+    has
 }
 
 /// Nothing more is to be told of the delivery that the note names.

@@ -2,6 +2,7 @@
 
 ghost use Rattle.std.specs.Prelude.{◌≡◌, ◌<◌, ◌∷◌, ◌||◌, ◌&&◌, ◌==◌, ℕ, not, List, [], true, false, None, IfSome, OnOk, option_map};
 ghost use Rattle.std.specs.List.{list_any};
+ghost use Rattle.number_groups.specs.Numbers.{is_among};
 ghost use Rattle.number_groups.specs.OctetGroups as octets;
 ghost use Rattle.capture_form.specs.Rules.{RuleText};
 ghost use Rattle.capture_form.specs.declared.records.Record.{Record};
@@ -27,7 +28,7 @@ ghost use Rattle.due_outcomes.specs.SentNumbers.{IsUnder, KeepsAll};
 ghost use Rattle.due_outcomes.specs.Untold.{HasUntold, waits_in};
 
 use crate::outcome::{DueOutcome, outcome_of};
-use crate::sent_numbers::SentNumbers;
+use crate::sent_numbers::{SentNumbers, add_of_links};
 use audit_answers::Looked;
 use audit_held::HeldDelivery;
 use capture_form::Rule;
@@ -54,6 +55,16 @@ fn add(candidates: &mut Ascending, number: Option<u64>) -> Result<(), AllocError
 {
     if let Some(number) = number {
         candidates.insert(number)?;
+    }
+    Ok(())
+}
+
+/// These become candidates.
+fn add_all(candidates: &mut Ascending, numbers: &[u64]) -> Result<(), AllocError>
+    ensures { OnOk result ((n : ℕ) → has candidates.new n ≡ (has candidates.old n || is_among numbers.now n)) }
+{
+    for number in numbers {
+        candidates.insert(*number)?;
     }
     Ok(())
 }
@@ -107,7 +118,8 @@ impl Untold {
     }
 
     /// The event follows; `before` are the tables without it. It takes the time of the deliveries of which a consumer speaks
-    /// with it, of those that went over the links that it ends, and of those that wait at the addresses of these.
+    /// with it, of those that went over the links that it ends or have a copy due there, and of those that wait at the
+    /// addresses of these.
     ///
     /// # Errors
     ///
@@ -126,8 +138,11 @@ impl Untold {
         self.pair(rules, event)?;
         add(&mut self.candidates, carried_number(event))?;
         self.carried.add_answered(&mut self.candidates, event)?;
+        let answered = before.sent.answered(self.alloc, event)?;
+        add_all(&mut self.candidates, &answered)?;
         let ended = before.links.ended(self.alloc, event)?;
         self.carried.add_links(&mut self.candidates, &ended)?;
+        add_of_links(&mut self.candidates, before.verdicts.on_link(), &ended)?;
         self.add_waiting(&ended)?;
         Ok(())
     }

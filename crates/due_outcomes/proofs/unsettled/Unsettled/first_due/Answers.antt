@@ -17,7 +17,7 @@ due-by looked n (Some j) is = λ rules records stands. due-is rules (history rul
 
 pub returns-in_err-number-clause-quiet : goal.returns-in_err-number-clause-quiet
 returns-in_err-number-clause-quiet c = λ none rules records stands was.
-    none-left rules (history rules records) c.args.looked.now stands c.forget_settled.new.self (c.forget_settled.ensures rules records stands was) (c.in_err-number.ensures.none refl)
+    none-left rules (history rules records) c.args.looked.now stands c.sort_lowest.new.self (c.sort_lowest.ensures rules records stands was) (c.in_err-number.ensures.none refl)
 
 pub returns-clause-due : goal.returns-clause-due
 returns-clause-due c = due-by c.args.looked.now c.in_ok-number.number c.settling_of.result c.settling_of.ensures

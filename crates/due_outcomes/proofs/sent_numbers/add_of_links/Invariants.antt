@@ -3,8 +3,8 @@ use Rattle.std.specs.List.{list_any}
 use Rattle.number_groups.specs.Ascending.{has}
 use Rattle.number_groups.specs.Groups.{is_member}
 use Rattle.trace_values.specs.View.{link_view}
-use Rattle.due_outcomes.proofs.sent_numbers.SentNumbers.add_links.Given as goal
+use Rattle.due_outcomes.proofs.sent_numbers.add_of_links.Given as goal
 
 abbrev pub invariant-loop-link : goal.invariant-loop-link
 invariant-loop-link l = (n : ℕ) → has l.candidates n
-    ≡ (has l.fn.candidates n || list_any (λ link. is_member nat_eq l.self.of_link (link_view link).number n) (take l.link-index l.links))
+    ≡ (has l.fn.candidates n || list_any (λ link. is_member nat_eq l.groups (link_view link).number n) (take l.link-index l.links))

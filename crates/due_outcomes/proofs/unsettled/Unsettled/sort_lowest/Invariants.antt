@@ -5,7 +5,7 @@ use Rattle.trace_events.specs.History.{history}
 use Rattle.number_groups.specs.Ascending.{count_of}
 use Rattle.due_outcomes.specs.LookedTables.{AreLooked}
 use Rattle.due_outcomes.specs.Unsettled.{HasUnsettled}
-use Rattle.due_outcomes.proofs.unsettled.Unsettled.forget_settled.Given as goal
+use Rattle.due_outcomes.proofs.unsettled.Unsettled.sort_lowest.Given as goal
 
 abbrev pub invariant-loop-number : goal.invariant-loop-number
 invariant-loop-number l = (rules : List RuleText) (records : List Record) → AreLooked rules l.looked (history rules records) → HasUnsettled l.fn.self (history rules records)

@@ -1,0 +1,15 @@
+use Rattle.std.proofs.Common.{◌∙◌, ap, sym, ◌||◌, nat_eq}
+use Rattle.number_groups.specs.Ascending.{has}
+use Rattle.due_outcomes.proofs.GroupLists.{each-in, each-more, nothing-yet, swapped}
+use Rattle.due_outcomes.proofs.untold.add_all.Goals as goal
+
+pub loop-number-init : goal.loop-number-init
+loop-number-init c = λ n. nothing-yet (nat_eq n) c.args.numbers.now (has c.args.candidates.now n)
+
+pub loop-number-preserved : goal.loop-number-preserved
+loop-number-preserved c = λ n.
+    each-more (nat_eq n) c.args.numbers.now c.loop-number.number-index _
+    (has c.args.candidates.now n) _ _ c.loop-number-test.true (c.loop-number.invariant n) (c.in_ok-insert.ensures.joined n ∙ ap (λ b. has c.loop-number.candidates n || b) (sym (swapped n _)))
+
+pub returns : goal.returns
+returns c = λ n. each-in (nat_eq n) c.args.numbers.now c.loop-number.number-index (has c.args.candidates.now n) _ c.loop-number-test.false (c.loop-number.invariant n)
