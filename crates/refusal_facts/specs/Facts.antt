@@ -22,7 +22,7 @@ abbrev pub AreFacts : List RuleText → (ℕ → Type 0) → Event → List Even
 AreFacts rules knows e past (kinds.Frame facts) = IsFrame e facts
 AreFacts rules knows e past (kinds.Writing facts) = AreWriting e past facts
 AreFacts rules knows e past (kinds.Begin facts) = AreBegin e past facts
-AreFacts rules knows e past (kinds.Attach facts) = AreAttach rules e past facts
+AreFacts rules knows e past (kinds.Attach facts) = AreAttach e past facts
 AreFacts rules knows e past (kinds.Sending facts) = AreSending e past facts
 AreFacts rules knows e past (kinds.Beginning facts) = AreBeginning e past facts
 AreFacts rules knows e past (kinds.GoingOn facts) = AreGoingOn e facts

@@ -1,5 +1,6 @@
 -- What L11 and L12 compare: a disposition with the delivery whose outcome it tells, or which it settles.
-use Rattle.std.specs.Prelude.{◌≡◌, ℕ, List, Option, Some, None, IfSome, option_and_then, option_map}
+use Rattle.std.specs.Prelude.{◌≡◌, ℕ, List, Option, Some, None, IfSome, option_and_then, option_map, if◌then◌else◌}
+use Rattle.amqp_perf.specs.declared.descriptor.Outcome.{Outcome}
 use Rattle.amqp_perf.specs.Meaning.{flag, last_id}
 use Rattle.amqp_perf.specs.NestedViews.{state_view}
 use Rattle.capture_form.specs.Rules.{RuleText}
@@ -14,6 +15,7 @@ use Rattle.trace_events.specs.Outgoing.{decision, is_sent, pairing}
 use Rattle.trace_events.specs.Said.{out_disposition}
 use Rattle.trace_events.specs.Settling.{is_closed}
 use Rattle.trace_events.specs.Waiting.{is_gone, is_of_multicast}
+use Rattle.trace_clauses.specs.BestVerdict.{whole_verdict}
 use Rattle.trace_clauses.specs.Outcome.{row}
 use Rattle.trace_judge.specs.Told.{told_view}
 use Rattle.trace_values.specs.View.{decision_view, incoming_view, outgoing_view}
@@ -28,6 +30,10 @@ row_of rules d past (notes.Told why) = row rules d past why
 row_of rules d past notes.None = None
 row_of rules d past (notes.Pair n) = None
 
+-- the best verdict of the copies of a multicast delivery, where each that is due has its own
+abbrev pub verdict_of : List RuleText → Incoming → List Event → Option Outcome
+verdict_of rules d past = if is_of_multicast rules d then whole_verdict rules d past else None
+
 -- how a delivery to a client stands
 abbrev pub IsCarrier : List Event → Carrier → Type 0
 IsCarrier past carrier =
@@ -39,7 +45,7 @@ abbrev pub AreTold : List RuleText → Note → List Event → ToldDelivery → 
 AreTold rules note past told =
     let d = incoming_view told.delivery in
     (told.is_complete ≡ is_complete d past) × (told.is_closed ≡ is_closed past d) × (told.is_multicast ≡ is_of_multicast rules d)
-    × (told.is_gone ≡ is_gone rules d past) × (told.frame_limit ≡ frame_limit d.link.session.connection past)
+    × (told.verdict ≡ verdict_of rules d past) × (told.is_gone ≡ is_gone rules d past) × (told.frame_limit ≡ frame_limit d.link.session.connection past)
     × (option_map told_view told.row ≡ row_of rules d past note)
     × (option_map (λ carrier. outgoing_view carrier.outgoing) told.carrier ≡ pairing d past) × IfSome told.carrier (IsCarrier past)
 

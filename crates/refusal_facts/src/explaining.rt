@@ -107,7 +107,7 @@ fn facts_by<'a, P: Questions<'a>, C: Payloads<'a>>(
     match clause {
         Clause::L1 => frame_or_writing(past, event),
         Clause::L2 => Some(Facts::Begin(begin_facts(past, event)?)),
-        Clause::L3 => Some(Facts::Attach(attach_facts(past, rules, event)?)),
+        Clause::L3 => Some(Facts::Attach(attach_facts(past, event)?)),
         Clause::L4 => Some(Facts::Sending(sending_facts(past, event)?)),
         Clause::L5 => Some(Facts::Beginning(beginning_facts(past, event)?)),
         Clause::L6 => Some(Facts::GoingOn(going_on_facts(event)?)),

@@ -57,16 +57,12 @@ pub(crate) fn begin_facts<'a, P: Openings<'a>>(past: &P, event: &Event) -> Optio
     })
 }
 
-/// How the router's sender is to settle on a link of this address, if one is asked for.
-fn due_sender_mode(
-    rules: &[Rule],
-    address: &[u8],
-    asked: &Option<Asking>,
-) -> Option<SenderSettleMode>
-    ensures { result ≡ option_map (λ a. attaches.answering_sender_mode rules.now address.now a.sender_mode a.role) (option_map asking_view asked.now) }
+/// How the router's sender is to settle, if a link is asked for: as its client asks.
+fn due_sender_mode(asked: &Option<Asking>) -> Option<SenderSettleMode>
+    ensures { result ≡ option_map (λ a. a.sender_mode) (option_map asking_view asked.now) }
 {
     match asked {
-        Some(asked) => Some(asked.answering_sender_mode(rules, address)),
+        Some(asked) => Some(asked.sender_mode),
         None => None,
     }
 }
@@ -96,10 +92,9 @@ fn asked_on<'a, P: Openings<'a>>(
 /// L3.
 pub(crate) fn attach_facts<'a, P: Openings<'a>>(
     past: &P,
-    rules: &[Rule],
     event: &Event<'a, 'a>,
 ) -> Option<AttachFacts<'a>>
-    ensures facts { (history : Events) → P.stands_for past.now rules.now history → StandsLive (event_view event.now) history → IfSome result (AreAttach rules.now (event_view event.now) history) }
+    ensures facts { (rules : List RuleText) (history : Events) → P.stands_for past.now rules history → StandsLive (event_view event.now) history → IfSome result (AreAttach (event_view event.now) history) }
     ensures there { is_some result ≡ is_some (said.out_attach (event_view event.now)) }
 {
     let ours = event.out_attach()?;
@@ -110,7 +105,7 @@ pub(crate) fn attach_facts<'a, P: Openings<'a>>(
         ours,
         address,
         asked,
-        due_sender_mode: due_sender_mode(rules, address, &asked),
+        due_sender_mode: due_sender_mode(&asked),
         due_receiver_mode: due_receiver_mode(&asked),
     })
 }

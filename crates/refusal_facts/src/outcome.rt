@@ -7,9 +7,9 @@ ghost use Rattle.trace_events.specs.Outgoing as sent;
 ghost use Rattle.trace_judge.specs.Told.{told_view};
 ghost use Rattle.trace_values.specs.View.{Events, event_view, incoming_view, outgoing_view};
 ghost use Rattle.trace_events.specs.Said as said;
-ghost use Rattle.refusal_facts.specs.OutcomeFacts.{AreOutcome, AreSettling, AreTold, IsCarrier, row_of};
+ghost use Rattle.refusal_facts.specs.OutcomeFacts.{AreOutcome, AreSettling, AreTold, IsCarrier, row_of, verdict_of};
 
-use amqp_perf::State;
+use amqp_perf::{Outcome, State};
 use capture_form::Rule;
 use pairing_cert::Note;
 use trace_judge::{Outcomes, Told, row};
@@ -37,6 +37,8 @@ pub struct ToldDelivery<'a> {
     pub is_closed: bool,
     /// Its address is multicast.
     pub is_multicast: bool,
+    /// The best verdict of its copies, where each that is due has its own; of one of multicast alone.
+    pub verdict: Option<Outcome>,
     /// It found no consumer, or lost the last one, and goes to none any more.
     pub is_gone: bool,
     /// The longest frame that its producer takes, in octets.
@@ -77,12 +79,26 @@ fn row_of<'a, P: Outcomes<'a>>(
     delivery: &Incoming,
     note: Note,
 ) -> Option<Told<'a>>
+    requires few { P.is_short past.now }
     ensures { (history : Events) → P.stands_for past.now rules.now history → P.knows_incoming past.now (incoming_view delivery.now) history →
         (option_map told_view result ≡ row_of rules.now (incoming_view delivery.now) history note) }
 {
     match note {
         Note::Told(why) => row(past, rules, delivery, why),
         Note::None | Note::Pair(_) => None,
+    }
+}
+
+/// The best verdict of the copies of a multicast delivery, where each that is due has its own.
+fn verdict_of<'a, P: Outcomes<'a>>(past: &P, rules: &[Rule], delivery: &Incoming) -> Option<Outcome>
+    requires few { P.is_short past.now }
+    ensures { (history : Events) → P.stands_for past.now rules.now history → P.knows_incoming past.now (incoming_view delivery.now) history →
+        (result ≡ verdict_of rules.now (incoming_view delivery.now) history) }
+{
+    if has_multicast(rules, delivery.link.address) {
+        past.whole_verdict(rules, delivery)
+    } else {
+        None
     }
 }
 
@@ -118,6 +134,7 @@ fn standing<'a, P: Outcomes<'a>>(
     delivery: Incoming<'a>,
     note: Note,
 ) -> ToldDelivery<'a>
+    requires few { P.is_short past.now }
     ensures same { incoming_view result.delivery ≡ incoming_view delivery.entry }
     ensures told { (history : Events) → P.stands_for past.now rules.now history → P.knows_incoming past.now (incoming_view delivery.entry) history → AreTold rules.now note history result }
 {
@@ -126,6 +143,7 @@ fn standing<'a, P: Outcomes<'a>>(
         is_complete: past.is_complete(&delivery),
         is_closed: past.is_closed(&delivery),
         is_multicast: has_multicast(rules, delivery.link.address),
+        verdict: verdict_of(past, rules, &delivery),
         is_gone: past.is_gone(rules, &delivery),
         frame_limit: past.frame_limit(delivery.link.session.connection),
         row: row_of(past, rules, &delivery, note),
@@ -140,6 +158,7 @@ fn told_delivery<'a, P: Outcomes<'a>>(
     number: Option<u64>,
     note: Note,
 ) -> Option<ToldDelivery<'a>>
+    requires few { P.is_short past.now }
     ensures same { (history : Events) → P.stands_for past.now rules.now history → IfSome number (λ n. P.knows_number past.now n history) →
         (option_map (λ told. incoming_view told.delivery) result ≡ option_and_then (λ n. received.incoming_at n history) number) }
     ensures told { (history : Events) → P.stands_for past.now rules.now history → IfSome number (λ n. P.knows_number past.now n history) → IfSome result (AreTold rules.now note history) }
@@ -156,6 +175,7 @@ pub(crate) fn outcome_facts<'a, P: Outcomes<'a>>(
     rules: &[Rule],
     event: &Event<'a, 'a>,
 ) -> Option<OutcomeFacts<'a>>
+    requires few { P.is_short past.now }
     ensures facts { (history : Events) → P.stands_for past.now rules.now history → IfSome (event_view event.now).told (λ n. P.knows_number past.now n history) → IfSome result (AreOutcome rules.now (event_view event.now) history) }
     ensures there { is_some result ≡ is_some (said.out_disposition (event_view event.now)) }
 {

@@ -2,7 +2,7 @@
 
 use crate::text::{Hex, Noted, StateToTell, outcome_name};
 use crate::transfer::{write_flag, write_incoming, write_outgoing};
-use amqp_perf::State;
+use amqp_perf::{Outcome, State};
 use pairing_cert::{Note, Why};
 use refusal_facts::{Carrier, Decision, OutcomeFacts, SettlingFacts, ToldDelivery};
 use std::fmt;
@@ -66,6 +66,34 @@ fn write_carrier<W: fmt::Write>(f: &mut fmt::Formatter<W>, carrier: &Carrier) ->
     write_decision(f, &carrier.decision)
 }
 
+/// What came of the copies of a multicast delivery.
+fn write_verdict<W: fmt::Write>(
+    f: &mut fmt::Formatter<W>,
+    verdict: Option<Outcome>,
+) -> fmt::Result {
+    match verdict {
+        Some(outcome) => {
+            let name = outcome_name(outcome);
+            write!(
+                f,
+                "\nverdict: {name}, the best of its copies, each of which has one"
+            )
+        }
+        None => write!(f, "\nverdict: none yet, since a copy that is due has none"),
+    }
+}
+
+/// What carries an anycast delivery, or what came of the copies of a multicast one.
+fn write_fate<W: fmt::Write>(f: &mut fmt::Formatter<W>, told: &ToldDelivery) -> fmt::Result {
+    if told.is_multicast {
+        return write_verdict(f, told.verdict);
+    }
+    match &told.carrier {
+        None => write!(f, "\ncarried: to no consumer"),
+        Some(carrier) => write_carrier(f, carrier),
+    }
+}
+
 /// The row that the note names.
 fn write_row<W: fmt::Write>(
     f: &mut fmt::Formatter<W>,
@@ -113,10 +141,7 @@ fn write_told<W: fmt::Write>(
     if told.is_gone {
         write!(f, "\ngone: it found no consumer or lost the last one")?;
     }
-    match &told.carrier {
-        None => write!(f, "\ncarried: to no consumer")?,
-        Some(carrier) => write_carrier(f, carrier)?,
-    }
+    write_fate(f, told)?;
     write_row(f, facts.note, told)?;
     write!(f, "\nstate: ")?;
     write_state(f, &facts.state)
