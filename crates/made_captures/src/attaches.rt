@@ -70,12 +70,23 @@ pub(crate) fn put_produced(out: &mut Vec<u8>, handle: u32, address: &str) -> Res
     put_attach(out, 11, &fields)
 }
 
-/// A consumer's attach.
-pub(crate) fn put_consuming(out: &mut Vec<u8>, handle: u32, address: &str) -> Result<(), Fault> {
+/// A consumer's attach, which asks for settled deliveries or says nothing of that.
+pub(crate) fn put_consuming(
+    out: &mut Vec<u8>,
+    handle: u32,
+    address: &str,
+    is_settled: bool,
+) -> Result<(), Fault> {
     let mut fields = Vec::new(*out.allocator());
     fields.extend_from_slice(b"\xA1\x01c")?;
     put_handle(&mut fields, handle)?;
-    fields.extend_from_slice(&[0x41, NULL, NULL])?;
+    fields.extend_from_slice(&[0x41])?;
+    if is_settled {
+        fields.extend_from_slice(&[0x50, 1])?;
+    } else {
+        fields.extend_from_slice(&[NULL])?;
+    }
+    fields.extend_from_slice(&[NULL])?;
     put_terminus(&mut fields, 0x28, address)?;
     put_attach(out, 6, &fields)
 }

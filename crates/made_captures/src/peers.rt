@@ -83,7 +83,7 @@ impl<W: Write + Drop> Records<W> {
         Ok(())
     }
 
-    /// A consumer attaches; what is sent there is settled, or as it asks.
+    /// A consumer attaches, and asks that what is sent there be settled or says nothing of that.
     pub(crate) fn consume(
         &mut self,
         peer: Peer,
@@ -91,7 +91,7 @@ impl<W: Write + Drop> Records<W> {
         is_settled: bool,
     ) -> Result<(), Fault> {
         let mut octets = self.room();
-        put_consuming(&mut octets, peer.handle, address)?;
+        put_consuming(&mut octets, peer.handle, address, is_settled)?;
         self.sent(peer.connection, &octets, &[])?;
         octets.clear();
         put_consumed(&mut octets, peer.handle, address, is_settled)?;

@@ -192,15 +192,14 @@ fn parts<W: Write + Drop>(records: &mut Records<W>, count: u32) -> Result<(), Fa
     Ok(())
 }
 
-/// A message to each of the consumers.
+/// A message to each of the consumers, and its outcome behind the last copy.
 fn copied_message<W: Write + Drop>(records: &mut Records<W>, id: u32) -> Result<(), Fault> {
     let number = records.begin(producer(0), id, false, BODY)?;
-    records.tell(producer(0), id, Why::M)?;
     for handle in 0..CONSUMERS {
         let to_id = id.wrapping_mul(CONSUMERS).wrapping_add(handle);
         records.pass(consumer(handle), number, to_id, true, false, BODY)?;
     }
-    Ok(())
+    records.tell(producer(0), id, Why::M)
 }
 
 fn copies<W: Write + Drop>(records: &mut Records<W>, count: u32) -> Result<(), Fault> {
