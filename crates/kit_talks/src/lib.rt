@@ -39,7 +39,9 @@ pub use driver::Driver;
 pub use frame_counts::FrameCounts;
 pub use known::{Held, Known, Life, Link, Place, Sent, Session};
 pub use lines::lines_meant;
-pub use measured::{BEGIN, DETACH, OPEN, attaching, crediting, put_accepted, put_transfer};
+pub use measured::{
+    BEGIN, DETACH, OPEN, attaching, attaching_settled, crediting, put_accepted, put_transfer,
+};
 pub use picks::{Picks, scan_picks};
 pub use records::{Names, Telling};
 pub use served::{Seen, Served, are_served};

@@ -62,6 +62,22 @@ pub fn attaching(
     is_consumer: bool,
     address: &str,
 ) -> Result<Vec<u8>, AllocError> {
+    attaching_in(alloc, handle, is_consumer, None, address)
+}
+
+/// A consumer's attach to an address, which asks for settled deliveries.
+pub fn attaching_settled(alloc: Global, handle: u32, address: &str) -> Result<Vec<u8>, AllocError> {
+    attaching_in(alloc, handle, true, Some(1), address)
+}
+
+/// An attach to an address that asks for this sender settle mode.
+fn attaching_in(
+    alloc: Global,
+    handle: u32,
+    is_consumer: bool,
+    sender_mode: Option<u8>,
+    address: &str,
+) -> Result<Vec<u8>, AllocError> {
     let code = if is_consumer { 0x28 } else { 0x29 };
     let terminus = said::terminus(alloc, code, address.as_bytes(), false)?;
     let (source, target) = if is_consumer {
@@ -73,7 +89,7 @@ pub fn attaching(
         name: b"l",
         handle,
         is_receiver: is_consumer,
-        sender_mode: None,
+        sender_mode,
         receiver_mode: None,
         source,
         target,

@@ -1,7 +1,9 @@
 //! What stands beside the messages that are measured.
 
 use flow_counts::MAX_FRAME_SIZE;
-use kit_talks::{BEGIN, DETACH, OPEN, attaching, crediting, put_accepted, put_transfer};
+use kit_talks::{
+    BEGIN, DETACH, OPEN, attaching, attaching_settled, crediting, put_accepted, put_transfer,
+};
 use route_core::Core;
 use route_items::Item;
 use std::alloc::Global;
@@ -17,7 +19,7 @@ pub(crate) enum Shape {
     Unsettled,
     /// Deliveries of others that wait for credit.
     Waiting,
-    /// Each message goes to so many consumers.
+    /// Each message goes, settled, to so many consumers.
     Copies,
     /// Deliveries wait for credit of a consumer, which then leaves.
     Ending,
@@ -121,7 +123,7 @@ fn other_messages(alloc: Global, core: &mut Core, count: u32, has_credit: bool) 
     Ok(())
 }
 
-/// A producer of a multicast address, and so many consumers of it.
+/// A producer of a multicast address, and so many consumers of it, which ask for settled copies.
 fn copied(alloc: Global, core: &mut Core, count: u32) -> io::Result<()> {
     produce(alloc, core, PRODUCER, 0, "news")?;
     for number in 0..count {
@@ -130,7 +132,8 @@ fn copied(alloc: Global, core: &mut Core, count: u32) -> io::Result<()> {
         if handle == 0 {
             connect(core, connection)?;
         }
-        consume(alloc, core, connection, handle, "news")?;
+        let frame = attaching_settled(alloc, handle, "news")?;
+        send(core, connection, frame.as_slice())?;
         credit(alloc, core, connection, handle)?;
     }
     Ok(())
