@@ -119,6 +119,11 @@ impl Client {
         self.taken.len()
     }
 
+    /// Whether these octets are just those that it took.
+    pub fn has_taken(&self, octets: &[u8]) -> bool {
+        self.taken.as_slice() == octets
+    }
+
     /// Whether it said all, and took all that it waits for.
     pub fn is_content(&self) -> bool {
         self.at == self.stream.len() && self.taken.len() >= self.script.wanted

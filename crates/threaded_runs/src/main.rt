@@ -337,7 +337,11 @@ impl Tally {
                 self.failures = self.failures.saturating_add(*failures);
                 matches!(audited(alloc, capture)?, Verdict::Accepted(_))
             }
-            Served::NotAlone | Served::NotLost | Served::CoreFailed(_) | Served::Fault(_) => false,
+            Served::NotAlone
+            | Served::NotLost
+            | Served::OtherOctets
+            | Served::CoreFailed(_)
+            | Served::Fault(_) => false,
         };
         let count = if is_accepted {
             &mut self.accepted
@@ -369,6 +373,7 @@ fn told(alloc: Global, served: &Served) -> Result<String, AllocError> {
         }
         Served::NotAlone => String::from_str(alloc, "called behind its end"),
         Served::NotLost => String::from_str(alloc, "not lost, or other octets"),
+        Served::OtherOctets => String::from_str(alloc, "a report tells other octets"),
         Served::CoreFailed(capture) => match audited(alloc, capture)? {
             Verdict::Accepted(_) => String::from_str(alloc, "core failed, accepted"),
             _ => String::from_str(alloc, "core failed, not accepted"),

@@ -26,6 +26,8 @@ pub enum Served {
     /// A device failed, and its connection was opened and is not lost, or the client took something else than the first of
     /// the router's octets.
     NotLost,
+    /// The report tells other octets than a client took.
+    OtherOctets,
     /// The core refused a step, and this is its capture.
     CoreFailed(Capture),
     /// Another fault of this number.
@@ -64,8 +66,13 @@ fn outcome_of(alloc: Global, report: RunReport<Client>) -> Result<Served, AllocE
         if !conn.gate.is_left_alone() {
             return Ok(Served::NotAlone);
         }
+        let taken = conn.taken.octets(alloc)?;
+        if !conn.gate.has_taken(taken.as_slice()) {
+            return Ok(Served::OtherOctets);
+        }
         let failed = conn.gate.failures();
-        if failed > 0 && !(is_lost(conn) && is_front(alloc, &report.capture, conn)?) {
+        let octets = taken.as_slice();
+        if failed > 0 && !(is_lost(conn) && is_front(alloc, &report.capture, conn.conn, octets)?) {
             return Ok(Served::NotLost);
         }
         is_content &= conn.gate.is_content();
@@ -82,20 +89,21 @@ fn is_lost(conn: &ConnReport<Client>) -> bool {
     }
 }
 
-/// Whether a client took the header of AMQP and then the frames that the capture tells to it, or the first octets of these.
+/// Whether what the client of the connection took is the header of AMQP and then the frames that the capture tells to it, or
+/// the first octets of these.
 fn is_front(
     alloc: Global,
     capture: &Capture,
-    conn: &ConnReport<Client>,
+    connection: u32,
+    taken: &[u8],
 ) -> Result<bool, AllocError> {
     let mut octets = Vec::from_slice(alloc, AMQP_HEADER)?;
     for record in capture.records() {
         if let What::Out(frame) = &record.what
-            && record.connection == conn.conn
+            && record.connection == connection
         {
             octets.extend_from_slice(frame.octets())?;
         }
     }
-    let taken = conn.taken.octets(alloc)?;
-    Ok(octets.as_slice().starts_with(taken.as_slice()))
+    Ok(octets.as_slice().starts_with(taken))
 }
