@@ -189,7 +189,7 @@ class Large(Try):
 
 
 class Multicast(Try):
-    """Each consumer of a multicast address gets a copy, and the producer is told that it was accepted."""
+    """Each consumer of a multicast address gets a copy and accepts it, and the producer is told so once."""
 
     wanted = ["copy", "copy", "copy", "told accepted"]
 
@@ -206,6 +206,7 @@ class Multicast(Try):
 
     def on_message(self, event):
         self.said.append("copy")
+        self.accept(event.delivery)
         self.look()
 
     def on_accepted(self, event):

@@ -232,11 +232,19 @@ def sections(bridge):
 
 
 def multicast(bridge):
-    """Each of two consumers gets a copy, and the producer is told that the message was accepted."""
+    """Each of two consumers gets a copy and accepts it, and the producer is told that the message was accepted."""
     said = []
+
+    def accepting(name):
+        def on_message(message):
+            said.append(name + b" got " + body_of(message))
+            message.accept()
+
+        return on_message
+
     with Line(bridge) as line:
-        line.receiver("news", lambda message: said.append(b"a got " + body_of(message)), prefetch=5)
-        line.receiver("news", lambda message: said.append(b"b got " + body_of(message)), prefetch=5)
+        line.receiver("news", accepting(b"a"), prefetch=5)
+        line.receiver("news", accepting(b"b"), prefetch=5)
         line.send(line.sender("news"), b"extra")
         line.until(lambda: len(said) == 2)
         return sorted(said) + line.all_told()
