@@ -76,19 +76,18 @@ fn write_verdict<W: fmt::Write>(
             let name = outcome_name(outcome);
             write!(
                 f,
-                "\nverdict: {name}, the best of its copies, each of which has one"
+                "\nverdict: {name}, the best of its copies; none that is due lacks one"
             )
         }
         None => write!(f, "\nverdict: none yet, since a copy that is due has none"),
     }
 }
 
-/// What carries an anycast delivery, or what came of the copies of a multicast one.
+/// What carries an anycast delivery, or what came of the copies of a multicast one, which come due once it is complete.
 fn write_fate<W: fmt::Write>(f: &mut fmt::Formatter<W>, told: &ToldDelivery) -> fmt::Result {
-    if told.is_multicast {
-        return write_verdict(f, told.verdict);
-    }
     match &told.carrier {
+        _ if told.is_multicast && !told.is_complete => Ok(()),
+        _ if told.is_multicast => write_verdict(f, told.verdict),
         None => write!(f, "\ncarried: to no consumer"),
         Some(carrier) => write_carrier(f, carrier),
     }
