@@ -5,6 +5,7 @@ mod OrderExamples
 mod FirstNeglected
 mod SharedFrames
 mod DutiesNeglected
+mod CopiesNeglected
 mod FaultsAnswered
 mod AnswersKept
 mod PicksKept
