@@ -10,7 +10,6 @@ use Rattle.capture_form.specs.Rules.{RuleText}
 use Rattle.trace_events.specs.declared.session.Session.{Session}
 use Rattle.trace_events.specs.Words.{is_some_and, is_none_or}
 use Rattle.trace_events.specs.Event.{Event, Link, Incoming, Outgoing, Out}
-use Rattle.trace_events.specs.Session.{IsLiveOn}
 use Rattle.trace_events.specs.Link.{session_link, is_consumer, is_producer, IsLiveLink}
 use Rattle.trace_events.specs.Incoming.{incoming_at}
 use Rattle.trace_events.specs.Outgoing.{noted}
@@ -23,7 +22,7 @@ use Rattle.trace_clauses.specs.Written.{says, session_numbers, written_transfer,
 use Rattle.trace_clauses.proofs.FirstSent.{due_copy}
 use Rattle.trace_duties.specs.Quiet.{none_is_untold, stands_still, none_stands_still}
 use Rattle.trace_duties.specs.Diligent.{is_of_answer}
-use Rattle.trace_duties.specs.Turn.{is_all_told, is_all_sent, is_all_drained, is_first_to_begin, begins_in_turn, link_flow_in_turn, window_in_turn, stands_in_turn}
+use Rattle.trace_duties.specs.Turn.{is_all_told, is_all_sent, is_all_drained, is_first_to_begin, begins_in_turn, link_flow_in_turn, is_all_credited, stands_in_turn}
 use Rattle.route_dues.specs.Outcomes.{outcome_frame}
 use Rattle.route_dues.specs.Transfers.{first_frame, next_frame}
 use Rattle.route_dues.specs.Writing.{frame_of, writing, IsLawful}
@@ -113,7 +112,6 @@ module _ (rules : List RuleText) (past : List Event) (l : Link) (live : IsLiveLi
   credit_in_turn produces drained =
       flow_in_turn _ (full_credit rules past l) false (ap (λ b. if b then is_all_sent rules past else is_all_drained rules past) (no_consumer l.role produces) ∙ drained)
 
-pub window_stands_in_turn : (rules : List RuleText) (past : List Event) (s : Session) → IsLiveOn s past → window_in_turn rules past s ≡ true
+pub window_in_turn : (rules : List RuleText) (past : List Event) (s : Session) → is_all_credited rules past ≡ true
     → stands_in_turn rules (writing rules past s.connection notes.None (written_session_flow s past)) past (Out (frame_of (written_session_flow s past))) ≡ true
-window_stands_in_turn rules past s live turn =
-    or_right (is_of_answer rules past) _ (ap (λ o. is_some_and o (window_in_turn rules past)) live ∙ turn)
+window_in_turn rules past s credited = or_right (is_of_answer rules past) (is_all_credited rules past) credited

@@ -1,2 +1,3 @@
 pub mod Follow
+mod Turns
 pub mod Entering

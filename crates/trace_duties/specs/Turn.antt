@@ -2,7 +2,7 @@
 -- answers to drains, credit for producers, and windows of sessions. It is asked of each record alone: behind the answer
 -- nothing of an earlier place is due where it stands. So outcomes that no transfer causes stand in front of all transfers.
 -- One that a transfer causes stands behind it at once, and the settlings that it frees stand behind that.
-use Rattle.std.specs.Prelude.{Bool, true, false, ◌&&◌, ◌||◌, not, List, [], ◌∷◌, length, is_some, nat_le, if◌then◌else◌, ◌==◌}
+use Rattle.std.specs.Prelude.{Bool, true, false, ◌&&◌, ◌||◌, not, List, [], ◌∷◌, length, is_some, if◌then◌else◌, ◌==◌}
 use Rattle.std.specs.List.{list_all}
 use Rattle.amqp_perf.specs.declared.attach.Role.{Role}
 use Rattle.amqp_perf.specs.declared.attach.Role.TheVariants.{Sender, Receiver}
@@ -13,15 +13,13 @@ use Rattle.capture_form.specs.Rules.{RuleText}
 use Rattle.trace_events.specs.Words.{is_some_and, is_none_or}
 use Rattle.trace_events.specs.Frame.{spoken_in}
 use Rattle.trace_events.specs.Event.{Event, Link, Incoming, Moment, Out}
-use Rattle.trace_events.specs.declared.session.Session.{Session}
-use Rattle.trace_events.specs.Session.{live_sessions}
 use Rattle.trace_events.specs.Link.{is_consumer}
 use Rattle.trace_events.specs.Incoming.{address_of, incoming_deliveries, completed_before}
 use Rattle.trace_events.specs.Outgoing.{noted}
 use Rattle.trace_events.specs.Waiting.{is_of_multicast, is_waiting}
 use Rattle.trace_events.specs.History.{history}
 use Rattle.trace_duties.specs.Pick.{eligible}
-use Rattle.trace_duties.specs.Quiet.{none_is_untold, none_is_unsettled, stands_still, none_stands_still, none_waits_in_vain, copies_are_sent, none_is_undrained, none_lacks_credit, lacks_window}
+use Rattle.trace_duties.specs.Quiet.{none_is_untold, none_is_unsettled, stands_still, none_stands_still, none_waits_in_vain, copies_are_sent, none_is_undrained, none_lacks_credit}
 use Rattle.trace_duties.specs.Diligent.{is_of_answer}
 
 -- ---- nothing of the earlier places is due
@@ -68,16 +66,10 @@ transfer_in_turn rules e past = is_all_told rules past && (is_some_and e.link (s
 abbrev pub link_flow_in_turn : List RuleText → List Event → Link → Bool
 link_flow_in_turn rules past l = if is_consumer l then is_all_sent rules past else is_all_drained rules past
 
--- then windows, that of the session which began first in front
-abbrev pub is_first_lacking : List Event → Session → Bool
-is_first_lacking past s = list_all (λ t. not (lacks_window past t) || nat_le s.number t.number) (live_sessions past)
-
-abbrev pub window_in_turn : List RuleText → List Event → Session → Bool
-window_in_turn rules past s = is_all_credited rules past && is_first_lacking past s
-
+-- then windows of sessions
 abbrev pub flow_in_turn : List RuleText → Event → Flow → List Event → Bool
 flow_in_turn rules e flow past =
-    if is_some flow.handle then is_some_and e.link (link_flow_in_turn rules past) else is_some_and e.session (window_in_turn rules past)
+    if is_some flow.handle then is_some_and e.link (link_flow_in_turn rules past) else is_all_credited rules past
 
 -- nothing else is written but as an answer
 abbrev pub is_in_place : List RuleText → Event → List Event → Meaning → Bool
