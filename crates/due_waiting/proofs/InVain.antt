@@ -20,6 +20,10 @@ use Rattle.trace_duties.proofs.QuietLists.{all-each}
 use Rattle.due_flows.proofs.LiveOnes.{live_links-live}
 use Rattle.due_waiting.specs.Waking.{MayBegin}
 
+or-last : (a b : Bool) → b ≡ true → a || b ≡ true
+or-last true b is = refl
+or-last false b is = is
+
 empty : (ls : List Link) → ((l : Link) → Contains ls l → ⊥) → (length ls == 0) ≡ true
 empty [] none = refl
 empty (l ∷ ls) none = absurd (none l (contains_first l ls))
@@ -56,7 +60,7 @@ module _ (rules : List RuleText) (past : List Event) (are : AreJudged rules past
     where
       one : (d : Incoming) → Contains (incoming_deliveries past) d → is_waiting rules d past ≡ true → (ls : List Link) → eligible (address_of d) past ≡ ls → length ls == 0 || not (completed_before d x past) ≡ true
       one d there waits [] is = refl
-      one d there waits (l ∷ ls) is = ap not (first d l (eligible-begins d there waits l (subst (λ ks. Contains ks l) (sym is) (contains_first l ls))))
+      one d there waits (l ∷ ls) is = or-last (length (l ∷ ls) == 0) (not (completed_before d x past)) (ap not (first d l (eligible-begins d there waits l (subst (λ ks. Contains ks l) (sym is) (contains_first l ls)))))
 
       by : (d : Incoming) → Contains (incoming_deliveries past) d → (b : Bool) → is_waiting rules d past ≡ b → not b || length (eligible (address_of d) past) == 0 || not (completed_before d x past) ≡ true
       by d there false waits = refl

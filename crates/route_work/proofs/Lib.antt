@@ -1,3 +1,3 @@
 pub mod Follow
-mod Turns
+pub mod Turns
 pub mod Entering

@@ -1,5 +1,5 @@
 -- What lists that are empty leave of what is due in front of others.
-use Rattle.std.proofs.Common.{◌≡◌, Bool, true, ◌&&◌, List, Option, Some, None, IfSome}
+use Rattle.std.proofs.Common.{◌≡◌, refl, Bool, true, ◌&&◌, List, Option, Some, None, IfSome}
 use Rattle.capture_form.specs.Rules.{RuleText}
 use Rattle.capture_form.specs.declared.records.Record.{Record}
 use Rattle.trace_events.specs.Event.{Event}

@@ -66,6 +66,7 @@ impl Flowing {
     }
 
     /// The first drain answer; where no drain may be answered, the first credit; where none may be given, the first window.
+    #[tactic(auto, using(crate::proofs::Turns::all_sent, crate::proofs::Turns::all_drained, crate::proofs::Turns::all_credited))]
     pub(crate) fn next_due<'t>(&mut self, rules: &[Rule], looked: &Looked<'t>) -> Option<Due<'t>>
         ensures due { (records : List Record) → TellsOf rules.now looked.now (history rules.now records) →
             HasFlowing rules.now self.old (history rules.now records) → IfSome result (IsDue rules.now (history rules.now records)) }
