@@ -72,12 +72,13 @@ pub record IsNextFrame (rules : List RuleText) (past : List Event) (r : Record) 
   pub again : IsReadAgain spoken
   pub short : length (spoken_octets spoken) ≤ MAX_FRAME_SIZE
 
--- behind some events that are in order, for which the one who is asked stands, this is due
+-- behind some events that are in order, for which the one who is asked stands, this is due, and nothing in front of it
 pub record IsDueBehind (StandsFor : List Event → Type 0) (rules : List RuleText) (due : Due) : Type 0 where
   pub past : List Event
   pub stands : StandsFor past
   pub order : IsInOrder rules past
   pub is_due : IsDue rules past due
+  pub turn : is_in_turn rules past due ≡ true
 
 -- ---- where it is written, and what is certified of it
 
