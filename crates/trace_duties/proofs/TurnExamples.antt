@@ -4,7 +4,7 @@ use Rattle.amqp_perf.specs.declared.attach.Role.TheVariants.{Receiver}
 use Rattle.amqp_perf.specs.declared.attach.SenderSettleMode.TheVariants.{Settled, Mixed}
 use Rattle.amqp_perf.specs.declared.attach.ReceiverSettleMode.TheVariants.{First}
 use Rattle.amqp_perf.specs.Meaning.{AnAttach, AFlow, ATransfer, ADisposition}
-use Rattle.pairing_cert.specs.declared.note.Why.TheVariants.{C, S, M}
+use Rattle.pairing_cert.specs.declared.note.Why.TheVariants.{C, S}
 use Rattle.capture_form.specs.declared.records.Record.{Record}
 use Rattle.capture_form.specs.declared.rules.Distribution.TheVariants.{Multicast}
 use Rattle.capture_form.specs.Rules.{RuleText}
