@@ -1,11 +1,11 @@
--- Where no delivery may begin, none waits in vain.
-use Rattle.std.proofs.Common.{◌≡◌, refl, Bool, true, false, not, ◌&&◌, ◌||◌, List, [], ◌∷◌, length, filter, bytes_eq, ◌==◌}
+-- Where no delivery may begin, none waits in vain; and which is the first that may.
+use Rattle.std.proofs.Common.{◌≡◌, refl, sym, ap, subst, Bool, true, false, not, ◌&&◌, ◌||◌, List, [], ◌∷◌, length, filter, bytes_eq, ◌==◌}
 use Rattle.std.specs.Prelude.{Contains}
 use Rattle.std.proofs.lemmas.Slice.Eq.{bytes_eq-Decides}
 use Rattle.capture_form.specs.Rules.{RuleText}
 use Rattle.trace_events.specs.Event.{Event, Link, Incoming}
 use Rattle.trace_events.specs.Address.{consumers, is_consumer_of}
-use Rattle.trace_events.specs.Incoming.{address_of, incoming_deliveries}
+use Rattle.trace_events.specs.Incoming.{address_of, completed_before, incoming_deliveries}
 use Rattle.trace_events.specs.Link.{is_consumer, is_live, links}
 use Rattle.trace_events.specs.Waiting.{is_waiting}
 use Rattle.trace_events.proofs.Along.{and_first, and_last}
@@ -15,9 +15,14 @@ use Rattle.trace_clauses.proofs.Parts.{IsKept, each_delivery}
 use Rattle.trace_clauses.proofs.WaitingQueue.{all_contained, contains_first, filter_has, in_filter, in_reverse}
 use Rattle.trace_duties.specs.Pick.{eligible, may_take}
 use Rattle.trace_duties.specs.Quiet.{none_waits_in_vain}
+use Rattle.trace_duties.specs.Turn.{is_first_to_begin}
 use Rattle.trace_duties.proofs.QuietLists.{all-each}
 use Rattle.due_flows.proofs.LiveOnes.{live_links-live}
 use Rattle.due_waiting.specs.Waking.{MayBegin}
+
+or-last : (a b : Bool) → b ≡ true → a || b ≡ true
+or-last true b is = refl
+or-last false b is = is
 
 empty : (ls : List Link) → ((l : Link) → Contains ls l → ⊥) → (length ls == 0) ≡ true
 empty [] none = refl
@@ -47,3 +52,16 @@ module _ (rules : List RuleText) (past : List Event) (are : AreJudged rules past
       by : (d : Incoming) → Contains (incoming_deliveries past) d → (b : Bool) → is_waiting rules d past ≡ b → not b || length (eligible (address_of d) past) == 0 ≡ true
       by d there false waits = refl
       by d there true waits = empty (eligible (address_of d) past) (λ l eligible. none d l (eligible-begins d there waits l eligible))
+
+  -- one before which none was completed that may begin is the first
+  pub first-begins : (x : Incoming) → ((d : Incoming) (l : Link) → MayBegin rules past d l → completed_before d x past ≡ false) → is_first_to_begin rules past x ≡ true
+  first-begins x first =
+      all-each (λ d. not (is_waiting rules d past) || length (eligible (address_of d) past) == 0 || not (completed_before d x past)) (incoming_deliveries past) (λ d there. by d there (is_waiting rules d past) refl)
+    where
+      one : (d : Incoming) → Contains (incoming_deliveries past) d → is_waiting rules d past ≡ true → (ls : List Link) → eligible (address_of d) past ≡ ls → length ls == 0 || not (completed_before d x past) ≡ true
+      one d there waits [] is = refl
+      one d there waits (l ∷ ls) is = or-last (length (l ∷ ls) == 0) (not (completed_before d x past)) (ap not (first d l (eligible-begins d there waits l (subst (λ ks. Contains ks l) (sym is) (contains_first l ls)))))
+
+      by : (d : Incoming) → Contains (incoming_deliveries past) d → (b : Bool) → is_waiting rules d past ≡ b → not b || length (eligible (address_of d) past) == 0 || not (completed_before d x past) ≡ true
+      by d there false waits = refl
+      by d there true waits = one d there waits (eligible (address_of d) past) refl

@@ -93,7 +93,7 @@ written rules input before (s ∷ left) past is fine lawful =
     let e = writing rules input.connection past s in
     let h = written rules input before left (e ∷ past) (answers_more rules input before s left past is fine.0.plain) fine.1 (rw (lawful, fine.0.lawful) refl) in
     record {
-      frames = (record { lawful = fine.0.lawful; due = is_due rules input before s left past is fine.0.plain; fits = fine.0.fits }, h.frames);
+      frames = (record { lawful = fine.0.lawful; due = is_due rules input before s left past is fine.0.plain; turn = or_left (is_of_answer rules past) _ (of_answer rules input before s left past is fine.0.plain); fits = fine.0.fits }, h.frames);
       answered = h.answered;
       lawful = h.lawful;
     }

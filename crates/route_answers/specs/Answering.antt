@@ -9,6 +9,7 @@ use Rattle.trace_clauses.specs.Clauses.{broken_clause, first_broken}
 use Rattle.trace_clauses.specs.Written.{spoken_octets}
 use Rattle.trace_duties.specs.Answer.{answer}
 use Rattle.trace_duties.specs.Diligent.{moment_keeps, is_answered}
+use Rattle.trace_duties.specs.Turn.{stands_in_turn}
 use Rattle.route_answers.specs.Writing.{writing, behind}
 
 -- ---- before an input
@@ -39,10 +40,11 @@ pub record IsReady (rules : List RuleText) (past : List Event) : Type 0 where
 
 -- ---- the frames of an answer
 
--- it breaks no clause, is due, and is no longer than the client takes
+-- it breaks no clause, is due, stands in turn, and is no longer than the client takes
 pub record IsInOrder (rules : List RuleText) (c : ℕ) (past : List Event) (spoken : Spoken) : Type 0 where
   pub lawful : broken_clause rules (writing rules c past spoken) past ≡ None
   pub due : moment_keeps rules (writing rules c past spoken) past (writing rules c past spoken).moment ≡ true
+  pub turn : stands_in_turn rules (writing rules c past spoken) past (writing rules c past spoken).moment ≡ true
   pub fits : length (spoken_octets spoken) ≤ frame_limit c past
 
 -- each of them, in its place

@@ -20,6 +20,7 @@ pub mod StatesWritable
 pub mod NoTransfers
 pub mod Answered
 pub mod Steps
+pub mod Turns
 pub mod Sums
 pub mod OwnCounts
 pub mod FlowOctets

@@ -19,6 +19,7 @@ use Rattle.trace_duties.specs.Answer.{answer}
 use Rattle.trace_duties.specs.Diligent.{moment_keeps, all_keep, is_answered, is_diligent}
 use Rattle.trace_duties.specs.Quiet.{is_quiet}
 use Rattle.trace_duties.specs.Order.{CopiesInOrder, is_earliest}
+use Rattle.trace_duties.specs.Turn.{stands_in_turn, are_in_turn, is_ordered}
 use Rattle.trace_duties.proofs.CopyOrder.{copies_in_order-step, copies_in_order-none, earliest-none}
 use Rattle.route_answers.specs.Answering.{IsReady, AreOpensAnswered, IsAnswerInOrder, AreInOrder, may_happen}
 use Rattle.route_answers.specs.Writing.{behind}
@@ -45,6 +46,7 @@ start rules = record {
       keeps = refl;
       copies = copies_in_order-none rules;
     };
+    turns = refl;
     opens = none_answered;
     answered = refl;
   };
@@ -83,6 +85,13 @@ input_keeps rules past c (In frame) may rest = both (is_quiet rules past) (is_an
 input_keeps rules past c Lost may rest = both (is_quiet rules past) (is_answered rules past) rest.quiet rest.under_way.answered
 input_keeps rules past c Broken may rest = both (is_quiet rules past) (is_answered rules past) rest.quiet rest.under_way.answered
 input_keeps rules past c (Out frame) may rest = absurd cc
+
+input_turn : (rules : List RuleText) (past : List Event) (c : ℕ) (m : Moment) → IsTrue (may_happen c m past) → stands_in_turn rules (judge_moment rules past c m notes.None) past m ≡ true
+input_turn rules past c Opened may = refl
+input_turn rules past c (In frame) may = refl
+input_turn rules past c Lost may = refl
+input_turn rules past c Broken may = refl
+input_turn rules past c (Out frame) may = absurd cc
 
 input_begins : (rules : List RuleText) (past : List Event) (c : ℕ) (m : Moment) → IsTrue (may_happen c m past) → begins_outgoing (judge_moment rules past c m notes.None) ≡ false
 input_begins rules past c Opened may = refl
@@ -130,6 +139,7 @@ module _ (rules : List RuleText) (past : List Event) (r : Record) (rest : IsAtRe
   answering : IsAnswering rules r.connection (e ∷ past) (answer rules e (e ∷ past))
   answering = record {
     order = order_now;
+    turns = both (stands_in_turn rules e past m) (are_in_turn rules past) (input_turn rules past r.connection m may) rest.under_way.turns;
     frames = h.frames;
     plain = answer_plain rules e (e ∷ past);
     opens = h.opens;
@@ -160,6 +170,7 @@ module _ (rules : List RuleText) (past : List Event) (c : ℕ) (s : Spoken) (lef
   pub reply : IsReadAgain s → IsAnswering rules c (w ∷ past) left
   reply again = record {
     order = stays_in_order rules past c notes.None s is.order may_follow again;
+    turns = both (stands_in_turn rules w past w.moment) (are_in_turn rules past) is.frames.0.turn is.turns;
     frames = is.frames.1;
     plain = is.plain.1;
     opens = is.opens;
@@ -167,17 +178,18 @@ module _ (rules : List RuleText) (past : List Event) (c : ℕ) (s : Spoken) (lef
   }
 
 pub answered : (rules : List RuleText) (past : List Event) (c : ℕ) → IsAnswering rules c past [] → IsUnderWay rules past
-answered rules past c is = record { order = is.order; opens = is.opens; answered = is.answered }
+answered rules past c is = record { order = is.order; turns = is.turns; opens = is.opens; answered = is.answered }
 
 -- ---- what is due
 
-pub due : (rules : List RuleText) (past : List Event) (c : ℕ) (note : Note) (s : Spoken) → IsUnderWay rules past → MayFollow rules past c note s → IsReadAgain s
-    → IsUnderWay rules (writing rules past c note s ∷ past)
-due rules past c note s way may again =
+pub due : (rules : List RuleText) (past : List Event) (c : ℕ) (note : Note) (s : Spoken) → IsUnderWay rules past → MayFollow rules past c note s
+    → stands_in_turn rules (writing rules past c note s) past (Out (frame_of s)) ≡ true → IsReadAgain s → IsUnderWay rules (writing rules past c note s ∷ past)
+due rules past c note s way may turn again =
     let w = writing rules past c note s in
     let order = stays_in_order rules past c note s way.order may again in
     record {
       order = order;
+      turns = both (stands_in_turn rules w past w.moment) (are_in_turn rules past) turn way.turns;
       opens = opens_stay rules w past order.lawful.unbroken refl (due-no_open rules past c note s way.answered may.keeps) way.opens;
       answered = answered_more rules w past refl way.answered;
     }
@@ -192,3 +204,6 @@ diligent rules records at =
     let past = history rules records in
     both (all_keep rules past && is_quiet rules past) (is_answered rules past)
     (both (all_keep rules past) (is_quiet rules past) at.under_way.order.keeps at.quiet) at.under_way.answered
+
+pub ordered : (rules : List RuleText) (records : List Record) → IsAtRest rules (history rules records) → is_ordered rules records ≡ true
+ordered rules records at = at.under_way.turns

@@ -9,14 +9,16 @@ use Rattle.trace_events.specs.Said.{as_transfer}
 use Rattle.trace_clauses.specs.Written.{spoken_octets}
 use Rattle.trace_duties.specs.Diligent.{is_answered}
 use Rattle.trace_duties.specs.Quiet.{is_quiet}
+use Rattle.trace_duties.specs.Turn.{are_in_turn}
 use Rattle.route_answers.specs.Answering.{AreInOrder, AreOpensAnswered}
 use Rattle.route_answers.specs.Writing.{behind}
 use Rattle.route_dues.specs.Writing.{IsInOrder}
 
--- while a step is written: no record breaks a clause, the duties are kept, copies are in order, opens are answered, and
--- so is the input of the step
+-- while a step is written: no record breaks a clause, the duties are kept, copies are in order, each record stands in turn,
+-- opens are answered, and so is the input of the step
 pub record IsUnderWay (rules : List RuleText) (past : List Event) : Type 0 where
   pub order : IsInOrder rules past
+  pub turns : are_in_turn rules past ≡ true
   pub opens : AreOpensAnswered past
   pub answered : is_answered rules past ≡ true
 
@@ -33,6 +35,7 @@ AreNoTransfers (spoken ∷ more) = (as_transfer spoken.meaning ≡ None) × AreN
 -- these frames of an answer are left to be written on the connection; behind the last one the step is under way
 pub record IsAnswering (rules : List RuleText) (c : ℕ) (past : List Event) (left : List Spoken) : Type 0 where
   pub order : IsInOrder rules past
+  pub turns : are_in_turn rules past ≡ true
   pub frames : AreInOrder rules c left past
   pub plain : AreNoTransfers left
   pub opens : AreOpensAnswered (behind rules c left past)

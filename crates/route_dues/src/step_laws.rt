@@ -7,15 +7,16 @@ ghost use Rattle.pairing_cert.specs.declared.note.Note.TheVariants as notes;
 ghost use Rattle.capture_form.specs.Rules.{RuleText};
 ghost use Rattle.capture_form.specs.declared.records.Record.{Record};
 ghost use Rattle.trace_events.specs.Frame.{Spoken};
-ghost use Rattle.trace_events.specs.Event.{Event};
+ghost use Rattle.trace_events.specs.Event.{Event, Out};
 ghost use Rattle.trace_events.specs.History.{judge, history, moment_of};
 ghost use Rattle.trace_clauses.specs.Clauses.{first_broken, broken_clause};
 ghost use Rattle.trace_clauses.specs.Written.{spoken_octets};
 ghost use Rattle.trace_duties.specs.Answer.{answer};
 ghost use Rattle.trace_duties.specs.Diligent.{is_diligent};
 ghost use Rattle.trace_duties.specs.Quiet.{is_quiet};
+ghost use Rattle.trace_duties.specs.Turn.{stands_in_turn, is_ordered};
 ghost use Rattle.route_answers.specs.Answering.{may_happen};
-ghost use Rattle.route_dues.specs.Writing.{writing, IsReadAgain, MayFollow};
+ghost use Rattle.route_dues.specs.Writing.{frame_of, writing, IsReadAgain, MayFollow};
 ghost use Rattle.route_dues.specs.Steps.{IsAnswering, IsAtRest, IsUnderWay};
 
 /// The law of a step. The function does nothing: its contract is the law.
@@ -33,13 +34,15 @@ pub fn laws_of_steps()
         → IsAnswering rules c (writing rules past c notes.None s ∷ past) left }
     // Behind the last one the step is under way.
     ensures answered { (rules : List RuleText) (past : List Event) (c : ℕ) → IsAnswering rules c past [] → IsUnderWay rules past }
-    // It stays so behind a frame that may follow and is read again.
-    ensures due { (rules : List RuleText) (past : List Event) (c : ℕ) (note : Note) (s : Spoken) → IsUnderWay rules past → MayFollow rules past c note s → IsReadAgain s
-        → IsUnderWay rules (writing rules past c note s ∷ past) }
+    // It stays so behind a frame that may follow, stands in turn and is read again.
+    ensures due { (rules : List RuleText) (past : List Event) (c : ℕ) (note : Note) (s : Spoken) → IsUnderWay rules past → MayFollow rules past c note s
+        → stands_in_turn rules (writing rules past c note s) past (Out (frame_of s)) ≡ true → IsReadAgain s → IsUnderWay rules (writing rules past c note s ∷ past) }
     // Where nothing is left, all is at rest.
     ensures rest { (rules : List RuleText) (past : List Event) → IsUnderWay rules past → is_quiet rules past ≡ true → IsAtRest rules past }
     // Records that are at rest break no clause.
     ensures lawful { (rules : List RuleText) (records : List Record) → IsAtRest rules (history rules records) → first_broken rules (history rules records) ≡ None }
     // A router that wrote them did all that it owes.
     ensures diligent { (rules : List RuleText) (records : List Record) → IsAtRest rules (history rules records) → is_diligent rules records ≡ true }
+    // The records of each step stand in order.
+    ensures ordered { (rules : List RuleText) (records : List Record) → IsAtRest rules (history rules records) → is_ordered rules records ≡ true }
 {}

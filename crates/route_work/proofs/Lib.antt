@@ -1,2 +1,3 @@
 pub mod Follow
+pub mod Turns
 pub mod Entering

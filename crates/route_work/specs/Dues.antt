@@ -1,6 +1,6 @@
 -- What is due to be written, by the events so far: what each kind asks of them (own rules; part 2 of the standard, sections
 -- 2.5.6, 2.6.7, 2.6.12 and 2.7.5).
-use Rattle.std.specs.Prelude.{◌≡◌, ◌≤◌, ℕ, true, List, Some, length}
+use Rattle.std.specs.Prelude.{◌≡◌, ◌≤◌, ℕ, Bool, true, ◌&&◌, List, Some, length}
 use Rattle.flow_counts.specs.declared.profile.TheConstants.{MAX_FRAME_SIZE}
 use Rattle.pairing_cert.specs.declared.note.Note.{Note}
 use Rattle.pairing_cert.specs.declared.note.Note.TheVariants as notes
@@ -8,14 +8,16 @@ use Rattle.capture_form.specs.declared.records.Record.{Record}
 use Rattle.capture_form.specs.declared.records.What.TheVariants as whats
 use Rattle.capture_form.specs.Rules.{RuleText}
 use Rattle.trace_events.specs.Frame.{Spoken}
-use Rattle.trace_events.specs.Event.{Event}
+use Rattle.trace_events.specs.Event.{Event, Out}
 use Rattle.trace_events.specs.Link.{IsLiveLink, link_at}
 use Rattle.trace_events.specs.Incoming.{incoming_at, payload}
 use Rattle.trace_clauses.specs.Written.{spoken_octets}
 use Rattle.trace_duties.specs.Diligent.{is_next_waiting, is_picked_link}
+use Rattle.trace_duties.specs.Quiet.{none_is_untold, none_stands_still}
+use Rattle.trace_duties.specs.Turn.{is_all_told, is_all_sent, is_all_drained, is_all_credited, is_first_to_begin, stands_in_turn}
 use Rattle.trace_judge.specs.Told.{told_view}
 use Rattle.trace_values.specs.View.{link_view, incoming_view, outgoing_view}
-use Rattle.route_dues.specs.Writing.{IsReadAgain, IsInOrder, MayFollow}
+use Rattle.route_dues.specs.Writing.{frame_of, writing, IsReadAgain, IsInOrder, MayFollow}
 use Rattle.due_outcomes.specs.DueOutcomes.{IsDueOutcome}
 use Rattle.due_outcomes.specs.Settlings.{IsDueSettling}
 use Rattle.due_copies.specs.Parts.{IsDuePart}
@@ -48,22 +50,35 @@ IsDue rules past (dues.Drain l) = IsDrainable rules (link_view l) past
 IsDue rules past (dues.Credit l) = IsToppable rules (link_view l) past
 IsDue rules past (dues.Window s) = IsLacking s past
 
+-- nothing of an earlier place is due, nor of its own in front of it
+abbrev pub is_in_turn : List RuleText → List Event → Due → Bool
+is_in_turn rules past (dues.Outcome due) = true
+is_in_turn rules past (dues.Settling j) = none_is_untold rules past
+is_in_turn rules past (dues.Part due) = is_all_told rules past
+is_in_turn rules past (dues.Waiting due) = is_all_told rules past && none_stands_still past && is_first_to_begin rules past (incoming_view due.delivery)
+is_in_turn rules past (dues.Copy due) = is_all_told rules past && none_stands_still past
+is_in_turn rules past (dues.Drain l) = is_all_sent rules past
+is_in_turn rules past (dues.Credit l) = is_all_drained rules past
+is_in_turn rules past (dues.Window s) = is_all_credited rules past
+
 -- ---- the record of a frame that is due
 
--- the record writes a frame that may follow, and is read again
+-- the record writes a frame that may follow, stands in turn, and is read again
 pub record IsNextFrame (rules : List RuleText) (past : List Event) (r : Record) : Type 0 where
   pub spoken : Spoken
   pub what : r.what ≡ whats.Out (spoken_octets spoken)
   pub follows : MayFollow rules past r.connection r.note spoken
+  pub turn : stands_in_turn rules (writing rules past r.connection r.note spoken) past (Out (frame_of spoken)) ≡ true
   pub again : IsReadAgain spoken
   pub short : length (spoken_octets spoken) ≤ MAX_FRAME_SIZE
 
--- behind some events that are in order, for which the one who is asked stands, this is due
+-- behind some events that are in order, for which the one who is asked stands, this is due, and nothing in front of it
 pub record IsDueBehind (StandsFor : List Event → Type 0) (rules : List RuleText) (due : Due) : Type 0 where
   pub past : List Event
   pub stands : StandsFor past
   pub order : IsInOrder rules past
   pub is_due : IsDue rules past due
+  pub turn : is_in_turn rules past due ≡ true
 
 -- ---- where it is written, and what is certified of it
 
@@ -84,10 +99,11 @@ note_of (dues.Waiting due) = notes.Pair due.delivery.number
 note_of (dues.Copy due) = notes.Pair due.delivery.number
 note_of other = notes.None
 
--- these are the octets of a frame that may follow there, and is read again
+-- these are the octets of a frame that may follow there, stands in turn, and is read again
 pub record IsFrameFor (rules : List RuleText) (past : List Event) (c : ℕ) (note : Note) (octets : List ℕ) : Type 0 where
   pub spoken : Spoken
   pub is : octets ≡ spoken_octets spoken
   pub follows : MayFollow rules past c note spoken
+  pub turn : stands_in_turn rules (writing rules past c note spoken) past (Out (frame_of spoken)) ≡ true
   pub again : IsReadAgain spoken
   pub short : length (spoken_octets spoken) ≤ MAX_FRAME_SIZE

@@ -7,7 +7,7 @@ ghost use Rattle.trace_events.specs.History.{history};
 ghost use Rattle.audit_tables.specs.Connections.{IsLawfulNext};
 ghost use Rattle.trace_duties.specs.Quiet.{is_quiet};
 ghost use Rattle.trace_values.specs.View.{Events, event_view};
-ghost use Rattle.route_work.specs.Dues.{IsDue};
+ghost use Rattle.route_work.specs.Dues.{IsDue, is_in_turn};
 ghost use Rattle.route_work.specs.Books.{TellsOf};
 
 use crate::Due;
@@ -46,6 +46,9 @@ pub trait Dues {
         // What is answered is due.
         ensures due { (records : List Record) → TellsOf rules.now looked.now (history rules.now records) →
             has_all self.old rules.now (history rules.now records) → IfSome result (IsDue rules.now (history rules.now records)) }
+        // Nothing is due in front of it.
+        ensures turn { (records : List Record) → TellsOf rules.now looked.now (history rules.now records) →
+            has_all self.old rules.now (history rules.now records) → IfSome result (λ due. is_in_turn rules.now (history rules.now records) due ≡ true) }
         // All that is due stays listed.
         ensures kept { (records : List Record) → TellsOf rules.now looked.now (history rules.now records) →
             has_all self.old rules.now (history rules.now records) → has_all self.new rules.now (history rules.now records) }

@@ -1,15 +1,15 @@
 //! What links and sessions are to be given: drain answers, credit and windows (part 2 of the standard, sections 2.5.6 and
 //! 2.6.7).
 
-ghost use Rattle.std.specs.Prelude.{◌≡◌, ◌∷◌, List, [], None, IfSome, OnOk};
+ghost use Rattle.std.specs.Prelude.{◌≡◌, true, ◌∷◌, List, [], None, IfSome, OnOk};
 ghost use Rattle.capture_form.specs.Rules.{RuleText};
 ghost use Rattle.capture_form.specs.declared.records.Record.{Record};
 ghost use Rattle.trace_events.specs.History.{history};
 ghost use Rattle.trace_values.specs.View.{event_view};
 ghost use Rattle.audit_tables.specs.Connections.{IsLawfulNext};
-ghost use Rattle.route_work.specs.Dues.{IsDue};
+ghost use Rattle.route_work.specs.Dues.{IsDue, is_in_turn};
 ghost use Rattle.route_work.specs.Books.{TellsOf};
-ghost use Rattle.route_work.specs.Work.{HasFlowing, IsAllGiven};
+ghost use Rattle.route_work.specs.Work.{HasFlowing, IsAllGiven, IsAllSent, IsAllTold};
 
 use crate::{Credits, Drains, Due, Looked, Windows};
 use capture_form::Rule;
@@ -66,9 +66,13 @@ impl Flowing {
     }
 
     /// The first drain answer; where no drain may be answered, the first credit; where none may be given, the first window.
+    #[tactic(auto, using(crate::proofs::Turns::all_sent, crate::proofs::Turns::all_drained, crate::proofs::Turns::all_credited))]
     pub(crate) fn next_due<'t>(&mut self, rules: &[Rule], looked: &Looked<'t>) -> Option<Due<'t>>
         ensures due { (records : List Record) → TellsOf rules.now looked.now (history rules.now records) →
             HasFlowing rules.now self.old (history rules.now records) → IfSome result (IsDue rules.now (history rules.now records)) }
+        ensures turn { (records : List Record) → TellsOf rules.now looked.now (history rules.now records) →
+            HasFlowing rules.now self.old (history rules.now records) → IsAllTold rules.now (history rules.now records) →
+            IsAllSent rules.now (history rules.now records) → IfSome result (λ due. is_in_turn rules.now (history rules.now records) due ≡ true) }
         ensures kept { (records : List Record) → TellsOf rules.now looked.now (history rules.now records) →
             HasFlowing rules.now self.old (history rules.now records) → HasFlowing rules.now self.new (history rules.now records) }
         ensures quiet { (records : List Record) → TellsOf rules.now looked.now (history rules.now records) →

@@ -1,17 +1,19 @@
 //! What is to be sent to consumers: the next part of a delivery in progress, a delivery that waits, and copies (part 2 of the
 //! standard, section 2.6.14; own rules).
 
-ghost use Rattle.std.specs.Prelude.{◌≡◌, ◌∷◌, List, [], None, IfSome, OnOk};
+ghost use Rattle.std.specs.Prelude.{◌≡◌, true, ◌&&◌, ◌∷◌, List, [], None, IfSome, OnOk};
 ghost use Rattle.capture_form.specs.Rules.{RuleText};
 ghost use Rattle.capture_form.specs.declared.records.Record.{Record};
 ghost use Rattle.trace_events.specs.History.{history};
-ghost use Rattle.trace_values.specs.View.{Events, event_view};
+ghost use Rattle.trace_duties.specs.Quiet.{none_stands_still};
+ghost use Rattle.trace_duties.specs.Turn.{is_all_told, is_first_to_begin};
+ghost use Rattle.trace_values.specs.View.{Events, event_view, incoming_view};
 ghost use Rattle.audit_tables.specs.Connections.{IsLawfulNext};
 ghost use Rattle.route_work.specs.Copies.{IsDueCopy};
 ghost use Rattle.due_waiting.specs.Waiting.{IsDueWaiting};
-ghost use Rattle.route_work.specs.Dues.{IsDue};
+ghost use Rattle.route_work.specs.Dues.{IsDue, is_in_turn};
 ghost use Rattle.route_work.specs.Books.{TellsOf};
-ghost use Rattle.route_work.specs.Work.{HasSending, IsAllSent};
+ghost use Rattle.route_work.specs.Work.{HasSending, IsAllSent, IsAllTold};
 
 use crate::{Due, DueBegin, DueCopy, Looked, Parts, UnsentCopies};
 use capture_form::Rule;
@@ -78,6 +80,9 @@ impl Sending {
     pub(crate) fn next_due<'t>(&mut self, rules: &[Rule], looked: &Looked<'t>) -> Option<Due<'t>>
         ensures due { (records : List Record) → TellsOf rules.now looked.now (history rules.now records) →
             HasSending rules.now self.old (history rules.now records) → IfSome result (IsDue rules.now (history rules.now records)) }
+        ensures turn { (records : List Record) → TellsOf rules.now looked.now (history rules.now records) →
+            HasSending rules.now self.old (history rules.now records) → IsAllTold rules.now (history rules.now records) →
+            IfSome result (λ due. is_in_turn rules.now (history rules.now records) due ≡ true) }
         ensures kept { (records : List Record) → TellsOf rules.now looked.now (history rules.now records) →
             HasSending rules.now self.old (history rules.now records) → HasSending rules.now self.new (history rules.now records) }
         ensures quiet { (records : List Record) → TellsOf rules.now looked.now (history rules.now records) →
@@ -100,6 +105,8 @@ fn first_completed<'t>(
 ) -> Option<Due<'t>>
     ensures due { (rules : List RuleText) (past : Events) → IfSome waiting.entry (λ due. IsDueWaiting rules due past) → IfSome copy.entry (λ due. IsDueCopy rules due past) →
         IfSome result (IsDue rules past) }
+    ensures turn { (rules : List RuleText) (past : Events) → is_all_told rules past && none_stands_still past ≡ true →
+        IfSome waiting.entry (λ due. is_first_to_begin rules past (incoming_view due.delivery) ≡ true) → IfSome result (λ due. is_in_turn rules past due ≡ true) }
     ensures none { result ≡ None → (waiting.entry ≡ None) × (copy.entry ≡ None) }
 {
     match (waiting, copy) {
@@ -121,7 +128,9 @@ fn first_completed<'t>(
 
 /// A delivery that waits, as what is due.
 fn due_of<'t>(begin: DueWaiting<'t>) -> Due<'t>
-    ensures { (rules : List RuleText) (past : Events) → IsDueWaiting rules begin.entry past → IsDue rules past result }
+    ensures due { (rules : List RuleText) (past : Events) → IsDueWaiting rules begin.entry past → IsDue rules past result }
+    ensures turn { (rules : List RuleText) (past : Events) → is_all_told rules past && none_stands_still past ≡ true →
+        is_first_to_begin rules past (incoming_view begin.entry.delivery) ≡ true → is_in_turn rules past result ≡ true }
 {
     Due::Waiting(DueBegin {
         link: begin.link,

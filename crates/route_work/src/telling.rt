@@ -1,13 +1,13 @@
 //! What is to be told: outcomes to producers, and settlings to consumers (part 3 of the standard, section 3.4; part 2, section
 //! 2.6.12).
 
-ghost use Rattle.std.specs.Prelude.{◌≡◌, ◌∷◌, List, [], None, IfSome, OnOk};
+ghost use Rattle.std.specs.Prelude.{◌≡◌, true, ◌∷◌, List, [], None, IfSome, OnOk};
 ghost use Rattle.capture_form.specs.Rules.{RuleText};
 ghost use Rattle.capture_form.specs.declared.records.Record.{Record};
 ghost use Rattle.trace_events.specs.History.{history};
 ghost use Rattle.trace_values.specs.View.{event_view};
 ghost use Rattle.audit_tables.specs.Connections.{IsLawfulNext};
-ghost use Rattle.route_work.specs.Dues.{IsDue};
+ghost use Rattle.route_work.specs.Dues.{IsDue, is_in_turn};
 ghost use Rattle.route_work.specs.Books.{TellsOf};
 ghost use Rattle.route_work.specs.Work.{HasTelling, IsAllTold};
 
@@ -66,6 +66,8 @@ impl Telling {
     pub(crate) fn next_due<'t>(&mut self, rules: &[Rule], looked: &Looked<'t>) -> Option<Due<'t>>
         ensures due { (records : List Record) → TellsOf rules.now looked.now (history rules.now records) →
             HasTelling rules.now self.old (history rules.now records) → IfSome result (IsDue rules.now (history rules.now records)) }
+        ensures turn { (records : List Record) → TellsOf rules.now looked.now (history rules.now records) →
+            HasTelling rules.now self.old (history rules.now records) → IfSome result (λ due. is_in_turn rules.now (history rules.now records) due ≡ true) }
         ensures kept { (records : List Record) → TellsOf rules.now looked.now (history rules.now records) →
             HasTelling rules.now self.old (history rules.now records) → HasTelling rules.now self.new (history rules.now records) }
         ensures quiet { (records : List Record) → TellsOf rules.now looked.now (history rules.now records) →

@@ -1,6 +1,6 @@
 //! The record of a frame that is due.
 
-ghost use Rattle.std.specs.Prelude.{◌≡◌, List, [], IfOk, IfSome, OnOk};
+ghost use Rattle.std.specs.Prelude.{◌≡◌, true, List, [], IfOk, IfSome, OnOk};
 ghost use Rattle.pairing_cert.specs.declared.note.Note.TheVariants as notes;
 ghost use Rattle.capture_form.specs.Rules.{RuleText};
 ghost use Rattle.capture_form.specs.Text.{IsRecord};
@@ -10,7 +10,7 @@ ghost use Rattle.route_dues.specs.Outcomes.{HasState};
 ghost use Rattle.route_dues.specs.Writing.{IsInOrder};
 ghost use Rattle.due_outcomes.specs.DueOutcomes.{IsDueOutcome};
 ghost use Rattle.route_work.specs.Dues as dues;
-ghost use Rattle.route_work.specs.Dues.{IsDue, IsDueBehind, IsNextFrame, IsFrameFor};
+ghost use Rattle.route_work.specs.Dues.{IsDue, IsDueBehind, IsNextFrame, IsFrameFor, is_in_turn};
 
 use crate::due::Due;
 use capture_form::{Frame, Record, Rule, What};
@@ -89,7 +89,7 @@ fn put_due<'a, P: Counts + Outcomes<'a>>(
     requires due { IsDueBehind (λ history. P.stands_for past.now rules.now history) rules.now due.now }
     requires none { out.old.items ≡ [] }
     ensures frame { (history : Events) → P.stands_for past.now rules.now history → IsInOrder rules.now history → IsDue rules.now history due.now →
-        OnOk result (IsFrameFor rules.now history (dues.connection_of due.now) (dues.note_of due.now) out.new.items) }
+        is_in_turn rules.now history due.now ≡ true → OnOk result (IsFrameFor rules.now history (dues.connection_of due.now) (dues.note_of due.now) out.new.items) }
 {
     match due {
         Due::Outcome(told) => put_told(out, scratch, told),
@@ -118,7 +118,7 @@ pub fn record_of<'a, P: Counts + Outcomes<'a>>(
     requires due { IsDueBehind (λ history. P.stands_for past.now rules.now history) rules.now due.now }
     ensures bounds { IfOk result IsRecord }
     ensures next { (history : Events) → P.stands_for past.now rules.now history → IsInOrder rules.now history → IsDue rules.now history due.now →
-        IfOk result (IsNextFrame rules.now history) }
+        is_in_turn rules.now history due.now ≡ true → IfOk result (IsNextFrame rules.now history) }
 {
     let mut octets = Vec::new(alloc);
     let mut scratch = Vec::new(alloc);

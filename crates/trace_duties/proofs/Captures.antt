@@ -16,7 +16,8 @@ use Rattle.trace_clauses.specs.TransferClause.{is_in_order}
 use Rattle.trace_clauses.specs.Written.{spoken_octets}
 use Rattle.trace_duties.specs.Diligent.{is_diligent}
 use Rattle.trace_duties.specs.Order.{is_earliest}
-use Rattle.trace_duties.proofs.Duties.{Duty, neglected, is_window_left}
+use Rattle.trace_duties.specs.Turn.{stands_in_turn, is_ordered}
+use Rattle.trace_duties.proofs.Duties.{Duty, left, neglected, is_window_left}
 
 -- the reading and the writing of octets are opened here, once
 
@@ -53,3 +54,18 @@ is_in_order_at rules records n address m =
 unfoldable pub is_earliest_by : List RuleText → List Record → Record → Bool
 unfolding frame_read whole_frame frame_at sized_frame headed_frame read digits spoken_octets frame_octets written
 is_earliest_by rules records r = let past = history rules records in is_earliest rules (judge rules past r) past
+
+-- one more record stands in turn
+unfoldable pub in_turn_by : List RuleText → List Record → Record → Bool
+unfolding frame_read whole_frame frame_at sized_frame headed_frame read digits spoken_octets frame_octets written
+in_turn_by rules records r = let past = history rules records in let e = judge rules past r in stands_in_turn rules e past e.moment
+
+-- each record of a capture does
+unfoldable pub order_of : List RuleText → List Record → Bool
+unfolding frame_read whole_frame frame_at sized_frame headed_frame read digits spoken_octets frame_octets written
+order_of rules records = is_ordered rules records
+
+-- what is left to be written, by the duties that ask for it
+unfoldable pub left_of : List RuleText → List Record → List Duty
+unfolding frame_read whole_frame frame_at sized_frame headed_frame read digits spoken_octets frame_octets written
+left_of rules records = left rules (history rules records)

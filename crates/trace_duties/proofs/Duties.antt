@@ -46,3 +46,15 @@ neglected rules past =
 abbrev pub is_window_left : ℕ → List Event → Bool
 is_window_left n [] = true
 is_window_left n (e ∷ past) = none_lacks_window (replicate n e ++ past)
+
+-- what is left to be written
+abbrev pub left : List RuleText → List Event → List Duty
+left rules past =
+    unless (none_is_untold rules past) Outcome
+    (unless (none_is_unsettled past) Settling
+    (unless (none_stands_still past) Progress
+    (unless (none_waits_in_vain rules past) Waiting
+    (unless (copies_are_sent rules past) Copies
+    (unless (none_is_undrained rules past) Drain
+    (unless (none_lacks_credit rules past) Credit
+    (unless (none_lacks_window past) Window [])))))))

@@ -2,6 +2,7 @@ mod Duties
 mod Captures
 mod DutyExamples
 mod OrderExamples
+mod TurnExamples
 mod FirstNeglected
 mod SharedFrames
 mod DutiesNeglected
@@ -22,3 +23,4 @@ pub mod LinksCounted
 pub mod PicksInOrder
 pub mod CopyOrder
 pub mod QuietLists
+pub mod Caused

@@ -4,3 +4,4 @@ pub mod Answer
 pub mod Quiet
 pub mod Diligent
 pub mod Order
+pub mod Turn

@@ -1,4 +1,4 @@
-use Rattle.route_dues.proofs.Steps.{start, input, fits, reply, answered, due, rest, diligent}
+use Rattle.route_dues.proofs.Steps.{start, input, fits, reply, answered, due, rest, diligent, ordered}
 use Rattle.route_dues.proofs.step_laws.laws_of_steps.Goals as goal
 
 pub returns-clause-start : goal.returns-clause-start
@@ -27,3 +27,6 @@ returns-clause-lawful c = λ rules records at. at.under_way.order.lawful.unbroke
 
 pub returns-clause-diligent : goal.returns-clause-diligent
 returns-clause-diligent c = diligent
+
+pub returns-clause-ordered : goal.returns-clause-ordered
+returns-clause-ordered c = ordered
