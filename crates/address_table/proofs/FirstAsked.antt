@@ -189,6 +189,16 @@ module _ (undecided : ℕ → ℕ) (test : ℕ → Bool) where
       → option_map (λ (s : Standing). s.link) (find (λ s. test s.link) (order_of undecided links)) ≡ best (λ one other. nat_lt (undecided one) (undecided other)) (filter test links)
   first_asked links = first_from 0 links
 
+  -- the same of an order that is kept, if it is the right one
+  pub first_kept : (links : List ℕ) (kept : Option (List Standing)) (order : List Standing) → Some order ≡ kept → kept ≡ option_map (λ other. order_of undecided links) kept
+      → option_map (λ (s : Standing). s.link) (find (λ s. test s.link) order) ≡ best (λ one other. nat_lt (undecided one) (undecided other)) (filter test links)
+  first_kept links kept order is right =
+      ap asked (is ∙ right ∙ ap (option_map (λ other. order_of undecided links)) (sym is)) ∙ first_asked links
+    where
+      asked : Option (List Standing) → Option ℕ
+      asked None = None
+      asked (Some xs) = option_map (λ (s : Standing). s.link) (find (λ s. test s.link) xs)
+
 -- ---- tests that may be asked of any link
 
 pub may_ask : (may : ℕ → Type 0) (answers : ℕ → Bool → Type 0) → ((link : ℕ) → may link) → (order : List Standing) → MayAsk may answers order

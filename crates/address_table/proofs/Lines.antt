@@ -1,11 +1,12 @@
 -- What happens to the links of consumers, and to the lines of their addresses.
-use Rattle.std.proofs.Common.{◌≡◌, ◌∙◌, refl, sym, ap, subst, ℕ, Bool, true, false, cond, not, ◌&&◌, ◌||◌, List, [], ◌∷◌, ◌++◌, length, Option, Some, None, find, filter, ◌⊎◌, inl, inr, arith, bytes_eq, if◌then◌else◌, ◌==◌}
+use Rattle.std.proofs.Common.{◌≡◌, ◌∙◌, refl, sym, ap, subst, ℕ, Bool, true, false, cond, not, ◌&&◌, ◌||◌, List, [], ◌∷◌, ◌++◌, length, Option, Some, None, option_map, find, filter, ◌⊎◌, inl, inr, arith, bytes_eq, if◌then◌else◌, ◌==◌}
 use Rattle.std.specs.List.{list_any, list_all}
 use Rattle.std.proofs.lemmas.Bool.{eqb-true}
 use Rattle.std.proofs.lemmas.Bool.Decides.{nat_tests}
 use Rattle.std.proofs.lemmas.Slice.Eq.{bytes_eq-Decides}
 use Rattle.flow_counts.specs.Picks.{Consumer, attached, balanced_rank, is_at}
-use Rattle.address_table.specs.Lineups.{are_distinct, Line, IsLine, joined, left, stood, put, put_back, closed_up, is_of, without}
+use Rattle.address_table.specs.declared.lineup.Standing.{Standing}
+use Rattle.address_table.specs.Lineups.{are_distinct, Line, IsLine, at_first, emptied, joined, left, order_of, stood, put, put_back, closed_up, is_of, without}
 use Rattle.address_table.proofs.Apart.{none_without, order_same, order_joined, order_stood, order_left}
 
 same_address : (xs ys : List ℕ) → bytes_eq xs ys ≡ true → xs ≡ ys
@@ -99,6 +100,39 @@ distinct_filter keep (c ∷ links) distinct =
     by true none rest = (λ i. not (any_filter (λ other. other == c) keep links none i) && are_distinct (filter keep links)) ∙ rest
     by false none rest = rest
 
+-- ---- orders that are kept or not
+
+-- if an order is kept, it is this one
+abbrev Keeps : Option (List Standing) → List Standing → Type 0
+Keeps kept right = kept ≡ option_map (λ order. right) kept
+
+moved : (change : List Standing → List Standing) (kept : Option (List Standing)) (before behind : List Standing) → change before ≡ behind
+    → Keeps kept before → Keeps (option_map change kept) behind
+moved change None before behind step is = refl
+moved change (Some order) before behind step is = ap (option_map change) is ∙ ap (λ xs. Some xs) step
+
+kept_if : (b : Bool) (kept : Option (List Standing)) (right : List Standing) → Keeps kept right → Keeps (if b then kept else None) right
+kept_if true kept right is = is
+kept_if false kept right is = refl
+
+same_order : (kept : Option (List Standing)) (before behind : List Standing) → before ≡ behind → Keeps kept before → Keeps kept behind
+same_order None before behind same is = refl
+same_order (Some order) before behind same is = is ∙ ap (λ xs. Some xs) same
+
+-- a line is right, too, where it is as if there had been none
+emptied_is : (consumer : ℕ → Option Consumer) (address : List ℕ) (line : Line) → IsLine consumer address line → IsLine consumer address (emptied line)
+emptied_is consumer address ([], order) is = (refl, refl, refl)
+emptied_is consumer address (link ∷ links, order) is = is
+
+-- a line without links is as if there had been none, and one with links stays
+pub as_none : (line : Line) → line.0 ≡ [] → ([], Some []) ≡ emptied line
+as_none ([], order) none = refl
+as_none (link ∷ links, order) none = absurd cc
+
+pub not_emptied : (line : Line) → (line.0 ≡ [] → ⊥) → line ≡ emptied line
+not_emptied ([], order) some = absurd (some refl)
+not_emptied (link ∷ links, order) some = refl
+
 -- ---- one consumer changes
 
 module _ (consumer later : ℕ → Option Consumer) (link : ℕ) (off : (x : ℕ) → (x == link) ≡ false → later x ≡ consumer x) where
@@ -120,16 +154,17 @@ module _ (consumer later : ℕ → Option Consumer) (link : ℕ) (off : (x : ℕ
       let none = not_there (λ x. is_at address (consumer x)) link line.0 is.0 away in (
         all_off (λ x. is_at address (consumer x)) (λ x. is_at address (later x)) link (at_off address) line.0 none ∙ is.0,
         is.1,
-        is.2 ∙ order_same undecided undecided_later link undecided_off line.0 none,
+        same_order line.1 _ _ (order_same undecided undecided_later link undecided_off line.0 none) is.2,
       )
 
-  joins : (address : List ℕ) (line : Line) → is_at address (consumer link) ≡ false → is_at address (later link) ≡ true → undecided_later link ≡ 0
-      → IsLine consumer address line → IsLine later address (joined link line)
-  joins address line away here zero is =
+  joins : (is_ordered : Bool) (address : List ℕ) (line : Line) → is_at address (consumer link) ≡ false → is_at address (later link) ≡ true → undecided_later link ≡ 0
+      → IsLine consumer address line → IsLine later address (joined is_ordered link line)
+  joins is_ordered address line away here zero is =
       let none = not_there (λ x. is_at address (consumer x)) link line.0 is.0 away in (
         all_last (λ x. is_at address (later x)) line.0 link (all_off (λ x. is_at address (consumer x)) (λ x. is_at address (later x)) link (at_off address) line.0 none ∙ is.0) here,
         distinct_last line.0 link is.1 none,
-        (λ i. put (record { undecided = 0; place = length line.0; link = link }) (is.2 i)) ∙ order_joined undecided undecided_later link undecided_off line.0 none zero,
+        moved (put (at_first link (length line.0))) (if is_ordered then line.1 else None) (order_of undecided line.0) _
+            (order_joined undecided undecided_later link undecided_off line.0 none zero) (kept_if is_ordered line.1 _ is.2),
       )
 
   leaves : (address : List ℕ) (line : Line) → IsLine consumer address line → IsLine later address (left link line)
@@ -138,7 +173,8 @@ module _ (consumer later : ℕ → Option Consumer) (link : ℕ) (off : (x : ℕ
         all_off (λ x. is_at address (consumer x)) (λ x. is_at address (later x)) link (at_off address) others (none_without link line.0)
             ∙ all_filter (λ x. is_at address (consumer x)) (λ on. not (on == link)) line.0 is.0,
         distinct_filter (λ on. not (on == link)) line.0 is.1,
-        (λ i. closed_up (find (is_of link) (is.2 i)) (without link (is.2 i))) ∙ order_left undecided undecided_later link undecided_off line.0 is.1,
+        moved (λ order. closed_up (find (is_of link) order) (without link order)) line.1 (order_of undecided line.0) _
+            (order_left undecided undecided_later link undecided_off line.0 is.1) is.2,
       )
 
   stands : (address : List ℕ) (line : Line) → ((x : ℕ) → is_at address (later x) ≡ is_at address (consumer x)) → IsLine consumer address line
@@ -146,8 +182,8 @@ module _ (consumer later : ℕ → Option Consumer) (link : ℕ) (off : (x : ℕ
   stands address line same is = (
     all_same line.0 ∙ is.0,
     is.1,
-    (λ i. put_back (undecided_later link) (find (is_of link) (is.2 i)) (without link (is.2 i)))
-        ∙ order_stood undecided undecided_later link undecided_off line.0 is.1,
+    moved (λ order. put_back (undecided_later link) (find (is_of link) order) (without link order)) line.1 (order_of undecided line.0) _
+        (order_stood undecided undecided_later link undecided_off line.0 is.1) is.2,
   )
     where
       all_same : (links : List ℕ) → list_all (λ x. is_at address (later x)) links ≡ list_all (λ x. is_at address (consumer x)) links
@@ -161,20 +197,20 @@ module _ (consumer later : ℕ → Option Consumer) (link : ℕ) (off : (x : ℕ
     away_from at other (inl none) = ap (is_at at) none
     away_from at other (inr some) = ap (is_at at) some.1 ∙ (ap (bytes_eq at) some.2 ∙ other)
 
-    pub lines_joined : ((at : List ℕ) → changed at ≡ (if bytes_eq at address then joined link (lines at) else lines at))
+    pub lines_joined : (is_ordered : Bool) → ((at : List ℕ) → changed at ≡ (if bytes_eq at address then joined is_ordered link (lines at) else lines at))
         → consumer link ≡ None → (pre_settled : Bool) → later link ≡ Some (attached address pre_settled) → (at : List ℕ) → IsLine later at (changed at)
-    lines_joined change none pre_settled some at = subst (IsLine later at) (sym (change at)) (by (bytes_eq at address) refl)
+    lines_joined is_ordered change none pre_settled some at = subst (IsLine later at) (sym (change at)) (by (bytes_eq at address) refl)
       where
-        by : (b : Bool) → bytes_eq at address ≡ b → IsLine later at (if b then joined link (lines at) else lines at)
-        by true is = joins at (lines at) (ap (is_at at) none) (ap (is_at at) some ∙ is) (ap balanced_rank some) (are at)
+        by : (b : Bool) → bytes_eq at address ≡ b → IsLine later at (if b then joined is_ordered link (lines at) else lines at)
+        by true is = joins is_ordered at (lines at) (ap (is_at at) none) (ap (is_at at) some ∙ is) (ap balanced_rank some) (are at)
         by false other = elsewhere at (lines at) (away_from at other (inl none)) (are at)
 
-    pub lines_left : ((at : List ℕ) → changed at ≡ (if bytes_eq at address then left link (lines at) else lines at))
+    pub lines_left : ((at : List ℕ) → changed at ≡ (if bytes_eq at address then emptied (left link (lines at)) else lines at))
         → (c : Consumer) → consumer link ≡ Some c → c.address ≡ address → (at : List ℕ) → IsLine later at (changed at)
     lines_left change c some here at = subst (IsLine later at) (sym (change at)) (by (bytes_eq at address) refl)
       where
-        by : (b : Bool) → bytes_eq at address ≡ b → IsLine later at (if b then left link (lines at) else lines at)
-        by true is = leaves at (lines at) (are at)
+        by : (b : Bool) → bytes_eq at address ≡ b → IsLine later at (if b then emptied (left link (lines at)) else lines at)
+        by true is = emptied_is later at (left link (lines at)) (leaves at (lines at) (are at))
         by false other = elsewhere at (lines at) (away_from at other (inr (c, some, here))) (are at)
 
     pub lines_stood : (n : ℕ) → ((at : List ℕ) → changed at ≡ (if bytes_eq at address then stood link n (lines at) else lines at))
@@ -191,6 +227,14 @@ module _ (consumer later : ℕ → Option Consumer) (link : ℕ) (off : (x : ℕ
         by : (b : Bool) → bytes_eq at address ≡ b → IsLine later at (if b then stood link n (lines at) else lines at)
         by true is = subst (λ (m : ℕ). IsLine later at (stood link m (lines at))) (ap balanced_rank next ∙ counted) (stands at (lines at) (λ x. same x (x == link) refl) (are at))
         by false other = elsewhere at (lines at) (away_from at other (inr (c, some, here))) (are at)
+
+-- ---- nothing changes
+
+pub lines_same : (consumer later : ℕ → Option Consumer) (lines changed : List ℕ → Line) → ((x : ℕ) → later x ≡ consumer x) → ((at : List ℕ) → changed at ≡ lines at)
+    → ((at : List ℕ) → IsLine consumer at (lines at)) → (at : List ℕ) → IsLine later at (changed at)
+lines_same consumer later lines changed same kept are at =
+    let consumers : consumer ≡ later = λ i x. sym (same x) i in
+    subst (λ (these : ℕ → Option Consumer). IsLine these at (changed at)) consumers (subst (λ (line : Line). IsLine consumer at line) (sym (kept at)) (are at))
 
 -- ---- by what a map of the links has at each
 

@@ -2,6 +2,8 @@
 -- ones the one that was attached first.
 use Rattle.std.specs.Prelude.{ℕ, ◌≡◌, ◌+◌, ◌-◌, ◌==◌, Bool, true, false, not, ◌&&◌, List, [], ◌∷◌, ◌++◌, length, map, filter, find, Option, None, Some, nat_lt, nat_le, bytes_eq, if◌then◌else◌, ⊤}
 use Rattle.std.specs.List.{list_any, list_all}
+use Rattle.std.specs.Option.{option_map}
+use Rattle.std.specs.declared.vec.Vec.{Vec}
 use Rattle.flow_counts.specs.Picks.{Consumer, balanced_rank, is_at}
 use Rattle.address_table.specs.declared.lineup.Standing.{Standing}
 use Rattle.address_table.specs.declared.lineup.Lineup.{Lineup}
@@ -35,18 +37,22 @@ are_distinct (link ∷ links) = not (list_any (λ other. other == link) links) &
 
 -- ---- the links of an address in the order of their attaches, and in that in which they are asked
 
+-- in the order in which they are asked only where one is kept
 abbrev pub Line : Type 0
-Line = List ℕ × List Standing
+Line = List ℕ × Option (List Standing)
+
+abbrev pub items_of : {A : Type 0} → Option (Vec Standing A) → Option (List Standing)
+items_of order = option_map (λ standings. standings.items) order
 
 abbrev pub line_of : Option Lineup → Line
-line_of None = ([], [])
-line_of (Some lineup) = (lineup.links.items, lineup.order.items)
+line_of None = ([], Some [])
+line_of (Some lineup) = (lineup.links.items, items_of lineup.order)
 
 -- the line is that of consumers of the address
 abbrev pub IsLine : (ℕ → Option Consumer) → List ℕ → Line → Type 0
 IsLine consumer address line =
     (list_all (λ link. is_at address (consumer link)) line.0 ≡ true) × (are_distinct line.0 ≡ true)
-    × (line.1 ≡ order_of (λ link. balanced_rank (consumer link)) line.0)
+    × (line.1 ≡ option_map (λ order. order_of (λ link. balanced_rank (consumer link)) line.0) line.1)
 
 -- A test may be asked of these links one after the other: of the first, and of each other where it answered false at all
 -- in front.
@@ -76,16 +82,25 @@ abbrev pub put_back : ℕ → Option Standing → List Standing → List Standin
 put_back undecided None rest = rest
 put_back undecided (Some one) rest = put (record { undecided = undecided; place = one.place; link = one.link }) rest
 
--- the link comes last, with nothing undecided
-abbrev pub joined : ℕ → Line → Line
-joined link line = (line.0 ++ link ∷ [], put (record { undecided = 0; place = length line.0; link = link }) line.1)
+-- it has nothing undecided in this place
+abbrev pub at_first : ℕ → ℕ → Standing
+at_first link place = record { undecided = 0; place = place; link = link }
+
+-- the link comes last, with nothing undecided; an order is kept if there was one and it is asked for
+abbrev pub joined : Bool → ℕ → Line → Line
+joined is_ordered link line = (line.0 ++ link ∷ [], option_map (put (at_first link (length line.0))) (if is_ordered then line.1 else None))
 
 abbrev pub left : ℕ → Line → Line
-left link line = (filter (λ on. not (on == link)) line.0, closed_up (find (is_of link) line.1) (without link line.1))
+left link line = (filter (λ on. not (on == link)) line.0, option_map (λ order. closed_up (find (is_of link) order) (without link order)) line.1)
+
+-- where no link is left, the address is as if there had been none
+abbrev pub emptied : Line → Line
+emptied ([], order) = ([], Some [])
+emptied (link ∷ links, order) = (link ∷ links, order)
 
 -- so many of its deliveries are undecided
 abbrev pub stood : ℕ → ℕ → Line → Line
-stood link undecided line = (line.0, put_back undecided (find (is_of link) line.1) (without link line.1))
+stood link undecided line = (line.0, option_map (λ order. put_back undecided (find (is_of link) order) (without link order)) line.1)
 
 -- ---- what happens to the lines of all addresses
 

@@ -6,6 +6,7 @@ ghost use Rattle.address_table.specs.Links.{undecided_on, IsCount, CountsOneMore
 ghost use Rattle.address_table.specs.History.{address_event, events_of};
 
 use crate::table::Table;
+use capture_form::Distribution;
 use std::alloc::{AllocError, Global};
 
 /// What happens to the links of consumers.
@@ -43,7 +44,7 @@ impl Table {
                 address,
                 link,
                 pre_settled,
-            } => self.attach(address, link, pre_settled)?,
+            } => self.attach(address, link, pre_settled, Distribution::Balanced)?,
             AddressEvent::Detached { link } => self.detach(link),
             AddressEvent::Begun { link, number } => self.begun(link, number),
             AddressEvent::Decided { link } => self.decide(link),

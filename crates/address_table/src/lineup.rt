@@ -1,10 +1,10 @@
 //! The links of one address, and the order in which a balanced pick asks them.
 
-ghost use Rattle.std.specs.Prelude.{ℕ, ◌≡◌, ◌<◌, ◌^◌, Bool, [], Some, find, map, IsTrue, IfOk, OnOk, OnErr, OnSome};
+ghost use Rattle.std.specs.Prelude.{ℕ, ◌≡◌, ◌↔◌, ◌<◌, ◌^◌, Bool, [], None, Some, find, if◌then◌else◌, map, IsTrue, IfOk, OnOk, OnErr, OnSome};
 ghost use Rattle.std.specs.List.{position};
 ghost use Rattle.std.specs.Option.{option_map};
 ghost use Rattle.std.specs.Vec.{vec_len, vec_capacity};
-ghost use Rattle.address_table.specs.Lineups.{MayAsk, comes_before, is_of, joined, left, line_of, moved_up, put, stood, without};
+ghost use Rattle.address_table.specs.Lineups.{MayAsk, at_first, closed_up, comes_before, is_of, items_of, joined, left, line_of, moved_up, put, put_back, stood, without};
 
 use std::alloc::{AllocError, Global};
 
@@ -42,44 +42,39 @@ impl Standing {
     }
 }
 
-/// The links of an address in the order of their attaches, and in the order in which a balanced pick asks them. Only `of`
-/// and `join` take memory.
+/// The links of an address in the order of their attaches, and, where balanced picks are asked for, in the order in which
+/// these ask them. Only `of` and `join` take memory.
 #[doc(hidden)]
 #[derive(Drop)]
 pub struct Lineup {
     links: Vec<u64>,
-    order: Vec<Standing>,
+    order: Option<Vec<Standing>>,
 }
 
 impl Lineup {
-    /// One link, with nothing undecided.
-    pub(crate) fn of(alloc: Global, link: u64) -> Result<Lineup, AllocError>
-        ensures { IfOk result (λ lineup. line_of (Some lineup) ≡ joined link ([], [])) }
+    /// One link, with nothing undecided. They stand in order where that is asked for.
+    pub(crate) fn of(alloc: Global, link: u64, is_ordered: bool) -> Result<Lineup, AllocError>
+        ensures { IfOk result (λ lineup. line_of (Some lineup) ≡ joined is_ordered link ([], Some [])) }
     {
-        let standing = Standing {
-            undecided: 0,
-            place: 0,
-            link,
-        };
+        let mut order = Some(Vec::new(alloc));
+        join_order(&mut order, first_standing(link, 0), is_ordered)?;
         Ok(Lineup {
             links: vec![in alloc; link]?,
-            order: vec![in alloc; standing]?,
+            order,
         })
     }
 
-    /// The link comes last, with nothing undecided. Where memory is refused, nothing changes.
-    pub(crate) fn join(&mut self, link: u64) -> Result<(), AllocError>
-        ensures joined { OnOk result (line_of (Some self.new) ≡ joined link (line_of (Some self.old))) }
+    /// The link comes last, with nothing undecided. They stand in order as long as each that came asked for it. Where memory
+    /// is refused, nothing changes.
+    pub(crate) fn join(&mut self, link: u64, is_ordered: bool) -> Result<(), AllocError>
+        ensures joined { OnOk result (line_of (Some self.new) ≡ joined is_ordered link (line_of (Some self.old))) }
         ensures unchanged { OnErr result (line_of (Some self.new) ≡ line_of (Some self.old)) }
     {
-        let standing = Standing {
-            undecided: 0,
-            place: self.links.len(),
-            link,
-        };
-        self.order.reserve(1)?;
-        self.links.push(link)?;
-        put_in(&mut self.order, standing);
+        let standing = first_standing(link, self.links.len());
+        self.links.reserve(1)?;
+        join_order(&mut self.order, standing, is_ordered)?;
+        // There is room for it.
+        self.links.push(link).unwrap();
         Ok(())
     }
 
@@ -88,8 +83,8 @@ impl Lineup {
         ensures { line_of (Some self.new) ≡ left link (line_of (Some self.old)) }
     {
         self.links.retain(|other| *other != link);
-        if let Some(gone) = take_out(&mut self.order, link) {
-            close_up(&mut self.order, gone.place);
+        if let Some(standings) = &mut self.order {
+            leave_order(standings, link);
         }
     }
 
@@ -98,23 +93,16 @@ impl Lineup {
     pub(crate) fn stand(&mut self, link: u64, undecided: u64)
         ensures { line_of (Some self.new) ≡ stood link undecided (line_of (Some self.old)) }
     {
-        if let Some(standing) = take_out(&mut self.order, link) {
-            put_in(
-                &mut self.order,
-                Standing {
-                    undecided,
-                    place: standing.place,
-                    link: standing.link,
-                },
-            );
+        if let Some(standings) = &mut self.order {
+            move_in_order(standings, link, undecided);
         }
     }
 
     /// There are no links.
     pub(crate) fn is_empty(&self) -> bool
-        ensures { IsTrue result → line_of (Some self.now) ≡ ([], []) }
+        ensures { IsTrue result ↔ (self.now.links.items ≡ []) }
     {
-        self.links.is_empty() && self.order.is_empty()
+        self.links.is_empty()
     }
 
     /// The links in the order of their attaches, lent.
@@ -124,20 +112,86 @@ impl Lineup {
         self.links.as_slice()
     }
 
-    /// The first link in the order that passes the test. No link behind it is asked.
-    pub(crate) fn first<F: Fn(u64) -> bool>(&self, eligible: F) -> Option<u64>
-    where
-        F: Drop,
-        requires { MayAsk (F.pre eligible) (F.post eligible) self.now.order.items }
-        ensures { (test : ℕ → Bool) → ((link : ℕ) (answer : Bool) → link < 2 ^ 64 → F.post eligible link answer → answer ≡ test link)
-            → result ≡ option_map (λ one. one.link) (find (λ one. test one.link) self.now.order.items) }
+    /// The links in the order in which a balanced pick asks them, lent, if they stand in order.
+    pub(crate) fn order(&self) -> Option<&[Standing]>
+        ensures { option_map (λ standings. standings.now) result ≡ (line_of (Some self.now)).1 }
     {
-        for standing in &self.order {
-            if eligible(standing.link) {
-                return Some(standing.link);
-            }
+        match &self.order {
+            Some(standings) => Some(standings.as_slice()),
+            None => None,
         }
-        None
+    }
+}
+
+/// The first link in the order that passes the test. No link behind it is asked.
+pub(crate) fn first_of<F: Fn(u64) -> bool>(order: &[Standing], eligible: F) -> Option<u64>
+where
+    F: Drop,
+    requires { MayAsk (F.pre eligible) (F.post eligible) order.now }
+    ensures { (test : ℕ → Bool) → ((link : ℕ) (answer : Bool) → link < 2 ^ 64 → F.post eligible link answer → answer ≡ test link)
+        → result ≡ option_map (λ one. one.link) (find (λ one. test one.link) order.now) }
+{
+    for standing in order {
+        if eligible(standing.link) {
+            return Some(standing.link);
+        }
+    }
+    None
+}
+
+/// A link that comes to this place, with nothing undecided.
+fn first_standing(link: u64, place: usize) -> Standing
+    ensures { result ≡ at_first link place }
+{
+    Standing {
+        undecided: 0,
+        place,
+        link,
+    }
+}
+
+/// One comes to its place among those in order, where there is an order and it is asked for; elsewhere there is none. Where
+/// memory is refused, nothing changes.
+fn join_order(
+    order: &mut Option<Vec<Standing>>,
+    standing: Standing,
+    is_ordered: bool,
+) -> Result<(), AllocError>
+    ensures joined { OnOk result (items_of order.new ≡ option_map (put standing) (if is_ordered then items_of order.old else None)) }
+    ensures unchanged { OnErr result (items_of order.new ≡ items_of order.old) }
+{
+    match order {
+        Some(standings) if is_ordered => {
+            standings.reserve(1)?;
+            put_in(standings, standing);
+        }
+        _ => *order = None,
+    }
+    Ok(())
+}
+
+/// The link is no more among those in order.
+fn leave_order(order: &mut Vec<Standing>, link: u64)
+    ensures { order.new.items ≡ closed_up (find (is_of link) order.old.items) (without link order.old.items) }
+{
+    if let Some(gone) = take_out(order, link) {
+        close_up(order, gone.place);
+    }
+}
+
+/// The link comes to its place among those in order, with so many deliveries undecided.
+fn move_in_order(order: &mut Vec<Standing>, link: u64, undecided: u64)
+    ensures { order.new.items ≡ put_back undecided (find (is_of link) order.old.items) (without link order.old.items) }
+{
+    if let Some(standing) = take_out(order, link) {
+        put_in(
+            order,
+            Standing {
+                undecided,
+                place: standing.place,
+                link: standing.link,
+            },
+        );
     }
 }
 

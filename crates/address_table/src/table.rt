@@ -6,16 +6,17 @@ ghost use Rattle.indexmap.specs.IndexMap.{get};
 ghost use Rattle.flow_counts.specs.Picks as picks;
 ghost use Rattle.flow_counts.specs.Picks.{AddressEvent, Attached, Detached, Begun, Decided};
 ghost use Rattle.address_table.specs.Picking.{rank_of, ranks_below, pick_of};
-ghost use Rattle.address_table.specs.Lineups.{AreSameLines, ChangesAt, IsLine, joined, left, line_of, stood};
+ghost use Rattle.address_table.specs.Lineups.{AreSameLines, ChangesAt, IsLine, emptied, joined, left, line_of, stood};
 
 use crate::consumer::Consumer;
-use crate::lineup::Lineup;
+use crate::lineup::{Lineup, first_of};
 use capture_form::Distribution;
 use indexmap::IndexMap;
 use std::alloc::{AllocError, Global};
 
 /// The links of consumers that are attached. A link is named by the record number of the attach that was written on it.
-/// Only `attach` takes memory. What happens to a link takes time linear in the links of its address at most.
+/// Only `attach` takes memory. What happens to a link of an address whose links stand in order takes time linear in these at
+/// most; what begins and is decided on another one takes the time of a look-up.
 #[derive(Drop)]
 pub struct Table {
     alloc: Global,
@@ -39,9 +40,16 @@ impl Table {
         }
     }
 
-    /// The link is attached to the address. One that is attached already stays as it is. Where memory is refused, nothing
-    /// changes.
-    pub fn attach(&mut self, address: &str, link: u64, pre_settled: bool) -> Result<(), AllocError>
+    /// The link is attached to the address, by whose distribution links are to be picked: a balanced pick is fast if each of
+    /// its links was attached so, and other picks need no order. One that is attached already stays as it is. Where memory is
+    /// refused, nothing changes.
+    pub fn attach(
+        &mut self,
+        address: &str,
+        link: u64,
+        pre_settled: bool,
+        distribution: Distribution,
+    ) -> Result<(), AllocError>
         ensures counted { OnOk result (CountsOneMore self.old self.new (Attached link address.now pre_settled)) }
         ensures unchanged { OnErr result (IsSame self.old self.new) }
     {
@@ -50,7 +58,8 @@ impl Table {
         }
         let consumer = Consumer::new(self.alloc, address, pre_settled)?;
         self.links.reserve(1)?;
-        join(self.alloc, &mut self.addresses, address, link)?;
+        let is_ordered = distribution == Distribution::Balanced;
+        join(self.alloc, &mut self.addresses, address, link, is_ordered)?;
         // The room is reserved.
         let _ = self.links.insert(link, consumer).unwrap();
         Ok(())
@@ -79,8 +88,8 @@ impl Table {
     /// The link that a delivery of the address goes to, of those that pass the test: for a closest address the one whose
     /// last delivery began first, where one without a delivery comes before all; for a balanced address the one with the
     /// fewest deliveries that are not decided; of equal ones the one that was attached first. `None` where none passes,
-    /// and for a multicast address. It takes no memory. Of a closest address each link is tested; of a balanced one the
-    /// links are tested in that order, and none behind the first that passes.
+    /// and for a multicast address. It takes no memory. Of a closest address each link is tested; of a balanced one, if its
+    /// links were attached so, they are tested in that order, and none behind the first that passes.
     pub fn pick<F: Fn(u64) -> bool>(
         &self,
         address: &str,
@@ -103,7 +112,7 @@ impl Table {
     }
 
     /// Of the links of the address that pass the test the one with the fewest undecided deliveries; of equal ones the one
-    /// that was attached first. No link behind it in that order is asked.
+    /// that was attached first. No link behind it in that order is asked, where the links stand in order.
     fn first_in_order<F: Fn(u64) -> bool>(&self, address: &str, eligible: F) -> Option<u64>
     where
         F: Drop,
@@ -111,9 +120,10 @@ impl Table {
         ensures { (test : ℕ → Bool) → ((link : ℕ) (answer : Bool) → link < 2 ^ 64 → F.post eligible link answer → answer ≡ test link)
             → result ≡ picks.best (λ one other. nat_lt (undecided_on self.now one) (undecided_on self.now other)) (filter test (consumers_at self.now address.now)) }
     {
-        match self.addresses.get(address) {
-            Some(lineup) => lineup.first(eligible),
-            None => None,
+        let lineup = self.addresses.get(address)?;
+        match lineup.order() {
+            Some(order) => first_of(order, eligible),
+            None => self.first_of_least(Distribution::Balanced, lineup.links(), eligible),
         }
     }
 
@@ -194,14 +204,15 @@ fn join(
     addresses: &mut IndexMap<String, Lineup>,
     address: &str,
     link: u64,
+    is_ordered: bool,
 ) -> Result<(), AllocError>
-    ensures changed { OnOk result (ChangesAt (get_by_text addresses.old) (get_by_text addresses.new) address.now (joined link)) }
+    ensures changed { OnOk result (ChangesAt (get_by_text addresses.old) (get_by_text addresses.new) address.now (joined is_ordered link)) }
     ensures unchanged { OnErr result (AreSameLines (get_by_text addresses.old) (get_by_text addresses.new)) }
 {
     let Some(lineup) = addresses.get_mut(address) else {
-        return found(alloc, addresses, address, link);
+        return found(alloc, addresses, address, link, is_ordered);
     };
-    lineup.join(link)?;
+    lineup.join(link, is_ordered)?;
     Ok(())
 }
 
@@ -211,12 +222,13 @@ fn found(
     addresses: &mut IndexMap<String, Lineup>,
     address: &str,
     link: u64,
+    is_ordered: bool,
 ) -> Result<(), AllocError>
     requires { get_by_text addresses.old address.now ≡ None }
-    ensures changed { OnOk result (ChangesAt (get_by_text addresses.old) (get_by_text addresses.new) address.now (joined link)) }
+    ensures changed { OnOk result (ChangesAt (get_by_text addresses.old) (get_by_text addresses.new) address.now (joined is_ordered link)) }
     ensures unchanged { OnErr result (AreSameLines (get_by_text addresses.old) (get_by_text addresses.new)) }
 {
-    let lineup = Lineup::of(alloc, link)?;
+    let lineup = Lineup::of(alloc, link, is_ordered)?;
     let address = String::from_str(alloc, address)?;
     addresses.insert(address, lineup)?;
     Ok(())
@@ -224,7 +236,7 @@ fn found(
 
 /// The link is no more among those of the address.
 fn leave(addresses: &mut IndexMap<String, Lineup>, address: &str, link: u64)
-    ensures { ChangesAt (get_by_text addresses.old) (get_by_text addresses.new) address.now (left link) }
+    ensures { ChangesAt (get_by_text addresses.old) (get_by_text addresses.new) address.now (λ line. emptied (left link line)) }
 {
     if let Some(lineup) = addresses.get_mut(address) {
         lineup.leave(link);

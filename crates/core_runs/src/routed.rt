@@ -31,7 +31,7 @@ struct Row<'a> {
 }
 
 /// A small row of each shape.
-const ROWS: [Row<'static>; 5] = [
+const ROWS: [Row<'static>; 6] = [
     Row {
         name: "links",
         size: 2,
@@ -49,6 +49,11 @@ const ROWS: [Row<'static>; 5] = [
     },
     Row {
         name: "copies",
+        size: 2,
+        count: 3,
+    },
+    Row {
+        name: "deciding",
         size: 2,
         count: 3,
     },
@@ -133,7 +138,7 @@ fn run(
 fn routed(rt: &HostRuntime, core: &mut Core, shape: Shape, row: Row<'_>) -> io::Result<Duration> {
     shape.set_up(rt.alloc(), core, row.size)?;
     let start = Instant::now(rt)?;
-    shape.route(rt.alloc(), core, row.count)?;
+    shape.route(rt.alloc(), core, row.size, row.count)?;
     start.elapsed(rt)
 }
 

@@ -128,19 +128,25 @@ impl Picks {
         }
     }
 
-    /// The event follows those so far; `before` are the tables without it. It takes the time of the links that the event ends
-    /// and of the deliveries of which a consumer speaks with it.
+    /// The event follows those so far; `before` are the tables without it. The rules say only at which addresses picks are to
+    /// be fast. It takes the time of the links that the event ends and of the deliveries of which a consumer speaks with it;
+    /// where one of these is of a balanced address, or begins there, also that of the links of the address.
     ///
     /// # Errors
     ///
     /// Memory was refused; then the picks may agree with no records any more.
-    pub fn follow(&mut self, event: &Event, before: &Looked<'_>) -> Result<(), AllocError>
+    pub fn follow(
+        &mut self,
+        rules: &[Rule],
+        event: &Event,
+        before: &Looked<'_>,
+    ) -> Result<(), AllocError>
         ensures { OnOk result ((rules : List RuleText) (records : List Record) (r : Record) → IsLawfulNext rules records r (event_view event.now) →
             StandsFor rules before.now (history rules records) →
             ArePicks self.old (history rules records) → ArePicks self.new (event_view event.now ∷ history rules records)) }
     {
         let ended = before.links.ended(self.alloc, event)?;
-        self.attach(event)?;
+        self.attach(rules, event)?;
         self.begin(event);
         self.decide(event, before)?;
         self.detach(ended);
@@ -172,15 +178,17 @@ impl Picks {
     }
 
     /// The link of a consumer that the event opens is attached to its address.
-    fn attach(&mut self, event: &Event) -> Result<(), AllocError>
+    fn attach(&mut self, rules: &[Rule], event: &Event) -> Result<(), AllocError>
         ensures counted { OnOk result (HasNamedSource (event_view event.now) → CountsMore (attached_as (own_link (event_view event.now))) self.old.table self.new.table) }
         ensures same { self.new.undecided ≡ self.old.undecided }
     {
         let Some(link) = opened(event) else {
             return Ok(());
         };
+        let address = named_source(event);
+        let distribution = distribution_of(rules, address.as_bytes());
         self.table
-            .attach(named_source(event), link.number, link.is_pre_settled)?;
+            .attach(address, link.number, link.is_pre_settled, distribution)?;
         Ok(())
     }
 

@@ -75,7 +75,7 @@ impl Waiting {
             HasWaiting rules.now self.new (event_view event.now ∷ history rules.now records)) }
     {
         let ended = before.links.ended(self.alloc, event)?;
-        self.picks.follow(event, before)?;
+        self.picks.follow(rules, event, before)?;
         self.queues.follow(rules, event)?;
         self.awake.wake(event, &self.links, before)?;
         self.links.end(&ended);

@@ -121,7 +121,7 @@ impl Addresses {
         let (verb, rest) = parted(words);
         match verb {
             "after" => self.table_after(rest),
-            "many" => self.attach_many(word(rest, 0), number(word(rest, 1))),
+            "many" => self.attach_many(rest),
             "then" => self.follow(rest),
             "consumers" => {
                 let address = joined(self.alloc, rest)?;
@@ -158,11 +158,18 @@ impl Addresses {
         told(self.alloc, (picked, asked.get()))
     }
 
-    /// The links from 1 up to this number are attached to the address, one after the other, and there are no others.
-    fn attach_many(&mut self, address: &str, count: u64) -> Answer {
+    /// The links from 1 up to a number are attached to an address, one after the other, and there are no others; these words
+    /// tell the address, the number and the address's distribution.
+    fn attach_many(&mut self, words: &[&str]) -> Answer {
+        let distribution = distribution_of(word(words, 2));
         self.table = Table::new(self.alloc);
-        for before in 0..count {
-            self.table.attach(address, before.saturating_add(1), false)?;
+        for before in 0..number(word(words, 1)) {
+            self.table.attach(
+                word(words, 0),
+                before.saturating_add(1),
+                false,
+                distribution,
+            )?;
         }
         done(self.alloc)
     }
@@ -185,7 +192,9 @@ impl Addresses {
                 address,
                 link,
                 pre_settled,
-            } => self.table.attach(address, link, pre_settled)?,
+            } => self
+                .table
+                .attach(address, link, pre_settled, Distribution::Balanced)?,
             AddressEvent::Detached { link } => self.table.detach(link),
             AddressEvent::Begun { link, number } => {
                 if self.table.undecided(link) < u64::MAX {

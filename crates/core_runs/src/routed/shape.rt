@@ -21,6 +21,8 @@ pub(crate) enum Shape {
     Waiting,
     /// Each message goes, settled, to so many consumers.
     Copies,
+    /// Each message goes to so many consumers, each of which accepts its copy.
+    Deciding,
     /// Deliveries wait for credit of a consumer, which then leaves.
     Ending,
 }
@@ -49,6 +51,7 @@ impl Shape {
             "unsettled" => Shape::Unsettled,
             "waiting" => Shape::Waiting,
             "copies" => Shape::Copies,
+            "deciding" => Shape::Deciding,
             "ending" => Shape::Ending,
             _ => return None,
         };
@@ -63,7 +66,8 @@ impl Shape {
             Shape::Links => other_links(alloc, core, size)?,
             Shape::Unsettled => other_messages(alloc, core, size, true)?,
             Shape::Waiting => other_messages(alloc, core, size, false)?,
-            Shape::Copies => return copied(alloc, core, size),
+            Shape::Copies => return copied(alloc, core, size, true),
+            Shape::Deciding => return copied(alloc, core, size, false),
             Shape::Ending => return other_messages(alloc, core, size, false),
         }
         produce(alloc, core, PRODUCER, 0, "q")?;
@@ -71,8 +75,15 @@ impl Shape {
         credit(alloc, core, CONSUMER, 0)
     }
 
-    /// Sends so many messages, and accepts each where that is to be done; or the consumer leaves for which deliveries wait.
-    pub(crate) fn route(self, alloc: Global, core: &mut Core, count: u32) -> io::Result<()> {
+    /// Sends so many messages beside what stands there so many times, and accepts each where that is to be done; or the
+    /// consumer leaves for which deliveries wait.
+    pub(crate) fn route(
+        self,
+        alloc: Global,
+        core: &mut Core,
+        size: u32,
+        count: u32,
+    ) -> io::Result<()> {
         if self == Shape::Ending {
             return send(core, OTHER_CONSUMER, DETACH);
         }
@@ -80,12 +91,18 @@ impl Shape {
         for id in 0..count {
             put_transfer(&mut frame, 0, id)?;
             send(core, PRODUCER, frame.as_slice())?;
-            if self != Shape::Copies {
-                put_accepted(&mut frame, id)?;
-                send(core, CONSUMER, frame.as_slice())?;
-            }
+            self.decide(core, &mut frame, size, id)?;
         }
         Ok(())
+    }
+
+    /// The consumers accept what they got of the message of this id. It writes over the frame.
+    fn decide(self, core: &mut Core, frame: &mut Vec<u8>, size: u32, id: u32) -> io::Result<()> {
+        match self {
+            Shape::Copies | Shape::Ending => Ok(()),
+            Shape::Deciding => accept_copies(core, frame, size, id),
+            Shape::Links | Shape::Unsettled | Shape::Waiting => accept(core, frame, CONSUMER, id),
+        }
     }
 }
 
@@ -123,8 +140,8 @@ fn other_messages(alloc: Global, core: &mut Core, count: u32, has_credit: bool) 
     Ok(())
 }
 
-/// A producer of a multicast address, and so many consumers of it, which ask for settled copies.
-fn copied(alloc: Global, core: &mut Core, count: u32) -> io::Result<()> {
+/// A producer of a multicast address, and so many consumers of it, which ask for settled copies or for nothing.
+fn copied(alloc: Global, core: &mut Core, count: u32, is_settled: bool) -> io::Result<()> {
     produce(alloc, core, PRODUCER, 0, "news")?;
     for number in 0..count {
         let (further, handle) = (number / LINKS, number % LINKS);
@@ -132,11 +149,33 @@ fn copied(alloc: Global, core: &mut Core, count: u32) -> io::Result<()> {
         if handle == 0 {
             connect(core, connection)?;
         }
-        let frame = attaching_settled(alloc, handle, "news")?;
+        let frame = if is_settled {
+            attaching_settled(alloc, handle, "news")?
+        } else {
+            attaching(alloc, handle, true, "news")?
+        };
         send(core, connection, frame.as_slice())?;
         credit(alloc, core, connection, handle)?;
     }
     Ok(())
+}
+
+/// Each of so many consumers accepts its copy of the message of this id. The copies of a message come to a session in the
+/// order of its links, and their ids go on from those of the messages before.
+fn accept_copies(core: &mut Core, frame: &mut Vec<u8>, count: u32, id: u32) -> io::Result<()> {
+    for number in 0..count {
+        let (further, handle) = (number / LINKS, number % LINKS);
+        let links = count.wrapping_sub(further.wrapping_mul(LINKS)).min(LINKS);
+        let copy = id.wrapping_mul(links).wrapping_add(handle);
+        accept(core, frame, OTHERS.wrapping_add(further), copy)?;
+    }
+    Ok(())
+}
+
+/// The client of a connection accepts the delivery of this id, and settles it. It writes over the frame.
+fn accept(core: &mut Core, frame: &mut Vec<u8>, connection: u32, id: u32) -> io::Result<()> {
+    put_accepted(frame, id)?;
+    send(core, connection, frame.as_slice())
 }
 
 /// The client of a connection sends a frame, and the core takes it.

@@ -19,4 +19,4 @@ returns-clause-changed c =
     let n = c.get_mut.follows.lender c.join.new.self in
     written line_of m n c.args.address.now (Some c.join.new.self)
     (hash_map_updates_text c.args.address.now m n (Some c.join.new.self) ((c.get_mut.follows.holds c.join.new.self).3 (search rules)))
-    (joined c.args.link) (c.in_ok-join.ensures.joined ∙ ap (λ found. joined c.args.link (line_of found)) c.in-Some.ensures.value)
+    (joined c.args.is_ordered c.args.link) (c.in_ok-join.ensures.joined ∙ ap (λ found. joined c.args.is_ordered c.args.link (line_of found)) c.in-Some.ensures.value)

@@ -1,7 +1,8 @@
-use Rattle.std.proofs.Common.{◌∙◌, ap, sym, rules, cond, Some, None, bytes_eq}
+use Rattle.std.proofs.Common.{◌≡◌, ◌∙◌, ap, sym, rules, cond, true, false, Some, None, bytes_eq}
 use Rattle.std.proofs.lemmas.Map.Text.{hash_map_updates_text}
-use Rattle.address_table.specs.Lineups.{left, line_of}
+use Rattle.address_table.specs.Lineups.{emptied, left, line_of}
 use Rattle.address_table.proofs.Lists.{written, twice}
+use Rattle.address_table.proofs.Lines.{as_none, not_emptied}
 use Rattle.address_table.proofs.table.leave.Goals as goal
 
 pub returns-else-is_empty : goal.returns-else-is_empty
@@ -10,7 +11,9 @@ returns-else-is_empty c =
     let n = c.get_mut.follows.lender c.leave.new.self in
     written line_of m n c.args.address.now (Some c.leave.new.self)
     (hash_map_updates_text c.args.address.now m n (Some c.leave.new.self) ((c.get_mut.follows.holds c.leave.new.self).3 (search rules)))
-    (left c.args.link) (c.leave.ensures ∙ ap (λ found. left c.args.link (line_of found)) c.in-Some.ensures.value)
+    (λ line. emptied (left c.args.link line))
+    (not_emptied (line_of (Some c.leave.new.self)) (λ none. let is : true ≡ false = sym (c.is_empty.ensures.1 none) ∙ c.if-is_empty.false in absurd cc)
+    ∙ ap emptied (c.leave.ensures ∙ ap (λ found. left c.args.link (line_of found)) c.in-Some.ensures.value))
 
 pub returns-then-is_empty : goal.returns-then-is_empty
 returns-then-is_empty c =
@@ -20,5 +23,6 @@ returns-then-is_empty c =
     (λ at. hash_map_updates_text c.args.address.now n c.swap_remove.new.self None c.swap_remove.ensures.updates at
     ∙ ap (λ found. cond (bytes_eq c.args.address.now at) None found) (hash_map_updates_text c.args.address.now m n (Some c.leave.new.self) ((c.get_mut.follows.holds c.leave.new.self).3 (search rules)) at)
     ∙ twice (bytes_eq c.args.address.now at) _ _ _)
-    (left c.args.link)
-    (sym (c.is_empty.ensures c.if-is_empty.true) ∙ c.leave.ensures ∙ ap (λ found. left c.args.link (line_of found)) c.in-Some.ensures.value)
+    (λ line. emptied (left c.args.link line))
+    (as_none (line_of (Some c.leave.new.self)) (c.is_empty.ensures.0 c.if-is_empty.true)
+    ∙ ap emptied (c.leave.ensures ∙ ap (λ found. left c.args.link (line_of found)) c.in-Some.ensures.value))
