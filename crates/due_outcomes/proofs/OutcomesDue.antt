@@ -25,9 +25,8 @@ use Rattle.audit_held.proofs.GroupAnswers.{judged-of}
 use Rattle.audit_answers.specs.declared.looked.Looked.{Looked}
 use Rattle.number_groups.specs.Ascending.{has}
 use Rattle.due_outcomes.specs.LookedTables.{AreLooked}
-use Rattle.due_outcomes.specs.SentNumbers.{IsUnder}
-use Rattle.due_outcomes.specs.Untold.{HasUntold, waits_in}
-use Rattle.due_outcomes.specs.declared.sent_numbers.SentNumbers.{SentNumbers}
+use Rattle.due_outcomes.specs.Untold.{HasUntold, IsOn, waits_in}
+use Rattle.number_groups.specs.declared.groups.Groups.{Groups}
 use Rattle.due_outcomes.specs.declared.untold.Untold.{Untold}
 use Rattle.due_outcomes.proofs.SentEntries.{contained-at}
 
@@ -79,7 +78,7 @@ module _ (rules : List RuleText) (past : List Event) (looked : Looked) (stands :
       (left : (n : ℕ) → has later.candidates n ≡ (has earlier.candidates n && not (number == n)))
       (waiting : (address : List ℕ) (n : ℕ) → (number == n) ≡ false → waits_in earlier address n ≡ true → waits_in later address n ≡ true)
       (waits : is_some_and (held_in looked.deliveries.now number) (λ x. says_waiting x.fate) ≡ true → later.waiting ≡ earlier.waiting)
-      (carried : (j : Outgoing) (n : ℕ) → (number == n) ≡ false → IsUnder earlier.carried j n → IsUnder later.carried j n)
+      (carried : (j : Outgoing) (n : ℕ) → (number == n) ≡ false → IsOn earlier.carried j n → IsOn later.carried j n)
       (opens : says_closed (held_in looked.deliveries.now number) ≡ false → later.carried ≡ earlier.carried) where
     another : (d : Incoming) → Contains (incoming_deliveries past) d → is_to_tell rules past d ≡ true → (number == d.number) ≡ false
     another d there is = by (number == d.number) refl
@@ -102,7 +101,7 @@ module _ (rules : List RuleText) (past : List Event) (looked : Looked) (stands :
         by true says = subst (λ groups. waits_in (record later { waiting = groups }) (address_of d) d.number ≡ true) (sym (waits says)) (was.waiting d there is)
         by false says = waiting (address_of d) d.number (apart says (number == d.number) refl) (was.waiting d there is)
 
-    still-carried : (j : Outgoing) → Contains (outgoing_deliveries past) j → (d : Incoming) → noted j.note past ≡ Some d → is_of_multicast rules d ≡ false → is_closed past d ≡ false → IsUnder later.carried j d.number
+    still-carried : (j : Outgoing) → Contains (outgoing_deliveries past) j → (d : Incoming) → noted j.note past ≡ Some d → is_of_multicast rules d ≡ false → is_closed past d ≡ false → IsOn later.carried j d.number
     still-carried j there d at anycast open_still = by (says_closed (held_in looked.deliveries.now number)) refl
       where
         apart : says_closed (held_in looked.deliveries.now number) ≡ true → (b : Bool) → (number == d.number) ≡ b → (number == d.number) ≡ false
@@ -112,8 +111,8 @@ module _ (rules : List RuleText) (past : List Event) (looked : Looked) (stands :
             let never : true ≡ false = sym closed ∙ says in
             absurd cc
 
-        by : (b : Bool) → says_closed (held_in looked.deliveries.now number) ≡ b → IsUnder later.carried j d.number
-        by false says = subst (λ (x : SentNumbers). IsUnder x j d.number) (sym (opens says)) (was.carried j there d at anycast open_still)
+        by : (b : Bool) → says_closed (held_in looked.deliveries.now number) ≡ b → IsOn later.carried j d.number
+        by false says = subst (λ (x : Groups ℕ). IsOn x j d.number) (sym (opens says)) (was.carried j there d at anycast open_still)
         by true says = carried j d.number (apart says (number == d.number) refl) (was.carried j there d at anycast open_still)
 
     pub forgotten : HasUntold rules later past

@@ -21,30 +21,27 @@ use Rattle.audit_tables.specs.EndedLinks.{AreEnded}
 use Rattle.number_groups.specs.Ascending.{has}
 use Rattle.audit_sent.specs.Sent.{is_left_unsettled}
 use Rattle.audit_verdicts.specs.Verdicts.{awaits_at}
-use Rattle.due_outcomes.specs.SentNumbers.{Grows, IsUnder, KeepsAll}
-use Rattle.due_outcomes.specs.Untold.{waits_in}
+use Rattle.due_outcomes.specs.Untold.{IsOn, KeepsOn, waits_in}
 use Rattle.number_groups.specs.declared.ascending.Ascending.{Ascending}
-use Rattle.due_outcomes.specs.declared.sent_numbers.SentNumbers.{SentNumbers}
 use Rattle.due_outcomes.specs.declared.untold.Untold.{Untold}
 use Rattle.due_outcomes.proofs.Closings.{contained-any}
 use Rattle.due_outcomes.proofs.LostConsumers.{lost-link}
 use Rattle.due_outcomes.proofs.UnderKeys.{if-such, or-first, or-last}
 use Rattle.due_outcomes.proofs.UntoldSteps.{IsFollowed}
 
-module _ (rules : List RuleText) (e : Event) (past : List Event) (are : AreJudged rules (e ∷ past)) (u0 u1 u2 u3 : Untold) (c3 c4 c5 c6 c7 : Ascending) (spoken : List ℕ) (on_link : Groups ℕ) (ended : List Link) (carried : Option ℕ)
+module _ (rules : List RuleText) (e : Event) (past : List Event) (are : AreJudged rules (e ∷ past)) (u0 u1 u2 u3 : Untold) (c3 c5 c6 c7 : Ascending) (spoken : List ℕ) (on_link : Groups ℕ) (ended : List Link) (carried : Option ℕ)
     (completes1 : (n : ℕ) → has u1.candidates n ≡ (has u0.candidates n || is_some_and (completed_by e) (λ d. d.number == n)))
     (waits1 : IfSome (completed_by e) (λ d. is_of_multicast rules d ≡ false → waits_in u1 (address_of d) d.number ≡ true))
     (kept1 : (address : List ℕ) (n : ℕ) → waits_in u0 address n ≡ true → waits_in u1 address n ≡ true)
     (same1 : u1.carried ≡ u0.carried)
-    (begun2 : IfSome (outgoing_begun e) (λ j. (n : ℕ) → names n j.note ≡ true → has_multicast rules j.link.address ≡ false → IsUnder u2.carried j n))
-    (kept2 : KeepsAll u1.carried u2.carried)
+    (begun2 : IfSome (outgoing_begun e) (λ j. (n : ℕ) → names n j.note ≡ true → has_multicast rules j.link.address ≡ false → IsOn u2.carried j n))
+    (kept2 : KeepsOn u1.carried u2.carried)
     (stay2 : (address : List ℕ) (n : ℕ) → is_some_and (outgoing_begun e) (λ j. names n j.note) ≡ false → waits_in u1 address n ≡ true → waits_in u2 address n ≡ true)
     (same2 : u2.candidates ≡ u1.candidates)
     (add3 : (n : ℕ) → has c3 n ≡ (has u2.candidates n || is_number carried n)) (names3 : (n : ℕ) → is_number carried n ≡ is_some_and e.outgoing (λ j. names n j.note))
-    (grown4 : Grows c3 c4) (answered4 : (j : Outgoing) (n : ℕ) → IsUnder u2.carried j n → is_some (answering j e) ≡ true → has c4 n ≡ true)
-    (add5 : (n : ℕ) → has c5 n ≡ (has c4 n || is_among spoken n))
+    (add5 : (n : ℕ) → has c5 n ≡ (has c3 n || is_among spoken n))
     (spoken5 : (j : Outgoing) → Contains (outgoing_deliveries past) j → is_left_unsettled past j ≡ true → is_some (answering j e) ≡ true → (n : ℕ) → names n j.note ≡ true → is_among spoken n ≡ true)
-    (add6 : (n : ℕ) → has c6 n ≡ (has c5 n || list_any (λ l. is_member nat_eq u2.carried.of_link l.number n) ended))
+    (add6 : (n : ℕ) → has c6 n ≡ (has c5 n || list_any (λ l. is_member nat_eq u2.carried l.number n) ended))
     (add7 : (n : ℕ) → has c7 n ≡ (has c6 n || list_any (λ l. is_member nat_eq on_link l.number n) ended))
     (awaited7 : (link n : ℕ) → is_member nat_eq on_link link n ≡ awaits_at rules past link n)
     (add8 : (n : ℕ) → has u3.candidates n ≡ (has c7 n || list_any (λ l. is_consumer l && waits_in u2 l.address n) ended))
@@ -59,16 +56,13 @@ module _ (rules : List RuleText) (e : Event) (past : List Event) (are : AreJudge
   from6 n is = from7 n (add7 n ∙ or-first (has c6 n) (list_any (λ l. is_member nat_eq on_link l.number n) ended) is)
 
   from5 : (n : ℕ) → has c5 n ≡ true → has u3.candidates n ≡ true
-  from5 n is = from6 n (add6 n ∙ or-first (has c5 n) (list_any (λ l. is_member nat_eq u2.carried.of_link l.number n) ended) is)
-
-  from4 : (n : ℕ) → has c4 n ≡ true → has u3.candidates n ≡ true
-  from4 n is = from5 n (add5 n ∙ or-first (has c4 n) (is_among spoken n) is)
+  from5 n is = from6 n (add6 n ∙ or-first (has c5 n) (list_any (λ l. is_member nat_eq u2.carried l.number n) ended) is)
 
   from3 : (n : ℕ) → has c3 n ≡ true → has u3.candidates n ≡ true
-  from3 n is = from4 n (grown4 n is)
+  from3 n is = from5 n (add5 n ∙ or-first (has c3 n) (is_among spoken n) is)
 
-  under2 : (j : Outgoing) (n : ℕ) → IsUnder u3.carried j n → IsUnder u2.carried j n
-  under2 j n is = subst (λ (x : SentNumbers). IsUnder x j n) carried8 is
+  under2 : (j : Outgoing) (n : ℕ) → IsOn u3.carried j n → IsOn u2.carried j n
+  under2 j n is = subst (λ (x : Groups ℕ). IsOn x j n) carried8 is
 
   waiting3 : (address : List ℕ) (n : ℕ) → waits_in u2 address n ≡ true → waits_in u3 address n ≡ true
   waiting3 address n is = ap (λ (x : OctetGroups). octets.is_member x address n) waiting8 ∙ is
@@ -85,12 +79,11 @@ module _ (rules : List RuleText) (e : Event) (past : List Event) (are : AreJudge
         (λ d h anycast apart. waiting3 (address_of d) d.number (stay2 (address_of d) d.number apart (h anycast))) waits1;
     stay = λ address n apart is. waiting3 address n (stay2 address n apart (kept1 address n is));
     named = λ n is. from3 n (add3 n ∙ or-last (has u2.candidates n) (is_number carried n) (names3 n ∙ is));
-    begun = subst (λ (x : SentNumbers). IfSome (outgoing_begun e) (λ j. (n : ℕ) → names n j.note ≡ true → has_multicast rules j.link.address ≡ false → IsUnder x j n)) (sym carried8) begun2;
-    kept = λ j n is. subst (λ (x : SentNumbers). IsUnder x j n) (sym carried8) (kept2 j n (subst (λ (x : SentNumbers). IsUnder x j n) (sym same1) is));
-    answered = λ j n is speaks. from4 n (answered4 j n (under2 j n is) speaks);
-    over = λ j n is lives ends. from6 n (add6 n ∙ or-last (has c5 n) (list_any (λ l. is_member nat_eq u2.carried.of_link l.number n) ended)
-        (contained-any (λ (l : Link). is_member nat_eq u2.carried.of_link l.number n) ended j.link ((over j.link).1 (lives, ends)) (under2 j n is).link));
-    spoken = λ j begun opens speaks n named. from5 n (add5 n ∙ or-last (has c4 n) (is_among spoken n) (spoken5 j begun opens speaks n named));
+    begun = subst (λ (x : Groups ℕ). IfSome (outgoing_begun e) (λ j. (n : ℕ) → names n j.note ≡ true → has_multicast rules j.link.address ≡ false → IsOn x j n)) (sym carried8) begun2;
+    kept = λ j n is. subst (λ (x : Groups ℕ). IsOn x j n) (sym carried8) (kept2 j n (subst (λ (x : Groups ℕ). IsOn x j n) (sym same1) is));
+    over = λ j n is lives ends. from6 n (add6 n ∙ or-last (has c5 n) (list_any (λ l. is_member nat_eq u2.carried l.number n) ended)
+        (contained-any (λ (l : Link). is_member nat_eq u2.carried l.number n) ended j.link ((over j.link).1 (lives, ends)) (under2 j n is)));
+    spoken = λ j begun opens speaks n named. from5 n (add5 n ∙ or-last (has c3 n) (is_among spoken n) (spoken5 j begun opens speaks n named));
     awaited = λ l n lives ends awaits. from7 n (add7 n ∙ or-last (has c6 n) (list_any (λ m. is_member nat_eq on_link m.number n) ended)
         (contained-any (λ (m : Link). is_member nat_eq on_link m.number n) ended l ((over l).1 (lives, ends)) (awaited7 l.number n ∙ awaits)));
     lost = λ address n had none is. let l = lost-link rules e past are address had none in

@@ -3,7 +3,7 @@
 use Rattle.std.proofs.Common.{◌≡◌, refl, sym, ap, subst, ◌∙◌, inl, inr, ℕ, Bool, true, false, ◌&&◌, ◌||◌, not, List, [], ◌∷◌, length, Option, Some, None, IfSome, is_some, find, ◌==◌, eqb-true, eq-eqb, arith, if◌then◌else◌}
 use Rattle.std.specs.Prelude.{Contains}
 use Rattle.std.specs.List.{list_any}
-use Rattle.amqp_perf.specs.Meaning.{flag}
+use Rattle.amqp_perf.specs.Meaning.{DispositionFields, flag}
 use Rattle.capture_form.specs.Rules.{RuleText}
 use Rattle.pairing_cert.specs.declared.note.Note.{Note}
 use Rattle.pairing_cert.specs.declared.note.Note.TheVariants as notes
@@ -45,8 +45,8 @@ use Rattle.number_groups.specs.Ascending.{has}
 use Rattle.audit_sent.specs.Sent.{is_left_unsettled}
 use Rattle.audit_sent.proofs.SentDecided.{judged-decided}
 use Rattle.audit_verdicts.specs.Verdicts.{awaits_at}
-use Rattle.due_outcomes.specs.SentNumbers.{Grows, IsUnder, KeepsAll}
-use Rattle.due_outcomes.specs.Untold.{HasUntold, waits_in}
+use Rattle.due_outcomes.specs.SentNumbers.{Grows}
+use Rattle.due_outcomes.specs.Untold.{HasUntold, IsOn, KeepsOn, waits_in}
 use Rattle.due_outcomes.specs.declared.untold.Untold.{Untold}
 use Rattle.due_outcomes.proofs.LastVerdicts.{IsLast, IsSpokenOf, last-verdict}
 use Rattle.due_outcomes.proofs.SentEntries.{contained-at}
@@ -89,12 +89,11 @@ pub record IsFollowed (rules : List RuleText) (e : Event) (past : List Event) (e
   pub stay : (address : List ℕ) (n : ℕ) → is_some_and (outgoing_begun e) (λ j. names n j.note) ≡ false → waits_in earlier address n ≡ true → waits_in later address n ≡ true
   -- what it carries a part of is a candidate, and found by its carrier
   pub named : (n : ℕ) → is_some_and e.outgoing (λ j. names n j.note) ≡ true → has later.candidates n ≡ true
-  pub begun : IfSome (outgoing_begun e) (λ j. (n : ℕ) → names n j.note ≡ true → has_multicast rules j.link.address ≡ false → IsUnder later.carried j n)
-  pub kept : KeepsAll earlier.carried later.carried
-  -- so is what it answers, and what it leaves without a consumer
-  pub answered : (j : Outgoing) (n : ℕ) → IsUnder later.carried j n → is_some (answering j e) ≡ true → has later.candidates n ≡ true
-  pub over : (j : Outgoing) (n : ℕ) → IsUnder later.carried j n → IsLiveLink j.link past → ends_link j.link e ≡ true → has later.candidates n ≡ true
-  -- what has a copy of which its consumer speaks, and what awaits a verdict on a link that it ends
+  pub begun : IfSome (outgoing_begun e) (λ j. (n : ℕ) → names n j.note ≡ true → has_multicast rules j.link.address ≡ false → IsOn later.carried j n)
+  pub kept : KeepsOn earlier.carried later.carried
+  -- so is what it leaves without a consumer
+  pub over : (j : Outgoing) (n : ℕ) → IsOn later.carried j n → IsLiveLink j.link past → ends_link j.link e ≡ true → has later.candidates n ≡ true
+  -- what is carried by one of which its consumer speaks, and what awaits a verdict on a link that it ends
   pub spoken : (j : Outgoing) → Contains (outgoing_deliveries past) j → is_left_unsettled past j ≡ true → is_some (answering j e) ≡ true → (n : ℕ) → names n j.note ≡ true → has later.candidates n ≡ true
   pub awaited : (l : Link) (n : ℕ) → IsLiveLink l past → ends_link l e ≡ true → awaits_at rules past l.number n ≡ true → has later.candidates n ≡ true
   pub lost : (address : List ℕ) (n : ℕ) → has_consumer address past ≡ true → has_consumer address (e ∷ past) ≡ false → waits_in later address n ≡ true → has later.candidates n ≡ true
@@ -187,16 +186,27 @@ module _ (rules : List RuleText) (e : Event) (past : List Event) (are : AreJudge
       noted_j : noted j.note past ≡ Some d
       noted_j = ap (λ note. noted note past) b.named ∙ (ap (λ n. incoming_at n past) number_j ∙ k.at)
 
-      under : IsUnder later.carried j d.number
+      under : IsOn later.carried j d.number
       under = f.kept j d.number (was.carried j begun_j d noted_j anycast opens)
 
-      over-before : is_live past j.link ≡ false → Found
-      over-before off =
-          let answered = over-answers (is_some (decision j past)) (is_sent_settled j past) (is_live past j.link) off in
+      answered-before : is_some (decision j past) || is_sent_settled j past || not (is_live past j.link) ≡ true → Found
+      answered-before answered =
           let outcome : has_outcome rules past d ≡ true =
           outcome-bits (is_complete d past) (is_of_multicast rules d) (has_all_verdicts rules d past) (is_gone rules d past) (is_some_and (pairing d past) (is_answered past))
           (sym (ap (λ n. list_any (λ (y : Event). is_some_and (completed_by y) (λ x. x.number == n)) past) number_j) ∙ b.complete) anycast (passed (is_answered past) (pairing d past) j is answered) in
           was-due (is_to_tell-parts rules past d ∙ (ap (λ x. x && not (is_closed past d)) outcome ∙ ap not opens))
+
+      over-before : is_live past j.link ≡ false → Found
+      over-before off = answered-before (over-answers (is_some (decision j past)) (is_sent_settled j past) (is_live past j.link) off)
+
+      -- its consumer speaks of it: it was decided before, or neither side has settled it
+      spoken-by : (o : Option DispositionFields) → decision j past ≡ o → is_live past j.link ≡ true → j.link.is_pre_settled ≡ false → is_some (answering j e) ≡ true → Found
+      spoken-by (Some fields) decided live unsettled speaks = answered-before (ap (λ p. is_some p || is_sent_settled j past || not (is_live past j.link)) decided)
+      spoken-by None none live unsettled speaks =
+          f.spoken j begun_j
+          (left-bits j.link.is_pre_settled (is_live past j.link) (is_settled_by_consumer j past) (is_settled_by_router j past) (is_some (decision j past))
+          unsettled live (ap is_some none) (judged-decided rules past are.1 j.number j (contained-at rules past are.1 j begun_j) unsettled live))
+          speaks d.number named_j
 
       ended : (live : Bool) → is_live past j.link ≡ live → ends_link j.link e ≡ true → Found
       ended true live ends = f.over j d.number under (lives-live rules past are.1 j.link b.linked.at live) ends
@@ -206,8 +216,9 @@ module _ (rules : List RuleText) (e : Event) (past : List Event) (are : AreJudge
       pair-answers ans =
           elim (or-cases (is_live past j.link && decides_now e j || j.link.is_pre_settled && (is_part j e && is_some_and (out_transfer e) (λ fields. not (flag fields.more)))) (ends_link j.link e) ans) [
             | inl either ↦ elim (or-cases (is_live past j.link && decides_now e j) (j.link.is_pre_settled && (is_part j e && is_some_and (out_transfer e) (λ fields. not (flag fields.more)))) either) [
-              | inl decides ↦ f.answered j d.number under
-                  (some-of (answering j e) (and-both (not j.link.is_pre_settled) (is_some_and (answering j e) is_decisive) (and-both (is_live past j.link) (decides_now e j) decides).1).1)
+              | inl decides ↦ let live = and-both (is_live past j.link) (decides_now e j) decides in
+                  let says = and-both (not j.link.is_pre_settled) (is_some_and (answering j e) is_decisive) live.1 in
+                  spoken-by (decision j past) refl live.0 (not-true j.link.is_pre_settled says.0) (some-of (answering j e) says.1)
               | inr last ↦ let part = some-passes (λ (x : Outgoing). x.number == j.number) e.outgoing
                   (and-both (is_part j e) (is_some_and (out_transfer e) (λ fields. not (flag fields.more)))
                   (and-both j.link.is_pre_settled (is_part j e && is_some_and (out_transfer e) (λ fields. not (flag fields.more))) last).1).0 in
@@ -291,17 +302,17 @@ module _ (rules : List RuleText) (e : Event) (past : List Event) (are : AreJudge
   -- ---- what is carried
 
   carried-old : (j : Outgoing) → Contains (outgoing_deliveries past) j → (d : Incoming) → noted j.note (e ∷ past) ≡ Some d → is_of_multicast rules d ≡ false → is_closed (e ∷ past) d ≡ false
-      → IsUnder later.carried j d.number
+      → IsOn later.carried j d.number
   carried-old j there d at anycast opens =
       let b = outgoing-begun j there in
       let same : b.delivery ≡ d = same_some b.delivery d (sym (begun-noted_later rules e past are j b) ∙ at) in
       let so : is_closed past b.delivery ≡ false =
       or-none (is_closed past b.delivery) (closes_incoming e b.delivery)
       (sym (is_closed-step e past b.delivery (is_live-next rules e past are b.delivery.link b.kept.link.at)) ∙ (ap (is_closed (e ∷ past)) same ∙ opens)) in
-      subst (λ (x : Incoming). IsUnder later.carried j x.number) same
+      subst (λ (x : Incoming). IsOn later.carried j x.number) same
       (f.kept j b.delivery.number (was.carried j there b.delivery (begun-noted past j b) (ap (is_of_multicast rules) same ∙ anycast) so))
 
-  carried-new : (j : Outgoing) → outgoing_begun e ≡ Some j → (d : Incoming) → noted j.note (e ∷ past) ≡ Some d → is_of_multicast rules d ≡ false → IsUnder later.carried j d.number
+  carried-new : (j : Outgoing) → outgoing_begun e ≡ Some j → (d : Incoming) → noted j.note (e ∷ past) ≡ Some d → is_of_multicast rules d ≡ false → IsOn later.carried j d.number
   carried-new j begun d at anycast =
       let c = begun-carries rules e past are lawful j begun in
       let own = begun-own rules e past are lawful j begun in
@@ -309,7 +320,7 @@ module _ (rules : List RuleText) (e : Event) (past : List Event) (are : AreJudge
       let names_it : names d.number j.note ≡ true =
       ap (names d.number) (own.0 ∙ c.named) ∙ eq-eqb c.delivery.number d.number (ap (λ (x : Incoming). x.number) same) in
       let address : has_multicast rules j.link.address ≡ false = ap (has_multicast rules) (c.address ∙ ap address_of same) ∙ anycast in
-      subst (λ (o : Option Outgoing). IfSome o (λ i. (n : ℕ) → names n i.note ≡ true → has_multicast rules i.link.address ≡ false → IsUnder later.carried i n)) begun f.begun d.number names_it address
+      subst (λ (o : Option Outgoing). IfSome o (λ i. (n : ℕ) → names n i.note ≡ true → has_multicast rules i.link.address ≡ false → IsOn later.carried i n)) begun f.begun d.number names_it address
 
   -- ---- what waits
 

@@ -16,7 +16,7 @@ ghost use Rattle.trace_events.specs.Outgoing.{names, outgoing_begun};
 ghost use Rattle.trace_events.specs.Waiting as fates;
 ghost use Rattle.trace_events.specs.Words.{is_number, is_some_and};
 ghost use Rattle.trace_judge.specs.Told.{told_view};
-ghost use Rattle.trace_values.specs.View.{event_view, incoming_view, link_view};
+ghost use Rattle.trace_values.specs.View.{event_view, incoming_view, link_view, outgoing_view};
 ghost use Rattle.audit_held.specs.EntryAnswers.{says_closed};
 ghost use Rattle.audit_held.specs.Held.{says_waiting};
 ghost use Rattle.audit_held.specs.HeldTables.{held_in};
@@ -24,19 +24,18 @@ ghost use Rattle.audit_tables.specs.Connections.{IsLawfulNext};
 ghost use Rattle.number_groups.specs.Ascending.{count_of, has};
 ghost use Rattle.due_outcomes.specs.DueOutcomes.{IsDueOutcome};
 ghost use Rattle.due_outcomes.specs.LookedTables.{AreLooked};
-ghost use Rattle.due_outcomes.specs.SentNumbers.{IsUnder, KeepsAll};
-ghost use Rattle.due_outcomes.specs.Untold.{HasUntold, waits_in};
+ghost use Rattle.due_outcomes.specs.Untold.{HasUntold, IsOn, KeepsOn, waits_in};
 
 use crate::outcome::{DueOutcome, outcome_of};
-use crate::sent_numbers::{SentNumbers, add_of_links};
+use crate::sent_numbers::add_of_links;
 use audit_answers::Looked;
 use audit_held::HeldDelivery;
 use capture_form::Rule;
-use number_groups::{Ascending, OctetGroups};
+use number_groups::{Ascending, Groups, OctetGroups};
 use pairing_cert::Note;
 use std::alloc::{AllocError, Global};
 use trace_judge::Outcomes;
-use trace_values::{Event, Link, has_multicast};
+use trace_values::{Event, Link, Outgoing, has_multicast};
 
 /// The outcomes to tell.
 #[derive(Drop)]
@@ -45,8 +44,8 @@ pub struct Untold {
     candidates: Ascending,
     /// Those that wait, by their address.
     waiting: OctetGroups,
-    /// Those of anycast that went to a consumer, by the delivery that carries them.
-    carried: SentNumbers,
+    /// Those of anycast that went to a consumer, by the number of the link that they went over.
+    carried: Groups<u64>,
 }
 
 /// The number becomes a candidate, if there is one.
@@ -104,6 +103,22 @@ fn carried_number(event: &Event) -> Option<u64>
     }
 }
 
+/// The number stands under the link of the delivery that carries it.
+fn put_under(carried: &mut Groups<u64>, carrier: &Outgoing, number: u64) -> Result<(), AllocError>
+    ensures under { OnOk result (IsOn carried.new (outgoing_view carrier.now) number) }
+    ensures kept { OnOk result (KeepsOn carried.old carried.new) }
+{
+    carried.insert(carrier.link.number, number)?;
+    Ok(())
+}
+
+/// It stands there no more.
+fn remove_under(carried: &mut Groups<u64>, carrier: &Outgoing, number: u64)
+    ensures { (j : events.Outgoing) (n : ℕ) → (number == n) ≡ false → IsOn carried.old j n → IsOn carried.new j n }
+{
+    carried.remove(&carrier.link.number, number);
+}
+
 impl Untold {
     /// No records.
     pub fn new(alloc: Global) -> Untold
@@ -113,7 +128,7 @@ impl Untold {
             alloc,
             candidates: Ascending::new(alloc),
             waiting: OctetGroups::new(alloc),
-            carried: SentNumbers::new(alloc),
+            carried: Groups::new(alloc),
         }
     }
 
@@ -137,11 +152,10 @@ impl Untold {
         self.complete(rules, event)?;
         self.pair(rules, event)?;
         add(&mut self.candidates, carried_number(event))?;
-        self.carried.add_answered(&mut self.candidates, event)?;
         let answered = before.sent.answered(self.alloc, event)?;
         add_all(&mut self.candidates, &answered)?;
         let ended = before.links.ended(self.alloc, event)?;
-        self.carried.add_links(&mut self.candidates, &ended)?;
+        add_of_links(&mut self.candidates, &self.carried, &ended)?;
         add_of_links(&mut self.candidates, before.verdicts.on_link(), &ended)?;
         self.add_waiting(&ended)?;
         Ok(())
@@ -185,11 +199,11 @@ impl Untold {
         Ok(())
     }
 
-    /// What goes to a consumer with the event waits no more, and if it is of anycast, it is found by what carries it.
+    /// What goes to a consumer with the event waits no more, and if it is of anycast, it is found by the link that it goes over.
     fn pair(&mut self, rules: &[Rule], event: &Event) -> Result<(), AllocError>
         ensures begun { OnOk result (IfSome (outgoing_begun (event_view event.now)) (λ j. (n : ℕ) → names n j.note ≡ true →
-            has_multicast rules.now j.link.address ≡ false → IsUnder self.new.carried j n)) }
-        ensures kept { OnOk result (KeepsAll self.old.carried self.new.carried) }
+            has_multicast rules.now j.link.address ≡ false → IsOn self.new.carried j n)) }
+        ensures kept { OnOk result (KeepsOn self.old.carried self.new.carried) }
         ensures stay { OnOk result ((address : List ℕ) (n : ℕ) → is_some_and (outgoing_begun (event_view event.now)) (λ j. names n j.note) ≡ false →
             waits_in self.old address n ≡ true → waits_in self.new address n ≡ true) }
         ensures same { self.new.candidates ≡ self.old.candidates }
@@ -202,7 +216,7 @@ impl Untold {
         };
         self.waiting.remove(delivery.link.address, number);
         if !has_multicast(rules, delivery.link.address) {
-            self.carried.put(&delivery, number)?;
+            put_under(&mut self.carried, &delivery, number)?;
         }
         Ok(())
     }
@@ -227,7 +241,7 @@ impl Untold {
         ensures shorter { has self.old.candidates number ≡ true → count_of self.new.candidates < count_of self.old.candidates }
         ensures waiting { (address : List ℕ) (n : ℕ) → (number == n) ≡ false → waits_in self.old address n ≡ true → waits_in self.new address n ≡ true }
         ensures waits { is_some_and (held_in looked.now.deliveries.now number) (λ x. says_waiting x.fate) ≡ true → self.new.waiting ≡ self.old.waiting }
-        ensures carried { (j : events.Outgoing) (n : ℕ) → (number == n) ≡ false → IsUnder self.old.carried j n → IsUnder self.new.carried j n }
+        ensures carried { (j : events.Outgoing) (n : ℕ) → (number == n) ≡ false → IsOn self.old.carried j n → IsOn self.new.carried j n }
         ensures opens { says_closed (held_in looked.now.deliveries.now number) ≡ false → self.new.carried ≡ self.old.carried }
     {
         self.candidates.remove(number);
@@ -251,7 +265,7 @@ impl Untold {
 
     /// It is not found by what carries it, if nothing more is to be told of it.
     fn stop_carrying(&mut self, looked: &Looked<'_>, held: &HeldDelivery, number: u64)
-        ensures carried { (j : events.Outgoing) (n : ℕ) → (number == n) ≡ false → IsUnder self.old.carried j n → IsUnder self.new.carried j n }
+        ensures carried { (j : events.Outgoing) (n : ℕ) → (number == n) ≡ false → IsOn self.old.carried j n → IsOn self.new.carried j n }
         ensures opens { held.now.is_closed ≡ false → self.new.carried ≡ self.old.carried }
         ensures candidates { self.new.candidates ≡ self.old.candidates }
         ensures waiting { self.new.waiting ≡ self.old.waiting }
@@ -260,7 +274,7 @@ impl Untold {
             return;
         }
         if let Some(carrier) = looked.pairing(&held.delivery()) {
-            self.carried.remove(&carrier, number);
+            remove_under(&mut self.carried, &carrier, number);
         }
     }
 }

@@ -25,22 +25,22 @@ returns c = λ records r next stands was.
     let items = c.in_ok-ended.ended.items in
     untold-next rules e past are next.1 c.args.self.now c.add_waiting.new.self was
     (followed rules e past are c.args.self.now c.complete.new.self u2 c.add_waiting.new.self
-    c.add.new.candidates c.add_answered.new.candidates c.add_all.new.candidates c.add_links.new.candidates c.add_of_links.new.candidates
+    c.add.new.candidates c.add_all.new.candidates c.add_of_links.new.candidates c.add_of_links-2.new.candidates
     c.deref.result.now c.on_link.result.now (views items) c.carried_number.result
     c.in_ok-complete.ensures.completed c.in_ok-complete.ensures.waits c.in_ok-complete.ensures.kept c.in_ok-complete.ensures.same
     c.in_ok-pair.ensures.begun c.in_ok-pair.ensures.kept c.in_ok-pair.ensures.stay c.in_ok-pair.ensures.same
-    c.in_ok-add.ensures c.carried_number.ensures c.in_ok-add_answered.ensures.grown c.in_ok-add_answered.ensures.answered
+    c.in_ok-add.ensures c.carried_number.ensures
     c.in_ok-add_all.ensures
     (λ j begun opens speaks n named. ap (λ xs. is_among xs n) c.deref.ensures.value ∙ c.in_ok-answered.ensures rules records stands.1.1.1.1.1.1.1.1.0 j begun opens speaks n named)
-    (λ n. c.in_ok-add_links.ensures n
-    ∙ (ap (λ links. has c.add_all.new.candidates n || list_any (λ l. is_member nat_eq u2.carried.of_link (link_view l).number n) links) c.deref-2.ensures.value
-    ∙ ap (λ b. has c.add_all.new.candidates n || b) (any-map link_view (λ l. is_member nat_eq u2.carried.of_link l.number n) items)))
     (λ n. c.in_ok-add_of_links.ensures n
-    ∙ (ap (λ links. has c.add_links.new.candidates n || list_any (λ l. is_member nat_eq c.on_link.result.now (link_view l).number n) links) c.deref-3.ensures.value
-    ∙ ap (λ b. has c.add_links.new.candidates n || b) (any-map link_view (λ l. is_member nat_eq c.on_link.result.now l.number n) items)))
+    ∙ (ap (λ links. has c.add_all.new.candidates n || list_any (λ l. is_member nat_eq u2.carried (link_view l).number n) links) c.deref-2.ensures.value
+    ∙ ap (λ b. has c.add_all.new.candidates n || b) (any-map link_view (λ l. is_member nat_eq u2.carried l.number n) items)))
+    (λ n. c.in_ok-add_of_links-2.ensures n
+    ∙ (ap (λ links. has c.add_of_links.new.candidates n || list_any (λ l. is_member nat_eq c.on_link.result.now (link_view l).number n) links) c.deref-3.ensures.value
+    ∙ ap (λ b. has c.add_of_links.new.candidates n || b) (any-map link_view (λ l. is_member nat_eq c.on_link.result.now l.number n) items)))
     (λ link n. ap (λ (groups : Groups ℕ). is_member nat_eq groups link n) c.on_link.ensures ∙ stands.1.1.1.1.1.1.1.1.1.awaits link n)
     (λ n. c.in_ok-add_waiting.ensures.added n
-    ∙ (ap (λ links. has c.add_of_links.new.candidates n || list_any (λ l. is_consumer (link_view l) && waits_in u2 (link_view l).address n) links) c.deref-4.ensures.value
-    ∙ ap (λ b. has c.add_of_links.new.candidates n || b) (any-map link_view (λ l. is_consumer l && waits_in u2 l.address n) items)))
+    ∙ (ap (λ links. has c.add_of_links-2.new.candidates n || list_any (λ l. is_consumer (link_view l) && waits_in u2 (link_view l).address n) links) c.deref-4.ensures.value
+    ∙ ap (λ b. has c.add_of_links-2.new.candidates n || b) (any-map link_view (λ l. is_consumer l && waits_in u2 l.address n) items)))
     c.in_ok-add_waiting.ensures.carried c.in_ok-add_waiting.ensures.waiting
     (c.in_ok-ended.ensures rules records r next.0 stands.1.1.0))
