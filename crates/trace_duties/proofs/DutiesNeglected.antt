@@ -1,7 +1,7 @@
 -- For each duty of a router lawful captures that neglect it: the first duty that is neglected, with the record where it is,
 -- and that the router is not diligent.
 use Rattle.std.specs.Prelude.{◌≡◌, [], ◌∷◌, ◌++◌, replicate, codes, false, Some, refl}
-use Rattle.pairing_cert.specs.declared.note.Why.TheVariants.{C, M}
+use Rattle.pairing_cert.specs.declared.note.Why.TheVariants.{C}
 use Rattle.capture_form.specs.declared.rules.Distribution.TheVariants.{Multicast}
 use Rattle.trace_clauses.proofs.Captures.{rule, opened, client, router, paired, told}
 use Rattle.trace_duties.proofs.Duties.{Answer, Waiting, Progress, Outcome, Credit, Drain, Copies, Settling, Pick, NothingElse}

@@ -5,7 +5,7 @@ use Rattle.amqp_perf.specs.declared.attach.SenderSettleMode.TheVariants.{Settled
 use Rattle.amqp_perf.specs.declared.attach.ReceiverSettleMode.TheVariants.{First}
 use Rattle.amqp_perf.specs.declared.condition.ErrorCondition.TheVariants.{FramingError, NotAllowed, InvalidField, UnattachedHandle, TransferLimitExceeded}
 use Rattle.amqp_perf.specs.Meaning.{AnAttach, AFlow, ATransfer, ADisposition, AnEnd, AClose}
-use Rattle.pairing_cert.specs.declared.note.Why.TheVariants.{C, S, M}
+use Rattle.pairing_cert.specs.declared.note.Why.TheVariants.{C, S}
 use Rattle.capture_form.specs.declared.records.Record.{Record}
 use Rattle.capture_form.specs.declared.rules.Distribution.TheVariants.{Closest, Multicast}
 use Rattle.trace_clauses.specs.Written.{written_open, written_begin, written_close, written_end, written_detach, written_settling}
