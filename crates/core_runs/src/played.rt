@@ -11,6 +11,7 @@
 mod asked;
 mod talk;
 
+use crate::WRONG;
 use crate::cores::{LIMIT, rule};
 use crate::names::names_in;
 use address_table::Rules;
@@ -30,38 +31,47 @@ enum Played {
     Through(Vec<Difference>, Verdict),
 }
 
-/// Plays the scenarios of these names, or all, and prints what came of them.
+/// Plays the scenarios of these names, or all, and prints what came of them; the status.
 pub(crate) fn play_all(rt: &HostRuntime, words: &[String]) -> io::Result<u8> {
+    let mut status = 0;
     for name in names_in(rt, "played", ".talk", words)?.iter() {
-        tell(rt, name.as_str())?;
-    }
-    Ok(0)
-}
-
-/// Plays a scenario, and prints what came of it.
-fn tell(rt: &HostRuntime, name: &str) -> io::Result<()> {
-    let text = fs::read_to_string(rt, format!(in rt.alloc(); "played/{name}.talk")?)?;
-    match play_through(rt.alloc(), text.as_str())? {
-        Played::NoRules => println!(rt; "{name}: its rules are not taken"),
-        Played::Through(differences, verdict) => {
-            if differences.is_empty() {
-                println!(rt; "{name}: as told")?;
-            }
-            for Difference { line, what } in differences.iter() {
-                println!(rt; "{name}: line {line}: {what}")?;
-            }
-            match verdict {
-                Verdict::Accepted(_) => Ok(()),
-                verdict => println!(rt; "{name}: the auditor says {verdict}"),
-            }
+        if !is_as_told(rt, name.as_str())? {
+            status = WRONG;
         }
     }
+    Ok(status)
+}
+
+/// Plays a scenario, and prints what came of it: whether all was as it tells, and the auditor accepts the capture.
+fn is_as_told(rt: &HostRuntime, name: &str) -> io::Result<bool> {
+    let text = fs::read_to_string(rt, format!(in rt.alloc(); "played/{name}.talk")?)?;
+    let (differences, verdict) = match play_through(rt.alloc(), text.as_str())? {
+        Played::Through(differences, verdict) => (differences, verdict),
+        Played::NoRules => {
+            println!(rt; "{name}: its rules are not taken")?;
+            return Ok(false);
+        }
+    };
+    if differences.is_empty() {
+        println!(rt; "{name}: as told")?;
+    }
+    for Difference { line, what } in differences.iter() {
+        println!(rt; "{name}: line {line}: {what}")?;
+    }
+    let Verdict::Accepted(_) = verdict else {
+        println!(rt; "{name}: the auditor says {verdict}")?;
+        return Ok(false);
+    };
+    Ok(differences.is_empty())
 }
 
 /// What comes of a scenario's lines.
 fn play_through(alloc: Global, text: &str) -> Result<Played, AllocError> {
     let lines: Vec<&str> = text.split('\n').collect(alloc)?;
-    let Ok(rules) = Rules::new(rules_of(alloc, lines.as_slice())?) else {
+    let Some(rules) = rules_of(alloc, lines.as_slice())? else {
+        return Ok(Played::NoRules);
+    };
+    let Ok(rules) = Rules::new(rules) else {
         return Ok(Played::NoRules);
     };
     let core = Core::new(alloc, &rules, limit_of(alloc, lines.as_slice())?)?;
@@ -82,8 +92,8 @@ fn run(
     (differences, core.into_capture())
 }
 
-/// The rules that the lines `rule DISTRIBUTION PREFIX` give.
-fn rules_of(alloc: Global, lines: &[&str]) -> Result<Vec<Rule>, AllocError> {
+/// The rules that the lines `rule DISTRIBUTION PREFIX` give; none where one of them names no distribution.
+fn rules_of(alloc: Global, lines: &[&str]) -> Result<Option<Vec<Rule>>, AllocError> {
     let mut rules = Vec::new(alloc);
     for line in lines {
         let words = Words::of(alloc, line)?;
@@ -92,12 +102,13 @@ fn rules_of(alloc: Global, lines: &[&str]) -> Result<Vec<Rule>, AllocError> {
         }
         let distribution = match words.at(1) {
             "closest" => Distribution::Closest,
+            "balanced" => Distribution::Balanced,
             "multicast" => Distribution::Multicast,
-            _ => Distribution::Balanced,
+            _ => return Ok(None),
         };
         rules.push(rule(alloc, distribution, words.at(2))?)?;
     }
-    Ok(rules)
+    Ok(Some(rules))
 }
 
 /// As many records as the core may have: the line `limit NUMBER` tells it.

@@ -12,6 +12,7 @@ ghost use Rattle.std.specs.Prelude.{IfOk, IfSome};
 ghost use Rattle.std.specs.List.{AllByRecursion};
 ghost use Rattle.route_items.specs.Items.{IsShort};
 
+use crate::WRONG;
 use crate::cores::{LIMIT, rule};
 use crate::names::names_in;
 use address_table::Rules;
@@ -39,11 +40,16 @@ enum Replayed {
     Damaged(usize),
 }
 
-/// Runs the inputs of the captures of these names, or of all, and prints what came of them.
+/// Runs the inputs of the captures of these names, or of all, and prints what came of them; the status.
 pub(crate) fn replay_all(rt: &HostRuntime, words: &[String]) -> io::Result<u8> {
+    let mut status = 0;
     for name in names_in(rt, "replayed", ".cap", words)?.iter() {
         let octets = fs::read(rt, format!(in rt.alloc(); "replayed/{name}.cap")?)?;
-        match replay(rt.alloc(), octets.as_slice())? {
+        let replayed = replay(rt.alloc(), octets.as_slice())?;
+        if !is_run(&replayed) {
+            status = WRONG;
+        }
+        match replayed {
             Replayed::Unread => println!(rt; "{name}: not read")?,
             Replayed::Same(verdict) => println!(rt; "{name}: same; {verdict}")?,
             Replayed::Other(octet, verdict) => {
@@ -54,7 +60,18 @@ pub(crate) fn replay_all(rt: &HostRuntime, words: &[String]) -> io::Result<u8> {
             Replayed::Damaged(input) => println!(rt; "{name}: damaged at input {input}")?,
         }
     }
-    Ok(0)
+    Ok(status)
+}
+
+/// Whether the core took all inputs, or as many as there was memory for, and the auditor accepts what it made of them, be it
+/// this capture or another.
+fn is_run(replayed: &Replayed) -> bool {
+    matches!(
+        replayed,
+        Replayed::Same(Verdict::Accepted(_))
+            | Replayed::Other(_, Verdict::Accepted(_))
+            | Replayed::Stopped(_)
+    )
 }
 
 /// What comes of the inputs of a capture's whole records.
