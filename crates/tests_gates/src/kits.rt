@@ -2,6 +2,7 @@
 
 use crate::step::{Step, octets_of, tell};
 use kit_clients::{Chance, Fields, framed, read};
+use kit_words::all_words;
 use std::alloc::{AllocError, AllocGlobal, Global};
 use std::io;
 
@@ -25,8 +26,9 @@ fn chosen(alloc: Global, chance: &mut Chance, step: &Step<'_>) -> Result<String,
         "once-in" => chance.once_in(number).to_string(alloc),
         "octet" => chance.octet().to_string(alloc),
         _ => {
-            let words = step.rest.split_whitespace();
+            let words = all_words(alloc, step.rest)?;
             let choices: Vec<u32> = words
+                .iter()
                 .map(|word| word.parse::<u32>().unwrap_or(0))
                 .collect(alloc)?;
             chance.one_of(choices.as_slice(), number).to_string(alloc)

@@ -7,7 +7,7 @@
 //! from the standard, the formats and the numbers of the profile, but for the octets of packets: an independent program made
 //! them, and tshark read them.
 //!
-//! In reading order: `words` and `octets` are what a case is written in; `deliveries`, `windows`, `credits`, `addresses`,
+//! In reading order: `words` (with those of `kit_words`) and `octets` are what a case is written in; `deliveries`, `windows`, `credits`, `addresses`,
 //! `groups` and `notes` are subjects. Of captures, `fakes` are a reader that gives a text in pieces or fails, and a writer
 //! with room for less; `runs` puts together what comes of many numbers; `reading`, `writing` and `packing` are what is done
 //! with a text; `texts` and `records` are the subjects.
@@ -33,9 +33,10 @@ use addresses::Addresses;
 use credits::Credits;
 use deliveries::Deliveries;
 use groups::Keyed;
+use kit_words::words_of;
 use notes::Notes;
 use records::Records;
-use std::alloc::{AllocError, Global};
+use std::alloc::Global;
 use std::{fs, io};
 use texts::Texts;
 use windows::Windows;
@@ -118,14 +119,6 @@ fn tell_cases(rt: &HostRuntime, name: &str) -> io::Result<()> {
         }
     }
     Ok(())
-}
-
-/// The words of a case; none where the line says what cases are about.
-fn words_of(alloc: Global, line: &str) -> Result<Vec<&str>, AllocError> {
-    if line.starts_with('#') {
-        return Ok(Vec::new(alloc));
-    }
-    line.split_whitespace().collect(alloc)
 }
 
 /// Tells what came of the case on a line.

@@ -1,5 +1,6 @@
 //! The words of a case, and what is told of it.
 
+pub use kit_words::{behind, number, parted, parts, word};
 use std::alloc::{AllocError, Global};
 use std::fmt::Debug;
 
@@ -21,29 +22,6 @@ pub fn done(alloc: Global) -> Answer {
     Ok(Some(String::new(alloc)))
 }
 
-/// The first word, which says what is done, and those behind it.
-pub fn parted<'w, 'a>(words: &'w [&'a str]) -> (&'a str, &'w [&'a str]) {
-    match words {
-        [first, rest @ ..] => (*first, rest),
-        [] => ("", words),
-    }
-}
-
-/// The word at this place, an empty one where there are fewer.
-pub fn word<'a>(words: &[&'a str], place: usize) -> &'a str {
-    words.get(place).copied().unwrap_or("")
-}
-
-/// The words from this place on.
-pub fn behind<'a>(words: &'a [&'a str], place: usize) -> &'a [&'a str] {
-    words.get(place..).unwrap_or(&[])
-}
-
-/// A number, 0 where the word is none.
-pub fn number(word: &str) -> u64 {
-    word.parse::<u64>().unwrap_or(0)
-}
-
 /// A count of octets, 0 where the word is none.
 pub fn count(word: &str) -> usize {
     number(word) as usize
@@ -57,11 +35,6 @@ pub fn optional(word: &str) -> Option<u32> {
 /// A number of 32 bits, 0 where the word is none.
 pub fn small(word: &str) -> u32 {
     optional(word).unwrap_or(0)
-}
-
-/// The parts of a word between its colons.
-pub fn parts(alloc: Global, word: &str) -> Result<Vec<&str>, AllocError> {
-    word.split(':').collect(alloc)
 }
 
 /// The text of these words, one behind the other; a word `TEXT*COUNT` is so many times the text.
