@@ -63,7 +63,7 @@ fn main(rt: HostRuntime) -> io::Result<()> {
     Ok(())
 }
 
-/// What cases are about. One value asks them all: of a function for each, the prover would go through one for each.
+/// What cases are about.
 #[derive(Drop)]
 struct Subjects {
     deliveries: Deliveries,
