@@ -2,7 +2,6 @@
 
 use crate::step::{Step, octets_of, tell};
 use kit_clients::{Chance, Fields, framed, read};
-use kit_words::all_words;
 use std::alloc::{AllocError, AllocGlobal, Global};
 use std::io;
 
@@ -26,9 +25,8 @@ fn chosen(alloc: Global, chance: &mut Chance, step: &Step<'_>) -> Result<String,
         "once-in" => chance.once_in(number).to_string(alloc),
         "octet" => chance.octet().to_string(alloc),
         _ => {
-            let words = all_words(alloc, step.rest)?;
+            let words = step.rest.split_whitespace();
             let choices: Vec<u32> = words
-                .iter()
                 .map(|word| word.parse::<u32>().unwrap_or(0))
                 .collect(alloc)?;
             chance.one_of(choices.as_slice(), number).to_string(alloc)

@@ -1,6 +1,5 @@
 //! A line in its parts.
 
-use kit_words::all_words;
 use std::alloc::{AllocError, Global};
 
 /// What a line asks for: `KIND WORDS.. [< INPUT..] [> ROOM [ROOM]] [~ PIECE]`.
@@ -62,11 +61,7 @@ fn parted<'a>(text: &'a str, mark: &str) -> (&'a str, &'a str) {
 
 /// The words of a text.
 fn words_of(alloc: Global, text: &str) -> Result<Vec<&str>, AllocError> {
-    let mut words = all_words(alloc, text)?;
-    for word in words.iter_mut() {
-        if *word == "''" {
-            *word = "";
-        }
-    }
-    Ok(words)
+    text.split_whitespace()
+        .map(|word| if word == "''" { "" } else { word })
+        .collect(alloc)
 }

@@ -1,6 +1,6 @@
 //! Numbers, alone and under keys of a number, of a pair of numbers and of octets; and values under numbers.
 
-use crate::words::{Answer, done, number, parted, parts, small, told, word};
+use crate::words::{Answer, Subject, done, number, parted, parts, small, told, word};
 use number_groups::{Ascending, Groups, IdOn, NumberKey, NumberSet, OctetGroups};
 use number_map::NumberMap;
 use std::alloc::{AllocError, Global};
@@ -31,9 +31,8 @@ impl Keyed {
     }
 }
 
-impl Keyed {
-    /// What comes of a case of these words.
-    pub fn answer(&mut self, words: &[&str]) -> Answer {
+impl Subject for Keyed {
+    fn answer(&mut self, words: &[&str]) -> Answer {
         let alloc = self.alloc;
         let (kind, rest) = parted(words);
         let (verb, key, value) = (word(rest, 0), word(rest, 1), number(word(rest, 2)));

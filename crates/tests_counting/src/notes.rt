@@ -1,6 +1,6 @@
 //! The notes of records.
 
-use crate::words::{Answer, number, told};
+use crate::words::{Answer, Subject, number, told};
 use pairing_cert::Note;
 use std::alloc::Global;
 
@@ -16,16 +16,15 @@ impl Notes {
     }
 }
 
-impl Notes {
-    /// What comes of a case of these words.
-    pub fn answer(&mut self, words: &[&str]) -> Answer {
+impl Subject for Notes {
+    fn answer(&mut self, words: &[&str]) -> Answer {
         let [octet, index] = words else {
             return Ok(None);
         };
         let octet = octet.parse::<u8>().unwrap_or(u8::MAX);
         match Note::from_parts(octet, number(index)) {
             Ok(note) => told(self.alloc, (note, note.to_parts())),
-            Err(fault) => Ok(Some(format!(in self.alloc; ": {fault:?}, {fault}")?)),
+            Err(fault) => Ok(Some(format!(in self.alloc; "{fault:?}, {fault}")?)),
         }
     }
 }

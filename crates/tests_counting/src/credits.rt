@@ -1,6 +1,6 @@
 //! The credit of a consumer's link and of a producer's.
 
-use crate::words::{Answer, behind, done, optional, parted, parts, small, told, word};
+use crate::words::{Answer, Subject, behind, done, optional, parted, parts, small, told, word};
 use link_credit::{
     ConsumerEvent, GivenCredit, Over, ProducerEvent, SenderCredit, given_credit_after,
     sender_credit_after,
@@ -25,9 +25,8 @@ impl Credits {
     }
 }
 
-impl Credits {
-    /// What comes of a case of these words.
-    pub fn answer(&mut self, words: &[&str]) -> Answer {
+impl Subject for Credits {
+    fn answer(&mut self, words: &[&str]) -> Answer {
         let (side, words) = parted(words);
         match side {
             "consumer" => self.consumer_answer(words),

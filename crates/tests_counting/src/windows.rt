@@ -1,6 +1,6 @@
 //! The windows of a session.
 
-use crate::words::{Answer, behind, done, optional, parted, parts, small, told, word};
+use crate::words::{Answer, Subject, behind, done, optional, parted, parts, small, told, word};
 use flow_counts::WindowEvent;
 use session_window::{Violation, Window, window_after};
 use std::alloc::Global;
@@ -21,9 +21,8 @@ impl Windows {
     }
 }
 
-impl Windows {
-    /// What comes of a case of these words.
-    pub fn answer(&mut self, words: &[&str]) -> Answer {
+impl Subject for Windows {
+    fn answer(&mut self, words: &[&str]) -> Answer {
         let (verb, rest) = parted(words);
         let (first, second, third) = (word(rest, 0), word(rest, 1), word(rest, 2));
         match verb {

@@ -3,7 +3,7 @@
 //! A payload is the text of its word, and `-` an empty one; `-` is also a transfer without a delivery-id. `cuts` tells how
 //! many octets each cut has of the delivery that was completed last.
 
-use crate::words::{Answer, done, number, optional, parted, parts, small, told, word};
+use crate::words::{Answer, Subject, done, number, optional, parted, parts, small, told, word};
 use bytes::Bytes;
 use flow_counts::SentEvent;
 use std::alloc::{AllocError, Global};
@@ -29,9 +29,8 @@ impl Deliveries {
     }
 }
 
-impl Deliveries {
-    /// What comes of a case of these words.
-    pub fn answer(&mut self, words: &[&str]) -> Answer {
+impl Subject for Deliveries {
+    fn answer(&mut self, words: &[&str]) -> Answer {
         let (side, words) = parted(words);
         match side {
             "new" => *self = Deliveries::new(self.alloc),

@@ -1,7 +1,7 @@
 //! Records that are looked at: their lines, what they come to, and the ids of deliveries.
 
 use crate::octets::octets_of;
-use crate::words::{Answer, behind, count, done, number, parted, said, small, told, word};
+use crate::words::{Answer, Subject, behind, count, done, number, parted, said, small, told, word};
 use capture_view::{Happened, Ids, RecordView, Scope, Sender, said_by};
 use capture_words::{Page, Summary};
 use pairing_cert::Note;
@@ -32,9 +32,8 @@ impl Records {
     }
 }
 
-impl Records {
-    /// What comes of a case of these words.
-    pub fn answer(&mut self, words: &[&str]) -> Answer {
+impl Subject for Records {
+    fn answer(&mut self, words: &[&str]) -> Answer {
         let (verb, rest) = parted(words);
         match verb {
             "new" => *self = Records::new(self.alloc),

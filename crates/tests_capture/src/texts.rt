@@ -4,7 +4,7 @@ use crate::fakes::Pieces;
 use crate::octets::octets_of;
 use crate::packing::{faults_in_words, pack_read, packets_shown};
 use crate::reading::{read_cuts, read_failing, read_in_words, read_pieces, read_within, shown};
-use crate::words::{Answer, count, done, parted, said, small, word};
+use crate::words::{Answer, Subject, count, done, parted, said, small, word};
 use crate::writing::{Way, record_growing, written_again};
 use std::alloc::Global;
 
@@ -77,9 +77,8 @@ impl Texts {
     }
 }
 
-impl Texts {
-    /// What comes of a case of these words.
-    pub fn answer(&mut self, words: &[&str]) -> Answer {
+impl Subject for Texts {
+    fn answer(&mut self, words: &[&str]) -> Answer {
         let (verb, rest) = parted(words);
         match verb {
             "text" => self.text.clear(),

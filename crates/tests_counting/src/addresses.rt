@@ -1,6 +1,6 @@
 //! The rules of a router, and the links of consumers at addresses.
 
-use crate::words::{Answer, behind, done, joined, number, parted, parts, told, word};
+use crate::words::{Answer, Subject, behind, done, joined, number, parted, parts, told, word};
 use address_table::{AddressEvent, Rules, RulesFault, Table, table_after};
 use capture_form::{Distribution, Rule};
 use std::alloc::{AllocError, Global};
@@ -29,9 +29,8 @@ impl Addresses {
     }
 }
 
-impl Addresses {
-    /// What comes of a case of these words.
-    pub fn answer(&mut self, words: &[&str]) -> Answer {
+impl Subject for Addresses {
+    fn answer(&mut self, words: &[&str]) -> Answer {
         let (verb, rest) = parted(words);
         match verb {
             "rule" => {

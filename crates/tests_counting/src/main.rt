@@ -1,0 +1,60 @@
+//! Does what each line of its files says with the counters of a session, a link or an address, and tells what came of it.
+//!
+//! The files are `NAME.cases` of the folder that the program runs in, `data/` here, one for each subject. A line has the
+//! words of a case; one that begins with `#` says what the cases behind it are about, and is passed on. Behind the words of
+//! a case stands what came of it, as Rust's `Debug` writes it. `stdout` holds what is expected; it was worked out by hand
+//! from the standard and the numbers of the profile.
+//!
+//! In reading order: `words` are the words of a case; `deliveries`, `windows`, `credits`, `addresses`, `groups` and `notes`
+//! are the subjects.
+#![tactic(auto)]
+
+mod addresses;
+mod credits;
+mod deliveries;
+mod groups;
+mod notes;
+mod windows;
+mod words;
+
+use addresses::Addresses;
+use credits::Credits;
+use deliveries::Deliveries;
+use groups::Keyed;
+use notes::Notes;
+use std::{fs, io};
+use windows::Windows;
+use words::Subject;
+
+fn main(rt: HostRuntime) -> io::Result<()> {
+    let alloc = rt.alloc();
+    tell_cases(&rt, "deliveries", &mut Deliveries::new(alloc))?;
+    tell_cases(&rt, "windows", &mut Windows::new(alloc))?;
+    tell_cases(&rt, "credits", &mut Credits::new(alloc))?;
+    tell_cases(&rt, "addresses", &mut Addresses::new(alloc))?;
+    tell_cases(&rt, "groups", &mut Keyed::new(alloc))?;
+    tell_cases(&rt, "notes", &mut Notes::new(alloc))
+}
+
+/// Tells what comes of each case of a subject, in their order.
+fn tell_cases<S: Subject>(rt: &HostRuntime, name: &str, subject: &mut S) -> io::Result<()> {
+    let cases = fs::read_to_string(rt, format!(in rt.alloc(); "{name}.cases")?)?;
+    println!(rt; "== {name}")?;
+    for line in cases.lines() {
+        tell_case(rt, line, subject)?;
+    }
+    Ok(())
+}
+
+/// Tells what comes of the case on a line.
+fn tell_case<S: Subject>(rt: &HostRuntime, line: &str, subject: &mut S) -> io::Result<()> {
+    let words: Vec<&str> = line.split_whitespace().collect(rt.alloc())?;
+    if line.starts_with('#') || words.is_empty() {
+        return rt.println(line);
+    }
+    match subject.answer(words.as_slice())? {
+        Some(told) if told.is_empty() => rt.println(line),
+        Some(told) => println!(rt; "{line}: {told}"),
+        None => println!(rt; "{line}: no words of this program"),
+    }
+}
