@@ -11,7 +11,7 @@ use Rattle.trace_clauses.specs.Written.{written_open}
 use Rattle.trace_clauses.proofs.Captures.{opened, broken_of}
 use Rattle.trace_clauses.proofs.Made.{write}
 use Rattle.trace_events.specs.History.{history}
-use Rattle.audit_ledger.specs.Ledger.{broken_behind}
+use Rattle.state_ledger.specs.Ledger.{broken_behind}
 use Rattle.audit_core.specs.declared.auditor.Auditor.{Auditor}
 use Rattle.audit_core.specs.declared.verdict.Refusal.TheVariants.{Broken, Memory}
 use Rattle.audit_core.specs.Auditor.{Agrees, StandsFor, IsRefusalBehind}

@@ -15,7 +15,7 @@ use Rattle.trace_clauses.proofs.Broken.{length-history}
 use Rattle.audit_core.specs.declared.auditor.Auditor.{Auditor}
 use Rattle.audit_core.specs.declared.verdict.Refusal.{Refusal}
 use Rattle.audit_core.specs.declared.verdict.Refusal.TheVariants.{Broken, Memory}
-use Rattle.audit_ledger.specs.Ledger.{broken_behind}
+use Rattle.state_ledger.specs.Ledger.{broken_behind}
 use Rattle.audit_core.specs.Auditor.{Agrees, IsRefusalBehind, tally_by}
 use Rattle.audit_core.specs.Verdict.{tally_in, as_answer, answer_of}
 use Rattle.audit_core.specs.Stops.{StopsAudit, stop_of}

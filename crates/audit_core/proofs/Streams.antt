@@ -19,7 +19,7 @@ use Rattle.audit_core.specs.declared.verdict.Refusal.{Refusal}
 use Rattle.audit_core.specs.declared.verdict.Refusal.TheVariants.{Broken, Memory}
 use Rattle.audit_core.specs.declared.verdict.Verdict.{Verdict}
 use Rattle.audit_core.specs.declared.verdict.Verdict.TheVariants.{Accepted}
-use Rattle.audit_ledger.specs.Ledger.{broken_behind}
+use Rattle.state_ledger.specs.Ledger.{broken_behind}
 use Rattle.audit_core.specs.Auditor.{IsRefusalBehind}
 use Rattle.audit_core.specs.Verdict.{broken_in, tally_in, Accepts, Refuses, IsMalformed, IsRefusedAt, AnswersRead, IsKept, verdict_of_fault, verdict_of_refusal}
 use Rattle.audit_core.proofs.Taken.{broken_first}

@@ -10,9 +10,9 @@ use Rattle.trace_clauses.proofs.Lawful.{history-push, lawful-push}
 use Rattle.trace_events.specs.History.{history}
 use Rattle.trace_clauses.specs.Clauses.{first_broken}
 use Rattle.trace_clauses.proofs.Broken.{length-history}
-use Rattle.audit_ledger.specs.Ledger.{Stands, IsReason, broken_behind}
-use Rattle.audit_ledger.specs.declared.not_entered.NotEntered.{NotEntered}
-use Rattle.audit_ledger.specs.declared.not_entered.NotEntered.TheVariants as why
+use Rattle.state_ledger.specs.Ledger.{Stands, IsReason, broken_behind}
+use Rattle.state_ledger.specs.declared.not_entered.NotEntered.{NotEntered}
+use Rattle.state_ledger.specs.declared.not_entered.NotEntered.TheVariants as why
 use Rattle.audit_core.specs.declared.auditor.Auditor.{Auditor}
 use Rattle.audit_core.specs.declared.verdict.Refusal.{Refusal}
 use Rattle.audit_core.specs.Auditor.{Agrees, IsRefusalBehind, refusal_at}

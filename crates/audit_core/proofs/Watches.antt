@@ -15,8 +15,8 @@ use Rattle.capture_form.specs.Reader.{left_of, fault_of, text_of_head, IsHead, I
 use Rattle.capture_form.proofs.ReadingLaws.{headless}
 use Rattle.trace_clauses.specs.declared.clause.Clause.{Clause}
 use Rattle.trace_clauses.specs.declared.tally.Tally.{Tally}
-use Rattle.audit_ledger.specs.declared.ledger.Ledger.{Ledger}
-use Rattle.audit_ledger.specs.Ledger.{Stands}
+use Rattle.state_ledger.specs.declared.ledger.Ledger.{Ledger}
+use Rattle.state_ledger.specs.Ledger.{Stands}
 use Rattle.audit_core.specs.declared.auditor.Auditor.{Auditor}
 use Rattle.audit_core.specs.declared.verdict.Refusal.{Refusal}
 use Rattle.audit_core.specs.declared.verdict.Refusal.TheVariants.{Broken, Memory}

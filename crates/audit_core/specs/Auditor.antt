@@ -6,10 +6,10 @@ use Rattle.trace_clauses.specs.declared.tally.Tally.{Tally}
 use Rattle.trace_events.specs.History.{history}
 use Rattle.trace_clauses.specs.Clauses.{first_broken}
 use Rattle.trace_clauses.specs.Verdict.{tally_of}
-use Rattle.audit_answers.specs.Tables.{entries_of}
-use Rattle.audit_ledger.specs.Ledger.{Stands, broken_behind}
-use Rattle.audit_ledger.specs.declared.not_entered.NotEntered.{NotEntered}
-use Rattle.audit_ledger.specs.declared.not_entered.NotEntered.TheVariants as why
+use Rattle.state_answers.specs.Tables.{entries_of}
+use Rattle.state_ledger.specs.Ledger.{Stands, broken_behind}
+use Rattle.state_ledger.specs.declared.not_entered.NotEntered.{NotEntered}
+use Rattle.state_ledger.specs.declared.not_entered.NotEntered.TheVariants as why
 use Rattle.audit_core.specs.declared.auditor.Auditor.{Auditor}
 use Rattle.audit_core.specs.declared.verdict.Refusal.{Refusal}
 use Rattle.audit_core.specs.declared.verdict.Refusal.TheVariants.{Broken, Memory}

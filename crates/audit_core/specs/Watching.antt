@@ -4,8 +4,8 @@ use Rattle.capture_form.specs.declared.records.Record.{Record}
 use Rattle.capture_form.specs.Rules.{RuleText}
 use Rattle.capture_form.specs.Text.{Trace, IsCapture, text}
 use Rattle.capture_form.specs.Reading.{reading}
-use Rattle.audit_ledger.specs.declared.ledger.Ledger.{Ledger}
-use Rattle.audit_ledger.specs.Ledger.{Stands}
+use Rattle.state_ledger.specs.declared.ledger.Ledger.{Ledger}
+use Rattle.state_ledger.specs.Ledger.{Stands}
 use Rattle.audit_core.specs.declared.verdict.Verdict.{Verdict}
 use Rattle.audit_core.specs.declared.verdict.Verdict.TheVariants.{Accepted, Refused, Malformed, NoMemory, Unreadable}
 

@@ -4,13 +4,13 @@ ghost use Rattle.std.specs.Prelude.{◌≡◌, ◌≢◌, ◌<◌, ◌∷◌, []
 ghost use Rattle.capture_form.specs.declared.records.Record.{Record};
 ghost use Rattle.capture_form.specs.Rules.{RuleText, AreRules};
 ghost use Rattle.capture_form.specs.Text.{IsRecord};
-ghost use Rattle.audit_ledger.specs.Ledger.{broken_behind};
+ghost use Rattle.state_ledger.specs.Ledger.{broken_behind};
 ghost use Rattle.audit_core.specs.declared.auditor.TheConstants.{MOST_RECORDS};
 ghost use Rattle.audit_core.specs.declared.verdict.Refusal.TheVariants.{Memory};
 ghost use Rattle.audit_core.specs.Auditor.{Agrees, IsRefusalBehind, StandsFor, Stopped, entries_by, refusal_at, refusal_of, rules_of, tally_by};
 
 use crate::verdict::Refusal;
-use audit_ledger::{Ledger, NotEntered};
+use state_ledger::{Ledger, NotEntered};
 use capture_form::{Record, Rule};
 use std::alloc::Global;
 use trace_clauses::Tally;

@@ -22,7 +22,7 @@ mod streaming;
 mod verdict;
 mod watching;
 
-pub use audit_ledger::Ledger;
+pub use state_ledger::Ledger;
 pub use auditor::{Auditor, MOST_RECORDS};
 pub use capture_form::FormKind;
 pub use judging::{audit, audit_bytes};

@@ -3,10 +3,10 @@
 ghost use Rattle.std.specs.Prelude.{◌++◌, ◌∷◌, [], List, OnOk};
 ghost use Rattle.capture_form.specs.declared.records.Record.{Record};
 ghost use Rattle.capture_form.specs.Rules.{RuleText};
-ghost use Rattle.audit_ledger.specs.Ledger.{Stands};
+ghost use Rattle.state_ledger.specs.Ledger.{Stands};
 ghost use Rattle.audit_core.specs.Watching.{RefusesOneMore, TakesOneMore};
 
-use audit_ledger::Ledger;
+use state_ledger::Ledger;
 use capture_form::{Record, Rule};
 use std::alloc::AllocError;
 

@@ -43,7 +43,7 @@ use Rattle.trace_events.specs.Link.{is_live}
 use Rattle.trace_events.specs.Waiting.{is_of_multicast}
 use Rattle.trace_events.proofs.Along.{and_last}
 use Rattle.trace_clauses.proofs.OneConsumer.{some-and}
-use Rattle.audit_addresses.specs.ConsumerLinks.{consumer_at}
+use Rattle.state_addresses.specs.ConsumerLinks.{consumer_at}
 use Rattle.due_copies.specs.Lists.{Waits, copy_on, waits}
 use Rattle.due_copies.specs.declared.lists.Lists.{Lists}
 use Rattle.due_copies.specs.Copies.{HasUnsent, IsReady, IsUnsentOn}

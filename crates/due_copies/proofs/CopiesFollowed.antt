@@ -22,9 +22,9 @@ use Rattle.trace_clauses.specs.Clauses.{first_broken}
 use Rattle.trace_clauses.proofs.UnsentCopies.{unsent_complete}
 use Rattle.trace_clauses.proofs.WaitingQueue.{completed_below, completed_once, completion_complete}
 use Rattle.trace_duties.specs.Pick.{may_take}
-use Rattle.audit_addresses.specs.ConsumerLinks.{has_number, consumer_at}
-use Rattle.audit_addresses.specs.Copies.{AreReceivers, names_at}
-use Rattle.audit_addresses.specs.declared.copies.Receiver.{Receiver}
+use Rattle.state_addresses.specs.ConsumerLinks.{has_number, consumer_at}
+use Rattle.state_addresses.specs.Copies.{AreReceivers, names_at}
+use Rattle.state_addresses.specs.declared.copies.Receiver.{Receiver}
 use Rattle.due_flows.specs.Standing.{grants_window}
 use Rattle.due_flows.proofs.DrainingLinks.{on-link}
 use Rattle.due_flows.proofs.PartsFollowed.{not-ended}

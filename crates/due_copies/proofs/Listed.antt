@@ -3,7 +3,7 @@ use Rattle.std.proofs.Common.{◌≡◌, sym, ap, ◌∙◌, ◌<◌, ◌+◌, �
 use Rattle.std.specs.List.{list_any, slice_get}
 use Rattle.std.proofs.lemmas.List.Folds.{list_any_more}
 use Rattle.std.proofs.lemmas.Option.{slice_get-get_or}
-use Rattle.audit_addresses.specs.declared.copies.Receiver.{Receiver}
+use Rattle.state_addresses.specs.declared.copies.Receiver.{Receiver}
 use Rattle.due_copies.specs.Lists.{AreWith, IsIn, IsKept, IsKeptBut, Stays, receives}
 use Rattle.due_copies.specs.declared.lists.Lists.{Lists}
 

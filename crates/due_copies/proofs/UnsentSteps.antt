@@ -28,9 +28,9 @@ use Rattle.trace_clauses.proofs.OneConsumer.{some-and, found-at}
 use Rattle.trace_clauses.proofs.Parts.{IsKept, holds_some}
 use Rattle.trace_clauses.proofs.Undecided.{link_of_session}
 use Rattle.trace_clauses.proofs.UnsentCopies.{unsent_complete}
-use Rattle.audit_addresses.specs.ConsumerLinks.{consumer_at}
-use Rattle.audit_addresses.specs.Copies.{AreReceiversOf, AreReceivers, copied_by, names_at}
-use Rattle.audit_addresses.specs.declared.copies.Receiver.{Receiver}
+use Rattle.state_addresses.specs.ConsumerLinks.{consumer_at}
+use Rattle.state_addresses.specs.Copies.{AreReceiversOf, AreReceivers, copied_by, names_at}
+use Rattle.state_addresses.specs.declared.copies.Receiver.{Receiver}
 use Rattle.due_flows.proofs.DrainingLinks.{event-link, link-unused}
 use Rattle.due_flows.proofs.LiveOnes.{link-before, link-found}
 use Rattle.due_flows.proofs.PartsDue.{consumer-found}

@@ -8,9 +8,9 @@ use Rattle.trace_events.specs.Due.{is_unsent, has_unsent}
 use Rattle.trace_duties.specs.Pick.{may_take}
 use Rattle.trace_duties.specs.Quiet.{has_earlier_unsent}
 use Rattle.trace_values.specs.View.{link_view, incoming_view}
-use Rattle.audit_addresses.specs.Copies.{AreCopies}
-use Rattle.audit_held.specs.EntryAnswers.{Knows}
-use Rattle.audit_held.specs.declared.deliveries.Deliveries.{Deliveries}
+use Rattle.state_addresses.specs.Copies.{AreCopies}
+use Rattle.state_incoming.specs.EntryAnswers.{Knows}
+use Rattle.state_incoming.specs.declared.deliveries.Deliveries.{Deliveries}
 use Rattle.due_copies.specs.Lists.{Waits, copy_on, stands}
 use Rattle.due_copies.specs.declared.copies.DueCopy.{DueCopy}
 use Rattle.due_copies.specs.declared.copies.UnsentCopies.{UnsentCopies}

@@ -4,7 +4,7 @@ use Rattle.std.specs.List.{list_any}
 use Rattle.number_groups.specs.Groups.{is_member}
 use Rattle.trace_events.specs.Event.{Event, Incoming}
 use Rattle.trace_events.specs.Incoming.{completes}
-use Rattle.audit_addresses.specs.declared.copies.Receiver.{Receiver}
+use Rattle.state_addresses.specs.declared.copies.Receiver.{Receiver}
 use Rattle.due_copies.specs.ByLink.{copy_at}
 use Rattle.due_copies.specs.Candidates.{has}
 use Rattle.due_copies.specs.declared.lists.Lists.{Lists}

@@ -10,12 +10,12 @@ ghost use Rattle.trace_events.specs.Link.{IsLiveLink};
 ghost use Rattle.trace_duties.specs.Pick.{may_take};
 ghost use Rattle.trace_duties.specs.Quiet.{copies_are_sent, has_earlier_unsent};
 ghost use Rattle.trace_values.specs.View.{Events, event_view, incoming_view, link_view};
-ghost use Rattle.audit_tables.specs.Connections.{IsLawfulNext};
+ghost use Rattle.state_tables.specs.Connections.{IsLawfulNext};
 ghost use Rattle.due_flows.specs.Lent.{AreOf};
 ghost use Rattle.due_copies.specs.Copies.{HasUnsent, IsDueCopy, IsKnownCopy, IsReady, IsUnsentOn};
 
 use crate::lists::Lists;
-use audit_addresses::{Copies, receivers_of};
+use state_addresses::{Copies, receivers_of};
 use capture_form::Rule;
 use due_flows::Looked;
 use pairing_cert::Note;

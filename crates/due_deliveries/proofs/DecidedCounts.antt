@@ -13,7 +13,7 @@ use Rattle.trace_events.proofs.Judged.{AreJudged}
 use Rattle.trace_clauses.proofs.WaitingQueue.{in_filter, filter_has}
 use Rattle.trace_duties.specs.Consumers.{decides_outgoing}
 use Rattle.trace_duties.proofs.ConsumersCounted.{decided_count}
-use Rattle.audit_sent.specs.Sent.{Sent, sent, sent_at, outgoing_at}
+use Rattle.state_outgoing.specs.Sent.{Sent, sent, sent_at, outgoing_at}
 use Rattle.due_deliveries.specs.AddressCounts.{decided_on}
 use Rattle.due_deliveries.specs.Picks.{decided_among}
 use Rattle.due_deliveries.specs.Undecided.{decides, decided_link, HaveOpen, answer_of, is_found}

@@ -20,7 +20,7 @@ use Rattle.trace_duties.specs.Consumers.{address_events}
 use Rattle.trace_duties.specs.Pick.{may_take, is_eligible, pick}
 use Rattle.trace_duties.proofs.ConsumerCounts.{listed-is}
 use Rattle.trace_duties.proofs.LinksCounted.{counted, counted_at, consumer-counted}
-use Rattle.audit_addresses.specs.ConsumerLinks.{consumer_at}
+use Rattle.state_addresses.specs.ConsumerLinks.{consumer_at}
 use Rattle.due_deliveries.proofs.EndedConsumers.{any-gives, and_last}
 
 -- ---- lists

@@ -20,7 +20,7 @@ use Rattle.trace_events.proofs.OutgoingLinks.{IsOnEarlier, judged-on_earlier, de
 use Rattle.trace_events.proofs.SettlingSteps.{is_decided-step}
 use Rattle.trace_events.proofs.StepWords.{and-false}
 use Rattle.trace_duties.specs.Consumers.{decides_outgoing}
-use Rattle.audit_sent.specs.Sent.{Sent, sent, sent_at, outgoing_at}
+use Rattle.state_outgoing.specs.Sent.{Sent, sent, sent_at, outgoing_at}
 use Rattle.number_groups.specs.Ids.{same_id}
 use Rattle.due_deliveries.specs.Undecided.{is_open, decides, decided_link, is_of_session, has_id, HaveOpen, IsPutOf, Spares, answer_of, is_found}
 use Rattle.number_groups.specs.declared.id_on.IdOn.{IdOn}

@@ -11,7 +11,7 @@ use Rattle.trace_events.specs.Outgoing.{outgoing_begun, outgoing_deliveries}
 use Rattle.trace_events.proofs.Judged.{AreJudged, judged-number}
 use Rattle.trace_events.proofs.Links.{passing}
 use Rattle.trace_events.proofs.LinkNumbers.{same-sym}
-use Rattle.audit_sent.specs.Sent.{outgoing_at}
+use Rattle.state_outgoing.specs.Sent.{outgoing_at}
 
 length-map : {A B : Type 0} (f : A → B) (xs : List A) → length (map f xs) ≡ length xs
 length-map f [] = refl

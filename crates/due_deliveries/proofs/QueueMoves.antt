@@ -18,9 +18,9 @@ use Rattle.trace_events.proofs.Judged.{AreJudged}
 use Rattle.trace_clauses.proofs.IncomingProgress.{judged-kept}
 use Rattle.trace_clauses.proofs.Parts.{IsKept}
 use Rattle.trace_clauses.proofs.WaitingQueue.{all_contained, contains_first, contains_later, contains_none, contains_cases, each_completed}
-use Rattle.audit_held.specs.Held.{Held, held, held_at, is_held, fate_of, says_waiting}
-use Rattle.audit_held.specs.declared.held.Fate.TheVariants.{Arriving, Waiting, Gone, Paired, Copied}
-use Rattle.audit_held.proofs.HeldAnswers.{waiting-kept}
+use Rattle.state_incoming.specs.Held.{Held, held, held_at, is_held, fate_of, says_waiting}
+use Rattle.state_incoming.specs.declared.held.Fate.TheVariants.{Arriving, Waiting, Gone, Paired, Copied}
+use Rattle.state_incoming.proofs.HeldAnswers.{waiting-kept}
 use Rattle.trace_duties.specs.Diligent.{is_next_waiting}
 use Rattle.trace_duties.proofs.PicksInOrder.{first_waiting-next}
 use Rattle.due_deliveries.specs.Queues.{queued, is_of, IsQueue, IsShorter}

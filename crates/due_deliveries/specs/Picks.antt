@@ -6,9 +6,9 @@ use Rattle.address_table.specs.Links.{IsCount}
 use Rattle.address_table.specs.declared.table.Table.{Table}
 use Rattle.capture_form.specs.Rules.{RuleText}
 use Rattle.trace_events.specs.Event.{Event}
-use Rattle.audit_sent.specs.Sent.{Sent}
-use Rattle.audit_answers.specs.Tables.{StandFor}
-use Rattle.audit_answers.specs.declared.looked.Looked.{Looked}
+use Rattle.state_outgoing.specs.Sent.{Sent}
+use Rattle.state_answers.specs.Tables.{StandFor}
+use Rattle.state_answers.specs.declared.looked.Looked.{Looked}
 use Rattle.trace_duties.specs.Consumers.{address_events}
 use Rattle.due_deliveries.specs.AddressCounts.{CountsMore, decided_on}
 use Rattle.due_deliveries.specs.Undecided.{HaveOpen, answer_of, decided_link, is_found}

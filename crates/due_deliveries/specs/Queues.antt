@@ -8,9 +8,9 @@ use Rattle.trace_events.specs.Event.{Event, Incoming}
 use Rattle.trace_events.specs.Incoming.{address_of}
 use Rattle.trace_events.specs.Queue.{completed_deliveries}
 use Rattle.trace_events.specs.Waiting.{is_of_multicast, is_waiting}
-use Rattle.audit_held.specs.Held.{Held, says_waiting}
-use Rattle.audit_held.specs.HeldTables.{held_in}
-use Rattle.audit_held.specs.declared.deliveries.Deliveries.{Deliveries}
+use Rattle.state_incoming.specs.Held.{Held, says_waiting}
+use Rattle.state_incoming.specs.HeldTables.{held_in}
+use Rattle.state_incoming.specs.declared.deliveries.Deliveries.{Deliveries}
 use Rattle.due_deliveries.specs.declared.queues.Queues.{Queues}
 
 -- ---- what is kept

@@ -9,7 +9,7 @@ use Rattle.trace_events.specs.Said.{in_disposition}
 use Rattle.trace_events.specs.Link.{is_live, is_receiver}
 use Rattle.trace_events.specs.Outgoing.{decision}
 use Rattle.trace_events.specs.Work.{decides_now}
-use Rattle.audit_sent.specs.Sent.{Sent, outgoing_at}
+use Rattle.state_outgoing.specs.Sent.{Sent, outgoing_at}
 use Rattle.number_groups.specs.declared.id_on.IdOn.{IdOn}
 use Rattle.number_groups.specs.Ids.{same_id}
 use Rattle.due_deliveries.specs.declared.undecided.Undecided.{Undecided}

@@ -12,12 +12,12 @@ ghost use Rattle.trace_events.specs.Waiting.{is_of_multicast};
 ghost use Rattle.trace_events.specs.History.{history};
 ghost use Rattle.trace_duties.specs.Diligent.{is_next_waiting};
 ghost use Rattle.trace_values.specs.View.{event_view, incoming_view};
-ghost use Rattle.audit_tables.specs.Connections.{IsLawfulNext};
+ghost use Rattle.state_tables.specs.Connections.{IsLawfulNext};
 ghost use Rattle.due_deliveries.specs.Picks.{StandsFor};
 ghost use Rattle.due_deliveries.specs.Queues.{HaveQueues, IsPushed, IsShorter, queued, waits_in};
 
-use audit_answers::Looked;
-use audit_held::Deliveries;
+use state_answers::Looked;
+use state_incoming::Deliveries;
 use capture_form::Rule;
 use indexmap::IndexMap;
 use std::alloc::{AllocError, Global};

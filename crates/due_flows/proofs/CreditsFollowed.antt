@@ -19,13 +19,13 @@ use Rattle.trace_events.proofs.Links.{passing}
 use Rattle.trace_clauses.proofs.ClausesMet.{lawful-past}
 use Rattle.trace_duties.specs.Quiet.{none_lacks_credit}
 use Rattle.trace_duties.proofs.QuietLists.{all-each}
-use Rattle.audit_held.specs.EntryAnswers.{Knows}
-use Rattle.audit_held.specs.Held.{is_held}
-use Rattle.audit_held.specs.HeldTables.{AreHeld}
-use Rattle.audit_held.specs.declared.deliveries.Deliveries.{Deliveries}
-use Rattle.audit_held.proofs.CarriedHeld.{knows-held}
-use Rattle.audit_addresses.specs.ConsumerLinks.{has_number}
-use Rattle.audit_answers.specs.declared.looked.Looked.{Looked}
+use Rattle.state_incoming.specs.EntryAnswers.{Knows}
+use Rattle.state_incoming.specs.Held.{is_held}
+use Rattle.state_incoming.specs.HeldTables.{AreHeld}
+use Rattle.state_incoming.specs.declared.deliveries.Deliveries.{Deliveries}
+use Rattle.state_incoming.proofs.CarriedHeld.{knows-held}
+use Rattle.state_addresses.specs.ConsumerLinks.{has_number}
+use Rattle.state_answers.specs.declared.looked.Looked.{Looked}
 use Rattle.due_flows.specs.Credits.{HasCredits, IsIn, AreEndedIn, AreOpenedIn, HasMore, AreTouchedIn, AreWokenIn, place_in, on_session, at_address, waits}
 use Rattle.due_flows.specs.Lent.{AreOf}
 use Rattle.due_flows.specs.Topping.{IsProducing, IsToppable, IsDecidedOn}

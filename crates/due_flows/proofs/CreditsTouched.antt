@@ -3,10 +3,10 @@ use Rattle.std.proofs.Common.{◌≡◌, refl, ap, ◌∙◌, ℕ, Bool, true, f
 use Rattle.trace_events.specs.Words.{is_number, where_passes}
 use Rattle.trace_events.specs.Event.{Link, Incoming}
 use Rattle.trace_events.specs.Link.{is_producer}
-use Rattle.audit_held.specs.EntryAnswers.{Knows, has_number}
-use Rattle.audit_held.specs.Held.{Held}
-use Rattle.audit_held.specs.HeldTables.{held_in}
-use Rattle.audit_held.specs.declared.deliveries.Deliveries.{Deliveries}
+use Rattle.state_incoming.specs.EntryAnswers.{Knows, has_number}
+use Rattle.state_incoming.specs.Held.{Held}
+use Rattle.state_incoming.specs.HeldTables.{held_in}
+use Rattle.state_incoming.specs.declared.deliveries.Deliveries.{Deliveries}
 
 pub put-more : (was now b : Bool) → now ≡ was || b → was ≡ true → now ≡ true
 put-more was now b is had = is ∙ ap (λ x. x || b) had

@@ -11,7 +11,7 @@ use Rattle.trace_clauses.specs.FlowClause.{may_be_drained, nothing_waits}
 use Rattle.trace_events.proofs.Judged.{AreJudged}
 use Rattle.trace_duties.specs.Quiet.{none_is_undrained}
 use Rattle.trace_duties.proofs.QuietLists.{all-each}
-use Rattle.audit_addresses.specs.ConsumerLinks.{has_number, consumer_at}
+use Rattle.state_addresses.specs.ConsumerLinks.{has_number, consumer_at}
 use Rattle.due_flows.specs.Draining.{IsDraining, IsDrainable, asks_drain, writes_part}
 use Rattle.due_flows.proofs.LiveOnes.{live_links-live}
 use Rattle.due_flows.proofs.DrainingLinks.{draining-before, nothing-before}

@@ -16,11 +16,11 @@ use Rattle.trace_clauses.specs.TransferClause.{to_carry}
 use Rattle.trace_events.proofs.Judged.{AreJudged}
 use Rattle.trace_clauses.proofs.OneConsumer.{passes-some}
 use Rattle.trace_clauses.proofs.OutgoingProgress.{judged-carrying, carrying-noted, carrying-not_gone}
-use Rattle.audit_addresses.specs.ConsumerLinks.{consumer_at, is_live_consumer}
-use Rattle.audit_addresses.proofs.ConsumerLinkSteps.{consumer-lives}
-use Rattle.audit_sent.specs.Sent.{Sent, outgoing_at, sent}
-use Rattle.audit_sent.specs.SentTables.{AreSent, sent_count_in}
-use Rattle.audit_sent.specs.declared.deliveries.SentDeliveries.{SentDeliveries}
+use Rattle.state_addresses.specs.ConsumerLinks.{consumer_at, is_live_consumer}
+use Rattle.state_addresses.proofs.ConsumerLinkSteps.{consumer-lives}
+use Rattle.state_outgoing.specs.Sent.{Sent, outgoing_at, sent}
+use Rattle.state_outgoing.specs.SentTables.{AreSent, sent_count_in}
+use Rattle.state_outgoing.specs.declared.deliveries.SentDeliveries.{SentDeliveries}
 use Rattle.due_flows.specs.Standing.{IsStill, has_window}
 use Rattle.due_flows.proofs.LiveOnes.{link-found, link-lives}
 use Rattle.due_flows.proofs.PartsFollowed.{still-parts}

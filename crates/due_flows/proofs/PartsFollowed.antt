@@ -14,7 +14,7 @@ use Rattle.trace_clauses.proofs.LinkEnds.{is_live-next}
 use Rattle.trace_clauses.proofs.WaitingQueue.{contains_first, contains_later}
 use Rattle.trace_duties.specs.Quiet.{stands_still, none_stands_still}
 use Rattle.trace_duties.proofs.QuietLists.{all-each}
-use Rattle.audit_addresses.specs.ConsumerLinks.{has_number}
+use Rattle.state_addresses.specs.ConsumerLinks.{has_number}
 use Rattle.due_flows.specs.Standing.{IsGoing, IsStill, has_window, goes_on, grants_window}
 use Rattle.due_flows.proofs.LiveOnes.{link-found, link-lives, live_links-live}
 use Rattle.due_flows.proofs.StandingParts.{IsPartOn, is_part_of, going-before, window-before}

@@ -9,9 +9,9 @@ use Rattle.trace_events.specs.Event.{Event, Link, Incoming}
 use Rattle.trace_events.specs.Address.{has_consumer}
 use Rattle.trace_events.specs.Link.{is_producer, own_link}
 use Rattle.trace_clauses.specs.FlowClause.{may_be_topped_up}
-use Rattle.audit_held.specs.EntryAnswers.{Knows}
-use Rattle.audit_addresses.specs.ConsumerLinks.{has_number}
-use Rattle.audit_answers.specs.declared.looked.Looked.{Looked}
+use Rattle.state_incoming.specs.EntryAnswers.{Knows}
+use Rattle.state_addresses.specs.ConsumerLinks.{has_number}
+use Rattle.state_answers.specs.declared.looked.Looked.{Looked}
 use Rattle.due_flows.specs.Candidates.{value_of}
 use Rattle.due_flows.specs.Lent.{AreOf}
 use Rattle.due_flows.specs.Numbers.{has}

@@ -1,6 +1,6 @@
 //! Lists of the work that sessions and links ask for: windows and credit to be given anew, deliveries to go on with, and
 //! drains to be answered. Each keeps candidates, among which is all that is due, is moved forward by one event after the
-//! other, and answers what is due with the lowest number, by the tables of `audit_answers`. An event touches what belongs
+//! other, and answers what is due with the lowest number, by the tables of `state_answers`. An event touches what belongs
 //! to it alone: its session, its link, and those of its address that wait for it. That it is the lowest is the code's doing,
 //! shown by worked captures: neither law nor duties ask for it, so no clause says it.
 //!
@@ -21,7 +21,7 @@ mod numbers;
 mod parts;
 mod windows;
 
-pub use audit_answers::Looked;
+pub use state_answers::Looked;
 pub use credits::Credits;
 pub use drains::Drains;
 pub use parts::{DuePart, Parts};

@@ -6,14 +6,14 @@ ghost use Rattle.capture_form.specs.declared.records.Record.{Record};
 ghost use Rattle.trace_events.specs.declared.session.Session.{Session};
 ghost use Rattle.trace_events.specs.History.{history};
 ghost use Rattle.trace_duties.specs.Quiet.{none_lacks_window};
-ghost use Rattle.audit_tables.specs.Connections.{IsLawfulNext};
+ghost use Rattle.state_tables.specs.Connections.{IsLawfulNext};
 ghost use Rattle.due_flows.specs.Lent.{AreOf};
 ghost use Rattle.due_flows.specs.Lacking.{HasLowered, IsLacking};
 ghost use Rattle.due_flows.specs.Windows.{HasLacking};
 ghost use Rattle.trace_values.specs.View.{Events, event_view};
 
 use crate::candidates::Candidates;
-use audit_answers::Looked;
+use state_answers::Looked;
 use flow_counts::RENEWAL_MARK;
 use std::alloc::{AllocError, Global};
 use trace_events::Session;

@@ -17,7 +17,7 @@ use Rattle.trace_events.proofs.Judged.{AreJudged}
 use Rattle.trace_clauses.proofs.LinkEnds.{lives-live}
 use Rattle.trace_clauses.proofs.Parts.{IsKept}
 use Rattle.trace_clauses.proofs.WaitingQueue.{contains_none, contains_cases}
-use Rattle.audit_tables.specs.EndedLinks.{AreEnded}
+use Rattle.state_tables.specs.EndedLinks.{AreEnded}
 use Rattle.due_outcomes.specs.Closings.{may_close, settles_ids, settles_sent}
 use Rattle.due_outcomes.proofs.ProducerLinks.{judged-producer}
 use Rattle.due_outcomes.proofs.UnderKeys.{or-first, or-last}

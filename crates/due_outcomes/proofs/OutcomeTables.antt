@@ -13,13 +13,13 @@ use Rattle.trace_clauses.specs.Outcome.{is_to_tell, may_be_told, reasons, row}
 use Rattle.trace_clauses.proofs.IncomingProgress.{judged-kept}
 use Rattle.trace_clauses.proofs.Parts.{IsKept, each_delivery}
 use Rattle.trace_clauses.proofs.WaitingQueue.{all_contained}
-use Rattle.audit_held.specs.EntryAnswers.{Knows, has_number}
-use Rattle.audit_held.specs.Held.{Held}
-use Rattle.audit_held.specs.HeldTables.{held_in}
-use Rattle.audit_held.specs.declared.deliveries.Deliveries.{Deliveries}
-use Rattle.audit_held.proofs.CarriedHeld.{knows-held}
-use Rattle.audit_held.proofs.GroupAnswers.{judged-of}
-use Rattle.audit_answers.specs.declared.looked.Looked.{Looked}
+use Rattle.state_incoming.specs.EntryAnswers.{Knows, has_number}
+use Rattle.state_incoming.specs.Held.{Held}
+use Rattle.state_incoming.specs.HeldTables.{held_in}
+use Rattle.state_incoming.specs.declared.deliveries.Deliveries.{Deliveries}
+use Rattle.state_incoming.proofs.CarriedHeld.{knows-held}
+use Rattle.state_incoming.proofs.GroupAnswers.{judged-of}
+use Rattle.state_answers.specs.declared.looked.Looked.{Looked}
 use Rattle.due_outcomes.specs.LookedTables.{AreLooked}
 
 -- one that may be told is kept

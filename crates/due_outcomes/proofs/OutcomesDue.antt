@@ -16,13 +16,13 @@ use Rattle.trace_clauses.proofs.Parts.{IsKept, each_delivery}
 use Rattle.trace_clauses.proofs.WaitingQueue.{all_contained}
 use Rattle.trace_duties.specs.Quiet.{none_is_untold}
 use Rattle.trace_duties.proofs.QuietLists.{all-each}
-use Rattle.audit_held.specs.EntryAnswers.{says_closed}
-use Rattle.audit_held.specs.Held.{Held, says_waiting}
-use Rattle.audit_held.specs.HeldTables.{held_in}
-use Rattle.audit_held.specs.declared.held.Fate.TheVariants.{Arriving, Waiting, Gone, Paired, Copied}
-use Rattle.audit_held.proofs.CarriedHeld.{carried-closed, carried-of, entry-at}
-use Rattle.audit_held.proofs.GroupAnswers.{judged-of}
-use Rattle.audit_answers.specs.declared.looked.Looked.{Looked}
+use Rattle.state_incoming.specs.EntryAnswers.{says_closed}
+use Rattle.state_incoming.specs.Held.{Held, says_waiting}
+use Rattle.state_incoming.specs.HeldTables.{held_in}
+use Rattle.state_incoming.specs.declared.held.Fate.TheVariants.{Arriving, Waiting, Gone, Paired, Copied}
+use Rattle.state_incoming.proofs.CarriedHeld.{carried-closed, carried-of, entry-at}
+use Rattle.state_incoming.proofs.GroupAnswers.{judged-of}
+use Rattle.state_answers.specs.declared.looked.Looked.{Looked}
 use Rattle.number_groups.specs.Ascending.{has}
 use Rattle.due_outcomes.specs.LookedTables.{AreLooked}
 use Rattle.due_outcomes.specs.Untold.{HasUntold, IsOn, waits_in}

@@ -8,9 +8,9 @@ use Rattle.trace_events.specs.Outgoing.{outgoing_begun, outgoing_deliveries}
 use Rattle.trace_events.proofs.Judged.{AreJudged, judged-number}
 use Rattle.trace_events.proofs.Links.{passing}
 use Rattle.trace_clauses.proofs.WaitingQueue.{contains_none, contains_cases}
-use Rattle.audit_sent.specs.Sent.{sent, outgoing_at}
-use Rattle.audit_sent.specs.SentTables.{AreSent, sent_in}
-use Rattle.audit_sent.specs.declared.deliveries.SentDeliveries.{SentDeliveries}
+use Rattle.state_outgoing.specs.Sent.{sent, outgoing_at}
+use Rattle.state_outgoing.specs.SentTables.{AreSent, sent_in}
+use Rattle.state_outgoing.specs.declared.deliveries.SentDeliveries.{SentDeliveries}
 
 -- each number is below the one before it, and the first below this one
 abbrev AreFalling : ℕ → List Outgoing → Type 0

@@ -14,14 +14,14 @@ use Rattle.trace_clauses.specs.Clauses.{first_broken}
 use Rattle.trace_clauses.proofs.WaitingQueue.{find_has}
 use Rattle.trace_duties.specs.Quiet.{none_is_unsettled}
 use Rattle.trace_duties.proofs.QuietLists.{all-each}
-use Rattle.audit_held.specs.EntryAnswers.{says_closed}
-use Rattle.audit_held.specs.HeldTables.{held_in}
-use Rattle.audit_held.proofs.CarriedHeld.{IsCarried, carried-closed, carried-of}
-use Rattle.audit_held.proofs.GroupAnswers.{judged-of}
-use Rattle.audit_sent.specs.Sent.{Sent, sent, outgoing_at, to_settle}
-use Rattle.audit_sent.specs.SentAnswers.{carried, closes, number_of}
-use Rattle.audit_sent.specs.SentTables.{sent_in}
-use Rattle.audit_answers.specs.declared.looked.Looked.{Looked}
+use Rattle.state_incoming.specs.EntryAnswers.{says_closed}
+use Rattle.state_incoming.specs.HeldTables.{held_in}
+use Rattle.state_incoming.proofs.CarriedHeld.{IsCarried, carried-closed, carried-of}
+use Rattle.state_incoming.proofs.GroupAnswers.{judged-of}
+use Rattle.state_outgoing.specs.Sent.{Sent, sent, outgoing_at, to_settle}
+use Rattle.state_outgoing.specs.SentAnswers.{carried, closes, number_of}
+use Rattle.state_outgoing.specs.SentTables.{sent_in}
+use Rattle.state_answers.specs.declared.looked.Looked.{Looked}
 use Rattle.number_groups.specs.Ascending.{has}
 use Rattle.due_outcomes.specs.LookedTables.{AreLooked}
 use Rattle.due_outcomes.specs.Parked.{is_parked}

@@ -21,7 +21,7 @@ use Rattle.trace_clauses.proofs.BegunDeliveries.{IsBegun, begun-noted, begun-not
 use Rattle.trace_clauses.proofs.LinkEnds.{is_live-next}
 use Rattle.trace_clauses.proofs.WaitingQueue.{all_contained, contains_cases}
 use Rattle.number_groups.specs.Ascending.{has}
-use Rattle.audit_tables.specs.EndedLinks.{AreEnded}
+use Rattle.state_tables.specs.EndedLinks.{AreEnded}
 use Rattle.due_outcomes.specs.Closings.{may_close}
 use Rattle.due_outcomes.specs.Parked.{IsLeft, is_parked}
 use Rattle.due_outcomes.specs.SentNumbers.{Grows, IsUnder, KeepsAll}

@@ -17,10 +17,10 @@ use Rattle.trace_events.specs.Outgoing.{answering, names, outgoing_begun, outgoi
 use Rattle.trace_events.specs.Queue.{pairs}
 use Rattle.trace_events.specs.Waiting.{is_of_multicast}
 use Rattle.trace_events.proofs.Judged.{AreJudged}
-use Rattle.audit_tables.specs.EndedLinks.{AreEnded}
+use Rattle.state_tables.specs.EndedLinks.{AreEnded}
 use Rattle.number_groups.specs.Ascending.{has}
-use Rattle.audit_sent.specs.Sent.{is_left_unsettled}
-use Rattle.audit_verdicts.specs.Verdicts.{awaits_at}
+use Rattle.state_outgoing.specs.Sent.{is_left_unsettled}
+use Rattle.state_verdicts.specs.Verdicts.{awaits_at}
 use Rattle.due_outcomes.specs.Untold.{IsOn, KeepsOn, waits_in}
 use Rattle.number_groups.specs.declared.ascending.Ascending.{Ascending}
 use Rattle.due_outcomes.specs.declared.untold.Untold.{Untold}

@@ -42,9 +42,9 @@ use Rattle.trace_clauses.proofs.OutgoingProgress.{IsPartOf as PartOut}
 use Rattle.trace_clauses.proofs.Parts.{IsKept, each_delivery}
 use Rattle.trace_clauses.proofs.WaitingQueue.{all_contained, find_has}
 use Rattle.number_groups.specs.Ascending.{has}
-use Rattle.audit_sent.specs.Sent.{is_left_unsettled}
-use Rattle.audit_sent.proofs.SentDecided.{judged-decided}
-use Rattle.audit_verdicts.specs.Verdicts.{awaits_at}
+use Rattle.state_outgoing.specs.Sent.{is_left_unsettled}
+use Rattle.state_outgoing.proofs.SentDecided.{judged-decided}
+use Rattle.state_verdicts.specs.Verdicts.{awaits_at}
 use Rattle.due_outcomes.specs.SentNumbers.{Grows}
 use Rattle.due_outcomes.specs.Untold.{HasUntold, IsOn, KeepsOn, waits_in}
 use Rattle.due_outcomes.specs.declared.untold.Untold.{Untold}

@@ -2,8 +2,8 @@
 use Rattle.std.specs.Prelude.{List}
 use Rattle.capture_form.specs.Rules.{RuleText}
 use Rattle.trace_events.specs.Event.{Event}
-use Rattle.audit_answers.specs.Tables.{StandFor}
-use Rattle.audit_answers.specs.declared.looked.Looked.{Looked}
+use Rattle.state_answers.specs.Tables.{StandFor}
+use Rattle.state_answers.specs.declared.looked.Looked.{Looked}
 
 -- they have what the law says of these events, which are those of some records judged by these rules, each of which meets
 -- the clauses

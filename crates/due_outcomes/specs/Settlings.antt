@@ -4,13 +4,13 @@ use Rattle.trace_events.specs.Words.{is_some_and, where_passes}
 use Rattle.trace_events.specs.Event.{Event, Outgoing}
 use Rattle.trace_events.specs.Outgoing.{outgoing_deliveries}
 use Rattle.trace_events.specs.Settling.{is_to_settle}
-use Rattle.audit_held.specs.EntryAnswers.{says_closed}
-use Rattle.audit_held.specs.HeldTables.{held_in}
-use Rattle.audit_held.specs.declared.deliveries.Deliveries.{Deliveries}
-use Rattle.audit_sent.specs.Sent.{Sent, to_settle}
-use Rattle.audit_sent.specs.SentAnswers.{closes}
-use Rattle.audit_sent.specs.SentTables.{sent_in}
-use Rattle.audit_sent.specs.declared.deliveries.SentDeliveries.{SentDeliveries}
+use Rattle.state_incoming.specs.EntryAnswers.{says_closed}
+use Rattle.state_incoming.specs.HeldTables.{held_in}
+use Rattle.state_incoming.specs.declared.deliveries.Deliveries.{Deliveries}
+use Rattle.state_outgoing.specs.Sent.{Sent, to_settle}
+use Rattle.state_outgoing.specs.SentAnswers.{closes}
+use Rattle.state_outgoing.specs.SentTables.{sent_in}
+use Rattle.state_outgoing.specs.declared.deliveries.SentDeliveries.{SentDeliveries}
 
 -- the delivery is to be settled
 pub record IsDueSettling (past : List Event) (j : Outgoing) : Type 0 where

@@ -5,11 +5,11 @@ use Rattle.trace_events.specs.Outgoing.{decision, noted, outgoing_deliveries}
 use Rattle.trace_events.specs.Settling.{is_closed, is_to_settle}
 use Rattle.trace_events.specs.Work.{stands_unsettled}
 use Rattle.number_groups.specs.Ascending.{has}
-use Rattle.audit_held.specs.EntryAnswers.{says_closed}
-use Rattle.audit_held.specs.HeldTables.{held_in}
-use Rattle.audit_held.specs.declared.deliveries.Deliveries.{Deliveries}
-use Rattle.audit_sent.specs.Sent.{Sent}
-use Rattle.audit_sent.specs.SentAnswers.{carried}
+use Rattle.state_incoming.specs.EntryAnswers.{says_closed}
+use Rattle.state_incoming.specs.HeldTables.{held_in}
+use Rattle.state_incoming.specs.declared.deliveries.Deliveries.{Deliveries}
+use Rattle.state_outgoing.specs.Sent.{Sent}
+use Rattle.state_outgoing.specs.SentAnswers.{carried}
 use Rattle.due_outcomes.specs.Parked.{is_parked}
 use Rattle.due_outcomes.specs.SentNumbers.{IsUnder}
 use Rattle.due_outcomes.specs.declared.parked.Parked.{Parked}

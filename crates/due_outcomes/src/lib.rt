@@ -1,5 +1,5 @@
 //! Two lists of a router's work, each found without a look at what is not due: outcomes to tell, and deliveries to settle.
-//! A list keeps candidates, the numbers of deliveries, among which is all that is due, and asks the tables of `audit_answers`
+//! A list keeps candidates, the numbers of deliveries, among which is all that is due, and asks the tables of `state_answers`
 //! of each, the lowest first: this is the code's doing, shown by worked captures; neither law nor duties ask for it, so no
 //! clause says it.
 //!

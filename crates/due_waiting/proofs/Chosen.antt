@@ -27,12 +27,12 @@ use Rattle.trace_duties.specs.Consumers.{address_events}
 use Rattle.trace_duties.specs.Diligent.{is_next_waiting}
 use Rattle.trace_duties.specs.Pick.{is_eligible, may_take, pick}
 use Rattle.trace_duties.proofs.ConsumersCounted.{consumers-counted}
-use Rattle.audit_addresses.specs.ConsumerLinks.{consumer_at, is_live_consumer}
-use Rattle.audit_held.specs.EntryAnswers.{Knows}
-use Rattle.audit_held.specs.Held.{Held, held, is_held}
-use Rattle.audit_held.specs.HeldTables.{AreHeld}
-use Rattle.audit_held.specs.declared.deliveries.Deliveries.{Deliveries}
-use Rattle.audit_held.proofs.HeldAnswers.{waiting-kept}
+use Rattle.state_addresses.specs.ConsumerLinks.{consumer_at, is_live_consumer}
+use Rattle.state_incoming.specs.EntryAnswers.{Knows}
+use Rattle.state_incoming.specs.Held.{Held, held, is_held}
+use Rattle.state_incoming.specs.HeldTables.{AreHeld}
+use Rattle.state_incoming.specs.declared.deliveries.Deliveries.{Deliveries}
+use Rattle.state_incoming.proofs.HeldAnswers.{waiting-kept}
 use Rattle.due_flows.proofs.LiveOnes.{link-found, link-lives}
 use Rattle.due_flows.proofs.Members.{found-contained}
 use Rattle.due_deliveries.proofs.Eligible.{pick-passes, picked-same, taken-lives, takes_at}

@@ -10,7 +10,7 @@ use Rattle.trace_events.specs.Incoming.{address_of, completed_by, completes}
 use Rattle.trace_events.specs.Link.{IsLiveLink, is_consumer, own_link}
 use Rattle.trace_events.proofs.Judged.{AreJudged}
 use Rattle.trace_clauses.specs.Clauses.{first_broken}
-use Rattle.audit_addresses.specs.ConsumerLinks.{consumer_at, has_number}
+use Rattle.state_addresses.specs.ConsumerLinks.{consumer_at, has_number}
 use Rattle.due_flows.specs.Standing.{goes_on, grants_window}
 use Rattle.due_flows.proofs.LiveOnes.{link-before}
 use Rattle.due_flows.proofs.PartsDue.{consumer-found}

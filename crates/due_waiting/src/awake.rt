@@ -9,7 +9,7 @@ ghost use Rattle.trace_events.specs.Session.{IsLiveOn};
 ghost use Rattle.trace_events.specs.declared.session.Session.{Session};
 ghost use Rattle.trace_events.specs.Words.{is_some_and};
 ghost use Rattle.trace_values.specs.View.{Events, event_view};
-ghost use Rattle.audit_addresses.specs.ConsumerLinks.{consumer_at, link_in};
+ghost use Rattle.state_addresses.specs.ConsumerLinks.{consumer_at, link_in};
 ghost use Rattle.due_flows.specs.Lent.{AreOf};
 ghost use Rattle.due_flows.specs.Standing.{goes_on, grants_window, has_window};
 ghost use Rattle.due_waiting.specs.BySession.{stands};
@@ -17,7 +17,7 @@ ghost use Rattle.due_waiting.specs.Awake.{IsKept, address_at, count_of, is_among
 ghost use Rattle.due_waiting.specs.Waking.{IsGranted};
 
 use crate::by_session::BySession;
-use audit_addresses::ConsumerLinks;
+use state_addresses::ConsumerLinks;
 use due_flows::Looked;
 use flow_counts::WindowEvent;
 use indexmap::IndexSet;

@@ -6,8 +6,8 @@ ghost use Rattle.trace_events.specs.Event as law;
 ghost use Rattle.trace_events.specs.Link.{is_consumer, own_link};
 ghost use Rattle.trace_events.specs.Words.{where_passes};
 ghost use Rattle.trace_values.specs.View.{event_view, link_view};
-ghost use Rattle.audit_tables.specs.EndedLinks.{views};
-ghost use Rattle.audit_addresses.specs.ConsumerLinks.{has_number};
+ghost use Rattle.state_tables.specs.EndedLinks.{views};
+ghost use Rattle.state_addresses.specs.ConsumerLinks.{has_number};
 ghost use Rattle.due_waiting.specs.BySession.{HasNone, stands};
 
 use amqp_perf::Role;

@@ -3,10 +3,10 @@ use Rattle.std.proofs.Common.{◌≡◌, sym, ap, ◌∙◌, ℕ, List, Option, 
 use Rattle.capture_form.specs.Rules.{RuleText}
 use Rattle.trace_events.specs.Event.{Event, Incoming}
 use Rattle.trace_events.specs.Incoming.{completion}
-use Rattle.audit_held.specs.Held.{Held, IsEntry, held_at}
-use Rattle.audit_held.specs.HeldTables.{AreHeld, held_in}
-use Rattle.audit_held.specs.EntryAnswers.{Knows}
-use Rattle.audit_held.specs.declared.deliveries.Deliveries.{Deliveries}
+use Rattle.state_incoming.specs.Held.{Held, IsEntry, held_at}
+use Rattle.state_incoming.specs.HeldTables.{AreHeld, held_in}
+use Rattle.state_incoming.specs.EntryAnswers.{Knows}
+use Rattle.state_incoming.specs.declared.deliveries.Deliveries.{Deliveries}
 
 some-apart : (d : Incoming) → None ≡ Some d → ⊥
 some-apart d e = cc

@@ -10,12 +10,12 @@ use Rattle.trace_events.specs.Outgoing.{outgoing_deliveries, payload}
 use Rattle.trace_events.specs.Said.{out_spoken}
 use Rattle.trace_events.proofs.Judged.{AreBorn, AreJudged, IsBorn, history-judged, judged-born}
 use Rattle.trace_events.proofs.OutgoingSteps.{payload-same}
-use Rattle.audit_sent.specs.Sent.{Sent, outgoing_at, sent, sent_at}
-use Rattle.audit_sent.specs.SentAnswers.{KnowsOrBegins}
-use Rattle.audit_sent.specs.SentTables.{sent_count_in, sent_in}
-use Rattle.audit_sent.specs.declared.deliveries.SentDeliveries.{SentDeliveries}
-use Rattle.audit_held.specs.HeldTables.{IsHistory}
-use Rattle.audit_held.specs.declared.deliveries.Deliveries.{Deliveries}
+use Rattle.state_outgoing.specs.Sent.{Sent, outgoing_at, sent, sent_at}
+use Rattle.state_outgoing.specs.SentAnswers.{KnowsOrBegins}
+use Rattle.state_outgoing.specs.SentTables.{sent_count_in, sent_in}
+use Rattle.state_outgoing.specs.declared.deliveries.SentDeliveries.{SentDeliveries}
+use Rattle.state_incoming.specs.HeldTables.{IsHistory}
+use Rattle.state_incoming.specs.declared.deliveries.Deliveries.{Deliveries}
 use Rattle.refusal_showing.specs.Contents.{TellOf}
 
 -- ---- of one that begins later nothing was sent

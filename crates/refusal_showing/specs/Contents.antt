@@ -2,10 +2,10 @@
 use Rattle.std.specs.Prelude.{List}
 use Rattle.capture_form.specs.Rules.{RuleText}
 use Rattle.trace_events.specs.Event.{Event}
-use Rattle.audit_held.specs.HeldTables.{AreHeld, IsHistory}
-use Rattle.audit_held.specs.declared.deliveries.Deliveries.{Deliveries}
-use Rattle.audit_sent.specs.SentTables.{AreSent}
-use Rattle.audit_sent.specs.declared.deliveries.SentDeliveries.{SentDeliveries}
+use Rattle.state_incoming.specs.HeldTables.{AreHeld, IsHistory}
+use Rattle.state_incoming.specs.declared.deliveries.Deliveries.{Deliveries}
+use Rattle.state_outgoing.specs.SentTables.{AreSent}
+use Rattle.state_outgoing.specs.declared.deliveries.SentDeliveries.{SentDeliveries}
 
 -- they have what the law says of these events, which are those of some records judged by these rules
 pub record TellOf (rules : List RuleText) (deliveries : Deliveries) (sent_deliveries : SentDeliveries) (past : List Event) : Type 0 where

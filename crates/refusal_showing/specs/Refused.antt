@@ -3,7 +3,7 @@ use Rattle.std.specs.Prelude.{◌≡◌, List, is_some, true}
 use Rattle.capture_form.specs.Rules.{RuleText}
 use Rattle.capture_form.specs.declared.records.Record.{Record}
 use Rattle.trace_events.specs.History.{history, judge_unopened, moment_of}
-use Rattle.audit_held.specs.Held.{held_at}
+use Rattle.state_incoming.specs.Held.{held_at}
 use Rattle.refusal_facts.specs.Facts.{IsReasonOf}
 use Rattle.refusal_facts.specs.declared.reason.Reason.{Reason}
 

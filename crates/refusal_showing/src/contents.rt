@@ -1,7 +1,7 @@
 //! What the auditor's tables tell of deliveries beside the questions.
 
-use audit_held::Deliveries;
-use audit_sent::SentDeliveries;
+use state_incoming::Deliveries;
+use state_outgoing::SentDeliveries;
 use refusal_facts::{Incoming, Outgoing, Payloads};
 
 /// The tables of deliveries from clients, and of those to clients, lent.
@@ -12,9 +12,9 @@ pub(crate) struct Contents<'t> {
 }
 
 impl<'t> Payloads<'t> for Contents<'t> {
-    ghost use Rattle.audit_held.specs.EntryAnswers.{Knows};
+    ghost use Rattle.state_incoming.specs.EntryAnswers.{Knows};
     ghost use Rattle.refusal_showing.specs.Contents.{TellOf};
-    ghost use Rattle.audit_sent.specs.SentAnswers.{KnowsOrBegins};
+    ghost use Rattle.state_outgoing.specs.SentAnswers.{KnowsOrBegins};
 
     ghost tells_of = { λ contents rules history. TellOf rules contents.deliveries.now contents.sent.now history };
 

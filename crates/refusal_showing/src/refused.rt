@@ -2,11 +2,11 @@
 
 ghost use Rattle.capture_form.specs.declared.records.Record.{Record};
 ghost use Rattle.std.specs.Prelude.{List, ◌≡◌, IfSome, option_map};
-ghost use Rattle.audit_ledger.specs.Ledger.{Stands, broken_behind};
+ghost use Rattle.state_ledger.specs.Ledger.{Stands, broken_behind};
 ghost use Rattle.refusal_showing.specs.Refused.{IsReasonBehind};
 
 use crate::contents::Contents;
-use audit_ledger::Ledger;
+use state_ledger::Ledger;
 use capture_form::{Record, Rule};
 use refusal_facts::{Reason, explain};
 use trace_judge::judge_unopened;

@@ -2,11 +2,11 @@
 
 ghost use Rattle.std.specs.Prelude.{◌≡◌, IfOk};
 ghost use Rattle.trace_events.specs.History.{moment_of};
-ghost use Rattle.audit_ledger.specs.HeldEvents.{held_event_view};
+ghost use Rattle.state_ledger.specs.HeldEvents.{held_event_view};
 ghost use Rattle.route_answers.specs.Replies.{answer_view, reply_view, CanBeSaid, CanBeWritten};
 ghost use Rattle.route_records.specs.Replies.{IsReply, AreReplies, IsAnswerable, IsAnswerOf, AreAnswers, replies_of};
 
-use audit_ledger::HeldEvent;
+use state_ledger::HeldEvent;
 use capture_form::{Frame, Record, Rule, What};
 use pairing_cert::Note;
 use route_answers::{Answer, Reply, answer_to};

@@ -7,7 +7,7 @@ use Rattle.trace_events.specs.History.{judge, history, moment_of}
 use Rattle.trace_clauses.specs.Clauses.{first_broken}
 use Rattle.trace_clauses.proofs.Lawful.{history-push}
 use Rattle.trace_clauses.proofs.Broken.{length-history}
-use Rattle.audit_tables.specs.Connections.{IsLawfulNext}
+use Rattle.state_tables.specs.Connections.{IsLawfulNext}
 use Rattle.route_work.specs.Books.{IsUnbroken}
 
 module _ (rules : List RuleText) (records : List Record) (r : Record) where

@@ -5,8 +5,8 @@ use Rattle.capture_form.specs.Rules.{RuleText}
 use Rattle.trace_events.specs.Event.{Event}
 use Rattle.trace_events.specs.History.{judge, history}
 use Rattle.trace_clauses.specs.Clauses.{broken_clause}
-use Rattle.audit_answers.specs.declared.looked.Looked.{Looked}
-use Rattle.audit_answers.specs.Tables.{StandFor, AreTables}
+use Rattle.state_answers.specs.declared.looked.Looked.{Looked}
+use Rattle.state_answers.specs.Tables.{StandFor, AreTables}
 use Rattle.route_dues.specs.Writing.{IsInOrder}
 use Rattle.route_work.specs.declared.books.Books.{Books}
 

@@ -9,4 +9,4 @@ pub use Rattle.due_copies.specs.Parts
 pub use Rattle.due_copies.specs.Windows
 pub use Rattle.due_outcomes.specs.Unsettled
 pub use Rattle.due_outcomes.specs.Untold
-pub use Rattle.audit_answers.specs.declared.looked.Looked
+pub use Rattle.state_answers.specs.declared.looked.Looked

@@ -4,19 +4,19 @@ ghost use Rattle.std.specs.Prelude.{◌≡◌, ◌∷◌, [], ◌++◌, List, No
 ghost use Rattle.capture_form.specs.Rules.{RuleText};
 ghost use Rattle.capture_form.specs.declared.records.Record.{Record};
 ghost use Rattle.trace_events.specs.History.{history, judge, moment_of};
-ghost use Rattle.audit_ledger.specs.HeldEvents.{held_event_view};
+ghost use Rattle.state_ledger.specs.HeldEvents.{held_event_view};
 ghost use Rattle.trace_duties.specs.Quiet.{is_quiet};
 ghost use Rattle.route_work.specs.Dues.{IsNextFrame};
 ghost use Rattle.route_dues.specs.Writing.{IsInOrder};
 ghost use Rattle.capture_form.specs.Text.{IsRecord};
 ghost use Rattle.route_work.specs.Books.{AreBooks, AreInOrder, IsUnbroken, TellsOf};
-ghost use Rattle.audit_tables.specs.Connections.{IsLawfulNext};
+ghost use Rattle.state_tables.specs.Connections.{IsLawfulNext};
 ghost use Rattle.trace_values.specs.View.{Events, event_view};
 
 use crate::dues::Dues;
 use crate::record_of;
-use audit_answers::{Looked, Tables};
-use audit_ledger::HeldEvent;
+use state_answers::{Looked, Tables};
+use state_ledger::HeldEvent;
 use capture_form::{Record, Rule};
 use std::alloc::{AllocError, Global};
 use trace_judge::{judge_unopened_read, open};

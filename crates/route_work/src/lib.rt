@@ -20,7 +20,7 @@ mod telling;
 mod work;
 mod writing;
 
-pub use audit_answers::Looked;
+pub use state_answers::Looked;
 pub use books::Books;
 pub use due::{Due, DueBegin};
 pub use due_copies::{Credits, Drains, DueCopy, Parts, UnsentCopies, Windows};

@@ -8,7 +8,7 @@ ghost use Rattle.trace_events.specs.History.{history};
 ghost use Rattle.trace_duties.specs.Quiet.{none_stands_still};
 ghost use Rattle.trace_duties.specs.Turn.{is_all_told, is_first_to_begin};
 ghost use Rattle.trace_values.specs.View.{Events, event_view, incoming_view};
-ghost use Rattle.audit_tables.specs.Connections.{IsLawfulNext};
+ghost use Rattle.state_tables.specs.Connections.{IsLawfulNext};
 ghost use Rattle.route_work.specs.Copies.{IsDueCopy};
 ghost use Rattle.due_waiting.specs.Waiting.{IsDueWaiting};
 ghost use Rattle.route_work.specs.Dues.{IsDue, is_in_turn};

@@ -6,7 +6,7 @@ ghost use Rattle.capture_form.specs.Rules.{RuleText};
 ghost use Rattle.capture_form.specs.declared.records.Record.{Record};
 ghost use Rattle.trace_events.specs.History.{history};
 ghost use Rattle.trace_values.specs.View.{event_view};
-ghost use Rattle.audit_tables.specs.Connections.{IsLawfulNext};
+ghost use Rattle.state_tables.specs.Connections.{IsLawfulNext};
 ghost use Rattle.route_work.specs.Dues.{IsDue, is_in_turn};
 ghost use Rattle.route_work.specs.Books.{TellsOf};
 ghost use Rattle.route_work.specs.Work.{HasTelling, IsAllTold};

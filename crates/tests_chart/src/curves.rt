@@ -1,6 +1,6 @@
 //! What stood behind the records of captures, drawn as curves.
 
-use audit_ledger::{Ledger, NotEntered};
+use state_ledger::{Ledger, NotEntered};
 use capture_form::{Capture, Record, Rule, read_capture};
 use credit_chart::draw_levels;
 use credit_levels::{Levels, Pick, Place};

@@ -4,7 +4,7 @@
 //! and knows which delivery-ids are in use. `Outstanding` keeps the deliveries that were sent to it, and finds those of
 //! which a disposition speaks. Whatever happened on the session, both have come to what the definitions of `flow_counts`
 //! say of it, and each call counts one event more. Neither the router nor the auditor stands on this crate: their
-//! deliveries are in `audit_held` and `audit_sent`.
+//! deliveries are in `state_incoming` and `state_outgoing`.
 //!
 //! In reading order: `fault` is why a part is refused; `partial` is a delivery in progress; `inbound` and `outstanding`;
 //! `history` counts whole lists of events.

@@ -1,7 +1,7 @@
 //! What the auditor's tables answer behind the records so far, in the words of a scenario's questions.
 
-use audit_held::HeldDelivery;
-use audit_ledger::Ledger;
+use state_incoming::HeldDelivery;
+use state_ledger::Ledger;
 use capture_form::Rule;
 use kit_talks::{Names, Telling, Words};
 use std::alloc::{AllocError, Global};

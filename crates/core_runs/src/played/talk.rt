@@ -2,7 +2,7 @@
 
 use crate::cores::done;
 use crate::played::asked::Tables;
-use audit_ledger::{Ledger, NotEntered};
+use state_ledger::{Ledger, NotEntered};
 use capture_form::Capture;
 use kit_talks::{Difference, Stage, Words, lines_meant};
 use route_core::Core;

@@ -9,7 +9,7 @@ use Rattle.trace_clauses.specs.TransferClause.{to_carry}
 use Rattle.trace_clauses.proofs.OneConsumer.{incoming_at-is, passes-some}
 use Rattle.trace_clauses.proofs.Parts.{holds_some}
 use Rattle.trace_values.specs.View.{incoming_view, link_view}
-use Rattle.audit_held.proofs.GroupAnswers.{judged-of}
+use Rattle.state_incoming.proofs.GroupAnswers.{judged-of}
 use Rattle.due_flows.proofs.Members.{found-contained}
 use Rattle.due_copies.proofs.CopiesDue.{copy-carried, found-of}
 use Rattle.due_copies.proofs.copies.unsent_copy.Goals as goal

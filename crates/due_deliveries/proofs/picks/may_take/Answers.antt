@@ -4,7 +4,7 @@ use Rattle.trace_events.specs.History.{history}
 use Rattle.trace_events.proofs.Judged.{history-judged}
 use Rattle.trace_duties.specs.Pick.{may_take}
 use Rattle.trace_values.specs.View.{link_view}
-use Rattle.audit_addresses.specs.ConsumerLinks.{consumer_at}
+use Rattle.state_addresses.specs.ConsumerLinks.{consumer_at}
 use Rattle.due_deliveries.proofs.Eligible.{taken-lives}
 use Rattle.due_deliveries.proofs.picks.may_take.Goals as goal
 

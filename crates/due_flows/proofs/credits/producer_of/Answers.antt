@@ -2,8 +2,8 @@ use Rattle.std.proofs.Common.{◌≡◌, sym, ap, ◌∙◌, true, Option, Some,
 use Rattle.trace_events.specs.Event.{Incoming}
 use Rattle.trace_events.specs.Incoming.{incoming_at}
 use Rattle.trace_values.specs.View.{incoming_view}
-use Rattle.audit_held.specs.EntryAnswers.{has_number}
-use Rattle.audit_held.proofs.KnownEntries.{knows-at}
+use Rattle.state_incoming.specs.EntryAnswers.{has_number}
+use Rattle.state_incoming.proofs.KnownEntries.{knows-at}
 use Rattle.due_flows.proofs.CreditsTouched.{knows-number}
 use Rattle.due_flows.proofs.credits.producer_of.Goals as goal
 

@@ -1,8 +1,8 @@
 use Rattle.std.proofs.Common.{◌≡◌, sym, ◌∙◌, true, false, Option, Some, None}
 use Rattle.trace_events.specs.Event.{Link}
 use Rattle.trace_values.specs.View.{link_view}
-use Rattle.audit_held.proofs.GroupAnswers.{judged-of}
-use Rattle.audit_addresses.specs.ConsumerLinks.{consumer_at}
+use Rattle.state_incoming.proofs.GroupAnswers.{judged-of}
+use Rattle.state_addresses.specs.ConsumerLinks.{consumer_at}
 use Rattle.due_flows.proofs.DrainsFollowed.{drainable-found, drainable-same}
 use Rattle.due_flows.proofs.PartsDue.{found-consumer}
 use Rattle.due_flows.proofs.drains.drain_due.Goals as goal

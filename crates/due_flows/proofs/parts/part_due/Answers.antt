@@ -7,8 +7,8 @@ use Rattle.trace_events.specs.Outgoing.{in_progress}
 use Rattle.trace_events.specs.Window.{session_window}
 use Rattle.trace_clauses.specs.TransferClause.{to_carry}
 use Rattle.trace_values.specs.View.{link_view, incoming_view, outgoing_view}
-use Rattle.audit_held.proofs.GroupAnswers.{judged-of}
-use Rattle.audit_addresses.specs.ConsumerLinks.{consumer_at}
+use Rattle.state_incoming.proofs.GroupAnswers.{judged-of}
+use Rattle.state_addresses.specs.ConsumerLinks.{consumer_at}
 use Rattle.due_flows.proofs.PartsDue.{found-consumer, carries, carried-noted, sent-so-far, still-link, still-going, still-window}
 use Rattle.due_flows.proofs.parts.part_due.Goals as goal
 

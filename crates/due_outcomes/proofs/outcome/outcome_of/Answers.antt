@@ -5,8 +5,8 @@ use Rattle.trace_events.specs.History.{history}
 use Rattle.trace_events.specs.Incoming.{incoming_at}
 use Rattle.trace_clauses.specs.Outcome.{may_be_told, reasons, row}
 use Rattle.trace_values.specs.View.{incoming_view}
-use Rattle.audit_held.specs.EntryAnswers.{has_number}
-use Rattle.audit_held.proofs.KnownEntries.{knows-at}
+use Rattle.state_incoming.specs.EntryAnswers.{has_number}
+use Rattle.state_incoming.proofs.KnownEntries.{knows-at}
 use Rattle.due_outcomes.proofs.OutcomeTables.{begun-at, knows-has, unless-told}
 use Rattle.due_outcomes.proofs.outcome.outcome_of.Goals as goal
 

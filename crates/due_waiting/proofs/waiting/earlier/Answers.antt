@@ -1,7 +1,7 @@
 use Rattle.std.proofs.Common.{sym, ◌∙◌}
 use Rattle.trace_clauses.proofs.Parts.{holds_some}
 use Rattle.trace_values.specs.View.{incoming_view}
-use Rattle.audit_held.specs.EntryAnswers.{Knows}
+use Rattle.state_incoming.specs.EntryAnswers.{Knows}
 use Rattle.due_waiting.specs.declared.waiting.DueWaiting.{DueWaiting}
 use Rattle.due_waiting.proofs.EarliestDue.{first-stays, other-comes}
 use Rattle.due_waiting.proofs.waiting.earlier.Goals as goal

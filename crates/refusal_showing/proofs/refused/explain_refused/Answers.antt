@@ -11,10 +11,10 @@ use Rattle.trace_clauses.proofs.LiveLinks.{placed-names}
 use Rattle.trace_clauses.proofs.Unopened.{broken-unopened}
 use Rattle.trace_values.specs.Known.{CarriesKnown}
 use Rattle.trace_values.specs.View.{event_view}
-use Rattle.audit_held.specs.Held.{held_at}
-use Rattle.audit_held.specs.EntryAnswers.{has_number}
-use Rattle.audit_sent.specs.SentAnswers.{KnowsOrBegins}
-use Rattle.audit_answers.proofs.NextKnown.{next-carries}
+use Rattle.state_incoming.specs.Held.{held_at}
+use Rattle.state_incoming.specs.EntryAnswers.{has_number}
+use Rattle.state_outgoing.specs.SentAnswers.{KnowsOrBegins}
+use Rattle.state_answers.proofs.NextKnown.{next-carries}
 use Rattle.refusal_facts.specs.Facts.{IsReasonOf}
 use Rattle.refusal_showing.specs.Contents.{TellOf}
 use Rattle.refusal_showing.proofs.FactsKnown.{reason-less}

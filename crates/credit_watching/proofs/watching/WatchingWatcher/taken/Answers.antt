@@ -1,6 +1,6 @@
 use Rattle.std.proofs.Common.{◌∙◌, [], ◌∷◌, ◌++◌}
 use Rattle.std.proofs.lemmas.Result.{on_ok_weaker}
-use Rattle.audit_answers.specs.Tables.{StandFor}
+use Rattle.state_answers.specs.Tables.{StandFor}
 use Rattle.credit_watching.proofs.Taking.{takes_more}
 use Rattle.credit_watching.proofs.watching.WatchingWatcher.taken.Goals as goal
 

@@ -3,8 +3,8 @@ use Rattle.trace_events.specs.Event.{Link}
 use Rattle.trace_events.specs.Due.{has_unsent}
 use Rattle.trace_duties.specs.Pick.{may_take}
 use Rattle.trace_values.specs.View.{incoming_view, link_view}
-use Rattle.audit_held.proofs.GroupAnswers.{judged-of}
-use Rattle.audit_addresses.specs.ConsumerLinks.{consumer_at}
+use Rattle.state_incoming.proofs.GroupAnswers.{judged-of}
+use Rattle.state_addresses.specs.ConsumerLinks.{consumer_at}
 use Rattle.due_flows.proofs.LiveOnes.{link-found}
 use Rattle.due_flows.proofs.PartsDue.{found-consumer}
 use Rattle.due_copies.proofs.CopiesDue.{ready-found, ready-same}

@@ -1,7 +1,7 @@
 use Rattle.std.proofs.Common.{◌≡◌, refl, sym, ap, ◌∙◌, Option, Some, None}
 use Rattle.trace_events.specs.Event.{Incoming}
 use Rattle.trace_values.specs.View.{incoming_view, link_view}
-use Rattle.audit_held.proofs.GroupAnswers.{judged-of}
+use Rattle.state_incoming.proofs.GroupAnswers.{judged-of}
 use Rattle.due_copies.specs.Lists.{copy_on}
 use Rattle.due_copies.proofs.CopiesDue.{first-earliest, have-of, have-passed, one-unlisted}
 use Rattle.due_copies.proofs.copies.UnsentCopies.earliest.Goals as goal

@@ -1,5 +1,5 @@
 use Rattle.std.proofs.Common.{◌≡◌, sym, ap, ◌∙◌, Option, None, refl, false, true, is_some}
-use Rattle.audit_held.proofs.GroupAnswers.{judged-of}
+use Rattle.state_incoming.proofs.GroupAnswers.{judged-of}
 use Rattle.due_copies.specs.declared.copies.DueCopy.{DueCopy}
 use Rattle.due_copies.proofs.CopiesDue.{have-dropped, none-due, have-of}
 use Rattle.due_copies.proofs.copies.UnsentCopies.first_due.Goals as goal

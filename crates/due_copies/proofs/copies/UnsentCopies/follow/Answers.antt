@@ -7,10 +7,10 @@ use Rattle.trace_events.proofs.Judged.{history-judged}
 use Rattle.trace_clauses.proofs.Lawful.{history-push}
 use Rattle.trace_values.specs.View.{event_view}
 use Rattle.trace_values.specs.declared.event.Link.{Link}
-use Rattle.audit_addresses.specs.ConsumerLinks.{consumer_at}
-use Rattle.audit_addresses.specs.Copies.{AreCopies, AreReceivers}
-use Rattle.audit_addresses.specs.declared.copies.Receiver.{Receiver}
-use Rattle.audit_tables.specs.EndedLinks.{AreEnded, views}
+use Rattle.state_addresses.specs.ConsumerLinks.{consumer_at}
+use Rattle.state_addresses.specs.Copies.{AreCopies, AreReceivers}
+use Rattle.state_addresses.specs.declared.copies.Receiver.{Receiver}
+use Rattle.state_tables.specs.EndedLinks.{AreEnded, views}
 use Rattle.due_copies.specs.Lists.{IsIn, receives}
 use Rattle.due_copies.specs.Copies.{IsUnsentOn}
 use Rattle.due_copies.proofs.CopiesFollowed.{have-copies}

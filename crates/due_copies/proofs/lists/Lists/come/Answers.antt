@@ -1,6 +1,6 @@
 use Rattle.std.proofs.Common.{◌≡◌, sym, subst, inl, inr, ℕ, Some}
 use Rattle.trace_values.specs.View.{event_view, incoming_view}
-use Rattle.audit_addresses.specs.ConsumerLinks.{link_in}
+use Rattle.state_addresses.specs.ConsumerLinks.{link_in}
 use Rattle.due_copies.proofs.Listed.{in-later, kept_but-later, receives-more, with-later}
 use Rattle.due_copies.proofs.lists.Lists.come.Goals as goal
 

@@ -7,8 +7,8 @@ use Rattle.trace_events.specs.History.{history}
 use Rattle.trace_events.specs.Incoming.{incoming_at}
 use Rattle.trace_events.specs.Link.{IsLiveLink}
 use Rattle.trace_values.specs.View.{event_view, incoming_view}
-use Rattle.audit_addresses.specs.ConsumerLinks.{link_in}
-use Rattle.audit_addresses.specs.Copies.{AreCopies}
+use Rattle.state_addresses.specs.ConsumerLinks.{link_in}
+use Rattle.state_addresses.specs.Copies.{AreCopies}
 use Rattle.due_copies.specs.Lists.{AreWith, IsIn, IsKeptBut, receives}
 use Rattle.due_copies.proofs.lists.Lists.come.Given as goal
 

@@ -1,6 +1,6 @@
 use Rattle.std.proofs.Common.{◌≡◌, ℕ, Some, true, false, take}
-use Rattle.audit_tables.specs.EndedLinks.{views}
-use Rattle.audit_addresses.specs.ConsumerLinks.{has_number}
+use Rattle.state_tables.specs.EndedLinks.{views}
+use Rattle.state_addresses.specs.ConsumerLinks.{has_number}
 use Rattle.due_copies.specs.Lists.{copy_on, stands, waits}
 use Rattle.due_copies.proofs.lists.Lists.end.Given as goal
 

@@ -1,6 +1,6 @@
 use Rattle.std.proofs.Common.{◌≡◌, ◌∙◌, ◌∷◌, ◌++◌, ℕ, List, [], rules, ap, subst, sym}
 use Rattle.trace_values.specs.View.{event_view}
-use Rattle.audit_sent.specs.SentTables.{sent_in}
+use Rattle.state_outgoing.specs.SentTables.{sent_in}
 use Rattle.due_deliveries.specs.AddressCounts.{CountsMore, decided_on}
 use Rattle.due_deliveries.specs.Picks.{decided_among}
 use Rattle.due_deliveries.specs.Undecided.{decided_link}

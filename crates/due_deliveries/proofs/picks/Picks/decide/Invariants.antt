@@ -1,7 +1,7 @@
 use Rattle.std.proofs.Common.{◌≡◌, ◌++◌, ℕ, List, length, is_some}
 use Rattle.trace_values.specs.View.{Events, event_view}
-use Rattle.audit_sent.specs.SentTables.{sent_in}
-use Rattle.audit_tables.specs.LinkTables.{AreLinked}
+use Rattle.state_outgoing.specs.SentTables.{sent_in}
+use Rattle.state_tables.specs.LinkTables.{AreLinked}
 use Rattle.due_deliveries.specs.AddressCounts.{CountsMore}
 use Rattle.due_deliveries.specs.Picks.{decided_among}
 use Rattle.due_deliveries.specs.Undecided.{Spares, decided_link}

@@ -1,6 +1,6 @@
 use Rattle.std.proofs.Common.{◌≡◌, ◌++◌, List, length}
 use Rattle.trace_values.specs.declared.event.Link.{Link}
-use Rattle.audit_tables.specs.EndedLinks.{views}
+use Rattle.state_tables.specs.EndedLinks.{views}
 use Rattle.due_deliveries.specs.AddressCounts.{CountsMore, detached_all}
 use Rattle.due_deliveries.proofs.picks.Picks.detach.Given as goal
 

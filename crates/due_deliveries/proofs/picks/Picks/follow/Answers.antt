@@ -7,8 +7,8 @@ use Rattle.trace_events.specs.History.{history}
 use Rattle.trace_events.proofs.Judged.{AreJudged, history-judged}
 use Rattle.trace_values.specs.View.{event_view}
 use Rattle.trace_duties.specs.Consumers.{attached_as, begun_by, address_events}
-use Rattle.audit_sent.specs.SentTables.{sent_in}
-use Rattle.audit_tables.specs.EndedLinks.{views}
+use Rattle.state_outgoing.specs.SentTables.{sent_in}
+use Rattle.state_tables.specs.EndedLinks.{views}
 use Rattle.due_deliveries.specs.AddressCounts.{detached_all}
 use Rattle.due_deliveries.specs.Undecided.{HaveOpen, Spares, decided_link}
 use Rattle.due_deliveries.specs.declared.undecided.Undecided.{Undecided}

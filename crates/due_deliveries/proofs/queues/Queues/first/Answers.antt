@@ -4,7 +4,7 @@ use Rattle.number_groups.proofs.Octets.{changed, under}
 use Rattle.trace_events.specs.History.{history}
 use Rattle.trace_events.proofs.Judged.{history-judged}
 use Rattle.trace_values.specs.View.{incoming_view}
-use Rattle.audit_held.specs.HeldTables.{held_in}
+use Rattle.state_incoming.specs.HeldTables.{held_in}
 use Rattle.due_deliveries.specs.Queues.{queued, IsQueue}
 use Rattle.due_deliveries.proofs.QueueLists.{none-waits}
 use Rattle.due_deliveries.proofs.QueueMoves.{chosen, moved-queues, shorter-at}

@@ -1,5 +1,5 @@
 use Rattle.std.proofs.Common.{take}
-use Rattle.audit_tables.specs.EndedLinks.{views}
+use Rattle.state_tables.specs.EndedLinks.{views}
 use Rattle.due_flows.specs.Credits.{AreEndedIn}
 use Rattle.due_flows.proofs.credits.Credits.end.Given as goal
 

@@ -1,6 +1,6 @@
 use Rattle.std.proofs.Common.{◌≡◌, refl, sym, ap, ◌∙◌, Option, None, false, true, is_some}
 use Rattle.trace_values.specs.declared.event.Link.{Link}
-use Rattle.audit_held.proofs.GroupAnswers.{judged-of}
+use Rattle.state_incoming.proofs.GroupAnswers.{judged-of}
 use Rattle.due_flows.specs.Credits.{place_in}
 use Rattle.due_flows.proofs.CreditsFollowed.{have-dropped, none-lacking}
 use Rattle.due_flows.proofs.credits.Credits.first_due.Goals as goal

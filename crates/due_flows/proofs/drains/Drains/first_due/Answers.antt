@@ -1,7 +1,7 @@
 use Rattle.std.proofs.Common.{◌≡◌, refl, sym, ap, ◌∙◌, Option, None, false, true, is_some}
 use Rattle.number_groups.specs.OctetGroups.{is_member}
 use Rattle.trace_values.specs.declared.event.Link.{Link}
-use Rattle.audit_held.proofs.GroupAnswers.{judged-of}
+use Rattle.state_incoming.proofs.GroupAnswers.{judged-of}
 use Rattle.due_flows.specs.Drains.{stands, waits}
 use Rattle.due_flows.specs.Numbers.{has}
 use Rattle.due_flows.proofs.DrainsFollowed.{have-dropped, none-draining}

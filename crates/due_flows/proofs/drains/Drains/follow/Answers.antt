@@ -3,7 +3,7 @@ use Rattle.trace_events.specs.History.{history}
 use Rattle.trace_events.proofs.Judged.{history-judged}
 use Rattle.trace_values.specs.View.{event_view}
 use Rattle.trace_values.specs.declared.event.Link.{Link}
-use Rattle.audit_tables.specs.EndedLinks.{AreEnded, views}
+use Rattle.state_tables.specs.EndedLinks.{AreEnded, views}
 use Rattle.due_flows.specs.Drains.{stands, waits}
 use Rattle.due_flows.proofs.DrainsFollowed.{have-drains}
 use Rattle.due_flows.proofs.drains.Drains.follow.Goals as goal

@@ -1,6 +1,6 @@
 use Rattle.std.proofs.Common.{◌≡◌, ℕ, true, false, take}
-use Rattle.audit_tables.specs.EndedLinks.{views}
-use Rattle.audit_addresses.specs.ConsumerLinks.{has_number}
+use Rattle.state_tables.specs.EndedLinks.{views}
+use Rattle.state_addresses.specs.ConsumerLinks.{has_number}
 use Rattle.due_flows.specs.Parts.{stands, waits}
 use Rattle.due_flows.proofs.parts.Parts.end.Given as goal
 

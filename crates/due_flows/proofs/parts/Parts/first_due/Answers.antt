@@ -1,5 +1,5 @@
 use Rattle.std.proofs.Common.{◌≡◌, refl, sym, ap, ◌∙◌, Option, None, false, true, is_some}
-use Rattle.audit_held.proofs.GroupAnswers.{judged-of}
+use Rattle.state_incoming.proofs.GroupAnswers.{judged-of}
 use Rattle.due_flows.specs.Parts.{stands, waits}
 use Rattle.due_flows.specs.Numbers.{has}
 use Rattle.number_groups.specs.Groups.{is_member}

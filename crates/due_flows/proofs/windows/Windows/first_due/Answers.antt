@@ -1,5 +1,5 @@
 use Rattle.std.proofs.Common.{refl}
-use Rattle.audit_held.proofs.GroupAnswers.{judged-of}
+use Rattle.state_incoming.proofs.GroupAnswers.{judged-of}
 use Rattle.due_flows.specs.Candidates.{value_of}
 use Rattle.due_flows.proofs.WindowsFollowed.{none-lacking}
 use Rattle.due_flows.proofs.windows.Windows.first_due.Goals as goal

@@ -4,7 +4,7 @@ use Rattle.capture_form.specs.declared.records.Record.{Record}
 use Rattle.trace_events.specs.History.{history}
 use Rattle.trace_values.specs.View.{outgoing_view}
 use Rattle.trace_values.specs.declared.event.Outgoing.{Outgoing}
-use Rattle.audit_answers.specs.declared.looked.Looked.{Looked}
+use Rattle.state_answers.specs.declared.looked.Looked.{Looked}
 use Rattle.due_outcomes.specs.LookedTables.{AreLooked}
 use Rattle.due_outcomes.specs.Settlings.{IsDueSettling, due_in}
 use Rattle.due_outcomes.proofs.SettlingsDue.{due-is, none-left}

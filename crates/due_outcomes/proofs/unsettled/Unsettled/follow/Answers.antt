@@ -6,7 +6,7 @@ use Rattle.trace_events.specs.History.{history}
 use Rattle.trace_events.specs.Outgoing.{outgoing_begun}
 use Rattle.trace_events.proofs.Judged.{AreJudged, history-judged}
 use Rattle.trace_values.specs.View.{event_view, link_view}
-use Rattle.audit_tables.specs.EndedLinks.{views}
+use Rattle.state_tables.specs.EndedLinks.{views}
 use Rattle.number_groups.specs.Ascending.{has}
 use Rattle.number_groups.specs.declared.ascending.Ascending.{Ascending}
 use Rattle.due_outcomes.specs.Closings.{may_close}

@@ -1,6 +1,6 @@
 use Rattle.std.proofs.Common.{◌≡◌, sym, ap, subst, ◌∙◌, inl, inr, true}
 use Rattle.trace_events.specs.History.{history}
-use Rattle.audit_sent.specs.SentTables.{sent_in}
+use Rattle.state_outgoing.specs.SentTables.{sent_in}
 use Rattle.due_outcomes.specs.Parked.{is_parked}
 use Rattle.due_outcomes.specs.Settlings.{says_open, waits_in}
 use Rattle.due_outcomes.specs.Unsettled.{IsParked}

@@ -2,7 +2,7 @@ use Rattle.std.proofs.Common.{◌≡◌, Some, true, take, nat_eq}
 use Rattle.std.specs.List.{list_any}
 use Rattle.number_groups.specs.Groups.{numbers}
 use Rattle.trace_events.specs.Event as law
-use Rattle.audit_addresses.specs.ConsumerLinks.{link_in}
+use Rattle.state_addresses.specs.ConsumerLinks.{link_in}
 use Rattle.due_waiting.specs.Awake.{IsKept, is_awake}
 use Rattle.due_waiting.proofs.awake.Awake.wake_session.Given as goal
 

@@ -6,9 +6,9 @@ use Rattle.trace_events.specs.History.{history}
 use Rattle.trace_events.specs.Incoming.{address_of, completed_before}
 use Rattle.trace_events.proofs.Judged.{history-judged}
 use Rattle.trace_values.specs.View.{incoming_view}
-use Rattle.audit_held.specs.EntryAnswers.{Knows}
-use Rattle.audit_held.specs.HeldTables.{AreHeld}
-use Rattle.audit_held.specs.declared.deliveries.Deliveries.{Deliveries}
+use Rattle.state_incoming.specs.EntryAnswers.{Knows}
+use Rattle.state_incoming.specs.HeldTables.{AreHeld}
+use Rattle.state_incoming.specs.declared.deliveries.Deliveries.{Deliveries}
 use Rattle.due_flows.specs.Lent.{AreOf}
 use Rattle.due_waiting.specs.Awake.{is_among_first}
 use Rattle.due_waiting.specs.Waiting.{HasWaiting, IsDueWaiting, IsEarliest, is_ahead}

@@ -3,7 +3,7 @@ use Rattle.trace_events.specs.History.{history}
 use Rattle.trace_events.proofs.Judged.{history-judged}
 use Rattle.trace_values.specs.View.{event_view}
 use Rattle.trace_values.specs.declared.event.Link.{Link}
-use Rattle.audit_tables.specs.EndedLinks.{AreEnded, views}
+use Rattle.state_tables.specs.EndedLinks.{AreEnded, views}
 use Rattle.due_waiting.specs.Awake.{is_awake}
 use Rattle.due_waiting.specs.BySession.{stands}
 use Rattle.due_waiting.proofs.WaitingFollowed.{have-waiting}

@@ -1,6 +1,6 @@
 use Rattle.trace_events.specs.History.{history}
 use Rattle.trace_values.specs.View.{event_view}
-use Rattle.audit_answers.specs.Tables.{AreTables}
+use Rattle.state_answers.specs.Tables.{AreTables}
 use Rattle.route_work.proofs.Entering.{longer}
 use Rattle.route_work.proofs.books.Books.follow.Goals as goal
 

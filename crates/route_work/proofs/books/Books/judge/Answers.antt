@@ -8,8 +8,8 @@ use Rattle.trace_events.specs.Session.{StandsLive, has_unanswered_begin}
 use Rattle.trace_events.proofs.Standing.{placed-stands}
 use Rattle.trace_values.specs.Known.{OpensKnown}
 use Rattle.trace_values.specs.View.{event_view}
-use Rattle.audit_ledger.specs.HeldEvents.{held_event_view}
-use Rattle.audit_answers.proofs.NextKnown.{next-opens}
+use Rattle.state_ledger.specs.HeldEvents.{held_event_view}
+use Rattle.state_answers.proofs.NextKnown.{next-opens}
 use Rattle.route_work.proofs.Entering.{numbered, same-event, lawful-next, on_ok}
 use Rattle.route_work.proofs.books.Books.judge.Goals as goal
 

@@ -1,8 +1,0 @@
-use Rattle.std.proofs.Common.{◌∙◌}
-use Rattle.trace_values.specs.View.{incoming_view}
-use Rattle.audit_held.proofs.KnownEntries.{known-before}
-use Rattle.audit_held.proofs.deliveries.Deliveries.completed_before.Goals as goal
-
-pub returns : goal.returns
-returns c = λ rules past are first second.
-    c.is_before.ensures ∙ known-before rules past c.args.self.now are (incoming_view c.args.first.now) (incoming_view c.args.second.now) first second

@@ -1,7 +1,0 @@
-use Rattle.std.proofs.Common.{◌∙◌}
-use Rattle.trace_values.specs.View.{incoming_view}
-use Rattle.audit_held.proofs.KnownEntries.{known-closed}
-use Rattle.audit_held.proofs.deliveries.Deliveries.is_closed.Goals as goal
-
-pub returns : goal.returns
-returns c = λ rules past are knows. c.says_closed.ensures ∙ known-closed rules past c.args.self.now are (incoming_view c.args.delivery.now) knows

@@ -1,7 +1,0 @@
-use Rattle.std.proofs.Common.{◌∙◌}
-use Rattle.trace_values.specs.View.{incoming_view}
-use Rattle.audit_held.proofs.KnownEntries.{known-complete}
-use Rattle.audit_held.proofs.deliveries.Deliveries.is_complete.Goals as goal
-
-pub returns : goal.returns
-returns c = λ rules past are knows. c.says_complete.ensures ∙ known-complete rules past c.args.self.now are (incoming_view c.args.delivery.now) knows

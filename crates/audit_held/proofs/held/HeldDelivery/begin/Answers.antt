@@ -1,8 +1,0 @@
-use Rattle.std.proofs.Common.{option_map}
-use Rattle.trace_values.specs.View.{event_view}
-use Rattle.audit_held.specs.HeldViews.{held_view}
-use Rattle.audit_held.proofs.HeldKnown.{begins}
-use Rattle.audit_held.proofs.held.HeldDelivery.begin.Goals as goal
-
-pub returns-clause-known : goal.returns-clause-known
-returns-clause-known c = begins c.args.rules.now (event_view c.args.event.now) c.args.has_consumer (option_map held_view c.in_ok-held.held) c.in_ok-held.ensures.begun

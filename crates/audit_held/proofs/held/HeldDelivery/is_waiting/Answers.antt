@@ -1,7 +1,0 @@
-use Rattle.std.proofs.Common.{◌∙◌}
-use Rattle.audit_held.specs.HeldViews.{held_view}
-use Rattle.audit_held.proofs.HeldKnown.{known_waiting}
-use Rattle.audit_held.proofs.held.HeldDelivery.is_waiting.Goals as goal
-
-pub returns-clause-known : goal.returns-clause-known
-returns-clause-known c = λ rules past entry. c.is_waiting.ensures ∙ known_waiting rules past (held_view c.args.self.now) entry

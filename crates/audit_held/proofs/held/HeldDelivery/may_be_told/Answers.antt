@@ -1,7 +1,0 @@
-use Rattle.std.proofs.Common.{◌∙◌}
-use Rattle.audit_held.specs.HeldViews.{held_view}
-use Rattle.audit_held.proofs.HeldKnown.{known_may_tell}
-use Rattle.audit_held.proofs.held.HeldDelivery.may_be_told.Goals as goal
-
-pub returns-clause-known : goal.returns-clause-known
-returns-clause-known c = λ rules past entry. c.may_tell.ensures ∙ known_may_tell rules past (held_view c.args.self.now) entry

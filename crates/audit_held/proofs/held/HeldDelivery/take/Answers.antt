@@ -1,7 +1,0 @@
-use Rattle.trace_values.specs.View.{event_view}
-use Rattle.audit_held.specs.HeldViews.{held_view}
-use Rattle.audit_held.proofs.HeldKnown.{follows}
-use Rattle.audit_held.proofs.held.HeldDelivery.take.Goals as goal
-
-pub returns-clause-known : goal.returns-clause-known
-returns-clause-known c = follows c.args.rules.now (event_view c.args.event.now) c.args.has_consumer (held_view c.args.self.now) _ c.in_ok-stays.ensures.next

@@ -1,5 +1,0 @@
-use Rattle.std.proofs.Common.{◌∙◌, rules}
-use Rattle.audit_sent.proofs.deliveries.SentDeliveries.last_begun_on.Goals as goal
-
-pub returns : goal.returns
-returns c = λ history table. (search rules) ∙ table.begun.on_link c.args.link

@@ -1,8 +1,0 @@
-use Rattle.std.proofs.Common.{option_map}
-use Rattle.trace_values.specs.View.{event_view}
-use Rattle.audit_sent.specs.SentViews.{sent_view}
-use Rattle.audit_sent.proofs.SentKnown.{begins}
-use Rattle.audit_sent.proofs.sent.SentDelivery.begin.Goals as goal
-
-pub returns-clause-known : goal.returns-clause-known
-returns-clause-known c = begins (event_view c.args.event.now) (option_map sent_view c.in_ok-own.own) c.in_ok-own.ensures.begun

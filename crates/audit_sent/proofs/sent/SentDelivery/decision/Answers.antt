@@ -1,7 +1,0 @@
-use Rattle.std.proofs.Common.{◌∙◌}
-use Rattle.audit_sent.specs.SentViews.{sent_view}
-use Rattle.audit_sent.proofs.SentKnown.{entry_decision}
-use Rattle.audit_sent.proofs.sent.SentDelivery.decision.Goals as goal
-
-pub returns-clause-known : goal.returns-clause-known
-returns-clause-known c = λ past entry. c.decided.ensures ∙ entry_decision past (sent_view c.args.self.now) entry

@@ -1,6 +1,0 @@
-use Rattle.audit_sent.specs.SentViews.{sent_view}
-use Rattle.audit_sent.proofs.SentKnown.{entry_unsettled}
-use Rattle.audit_sent.proofs.sent.SentDelivery.is_unsettled.Goals as goal
-
-pub returns-clause-known : goal.returns-clause-known
-returns-clause-known c = λ past entry. entry_unsettled past (sent_view c.args.self.now) entry

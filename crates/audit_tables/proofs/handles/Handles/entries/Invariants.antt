@@ -1,7 +1,0 @@
-use Rattle.std.proofs.Common.{◌≡◌, take}
-use Rattle.std.specs.List.{sum_by}
-use Rattle.audit_tables.specs.Entries.{capped, entries_of_handle}
-use Rattle.audit_tables.proofs.handles.Handles.entries.Given as goal
-
-abbrev pub invariant-loop-handle : goal.invariant-loop-handle
-invariant-loop-handle l = l.count ≡ capped (sum_by entries_of_handle (take l.handle-index l.handle-items))

@@ -1,7 +1,0 @@
-use Rattle.std.proofs.Common.{◌≡◌, take}
-use Rattle.std.specs.List.{sum_by}
-use Rattle.audit_tables.specs.Entries.{capped, entries_of_channels}
-use Rattle.audit_tables.proofs.links.Links.entries.Given as goal
-
-abbrev pub invariant-loop-connection : goal.invariant-loop-connection
-invariant-loop-connection l = l.count ≡ capped (sum_by entries_of_channels (take l.connection-index l.connection-items))

@@ -1,0 +1,43 @@
+-- What a next record carries and opens is known to the tables of a lawful capture.
+use Rattle.std.proofs.Common.{◌≡◌, inl, inr, true, List, None, is_some}
+use Rattle.capture_form.specs.Rules.{RuleText}
+use Rattle.capture_form.specs.declared.records.Record.{Record}
+use Rattle.trace_clauses.specs.Clauses.{broken_clause}
+use Rattle.trace_clauses.specs.LinkClause.{asking}
+use Rattle.trace_events.specs.Event.{Event, Outgoing}
+use Rattle.trace_events.specs.History.{judge_unopened, moment_of}
+use Rattle.trace_events.specs.Session.{has_unanswered_begin}
+use Rattle.trace_values.specs.Known.{CarriesKnown, OpensKnown}
+use Rattle.state_tables.proofs.OpenedKnown.{opens-known}
+use Rattle.state_incoming.specs.EntryAnswers.{has_number}
+use Rattle.state_incoming.proofs.GroupAnswers.{judged-of}
+use Rattle.state_outgoing.specs.SentAnswers.{KnowsOrBegins}
+use Rattle.state_outgoing.specs.declared.deliveries.SentDeliveries.{SentDeliveries}
+use Rattle.state_outgoing.proofs.AnswersKnown.{progress-knows}
+use Rattle.state_tables.specs.declared.connections.Connections.{Connections}
+use Rattle.state_tables.specs.declared.links.Links.{Links}
+use Rattle.state_addresses.specs.declared.consumers.Consumers.{Consumers}
+use Rattle.state_addresses.specs.declared.consumer_links.ConsumerLinks.{ConsumerLinks}
+use Rattle.state_incoming.specs.declared.deliveries.Deliveries.{Deliveries}
+use Rattle.state_addresses.specs.declared.copies.Copies.{Copies}
+use Rattle.state_verdicts.specs.declared.verdicts.Verdicts.{Verdicts}
+use Rattle.state_answers.specs.Tables.{StandFor}
+use Rattle.state_answers.proofs.CarriedKnown.{carries-known}
+use Rattle.state_answers.proofs.OutgoingKnown.{BeginsOrGoesOn}
+
+-- a record before what it opens is filled in
+abbrev unopened : List RuleText → List Event → Record → Event
+unopened rules past r = judge_unopened rules past r.connection (moment_of r.what) r.note
+
+module _ (rules : List RuleText) (past : List Event) (connections : Connections) (links : Links) (consumers : Consumers) (deliveries : Deliveries) (consumer_links : ConsumerLinks) (copies : Copies)
+    (sent : SentDeliveries) (verdicts : Verdicts) (are : StandFor rules connections links consumers deliveries consumer_links copies sent verdicts past) (r : Record) where
+  begun-or-going : (j : Outgoing) → BeginsOrGoesOn past j → KnowsOrBegins sent past j
+  begun-or-going j (inl begins) = inr begins
+  begun-or-going j (inr (l, live, going)) = inl (progress-knows rules past (judged-of rules past are.0) sent are.1.1.1.1.1.1.1.1.0.entries l j going)
+
+  pub next-carries : CarriesKnown (λ n. has_number deliveries n ≡ true) (λ j. KnowsOrBegins sent past j) (unopened rules past r)
+  next-carries = carries-known rules past deliveries (KnowsOrBegins sent past) are.0 are.1.1.1.1.0 begun-or-going r.connection (moment_of r.what) r.note
+
+  pub next-opens : broken_clause rules (unopened rules past r) past ≡ None
+      → OpensKnown (λ c channel. has_unanswered_begin c channel past ≡ true) (λ s handle. is_some (asking s handle past) ≡ true) (unopened rules past r)
+  next-opens unbroken = opens-known rules (unopened rules past r) past are.1.1.1.1.1.1.1.0 unbroken

@@ -1,0 +1,38 @@
+-- What the tables of the auditor stand for, all of them.
+use Rattle.std.specs.Prelude.{◌≡◌, ℕ, ◌+◌, List, None}
+use Rattle.capture_form.specs.Rules.{RuleText}
+use Rattle.trace_events.specs.Event.{Event}
+use Rattle.trace_clauses.specs.Clauses.{first_broken}
+use Rattle.state_tables.specs.Connections.{AreKept}
+use Rattle.state_tables.specs.Entries.{capped, entries_of_connections, entries_of_links}
+use Rattle.state_tables.specs.LinkTables.{AreLinked}
+use Rattle.state_tables.specs.declared.connections.Connections.{Connections}
+use Rattle.state_tables.specs.declared.links.Links.{Links}
+use Rattle.state_addresses.specs.Consumers.{AreConsumers}
+use Rattle.state_addresses.specs.declared.consumers.Consumers.{Consumers}
+use Rattle.state_addresses.specs.ConsumerLinks.{AreConsumerLinks}
+use Rattle.state_addresses.specs.declared.consumer_links.ConsumerLinks.{ConsumerLinks}
+use Rattle.state_incoming.specs.HeldTables.{IsHistory, IsTable, count_of}
+use Rattle.state_incoming.specs.declared.deliveries.Deliveries.{Deliveries}
+use Rattle.state_addresses.specs.Copies.{AreCopies}
+use Rattle.state_addresses.specs.declared.copies.Copies.{Copies}
+use Rattle.state_outgoing.specs.SentTables as sent_tables
+use Rattle.state_outgoing.specs.declared.deliveries.SentDeliveries.{SentDeliveries}
+use Rattle.state_verdicts.specs.Verdicts.{AreVerdicts}
+use Rattle.state_verdicts.specs.declared.verdicts.Verdicts.{Verdicts}
+use Rattle.state_answers.specs.declared.tables.Tables.{Tables}
+
+-- each has what the law says of these events, which are those of some records judged by these rules, each of which meets the
+-- clauses
+abbrev pub StandFor : List RuleText → Connections → Links → Consumers → Deliveries → ConsumerLinks → Copies → SentDeliveries → Verdicts → List Event → Type 0
+StandFor rules connections links consumers deliveries consumer_links copies sent verdicts past =
+    IsHistory rules past × (AreKept connections past × (AreLinked links past × (AreConsumers consumers past × (IsTable rules deliveries past
+    × (AreConsumerLinks consumer_links past × (AreCopies rules copies past × ((first_broken rules past ≡ None) × (sent_tables.IsTable sent past × AreVerdicts rules verdicts past))))))))
+
+abbrev pub AreTables : List RuleText → Tables → List Event → Type 0
+AreTables rules tables past =
+    StandFor rules tables.connections tables.links tables.consumers tables.deliveries tables.consumer_links tables.copies tables.sent tables.verdicts past
+
+-- how many entries they have; a delivery to a client, and what is known of an address, is no entry of its own
+abbrev pub entries_of : Tables → ℕ
+entries_of tables = capped (entries_of_connections tables.connections + entries_of_links tables.links + count_of tables.deliveries)

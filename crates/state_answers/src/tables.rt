@@ -1,0 +1,129 @@
+//! All tables of the auditor, moved forward by one event after the other.
+
+ghost use Rattle.std.specs.Prelude.{◌≡◌, ◌∷◌, List, [], OnOk};
+ghost use Rattle.capture_form.specs.Rules.{RuleText};
+ghost use Rattle.capture_form.specs.declared.records.Record.{Record};
+ghost use Rattle.trace_events.specs.History.{history};
+ghost use Rattle.state_tables.specs.Connections.{IsLawfulNext};
+ghost use Rattle.state_answers.specs.Tables.{AreTables, StandFor, entries_of};
+ghost use Rattle.trace_values.specs.View.{Events, event_view};
+
+use crate::looked::Looked;
+use state_addresses::{ConsumerLinks, Consumers, Copies, receivers_of};
+use state_incoming::Deliveries;
+use state_outgoing::SentDeliveries;
+use state_tables::{Connections, Links};
+use state_verdicts::Verdicts;
+use capture_form::Rule;
+use std::alloc::{AllocError, Global};
+use trace_values::Event;
+
+/// What the records so far have come to.
+pub struct Tables {
+    alloc: Global,
+    connections: Connections,
+    links: Links,
+    consumers: Consumers,
+    deliveries: Deliveries,
+    consumer_links: ConsumerLinks,
+    copies: Copies,
+    sent: SentDeliveries,
+    verdicts: Verdicts,
+}
+
+// Written out, and not derived, so that where one is let go the prover need not go through all that it owns.
+impl Drop for Tables {
+    fn drop(self) {
+        let Tables {
+            alloc: _,
+            connections: _,
+            links: _,
+            consumers: _,
+            deliveries: _,
+            consumer_links: _,
+            copies: _,
+            sent: _,
+            verdicts: _,
+        } = self;
+    }
+}
+
+impl Tables {
+    /// No records.
+    pub fn new(alloc: Global) -> Tables
+        ensures { (rules : List RuleText) → AreTables rules result [] }
+    {
+        Tables {
+            alloc,
+            connections: Connections::new(alloc),
+            links: Links::new(alloc),
+            consumers: Consumers::new(alloc),
+            deliveries: Deliveries::new(alloc),
+            consumer_links: ConsumerLinks::new(alloc),
+            copies: Copies::new(alloc),
+            sent: SentDeliveries::new(alloc),
+            verdicts: Verdicts::new(alloc),
+        }
+    }
+
+    /// The tables, lent to be asked.
+    pub fn looked(&self) -> Looked<'_>
+        ensures { (rules : List RuleText) (history : Events) → AreTables rules self.now history →
+            StandFor rules result.connections.now result.links.now result.consumers.now result.deliveries.now
+            result.consumer_links.now result.copies.now result.sent.now result.verdicts.now history }
+    {
+        Looked {
+            connections: &self.connections,
+            links: &self.links,
+            consumers: &self.consumers,
+            deliveries: &self.deliveries,
+            consumer_links: &self.consumer_links,
+            copies: &self.copies,
+            sent: &self.sent,
+            verdicts: &self.verdicts,
+        }
+    }
+
+    /// How many entries there are: connections, sessions, links, what of clients is still to be answered, and the deliveries from
+    /// clients that are kept; the greatest number where there are more.
+    pub fn entries(&self) -> usize
+        ensures { result ≡ entries_of self.now }
+    {
+        self.connections
+            .entries()
+            .saturating_add(self.links.entries())
+            .saturating_add(self.deliveries.count())
+    }
+
+    /// The event follows those so far.
+    ///
+    /// # Errors
+    ///
+    /// Memory was refused; then the tables may agree with no records any more.
+    pub fn take(&mut self, rules: &[Rule], event: &Event) -> Result<(), AllocError>
+        ensures { OnOk result ((records : List Record) (r : Record) → IsLawfulNext rules.now records r (event_view event.now) →
+            AreTables rules.now self.old (history rules.now records) →
+            AreTables rules.now self.new (event_view event.now ∷ history rules.now records)) }
+    {
+        let ended = self.links.ended(self.alloc, event)?;
+        let receivers = receivers_of(
+            self.alloc,
+            rules,
+            event,
+            &self.consumers,
+            &self.consumer_links,
+            &self.links,
+        )?;
+        let due = self.copies.due_to(self.alloc, rules, event, &receivers)?;
+        self.consumers.take(event, &ended)?;
+        self.deliveries.take(rules, event, &ended, &self.consumers)?;
+        self.consumer_links.take(event, &ended)?;
+        self.copies.take(rules, event, &ended, &receivers)?;
+        let given = self.sent.take(event, &ended)?;
+        self.verdicts.take(event, &due, &given, &ended)?;
+        drop(ended);
+        self.links.take(event)?;
+        self.connections.take(event)?;
+        Ok(())
+    }
+}

@@ -1,0 +1,16 @@
+use Rattle.std.proofs.Common.{refl, ◌∙◌, nat_eq}
+use Rattle.trace_events.specs.Waiting.{is_undecided}
+use Rattle.number_groups.specs.Groups.{is_member, numbers}
+use Rattle.state_incoming.specs.Grouped.{is_of_link}
+use Rattle.state_incoming.specs.HeldTables.{held_in}
+use Rattle.state_incoming.proofs.HeldAnswers.{undecided-kept}
+use Rattle.state_incoming.proofs.GroupAnswers.{judged-of, count-is}
+use Rattle.state_incoming.proofs.deliveries.Deliveries.undecided_count.Goals as goal
+
+pub returns : goal.returns
+returns c = λ rules past judged table.
+    let link = c.args.link.now.number in
+    c.count.ensures.count
+    ∙ count-is rules past (judged-of rules past judged) (held_in c.args.self.now) table.0 (is_of_link link) (λ d. is_undecided rules d past) (λ x. x.is_undecided)
+    (λ d. refl) (undecided-kept rules past) (is_member nat_eq c.args.self.now.groups.undecided link) (table.1.undecided link)
+    (numbers nat_eq c.args.self.now.groups.undecided link) c.count.ensures.distinct (λ n. refl)

@@ -1,0 +1,188 @@
+//! The deliveries from clients that are kept, by the record that began each, and in groups.
+
+ghost use Rattle.std.specs.Prelude.{◌≡◌, ◌∷◌, ℕ, List, [], None, OnOk, OnErr, is_some, true, map, nat_eq, option_and_then, option_map};
+ghost use Rattle.number_groups.specs.Numbers.{is_among};
+ghost use Rattle.std.specs.Option.{option_copied};
+ghost use Rattle.capture_form.specs.Rules.{RuleText};
+ghost use Rattle.capture_form.specs.declared.records.Record.{Record};
+ghost use Rattle.trace_events.specs.Address.{has_consumer};
+ghost use Rattle.trace_events.specs.History.{history};
+ghost use Rattle.trace_events.specs.Incoming.{address_of, incoming_begun};
+ghost use Rattle.trace_events.specs.Words.{is_some_and, or_else};
+ghost use Rattle.state_tables.specs.Connections.{IsLawfulNext};
+ghost use Rattle.state_incoming.specs.Grouped.{AreGrouped};
+ghost use Rattle.state_incoming.specs.Held.{held_begun, held_next};
+ghost use Rattle.state_incoming.specs.HeldTables.{AreMovedBy, BeginsOrTouches, IsTable, MovesAt, count_of, held_in};
+ghost use Rattle.state_incoming.specs.HeldTouched.{EndWith};
+ghost use Rattle.state_incoming.specs.HeldViews.{held_view};
+ghost use Rattle.trace_values.specs.View.{event_view, link_view};
+
+use crate::groups::{HeldGroups, Marks};
+use crate::held::HeldDelivery;
+use state_addresses::Addresses;
+use capture_form::Rule;
+use number_groups::NumberSet;
+use number_map::NumberMap;
+use std::alloc::{AllocError, Global};
+use trace_values::{Event, Link};
+
+/// The deliveries from clients that are kept.
+pub struct Deliveries {
+    alloc: Global,
+    entries: NumberMap<u64, HeldDelivery>,
+    pub(crate) groups: HeldGroups,
+}
+
+// Written out, and not derived, so that where one is let go the prover need not go through all that it owns.
+impl Drop for Deliveries {
+    fn drop(self) {
+        let Deliveries {
+            alloc: _,
+            entries: _,
+            groups: _,
+        } = self;
+    }
+}
+
+impl Deliveries {
+    /// No records.
+    pub fn new(alloc: Global) -> Deliveries
+        ensures { (rules : List RuleText) → IsTable rules result [] }
+    {
+        Deliveries {
+            alloc,
+            entries: NumberMap::new(alloc),
+            groups: HeldGroups::new(alloc),
+        }
+    }
+
+    /// The delivery that began in this record, if it is kept.
+    pub fn get(&self, number: u64) -> Option<&HeldDelivery>
+        ensures { option_map held_view (option_copied result) ≡ held_in self.now number }
+    {
+        self.entries.get(&number)
+    }
+
+    /// How many are kept.
+    pub fn count(&self) -> usize
+        ensures { result ≡ count_of self.now }
+    {
+        self.entries.len()
+    }
+
+    /// The event follows those so far. These links live before it and end with it, and the addresses are those behind it.
+    ///
+    /// # Errors
+    ///
+    /// Memory was refused, for an event that begins a delivery or may touch one that is kept; then the table may agree with
+    /// no records any more.
+    pub fn take<A: Addresses>(
+        &mut self,
+        rules: &[Rule],
+        event: &Event,
+        ended: &[Link],
+        addresses: &A,
+    ) -> Result<(), AllocError>
+        ensures kept { OnOk result ((records : List Record) (r : Record) → IsLawfulNext rules.now records r (event_view event.now) →
+            IsTable rules.now self.old (history rules.now records) →
+            ((address : List ℕ) → A.has_one addresses.now address ≡ has_consumer address (event_view event.now ∷ history rules.now records)) →
+            EndWith (history rules.now records) (event_view event.now) (map link_view ended.now) →
+            IsTable rules.now self.new (event_view event.now ∷ history rules.now records)) }
+        ensures refused { OnErr result (BeginsOrTouches self.old (A.has_one addresses.now) (map link_view ended.now) (event_view event.now)) }
+    {
+        let touched = self.groups.touched(self.alloc, addresses, ended, event)?;
+        self.touch_all(touched, rules, event, addresses)?;
+        let has_consumer = begins_served(event, addresses);
+        self.begin(rules, event, has_consumer)?;
+        Ok(())
+    }
+
+    /// The event begins a delivery, or none; `has_consumer` says whether its address has one behind the event.
+    ///
+    /// # Errors
+    ///
+    /// Memory was refused; then the groups may not fit the deliveries any more.
+    fn begin(&mut self, rules: &[Rule], event: &Event, has_consumer: bool) -> Result<(), AllocError>
+        ensures begun { OnOk result (MovesAt (event_view event.now).number
+            (or_else (held_begun rules.now (event_view event.now) has_consumer)) self.old self.new) }
+        ensures grouped { OnOk result (AreGrouped self.old.groups (held_in self.old) → held_in self.old (event_view event.now).number ≡ None →
+            AreGrouped self.new.groups (held_in self.new)) }
+        ensures refused { OnErr result (is_some (incoming_begun (event_view event.now)) ≡ true) }
+    {
+        if let Some(held) = HeldDelivery::begin(self.alloc, rules, event, has_consumer)? {
+            self.groups
+                .put(&held.delivery(), Marks::none(), Marks::of(&held, true))?;
+            self.entries.insert(event.number, held)?;
+        }
+        Ok(())
+    }
+
+    /// The event touches the delivery of this number, if it is kept; `has_consumer` says whether its address has one behind
+    /// the event.
+    ///
+    /// # Errors
+    ///
+    /// Memory was refused; then the groups may not fit the deliveries any more.
+    fn touch(
+        &mut self,
+        number: u64,
+        rules: &[Rule],
+        event: &Event,
+        has_consumer: bool,
+    ) -> Result<(), AllocError>
+        ensures touched { OnOk result (MovesAt number
+            (option_and_then (held_next rules.now (event_view event.now) has_consumer)) self.old self.new) }
+        ensures grouped { OnOk result (AreGrouped self.old.groups (held_in self.old) → AreGrouped self.new.groups (held_in self.new)) }
+    {
+        let Some(held) = self.entries.get_mut(&number) else {
+            return Ok(());
+        };
+        let before = Marks::of(held, true);
+        let stays = held.take(rules, event, has_consumer)?;
+        self.groups
+            .put(&held.delivery(), before, Marks::of(held, stays))?;
+        if !stays {
+            self.entries.swap_remove(&number);
+        }
+        Ok(())
+    }
+
+    /// The event touches each of these.
+    fn touch_all<A: Addresses>(
+        &mut self,
+        mut touched: NumberSet,
+        rules: &[Rule],
+        event: &Event,
+        addresses: &A,
+    ) -> Result<(), AllocError>
+        ensures touched { OnOk result (AreMovedBy (is_among touched) rules.now (event_view event.now) (A.has_one addresses.now) self.old self.new) }
+        ensures grouped { OnOk result (AreGrouped self.old.groups (held_in self.old) → AreGrouped self.new.groups (held_in self.new)) }
+        ensures refused { OnErr result ((n : ℕ) × (is_among touched n ≡ true)) }
+    {
+        while let Some(number) = touched.pop() {
+            let has_consumer = self.is_served(number, addresses);
+            self.touch(number, rules, event, has_consumer)?;
+        }
+        Ok(())
+    }
+
+    /// The address of the delivery has a consumer.
+    fn is_served<A: Addresses>(&self, number: u64, addresses: &A) -> bool
+        ensures { result ≡ is_some_and (held_in self.now number) (λ x. A.has_one addresses.now (address_of x.delivery)) }
+    {
+        match self.entries.get(&number) {
+            Some(held) => addresses.has_consumer(held.delivery().link.address),
+            None => false,
+        }
+    }
+}
+
+/// The address of the delivery that the event begins has a consumer.
+fn begins_served<A: Addresses>(event: &Event, addresses: &A) -> bool
+    ensures { result ≡ is_some_and (incoming_begun (event_view event.now)) (λ d. A.has_one addresses.now (address_of d)) }
+{
+    match event.incoming_begun() {
+        Some(delivery) => addresses.has_consumer(delivery.link.address),
+        None => false,
+    }
+}

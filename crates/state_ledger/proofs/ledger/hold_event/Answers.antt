@@ -1,0 +1,24 @@
+use Rattle.trace_events.specs.History.{history, moment_of}
+use Rattle.state_ledger.specs.HeldEvents.{held_event_view}
+use Rattle.state_answers.proofs.NextKnown.{next-carries, next-opens}
+use Rattle.state_ledger.proofs.HeldAnswers.{Answers, when-lawful, when-met, when-refused}
+use Rattle.state_ledger.proofs.ledger.hold_event.Goals as goal
+
+pub returns : goal.returns
+returns c =
+    let rules = c.args.rules.now in
+    let r = c.args.entry.now in
+    let t = c.looked-looked.result in
+    let held = held_event_view c.hold_next.new.held (moment_of r.what) in
+    let answers : Answers rules c.args.tables.now c.args.number r held c.hold_next.result = λ records are numbered.
+    let past = history rules records in
+    let lent = c.looked-looked.ensures rules past are in
+    c.hold_next.ensures.answer past lent numbered
+    (next-carries rules past t.connections.now t.links.now t.consumers.now t.deliveries.now t.consumer_links.now t.copies.now t.sent.now t.verdicts.now lent r)
+    (next-opens rules past t.connections.now t.links.now t.consumers.now t.deliveries.now t.consumer_links.now t.copies.now t.sent.now t.verdicts.now lent r) in
+    record {
+      lawful = when-lawful rules c.args.tables.now c.args.number r held c.hold_next.result answers;
+      met = when-met rules c.args.tables.now c.args.number r held c.hold_next.result answers;
+      reason = when-refused rules c.args.tables.now c.args.number r held c.hold_next.result answers;
+      same = c.hold_next.ensures.same;
+    }

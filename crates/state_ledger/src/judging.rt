@@ -1,0 +1,49 @@
+//! The next record of a capture, judged by whoever can tell of those before it.
+
+ghost use Rattle.std.specs.Prelude.{◌≡◌, ◌≢◌, None, IfErr, length};
+ghost use Rattle.trace_clauses.specs.Clauses as law;
+ghost use Rattle.trace_events.specs.History.{moment_of};
+ghost use Rattle.state_ledger.specs.HeldEvents.{held_event_view};
+ghost use Rattle.state_ledger.specs.NextEvents.{IsHeldAnswer, unopened};
+ghost use Rattle.state_ledger.specs.declared.not_entered.NotEntered.TheVariants.{Memory};
+ghost use Rattle.trace_values.specs.Known.{CarriesKnown, OpensKnown};
+ghost use Rattle.trace_values.specs.View.{Events};
+
+use crate::{HeldEvent, NotEntered};
+use capture_form::Rule;
+use std::alloc::Global;
+use trace_judge::{Questions, broken_clause, judge_unopened_read, open};
+use trace_values::ReadRecord;
+
+/// The event of the next record, which has this number, is held, but for its moment. The past must be able to tell of what the
+/// event carries and, where it breaks no clause, of what it opens.
+///
+/// # Errors
+///
+/// The first clause that the record breaks; then what is held stays. Or memory was refused; then what is held may be of no record.
+pub fn hold_next<'a, 'm: 'a, P: Questions<'a>>(
+    held: &mut HeldEvent,
+    alloc: Global,
+    past: &P,
+    rules: &[Rule],
+    number: u64,
+    entry: &ReadRecord<'m>,
+) -> Result<(), NotEntered>
+    requires few { P.is_short past.now }
+    ensures answer { (history : Events) → P.stands_for past.now rules.now history → number ≡ length history →
+        CarriesKnown (λ n. P.knows_number past.now n history) (λ j. P.knows_outgoing past.now j history) (unopened rules.now history entry.now) →
+        (law.broken_clause rules.now (unopened rules.now history entry.now) history ≡ None →
+        OpensKnown (λ c channel. P.knows_begin past.now c channel history) (λ s handle. P.knows_attach past.now s handle history) (unopened rules.now history entry.now)) →
+        IsHeldAnswer rules.now history entry.now (held_event_view held.new (moment_of entry.now.what)) result }
+    ensures same { IfErr result (λ why. why ≢ Memory → held.new ≡ held.old) }
+{
+    let mut event = judge_unopened_read(past, rules, number, entry);
+    match broken_clause(past, rules, &event) {
+        Some(clause) => Err(NotEntered::Broken(clause)),
+        None => {
+            open(past, &mut event);
+            held.keep(alloc, &event)?;
+            Ok(())
+        }
+    }
+}

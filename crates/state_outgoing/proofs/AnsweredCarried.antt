@@ -1,0 +1,40 @@
+-- What the unsettled deliveries carry of which an event's consumer speaks is found by their numbers.
+use Rattle.std.proofs.Common.{◌≡◌, ap, ◌∙◌, ◌<◌, ◌^◌, ℕ, true, List, Some, IfSome, is_some, nat_eq}
+use Rattle.std.specs.Prelude.{Contains}
+use Rattle.std.specs.List.{list_any}
+use Rattle.pairing_cert.specs.declared.note.Note.{Note}
+use Rattle.pairing_cert.specs.declared.note.Note.TheVariants as notes
+use Rattle.capture_form.specs.Rules.{RuleText}
+use Rattle.number_groups.specs.Numbers.{is_among}
+use Rattle.trace_events.specs.Words.{is_some_and}
+use Rattle.trace_events.specs.Event.{Event, Outgoing}
+use Rattle.trace_events.specs.Outgoing.{answering, names, outgoing_deliveries}
+use Rattle.trace_events.proofs.Judged.{AreJudged}
+use Rattle.trace_clauses.proofs.WaitingQueue.{all_contained}
+use Rattle.state_outgoing.specs.Sent.{is_left_unsettled, outgoing_at, sent}
+use Rattle.state_outgoing.specs.SentAnswers.{carried, number_of}
+use Rattle.state_outgoing.specs.SentTables.{IsTable, sent_in}
+use Rattle.state_outgoing.specs.SentTouched.{answered_id, is_spoken_of}
+use Rattle.state_outgoing.specs.declared.deliveries.SentDeliveries.{SentDeliveries}
+use Rattle.state_outgoing.proofs.GroupLists.{swapped}
+use Rattle.state_outgoing.proofs.OutgoingNumbers.{known-entry}
+use Rattle.state_outgoing.proofs.SentBegun.{all-found}
+use Rattle.state_outgoing.proofs.SentFound.{speaks}
+use Rattle.state_outgoing.proofs.VerdictsGiven.{any-at}
+
+named-number : (note : Note) (n : ℕ) → names n note ≡ true → is_some_and (number_of note) (nat_eq n) ≡ true
+named-number (notes.Pair m) n is = swapped n m ∙ is
+named-number notes.None n is = absurd cc
+named-number (notes.Told why) n is = absurd cc
+
+module _ (rules : List RuleText) (past : List Event) (are : AreJudged rules past) (table : SentDeliveries) (is_table : IsTable table past) (e : Event)
+    (small : IfSome (answered_id e) (λ at. at.id < 2 ^ 32)) (spoken : List ℕ) (among : (n : ℕ) → is_among spoken n ≡ is_spoken_of table.groups e n) where
+  pub carries-answered : (j : Outgoing) → Contains (outgoing_deliveries past) j → is_left_unsettled past j ≡ true → is_some (answering j e) ≡ true → (n : ℕ) → names n j.note ≡ true
+      → list_any (λ m. is_some_and (carried (sent_in table m)) (nat_eq n)) spoken ≡ true
+  carries-answered j has opens says n named =
+      let at : outgoing_at j.number past ≡ Some j =
+      all_contained (λ (k : Outgoing). outgoing_at k.number past ≡ Some k) (outgoing_deliveries past) j (all-found rules past are) has in
+      let entry : sent_in table j.number ≡ Some (sent past j) = known-entry past (sent_in table) is_table.entries j at in
+      any-at (λ m. is_some_and (carried (sent_in table m)) (nat_eq n)) j.number
+      (ap (λ o. is_some_and (carried o) (nat_eq n)) entry ∙ named-number j.note n named) spoken
+      (among j.number ∙ speaks table.groups (sent_in table) is_table.groups j.number (sent past j) entry opens e small says)

@@ -1,0 +1,173 @@
+-- What the table of deliveries to clients answers is what the law says.
+use Rattle.std.proofs.Common.{◌≡◌, refl, sym, ap, subst, ◌∙◌, ◌⊎◌, inl, inr, ℕ, Bool, true, false, ◌&&◌, not, List, length, Option, Some, None, IfSome, is_some, option_and_then, option_map, if◌then◌else◌, arith}
+use Rattle.pairing_cert.specs.declared.note.Note.{Note}
+use Rattle.pairing_cert.specs.declared.note.Note.TheVariants as notes
+use Rattle.capture_form.specs.Rules.{RuleText}
+use Rattle.trace_events.specs.declared.session.Session.{Session}
+use Rattle.trace_events.specs.Words.{is_some_and}
+use Rattle.trace_events.specs.Event.{Event, Link, Incoming, Outgoing}
+use Rattle.trace_events.specs.Disposition.{terminal_state}
+use Rattle.trace_events.specs.Incoming.{incoming_at}
+use Rattle.trace_events.specs.Outgoing as law
+use Rattle.trace_events.specs.Outgoing.{first_deciding, noted, pairing}
+use Rattle.trace_events.specs.Settling as settling
+use Rattle.trace_events.specs.Settling.{is_to_settle}
+use Rattle.trace_events.specs.Work.{carries_closed, stands_unsettled}
+use Rattle.trace_events.proofs.Judged.{AreJudged, judged-born}
+use Rattle.trace_events.proofs.OutgoingLinks.{first_deciding-before}
+use Rattle.trace_events.proofs.SettlingSteps.{is_to_settle-parts}
+use Rattle.trace_clauses.specs.TransferClause.{carried_before}
+use Rattle.number_groups.specs.Groups.{numbers}
+use Rattle.state_outgoing.specs.Earliest.{least}
+use Rattle.number_groups.specs.Ids.{same_id}
+use Rattle.state_outgoing.specs.LastBegun.{carrier_number, last_number}
+use Rattle.state_outgoing.specs.Sent.{IsKnownTo, Sent, sent, outgoing_at, sent_at, is_left_unsettled}
+use Rattle.state_outgoing.specs.SentAnswers.{AreClosings, Knows, KnowsOrBegins, carried, closes, decided, delivery_in, is_settleable, number_of, says_sent, unsent}
+use Rattle.state_outgoing.specs.SentTables.{AreSent, IsTable, sent_in}
+use Rattle.state_outgoing.specs.declared.deliveries.SentDeliveries.{SentDeliveries}
+use Rattle.number_groups.specs.declared.id_on.IdOn.{IdOn}
+use Rattle.state_outgoing.proofs.Carriers.{paired-entry, pairing-entry}
+use Rattle.state_outgoing.proofs.LastBegun.{carried-entry, progress-entry, progress-known}
+use Rattle.state_outgoing.proofs.SentBegun.{at-number, found-below, sent-none}
+use Rattle.state_outgoing.proofs.SentKnown.{entry_to_settle, sent-of}
+use Rattle.state_outgoing.proofs.ToSettle.{to_settle-entry}
+
+same_some : {A : Type 0} (a b : A) → Some a ≡ Some b → a ≡ b
+same_some a b is = cc
+
+-- ---- what is given
+
+module _ (table : SentDeliveries) where
+  -- by its number, it is that of the entry
+  pub given-entry : (o : Option ℕ) → option_and_then (delivery_in table) o ≡ option_map (λ x. x.delivery) (option_and_then (sent_in table) o)
+  given-entry None = refl
+  given-entry (Some n) = refl
+
+  -- it can be told of
+  pub given-known : (past : List Event) → IsTable table past → (o : Option ℕ) → IfSome (option_and_then (delivery_in table) o) (Knows table)
+  given-known past is None = tt
+  given-known past is (Some n) = by (sent_in table n) refl (is.groups.numbered n)
+    where
+      by : (o : Option Sent) → sent_in table n ≡ o → IfSome o (λ x. x.delivery.number ≡ n) → IfSome (option_map (λ (x : Sent). x.delivery) o) (Knows table)
+      by None none own = tt
+      by (Some x) entry own = ap (delivery_in table) own ∙ ap (option_map (λ (x : Sent). x.delivery)) entry
+
+-- what has begun can be told of
+pub begun-knows : (table : SentDeliveries) (past : List Event) → AreSent table past → (j : Outgoing) → outgoing_at j.number past ≡ Some j → Knows table j
+begun-knows table past are j at = ap (option_map (λ (x : Sent). x.delivery)) (are j.number ∙ ap (option_map (sent past)) at)
+
+-- what can be told of has begun, or begins behind these events
+pub knows-begun : (table : SentDeliveries) (past : List Event) → AreSent table past → (j : Outgoing) → KnowsOrBegins table past j → IsKnownTo past j
+knows-begun table past are j (inr next) = inr next
+knows-begun table past are j (inl knows) = by (outgoing_at j.number past) refl (sym (ap (option_map (λ (x : Sent). x.delivery)) (are j.number)) ∙ knows)
+  where
+    by : (o : Option Outgoing) → outgoing_at j.number past ≡ o → option_map (λ (x : Sent). x.delivery) (option_map (sent past) o) ≡ Some j → IsKnownTo past j
+    by None none is = absurd cc
+    by (Some k) at is = inl (at ∙ is)
+
+-- ---- the number that a note names
+
+number-noted : (note : Note) (past : List Event) → option_and_then (λ n. incoming_at n past) (number_of note) ≡ noted note past
+number-noted (notes.Pair n) past = refl
+number-noted notes.None past = refl
+number-noted (notes.Told why) past = refl
+
+carried-noted : (o : Option Sent) (past : List Event) → option_and_then (λ n. incoming_at n past) (carried o) ≡ option_and_then (λ x. noted x.delivery.note past) o
+carried-noted None past = refl
+carried-noted (Some x) past = number-noted x.delivery.note past
+
+-- ---- one that has begun, or begins behind these events
+
+abbrev IsKnown : List Event → Outgoing → Option Sent → Type 0
+IsKnown past j o = (o ≡ Some (sent past j)) ⊎ ((o ≡ None) × (j.number ≡ length past))
+
+module _ (rules : List RuleText) (past : List Event) (are : AreJudged rules past) where
+  -- none has the next number
+  none-next : outgoing_at (length past) past ≡ None
+  none-next = by (outgoing_at (length past) past) refl
+    where
+      by : (o : Option Outgoing) → outgoing_at (length past) past ≡ o → outgoing_at (length past) past ≡ None
+      by None is = is
+      by (Some j) is = let lt = found-below past (judged-born rules past are) (length past) j is in let own = at-number past (length past) j is in absurd (omega (arith, lt, own))
+
+  module _ (table : SentDeliveries) (were : AreSent table past) (j : Outgoing) where
+    is-known : KnowsOrBegins table past j → IsKnown past j (sent_in table j.number)
+    is-known (inr next) = inr (were j.number ∙ (ap (λ n. sent_at n past) next ∙ ap (option_map (sent past)) none-next), next)
+    is-known (inl knows) = by (sent_in table j.number) refl knows
+      where
+        by : (o : Option Sent) → sent_in table j.number ≡ o → option_map (λ (x : Sent). x.delivery) o ≡ Some j → IsKnown past j (sent_in table j.number)
+        by None is knows = absurd cc
+        by (Some x) is knows =
+            let of = sent-of j.number past x (sym (were j.number) ∙ is) in
+            let own : x.delivery ≡ j = same_some x.delivery j knows in
+            inl (is ∙ ap Some (sym of.is ∙ ap (sent past) own))
+
+    pub sent-known : KnowsOrBegins table past j → says_sent (sent_in table j.number) ≡ law.is_sent j past
+    sent-known knows = elim (is-known knows) [
+      | inl entry ↦ ap says_sent entry
+      | inr (none, next) ↦ ap says_sent none ∙ sym (sent-none j past (judged-born rules past are) (omega (arith, next)))
+    ]
+
+    none-decided : (b : Bool) (o : Option _) → o ≡ None → option_map terminal_state (if b then None else o) ≡ None
+    none-decided true o is = refl
+    none-decided false o is = ap (option_map terminal_state) is
+
+    pub decision-known : KnowsOrBegins table past j → decided (sent_in table j.number) ≡ option_map terminal_state (law.decision j past)
+    decision-known knows = elim (is-known knows) [
+      | inl entry ↦ ap decided entry
+      | inr (none, next) ↦ ap decided none ∙ sym (none-decided j.link.is_pre_settled (first_deciding j past) (first_deciding-before rules past j are (omega (arith, next))))
+    ]
+
+-- ---- what is to be settled
+
+-- what is to be settled is unsettled: nothing is decided on a pre-settled link
+unsettled-bits : {A : Type 0} (s stands : Bool) (o : Option A) (closed : Bool) → stands && (is_some (if s then None else o) && closed) ≡ true → not s && stands ≡ true
+unsettled-bits true true o closed is = absurd cc
+unsettled-bits true false o closed is = absurd cc
+unsettled-bits false true o closed is = refl
+unsettled-bits false false o closed is = absurd cc
+
+bears-mark : (past : List Event) (j : Outgoing) → is_to_settle past j ≡ true → is_left_unsettled past j ≡ true
+bears-mark past j is = unsettled-bits j.link.is_pre_settled (stands_unsettled past j) (first_deciding j past) (carries_closed past j) (sym (is_to_settle-parts past j) ∙ is)
+
+module _ (rules : List RuleText) (past : List Event) (are : AreJudged rules past) (table : SentDeliveries) (is_table : IsTable table past) where
+  pub progress-table : (l : Link) (last : Option ℕ) → last ≡ last_number l.number past → unsent (option_and_then (sent_in table) last) ≡ law.in_progress l past
+  progress-table l last is = progress-entry rules past are (sent_in table) is_table.entries l.number last is l refl
+
+  pub carried-table : (l : Link) (last : Option ℕ) → last ≡ last_number l.number past → option_and_then (λ n. incoming_at n past) (carried (option_and_then (sent_in table) last)) ≡ carried_before l past
+  carried-table l last is =
+      carried-noted (option_and_then (sent_in table) last) past ∙ carried-entry rules past are (sent_in table) is_table.entries l.number last is l refl
+
+  pub pairing-table : (d : Incoming) (last : Option ℕ) → last ≡ carrier_number d.number past → option_and_then (delivery_in table) last ≡ pairing d past
+  pairing-table d last is = given-entry table last ∙ pairing-entry rules past are (sent_in table) is_table.entries d last is
+
+  pub paired-table : (d : Incoming) (last : Option ℕ) → last ≡ carrier_number d.number past → is_some last ≡ law.is_paired d past
+  paired-table d last is = paired-entry rules past are (sent_in table) is_table.entries d last is
+
+  asks : (does_close : ℕ → Bool) → AreClosings does_close past → (n : ℕ) → is_settleable does_close (sent_in table n) ≡ is_some_and (sent_in table n) (λ x. is_to_settle past x.delivery)
+  asks does_close closes_them n = by (sent_in table n) refl
+    where
+      by : (o : Option Sent) → sent_in table n ≡ o → is_settleable does_close o ≡ is_some_and o (λ x. is_to_settle past x.delivery)
+      by None none = refl
+      by (Some x) entry =
+          let at : sent_at n past ≡ Some x = sym (is_table.entries n) ∙ entry in
+          let of = sent-of n past x at in
+          let own : x.delivery.number ≡ n = at-number past n x.delivery of.at in
+          entry_to_settle past x (ap (λ m. sent_at m past) own ∙ at) (closes does_close x.delivery.note)
+          (closes_them x.delivery (ap (λ m. outgoing_at m past) own ∙ of.at))
+
+  pub settle-table : (s : Session) (id : ℕ) (at : IdOn) → at.session ≡ s.number → at.id ≡ id → (does_close : ℕ → Bool) → AreClosings does_close past
+      → option_and_then (delivery_in table) (least (λ n. is_settleable does_close (sent_in table n)) (numbers same_id table.groups.of_id at)) ≡ settling.to_settle s id past
+  settle-table s id at session own does_close closes_them =
+      given-entry table (least (λ n. is_settleable does_close (sent_in table n)) (numbers same_id table.groups.of_id at))
+      ∙ to_settle-entry rules past are (sent_in table) is_table.entries s id (λ x. x.is_unsettled) (bears-mark past) (numbers same_id table.groups.of_id at)
+      (λ n. is_table.groups.of_id at n ∙ rw (session, own) refl) (λ n. is_settleable does_close (sent_in table n)) (asks does_close closes_them)
+
+-- ---- the delivery in progress on a link can be told of
+
+known : {A : Type 0} (P : A → Type 0) (o : Option A) (x : A) → o ≡ Some x → IfSome o P → P x
+known P o x is h = subst (λ (p : Option _). IfSome p P) is h
+
+pub progress-knows : (rules : List RuleText) (past : List Event) → AreJudged rules past → (table : SentDeliveries) → AreSent table past → (l : Link) (j : Outgoing) → law.in_progress l past ≡ Some j → Knows table j
+progress-knows rules past are table were l j is =
+    begun-knows table past were j (known (λ (k : Outgoing). outgoing_at k.number past ≡ Some k) (law.in_progress l past) j is (progress-known rules past are l))

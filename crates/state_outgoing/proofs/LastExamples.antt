@@ -1,0 +1,125 @@
+-- What captures say of the last delivery that began on a link, and of the last that carries a delivery.
+use Rattle.std.specs.Prelude.{◌≡◌, ℕ, Bool, true, false, List, [], ◌∷◌, ◌++◌, Option, Some, None, refl}
+use Rattle.std.specs.Fmt.{digits}
+use Rattle.amqp_perf.specs.declared.attach.SenderSettleMode.TheVariants.{Mixed}
+use Rattle.amqp_perf.specs.Meaning.{AFlow, ATransfer}
+use Rattle.amqp_perf.proofs.Opened.{read, written}
+use Rattle.amqp_frames.specs.Writing.{frame_octets}
+use Rattle.amqp_frames.specs.Reading.{whole_frame, frame_at, sized_frame, headed_frame}
+use Rattle.capture_form.specs.declared.records.Record.{Record}
+use Rattle.trace_events.specs.Frame.{frame_read}
+use Rattle.trace_events.specs.History.{history, judge}
+use Rattle.trace_clauses.specs.Written.{spoken_octets}
+use Rattle.trace_clauses.proofs.Made.{from, from_with, carry, gives, first, next, with_more, hi, q, consumer, sent}
+use Rattle.state_outgoing.specs.LastBegun.{last_number, begins_on, carrier_number, begins_carrier}
+
+unfoldable last_in : List Record → ℕ → Option ℕ
+unfolding frame_read whole_frame frame_at sized_frame headed_frame read digits spoken_octets frame_octets written
+last_in records link = last_number link (history [] records)
+
+unfoldable begins_in : List Record → Record → ℕ → Bool
+unfolding frame_read whole_frame frame_at sized_frame headed_frame read digits spoken_octets frame_octets written
+begins_in records r link = begins_on (judge [] (history [] records) r) link
+
+unfoldable carrier_in : List Record → ℕ → Option ℕ
+unfolding frame_read whole_frame frame_at sized_frame headed_frame read digits spoken_octets frame_octets written
+carrier_in records n = carrier_number n (history [] records)
+
+unfoldable carries_in : List Record → Record → ℕ → Bool
+unfolding frame_read whole_frame frame_at sized_frame headed_frame read digits spoken_octets frame_octets written
+carries_in records r n = begins_carrier (judge [] (history [] records) r) n
+
+-- ---- captures: delivery 16 of the producer's link 6 goes to the consumer's link 13, in two parts, and delivery 17 too
+
+abbrev half : Record
+half = carry 1 16 (with_more (first 0)) (0x68 ∷ [])
+
+abbrev rest : Record
+rest = carry 1 16 (next false) (0x69 ∷ [])
+
+abbrev in_parts : List Record
+in_parts = sent ++ (half ∷ rest ∷ [])
+
+abbrev two : List Record
+two = sent ++ (from_with 0 (ATransfer (first 1)) hi ∷ carry 1 16 (first 0) hi ∷ carry 1 17 (first 1) hi ∷ [])
+
+-- the same delivery goes to a consumer twice, which isn't lawful
+abbrev again : List Record
+again = sent ++ (carry 1 16 (first 0) hi ∷ carry 1 16 (first 1) hi ∷ [])
+
+-- to another consumer's link 23
+abbrev elsewhere : List Record
+elsewhere = sent ++ consumer 2 Mixed q ++ (from 2 (AFlow (gives 0 0 10)) ∷ carry 2 16 (first 0) hi ∷ [])
+
+-- ---- on a link
+
+last-none : last_in sent 13 ≡ None
+unfolding last_in
+last-none = refl
+
+-- a later part begins nothing
+last-first_part : last_in in_parts 13 ≡ Some 17
+unfolding last_in
+last-first_part = refl
+
+last-of_producer : last_in in_parts 6 ≡ None
+unfolding last_in
+last-of_producer = refl
+
+last-of_two : last_in two 13 ≡ Some 19
+unfolding last_in
+last-of_two = refl
+
+last-elsewhere : last_in elsewhere 23 ≡ Some 25
+unfolding last_in
+last-elsewhere = refl
+
+last-not_elsewhere : last_in elsewhere 13 ≡ None
+unfolding last_in
+last-not_elsewhere = refl
+
+begins-there : begins_in sent half 13 ≡ true
+unfolding begins_in
+begins-there = refl
+
+begins-not_there : begins_in sent half 6 ≡ false
+unfolding begins_in
+begins-not_there = refl
+
+goes-on_there : begins_in (sent ++ (half ∷ [])) rest 13 ≡ false
+unfolding begins_in
+goes-on_there = refl
+
+-- ---- of those that carry a delivery
+
+carrier-none : carrier_in sent 16 ≡ None
+unfolding carrier_in
+carrier-none = refl
+
+carrier-first_part : carrier_in in_parts 16 ≡ Some 17
+unfolding carrier_in
+carrier-first_part = refl
+
+carrier-of_two : carrier_in two 16 ≡ Some 18
+unfolding carrier_in
+carrier-of_two = refl
+
+carrier-of_other : carrier_in two 17 ≡ Some 19
+unfolding carrier_in
+carrier-of_other = refl
+
+carrier-last : carrier_in again 16 ≡ Some 18
+unfolding carrier_in
+carrier-last = refl
+
+carries-it : carries_in sent half 16 ≡ true
+unfolding carries_in
+carries-it = refl
+
+carries-other : carries_in sent half 15 ≡ false
+unfolding carries_in
+carries-other = refl
+
+carries-on : carries_in (sent ++ (half ∷ [])) rest 16 ≡ false
+unfolding carries_in
+carries-on = refl

@@ -1,0 +1,181 @@
+//! What the table of deliveries to clients answers.
+
+ghost use Rattle.std.specs.Prelude.{◌≡◌, ℕ, Bool, List, Contains, IfOk, IfSome, Some, None, is_some, nat_eq, option_and_then, option_map, true};
+ghost use Rattle.std.specs.List.{list_any};
+ghost use Rattle.capture_form.specs.Rules.{RuleText};
+ghost use Rattle.capture_form.specs.declared.records.Record.{Record};
+ghost use Rattle.trace_clauses.specs.TransferClause as transfers;
+ghost use Rattle.number_groups.specs.Numbers.{is_among};
+ghost use Rattle.trace_events.specs.Words.{is_some_and};
+ghost use Rattle.trace_events.specs.Disposition.{terminal_state};
+ghost use Rattle.trace_events.specs.History.{history};
+ghost use Rattle.trace_events.specs.Incoming.{incoming_at};
+ghost use Rattle.trace_events.specs.Event as events;
+ghost use Rattle.trace_events.specs.Outgoing as law;
+ghost use Rattle.trace_events.specs.Settling as settling;
+ghost use Rattle.state_outgoing.specs.Sent.{is_left_unsettled};
+ghost use Rattle.state_outgoing.specs.SentAnswers as entries;
+ghost use Rattle.state_outgoing.specs.SentAnswers.{AreClosings, Knows, KnowsOrBegins};
+ghost use Rattle.state_outgoing.specs.SentTables.{AreSent, IsTable, sent_in};
+ghost use Rattle.trace_values.specs.View.{decision_view, event_view, incoming_view, link_view, outgoing_view};
+
+use crate::closings::{Closings, Settleable};
+use crate::deliveries::SentDeliveries;
+use crate::earliest::least;
+use crate::listed::push_some;
+use number_groups::{IdOn, NumberSet};
+use pairing_cert::Note;
+use std::alloc::{AllocError, Global};
+use trace_events::Session;
+use trace_values::{Decision, Event, Incoming, Link, Outgoing};
+
+impl SentDeliveries {
+    /// The delivery of a consumer's link whose last part isn't written yet.
+    pub fn outgoing_in_progress(&self, link: &Link) -> Option<Outgoing<'_>>
+        ensures { (rules : List RuleText) (records : List Record) → IsTable self.now (history rules records) →
+            option_map outgoing_view result ≡ law.in_progress (link_view link.now) (history rules records) }
+    {
+        self.unsent(self.last_begun_on(link.number))
+    }
+
+    /// The number of the delivery from a client that the last one begun on the link carries.
+    pub fn carried_before(&self, link: &Link) -> Option<u64>
+        ensures { (rules : List RuleText) (records : List Record) → IsTable self.now (history rules records) →
+            option_and_then (λ n. incoming_at n (history rules records)) result ≡ transfers.carried_before (link_view link.now) (history rules records) }
+    {
+        self.carried_by(self.last_begun_on(link.number))
+    }
+
+    /// The last delivery that carries the one from a client.
+    pub fn pairing(&self, delivery: &Incoming) -> Option<Outgoing<'_>>
+        ensures value { (rules : List RuleText) (records : List Record) → IsTable self.now (history rules records) →
+            option_map outgoing_view result ≡ law.pairing (incoming_view delivery.now) (history rules records) }
+        ensures known { (rules : List RuleText) (records : List Record) → IsTable self.now (history rules records) →
+            IfSome (option_map outgoing_view result) (Knows self.now) }
+    {
+        self.given(self.carrier_of(delivery.number))
+    }
+
+    /// The one from a client went to a consumer, or began to.
+    pub fn is_paired(&self, delivery: &Incoming) -> bool
+        ensures { (rules : List RuleText) (records : List Record) → IsTable self.now (history rules records) →
+            result ≡ law.is_paired (incoming_view delivery.now) (history rules records) }
+    {
+        self.carrier_of(delivery.number).is_some()
+    }
+
+    /// Its last part is written.
+    pub fn is_sent(&self, delivery: &Outgoing) -> bool
+        ensures { (rules : List RuleText) (records : List Record) → AreSent self.now (history rules records) →
+            KnowsOrBegins self.now (history rules records) (outgoing_view delivery.now) →
+            result ≡ law.is_sent (outgoing_view delivery.now) (history rules records) }
+    {
+        self.says_sent(delivery.number)
+    }
+
+    /// The consumer's decision, by the terminal state that it tells; on a pre-settled link there is none.
+    pub fn decision(&self, delivery: &Outgoing) -> Option<Decision<'_>>
+        ensures { (rules : List RuleText) (records : List Record) → AreSent self.now (history rules records) →
+            KnowsOrBegins self.now (history rules records) (outgoing_view delivery.now) →
+            option_map decision_view result ≡ option_map terminal_state (law.decision (outgoing_view delivery.now) (history rules records)) }
+    {
+        self.decided(delivery.number)
+    }
+
+    /// The earliest delivery of the id on the session that the router is to settle, given of which deliveries from clients
+    /// nothing more is to be told. It takes the time of the unsettled ones of the id.
+    pub fn to_settle<C: Closings>(
+        &self,
+        session: Session,
+        id: u32,
+        closings: &C,
+    ) -> Option<Outgoing<'_>>
+        ensures { (rules : List RuleText) (records : List Record) → IsTable self.now (history rules records) →
+            AreClosings (C.does_close closings.now) (history rules records) →
+            option_map outgoing_view result ≡ settling.to_settle session id (history rules records) }
+    {
+        let at = IdOn {
+            session: session.number,
+            id,
+        };
+        let test = Settleable {
+            deliveries: self,
+            closings,
+        };
+        self.given(least(self.of_id(), &at, &test))
+    }
+
+    /// The deliveries from clients that those carry of which the event's consumer speaks: all that may get their verdict with
+    /// it. It takes the time of those.
+    ///
+    /// # Errors
+    ///
+    /// Memory was refused.
+    pub fn answered(&self, alloc: Global, event: &Event) -> Result<Vec<u64>, AllocError>
+        ensures { IfOk result (λ numbers. (rules : List RuleText) (records : List Record) → IsTable self.now (history rules records) →
+            (j : events.Outgoing) → Contains (law.outgoing_deliveries (history rules records)) j → is_left_unsettled (history rules records) j ≡ true →
+            is_some (law.answering j (event_view event.now)) ≡ true → (n : ℕ) → law.names n j.note ≡ true → is_among numbers.items n ≡ true) }
+    {
+        let spoken = self.spoken_of(alloc, event)?;
+        self.all_carried(alloc, spoken)
+    }
+
+    /// The deliveries from clients that these carry.
+    fn all_carried(&self, alloc: Global, mut numbers: NumberSet) -> Result<Vec<u64>, AllocError>
+        ensures { IfOk result (λ carried. (test : ℕ → Bool) →
+            list_any test carried.items ≡ list_any (λ m. is_some_and (entries.carried (sent_in self.now m)) test) numbers) }
+    {
+        let mut carried = Vec::new(alloc);
+        while let Some(number) = numbers.pop() {
+            push_some(&mut carried, self.carried_by(Some(number)))?;
+        }
+        Ok(carried)
+    }
+
+    // What the entry of a number says, if there is one.
+
+    fn given(&self, number: Option<u64>) -> Option<Outgoing<'_>>
+        ensures { option_map outgoing_view result ≡ option_and_then (entries.delivery_in self.now) number }
+    {
+        match self.get(number?) {
+            Some(own) => Some(own.delivery()),
+            None => None,
+        }
+    }
+
+    fn unsent(&self, number: Option<u64>) -> Option<Outgoing<'_>>
+        ensures { option_map outgoing_view result ≡ entries.unsent (option_and_then (sent_in self.now) number) }
+    {
+        match self.get(number?) {
+            Some(own) if !own.is_sent() => Some(own.delivery()),
+            _ => None,
+        }
+    }
+
+    fn carried_by(&self, number: Option<u64>) -> Option<u64>
+        ensures { result ≡ entries.carried (option_and_then (sent_in self.now) number) }
+    {
+        match self.get(number?)?.note() {
+            Note::Pair(carried) => Some(carried),
+            Note::None | Note::Told(_) => None,
+        }
+    }
+
+    fn says_sent(&self, number: u64) -> bool
+        ensures { result ≡ entries.says_sent (sent_in self.now number) }
+    {
+        match self.get(number) {
+            Some(own) => own.is_sent(),
+            None => false,
+        }
+    }
+
+    fn decided(&self, number: u64) -> Option<Decision<'_>>
+        ensures { option_map decision_view result ≡ entries.decided (sent_in self.now number) }
+    {
+        match self.get(number) {
+            Some(own) => own.decision(),
+            None => None,
+        }
+    }
+}

@@ -1,0 +1,219 @@
+//! The deliveries to clients, by the record that began each, and in groups.
+
+ghost use Rattle.std.specs.Prelude.{◌≡◌, ◌∷◌, ◌++◌, ◌<◌, ◌^◌, ℕ, List, [], None, IfOk, IfSome, OnOk, map, nat_eq, option_map};
+ghost use Rattle.std.specs.List.{list_any};
+ghost use Rattle.std.specs.Option.{option_copied};
+ghost use Rattle.amqp_perf.specs.declared.descriptor.Outcome.{Outcome};
+ghost use Rattle.number_groups.specs.Numbers.{is_among};
+ghost use Rattle.capture_form.specs.Rules.{RuleText};
+ghost use Rattle.capture_form.specs.declared.records.Record.{Record};
+ghost use Rattle.trace_events.specs.Words.{is_some_and, or_else};
+ghost use Rattle.trace_events.specs.Event.{Incoming, Outgoing};
+ghost use Rattle.trace_events.specs.Incoming as received;
+ghost use Rattle.trace_events.specs.Outgoing as law;
+ghost use Rattle.trace_events.specs.History.{judge, history};
+ghost use Rattle.trace_clauses.specs.Clauses.{first_broken};
+ghost use Rattle.trace_clauses.specs.TransferClause.{is_payload_so_far};
+ghost use Rattle.state_tables.specs.Connections.{IsLawfulNext};
+ghost use Rattle.state_tables.specs.EndedLinks.{AreEnded};
+ghost use Rattle.state_outgoing.specs.Given.{gives, says};
+ghost use Rattle.state_verdicts.specs.Verdicts.{AreGiven};
+ghost use Rattle.state_outgoing.specs.LastBegun.{last_number, carrier_number};
+ghost use Rattle.state_outgoing.specs.Sent as kept;
+ghost use Rattle.state_outgoing.specs.Sent.{IsKnownTo, sent_begun, sent_next};
+ghost use Rattle.state_outgoing.specs.SentGrouped.{AreGrouped};
+ghost use Rattle.state_outgoing.specs.SentTables.{AreMovedBy, AreSent, IsTable, MovesAt, sent_in, sent_count_in};
+ghost use Rattle.state_outgoing.specs.SentTouched.{answered_id, is_spoken_of};
+ghost use Rattle.state_outgoing.specs.SentViews.{sent_view};
+ghost use Rattle.trace_values.specs.Known.{IsCarriedBy};
+ghost use Rattle.trace_values.specs.View.{Events, event_view, link_view};
+
+use crate::begun::LastNumbers;
+use crate::groups::SentGroups;
+use crate::listed::push_some;
+use crate::payload::goes_on_with;
+use crate::sent::SentDelivery;
+use state_verdicts::CopyVerdict;
+use number_groups::{Groups, IdOn, NumberSet};
+use number_map::NumberMap;
+use std::alloc::{AllocError, Global};
+use trace_values::{Event, Link};
+
+/// The deliveries to clients.
+pub struct SentDeliveries {
+    alloc: Global,
+    entries: NumberMap<u64, SentDelivery>,
+    groups: SentGroups,
+    begun: LastNumbers,
+}
+
+// Written out, and not derived, so that where one is let go the prover need not go through all that it owns.
+impl Drop for SentDeliveries {
+    fn drop(self) {
+        let SentDeliveries {
+            alloc: _,
+            entries: _,
+            groups: _,
+            begun: _,
+        } = self;
+    }
+}
+
+impl SentDeliveries {
+    /// No records.
+    pub fn new(alloc: Global) -> SentDeliveries
+        ensures { IsTable result [] }
+    {
+        SentDeliveries {
+            alloc,
+            entries: NumberMap::new(alloc),
+            groups: SentGroups::new(alloc),
+            begun: LastNumbers::new(alloc),
+        }
+    }
+
+    /// The delivery that began in this record.
+    pub fn get(&self, number: u64) -> Option<&SentDelivery>
+        ensures { option_map sent_view (option_copied result) ≡ sent_in self.now number }
+    {
+        self.entries.get(&number)
+    }
+
+    /// These octets are the next ones of this payload behind as many as were sent of the delivery, and where no more follows
+    /// its last ones. What was sent is not compared again: in a lawful capture it is the front of what the delivery carries.
+    pub fn is_payload_so_far(&self, number: u64, more: bool, payload: &[u8], octets: &[u8]) -> bool
+        ensures stored { result ≡ kept.goes_on_with more payload.now (sent_count_in self.now number) octets.now }
+        ensures known { (rules : List RuleText) (records : List Record) (j : Outgoing) (d : Incoming) → AreSent self.now (history rules records) →
+            first_broken rules (history rules records) ≡ None → number ≡ j.number → IsKnownTo (history rules records) j → IsCarriedBy d (history rules records) j →
+            payload.now ≡ received.payload d (history rules records) →
+            result ≡ is_payload_so_far more (received.payload d (history rules records)) (law.payload j (history rules records) ++ octets.now) }
+    {
+        goes_on_with(more, payload, self.sent_count(number), octets)
+    }
+
+    /// How many octets of the delivery of this number were sent, counted in 64 bits; 0 of one that is not in the table.
+    pub fn sent_count(&self, number: u64) -> u64
+        ensures { result ≡ sent_count_in self.now number }
+    {
+        match self.get(number) {
+            Some(own) => own.sent_count(),
+            None => 0,
+        }
+    }
+
+    /// The number of the last delivery that began on the link of this number.
+    pub fn last_begun_on(&self, link: u64) -> Option<u64>
+        ensures { (history : Events) → IsTable self.now history → result ≡ last_number link history }
+    {
+        self.begun.on_link.get(&link).copied()
+    }
+
+    /// That of the last delivery whose note names the delivery from a client of this number.
+    pub fn carrier_of(&self, number: u64) -> Option<u64>
+        ensures { (history : Events) → IsTable self.now history → result ≡ carrier_number number history }
+    {
+        self.begun.carriers.get(&number).copied()
+    }
+
+    /// The unsettled deliveries by their id on their session.
+    pub(crate) fn of_id(&self) -> &Groups<IdOn>
+        ensures { result.now ≡ self.now.groups.of_id }
+    {
+        &self.groups.of_id
+    }
+
+    /// The unsettled ones of which the event's consumer speaks.
+    ///
+    /// # Errors
+    ///
+    /// Memory was refused.
+    pub(crate) fn spoken_of(&self, alloc: Global, event: &Event) -> Result<NumberSet, AllocError>
+        ensures spoken { IfOk result (λ spoken. (n : ℕ) → is_among spoken n ≡ is_spoken_of self.now.groups (event_view event.now) n) }
+        ensures counted { OnOk result (IfSome (answered_id (event_view event.now)) (λ at. at.id < 2 ^ 32)) }
+    {
+        self.groups.spoken_of(alloc, event)
+    }
+
+    /// The event follows those so far. These links live before it and end with it. It gives what stands behind the event, of
+    /// the deliveries that it touches or begins, of each that carries one from a client: what its consumer decided, and
+    /// accepted where it went out settled. So of each copy of a multicast delivery that awaited its verdict.
+    ///
+    /// # Errors
+    ///
+    /// Memory was refused; then the table may agree with no records any more.
+    pub fn take(&mut self, event: &Event, ended: &[Link]) -> Result<Vec<CopyVerdict>, AllocError>
+        ensures kept { OnOk result ((rules : List RuleText) (records : List Record) (r : Record) → event_view event.now ≡ judge rules (history rules records) r →
+            IsTable self.old (history rules records) → AreEnded (event_view event.now) (history rules records) (map link_view ended.now) →
+            IsTable self.new (event_view event.now ∷ history rules records)) }
+        ensures given { IfOk result (λ given. (rules : List RuleText) (records : List Record) (r : Record) → IsLawfulNext rules records r (event_view event.now) →
+            IsTable self.old (history rules records) → AreEnded (event_view event.now) (history rules records) (map link_view ended.now) →
+            AreGiven rules (event_view event.now) (history rules records) given.items) }
+    {
+        let touched = self.groups.touched(self.alloc, ended, event)?;
+        let mut given = self.touch_all(touched, event)?;
+        push_some(&mut given, self.begin(event)?)?;
+        self.begun.take(event)?;
+        Ok(given)
+    }
+
+    /// The event begins a delivery, or none. What came of it stands with the event, or not yet.
+    ///
+    /// # Errors
+    ///
+    /// Memory was refused, for a delivery that the event begins; then the groups may not fit the deliveries any more.
+    fn begin(&mut self, event: &Event) -> Result<Option<CopyVerdict>, AllocError>
+        ensures begun { OnOk result (MovesAt (event_view event.now).number (or_else (sent_begun (event_view event.now))) self.old self.new) }
+        ensures grouped { OnOk result (AreGrouped self.old.groups (sent_in self.old) → sent_in self.old (event_view event.now).number ≡ None →
+            AreGrouped self.new.groups (sent_in self.new)) }
+        ensures same { OnOk result (self.new.begun ≡ self.old.begun) }
+        ensures given { IfOk result (λ given. (link n : ℕ) (outcome : Outcome) →
+            is_some_and given (says link n outcome) ≡ gives link n outcome (sent_begun (event_view event.now))) }
+    {
+        let Some(own) = SentDelivery::begin(self.alloc, event)? else {
+            return Ok(None);
+        };
+        let given = own.copy_verdict();
+        self.groups.put(&own.delivery(), own.is_unsettled())?;
+        self.entries.insert(event.number, own)?;
+        Ok(given)
+    }
+
+    /// The event touches the delivery of this number. What came of it stands behind the event, or not yet.
+    ///
+    /// # Errors
+    ///
+    /// Memory was refused; then the groups may not fit the deliveries any more.
+    fn touch(&mut self, number: u64, event: &Event) -> Result<Option<CopyVerdict>, AllocError>
+        ensures touched { OnOk result (MovesAt number (option_map (sent_next (event_view event.now))) self.old self.new) }
+        ensures grouped { OnOk result (AreGrouped self.old.groups (sent_in self.old) → AreGrouped self.new.groups (sent_in self.new)) }
+        ensures same { OnOk result (self.new.begun ≡ self.old.begun) }
+        ensures given { IfOk result (λ given. (link n : ℕ) (outcome : Outcome) →
+            is_some_and given (says link n outcome) ≡ gives link n outcome (option_map (sent_next (event_view event.now)) (sent_in self.old number))) }
+    {
+        let Some(own) = self.entries.get_mut(&number) else {
+            return Ok(None);
+        };
+        own.take(event)?;
+        self.groups.put(&own.delivery(), own.is_unsettled())?;
+        Ok(own.copy_verdict())
+    }
+
+    /// The event touches each of these. What came of them stands behind the event.
+    fn touch_all(
+        &mut self,
+        mut touched: NumberSet,
+        event: &Event,
+    ) -> Result<Vec<CopyVerdict>, AllocError>
+        ensures touched { OnOk result (AreMovedBy (is_among touched) (event_view event.now) self.old self.new) }
+        ensures grouped { OnOk result (AreGrouped self.old.groups (sent_in self.old) → AreGrouped self.new.groups (sent_in self.new)) }
+        ensures same { OnOk result (self.new.begun ≡ self.old.begun) }
+        ensures given { IfOk result (λ given. (link n : ℕ) (outcome : Outcome) → list_any (says link n outcome) given.items
+            ≡ list_any (λ m. gives link n outcome (option_map (sent_next (event_view event.now)) (sent_in self.old m))) touched) }
+    {
+        let mut given = Vec::new(self.alloc);
+        while let Some(number) = touched.pop() {
+            push_some(&mut given, self.touch(number, event)?)?;
+        }
+        Ok(given)
+    }
+}

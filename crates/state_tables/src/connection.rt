@@ -1,0 +1,224 @@
+//! A connection: whether it is opened, over, closed from either end, how long a frame may be (part 2 of the standard,
+//! section 2.4), and what stands on its channels.
+
+ghost use Rattle.std.specs.Prelude.{◌≡◌, ℕ, ◌==◌, ◌<◌, true, OnOk, OnErr, if◌then◌else◌};
+ghost use Rattle.indexmap.specs.IndexMap.{spare};
+ghost use Rattle.state_tables.specs.Connections.{IsFresh, IsFull, IsSame, Takes, TakesOn, fresh, seen_next, session_on, unanswered_on};
+ghost use Rattle.state_tables.specs.Entries.{capped, entries_of_connection};
+ghost use Rattle.state_tables.specs.Sessions.{opens_or_ends};
+ghost use Rattle.trace_values.specs.View.{event_view};
+
+use crate::sessions::{Counted, opens_or_ends, session_after};
+use crate::unanswered::Unanswered;
+use flow_counts::{MAX_FRAME_SIZE, MIN_MAX_FRAME_SIZE};
+use number_map::NumberMap;
+use std::alloc::{AllocError, Global};
+use trace_values::Event;
+
+/// What a connection has come to.
+#[derive(Clone, Copy, Debug, PartialEq, Eq)]
+pub struct Seen {
+    /// A close in either direction, a lost or a broken stands. A client's record whose octets are no frame is a fault, and
+    /// ends nothing by itself.
+    pub is_over: bool,
+    /// The connection was opened.
+    pub was_opened: bool,
+    /// It is lost, or the router has closed it.
+    pub was_finished: bool,
+    /// A close of the client's or a broken stands.
+    pub was_stopped: bool,
+    /// A frame was written.
+    pub has_out_frame: bool,
+    /// An open of the client's stands.
+    pub has_in_open: bool,
+    /// The longest frame that may be written, in octets.
+    pub frame_limit: u32,
+}
+
+impl Seen {
+    /// Before its first record.
+    pub(crate) fn new() -> Seen
+        ensures { result ≡ fresh }
+    {
+        Seen {
+            is_over: false,
+            was_opened: false,
+            was_finished: false,
+            was_stopped: false,
+            has_out_frame: false,
+            has_in_open: false,
+            frame_limit: MIN_MAX_FRAME_SIZE,
+        }
+    }
+
+    /// With one event more of the connection.
+    pub fn after(self, event: &Event) -> Seen
+        ensures { result ≡ seen_next (event_view event.now) self }
+    {
+        Seen {
+            is_over: event.moment.is_final() | self.is_over,
+            was_opened: event.moment.is_opened() | self.was_opened,
+            was_finished: event.moment.is_lost() | event.is_out_close() | self.was_finished,
+            was_stopped: event.moment.is_broken() | event.is_in_close() | self.was_stopped,
+            has_out_frame: event.moment.is_out() | self.has_out_frame,
+            has_in_open: event.in_open().is_some() | self.has_in_open,
+            frame_limit: self.limit_after(event),
+        }
+    }
+
+    /// The longest frame behind the event: the first open counts.
+    fn limit_after(&self, event: &Event) -> u32
+        ensures { result ≡ (seen_next (event_view event.now) self.now).frame_limit }
+    {
+        match event.in_open() {
+            Some(open) if !self.has_in_open => open
+                .frame_limit()
+                .min(MAX_FRAME_SIZE)
+                .max(MIN_MAX_FRAME_SIZE),
+            _ => self.frame_limit,
+        }
+    }
+}
+
+/// A connection with its live sessions, and what is still to be answered on its channels; of a channel with neither there
+/// is no entry.
+#[doc(hidden)]
+#[derive(Drop)]
+pub struct Connection {
+    alloc: Global,
+    seen: Seen,
+    sessions: NumberMap<u16, Counted>,
+    unanswered: NumberMap<u16, Unanswered>,
+}
+
+impl Connection {
+    /// Before its first record.
+    pub(crate) fn new(alloc: Global) -> Connection
+        ensures { IsFresh result }
+    {
+        Connection {
+            alloc,
+            seen: Seen::new(),
+            sessions: NumberMap::new(alloc),
+            unanswered: NumberMap::new(alloc),
+        }
+    }
+
+    /// What it has come to.
+    pub(crate) fn seen(&self) -> Seen
+        ensures { result ≡ self.now.seen }
+    {
+        self.seen
+    }
+
+    /// The live session of the channel.
+    pub(crate) fn session(&self, channel: u16) -> Option<Counted>
+        ensures { result ≡ session_on self.now channel }
+    {
+        self.sessions.get(&channel).copied()
+    }
+
+    /// What of the channel is still to be answered.
+    pub(crate) fn unanswered(&self, channel: u16) -> Unanswered
+        ensures { result ≡ unanswered_on self.now channel }
+    {
+        match self.unanswered.get(&channel) {
+            Some(unanswered) => *unanswered,
+            None => Unanswered::nothing(),
+        }
+    }
+
+    /// How many entries it has, with those of its channels; the greatest number where there are more.
+    pub(crate) fn entries(&self) -> usize
+        ensures { result ≡ capped (entries_of_connection self.now) }
+    {
+        let mut count = self.sessions.len().saturating_add(1);
+        for unanswered in self.unanswered.values().as_slice() {
+            count = count.saturating_add(unanswered.entries());
+        }
+        count
+    }
+
+    /// The event follows those of the connection so far.
+    ///
+    /// # Errors
+    ///
+    /// Memory was refused, for a begin or an end and a table that was full; then all stays as it was.
+    pub(crate) fn take(&mut self, event: &Event) -> Result<(), AllocError>
+        ensures taken { OnOk result (Takes (event_view event.now) self.old self.new) }
+        ensures unchanged { OnErr result (IsSame self.old self.new) }
+        ensures full { OnErr result ((opens_or_ends (event_view event.now) ≡ true) × IsFull self.old) }
+    {
+        if let Some(channel) = event.moment.channel() {
+            self.take_on(channel, event)?;
+        }
+        self.seen = self.seen.after(event);
+        if event.moment.is_final() {
+            self.sessions = NumberMap::new(self.alloc);
+        }
+        Ok(())
+    }
+
+    /// The event stands on the channel.
+    fn take_on(&mut self, channel: u16, event: &Event) -> Result<(), AllocError>
+        ensures taken { OnOk result (TakesOn channel (event_view event.now) self.old self.new) }
+        ensures unchanged { OnErr result (IsSame self.old self.new) }
+        ensures full { OnErr result ((opens_or_ends (event_view event.now) ≡ true) × IsFull self.old) }
+    {
+        if opens_or_ends(event) {
+            return self.open_or_end(channel, event);
+        }
+        if let Some(session) = self.sessions.get_mut(&channel) {
+            *session = session.after(event);
+        }
+        Ok(())
+    }
+
+    /// The event begins or ends a session on the channel, or asks for it.
+    fn open_or_end(&mut self, channel: u16, event: &Event) -> Result<(), AllocError>
+        ensures taken { OnOk result (TakesOn channel (event_view event.now) self.old self.new) }
+        ensures unchanged { OnErr result (IsSame self.old self.new) }
+        ensures full { OnErr result (IsFull self.old) }
+    {
+        self.sessions.reserve(1)?;
+        self.unanswered.reserve(1)?;
+        let session = session_after(self.session(channel), event);
+        let unanswered = self.unanswered(channel).after(event);
+        self.put_session(channel, session);
+        self.put_unanswered(channel, unanswered);
+        Ok(())
+    }
+
+    /// The session of the channel is this one.
+    fn put_session(&mut self, channel: u16, session: Option<Counted>)
+        requires room { 0 < spare self.old.sessions }
+        ensures put { (n : ℕ) → session_on self.new n ≡ (if channel == n then session else session_on self.old n) }
+        ensures seen { self.new.seen ≡ self.old.seen }
+        ensures unanswered { self.new.unanswered ≡ self.old.unanswered }
+    {
+        match session {
+            Some(counted) => {
+                // The room is reserved.
+                let _ = self.sessions.insert(channel, counted).unwrap();
+            }
+            None => {
+                self.sessions.swap_remove(&channel);
+            }
+        }
+    }
+
+    /// This is still to be answered on the channel.
+    fn put_unanswered(&mut self, channel: u16, unanswered: Unanswered)
+        requires room { 0 < spare self.old.unanswered }
+        ensures put { (n : ℕ) → unanswered_on self.new n ≡ (if channel == n then unanswered else unanswered_on self.old n) }
+        ensures seen { self.new.seen ≡ self.old.seen }
+        ensures sessions { self.new.sessions ≡ self.old.sessions }
+    {
+        if unanswered.is_nothing() {
+            self.unanswered.swap_remove(&channel);
+        } else {
+            // The room is reserved.
+            let _ = self.unanswered.insert(channel, unanswered).unwrap();
+        }
+    }
+}

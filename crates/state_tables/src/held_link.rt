@@ -1,0 +1,67 @@
+//! The link of a delivery that is kept, with an address of its own.
+
+ghost use Rattle.std.specs.Prelude.{◌≡◌, IfOk};
+ghost use Rattle.state_tables.specs.HeldViews.{held_link_view};
+ghost use Rattle.trace_values.specs.View.{link_view};
+
+use amqp_perf::Role;
+use smallvec::SmallVec;
+use std::alloc::{AllocError, Global};
+use trace_events::Session;
+use trace_values::Link;
+
+/// An address of so many octets stands with its link, and takes no memory of its own.
+const USUAL_OCTETS: usize = 40;
+
+/// A link with an address of its own.
+#[doc(hidden)]
+#[derive(Drop)]
+pub struct HeldLink {
+    number: u64,
+    session: Session,
+    address: SmallVec<u8, USUAL_OCTETS>,
+    handle: u32,
+    our_first_count: u32,
+    their_first_count: u32,
+    role: Role,
+    is_pre_settled: bool,
+}
+
+impl HeldLink {
+    /// A copy of it.
+    ///
+    /// # Errors
+    ///
+    /// Memory was refused, for a long address.
+    pub fn new(alloc: Global, link: &Link) -> Result<HeldLink, AllocError>
+        ensures { IfOk result (λ own. held_link_view own ≡ link_view link.now) }
+    {
+        let address = SmallVec::from_slice(alloc, link.address)?;
+        Ok(HeldLink {
+            number: link.number,
+            session: link.session,
+            handle: link.handle,
+            role: link.role,
+            address,
+            is_pre_settled: link.is_pre_settled,
+            our_first_count: link.our_first_count,
+            their_first_count: link.their_first_count,
+        })
+    }
+
+    /// The link, with the address lent.
+    pub fn link(&self) -> Link<'_>
+        ensures { link_view result ≡ held_link_view self.now }
+    {
+        Link {
+            number: self.number,
+            session: self.session,
+            handle: self.handle,
+            role: self.role,
+            address: &self.address,
+            is_pre_settled: self.is_pre_settled,
+            our_first_count: self.our_first_count,
+            their_first_count: self.their_first_count,
+        }
+    }
+}

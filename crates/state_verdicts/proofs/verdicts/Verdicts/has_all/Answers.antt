@@ -1,0 +1,12 @@
+use Rattle.std.proofs.Common.{sym, ◌∙◌}
+use Rattle.trace_events.specs.History.{history}
+use Rattle.trace_events.proofs.Judged.{history-judged}
+use Rattle.trace_values.specs.View.{incoming_view}
+use Rattle.state_verdicts.proofs.Answered.{all-is}
+use Rattle.state_verdicts.proofs.verdicts.Verdicts.has_all.Goals as goal
+
+pub returns : goal.returns
+returns c = λ rules records are found.
+    let d = incoming_view c.args.delivery.now in
+    all-is rules (history rules records) (history-judged rules records) d found c.is_empty.result
+    (λ empty link. sym (are.mirrored link d.number ∙ are.awaits link d.number) ∙ c.is_empty.ensures.0 empty link, λ none. c.is_empty.ensures.1 (λ link. (are.mirrored link d.number ∙ are.awaits link d.number) ∙ none link))

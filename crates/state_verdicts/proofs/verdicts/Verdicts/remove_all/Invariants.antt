@@ -1,0 +1,10 @@
+use Rattle.std.proofs.Common.{◌≡◌, ◌&&◌, ℕ, not, take}
+use Rattle.amqp_perf.specs.declared.descriptor.Outcome.{Outcome}
+use Rattle.state_verdicts.specs.Verdicts.{AreMirrored, awaits_in, had_in, is_given}
+use Rattle.state_verdicts.proofs.verdicts.Verdicts.remove_all.Given as goal
+
+abbrev pub invariant-loop-verdict : goal.invariant-loop-verdict
+invariant-loop-verdict l =
+    ((link n : ℕ) → awaits_in l.self link n ≡ (awaits_in l.fn.self link n && not (is_given (take l.verdict-index l.given) link n)))
+    × ((n : ℕ) (outcome : Outcome) → had_in l.self n outcome ≡ had_in l.fn.self n outcome)
+    × (AreMirrored l.fn.self → AreMirrored l.self)
