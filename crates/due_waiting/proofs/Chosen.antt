@@ -35,7 +35,7 @@ use Rattle.state_incoming.specs.declared.deliveries.Deliveries.{Deliveries}
 use Rattle.state_incoming.proofs.HeldAnswers.{waiting-kept}
 use Rattle.due_flows.proofs.LiveOnes.{link-found, link-lives}
 use Rattle.due_flows.proofs.Members.{found-contained}
-use Rattle.due_deliveries.proofs.Eligible.{pick-passes, picked-same, taken-lives, takes_at}
+use Rattle.due_queues.proofs.Eligible.{pick-passes, picked-same, taken-lives, takes_at}
 use Rattle.due_waiting.specs.Waking.{MayBegin}
 
 same_some : {A : Type 0} (a b : A) → Some a ≡ Some b → a ≡ b

@@ -8,8 +8,8 @@ use Rattle.trace_events.specs.Incoming.{address_of, completed_before, incoming_a
 use Rattle.trace_events.specs.Link.{IsLiveLink, is_consumer, link_at}
 use Rattle.trace_duties.specs.Diligent.{is_next_waiting, is_picked_link}
 use Rattle.trace_values.specs.View.{incoming_view, link_view}
-use Rattle.due_deliveries.specs.Picks.{ArePicks}
-use Rattle.due_deliveries.specs.Queues.{HaveQueues}
+use Rattle.due_queues.specs.Picks.{ArePicks}
+use Rattle.due_queues.specs.Queues.{HaveQueues}
 use Rattle.due_waiting.specs.Awake.{is_awake}
 use Rattle.due_waiting.specs.BySession.{stands}
 use Rattle.due_waiting.specs.Waking.{MayBegin}

@@ -10,15 +10,15 @@ ghost use Rattle.trace_values.specs.View.{Events, event_view, incoming_view};
 ghost use Rattle.state_tables.specs.Connections.{IsLawfulNext};
 ghost use Rattle.state_incoming.specs.EntryAnswers.{Knows};
 ghost use Rattle.due_flows.specs.Lent.{AreOf};
-ghost use Rattle.due_deliveries.specs.Picks.{ArePicks};
-ghost use Rattle.due_deliveries.specs.Queues.{HaveQueues};
+ghost use Rattle.due_queues.specs.Picks.{ArePicks};
+ghost use Rattle.due_queues.specs.Queues.{HaveQueues};
 ghost use Rattle.due_waiting.specs.Awake.{count_of, is_among_first};
 ghost use Rattle.due_waiting.specs.Waiting.{HasWaiting, IsDueWaiting, IsEarliest, NoneBegins, earlier_of};
 
 use crate::awake::Awake;
 use crate::by_session::BySession;
 use capture_form::Rule;
-use due_deliveries::{Picks, Queues};
+use due_queues::{Picks, Queues};
 use due_flows::Looked;
 use std::alloc::{AllocError, Global};
 use trace_values::{Event, Incoming, Link};

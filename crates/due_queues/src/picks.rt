@@ -1,0 +1,257 @@
+//! The consumer's link that a delivery of an address goes to.
+
+ghost use Rattle.std.specs.Prelude.{◌≡◌, ◌<◌, ◌^◌, ◌&&◌, ◌==◌, ◌∷◌, ◌++◌, ℕ, List, [], false, Some, IfSome, MatchOption, OnOk, is_some, option_map};
+ghost use Rattle.std.specs.Str.{is_utf8};
+ghost use Rattle.flow_counts.specs.Picks.{AddressEvent};
+ghost use Rattle.capture_form.specs.Rules.{RuleText};
+ghost use Rattle.capture_form.specs.declared.records.Record.{Record};
+ghost use Rattle.address_table.specs.Links.{IsCount};
+ghost use Rattle.trace_events.specs.Words.{is_some_and, where_passes};
+ghost use Rattle.trace_events.specs.Link.{IsLiveLink, is_consumer, link_at, own_link};
+ghost use Rattle.trace_events.specs.Outgoing as outgoing;
+ghost use Rattle.trace_events.specs.History.{history};
+ghost use Rattle.trace_duties.specs.Consumers.{attached_as, begun_by};
+ghost use Rattle.trace_duties.specs.Pick.{may_take, pick};
+ghost use Rattle.trace_values.specs.View.{Events, event_view, link_view};
+ghost use Rattle.state_tables.specs.Connections.{IsLawfulNext};
+ghost use Rattle.state_tables.specs.EndedLinks.{views};
+ghost use Rattle.state_tables.specs.LinkTables.{AreLinked};
+ghost use Rattle.state_addresses.specs.ConsumerLinks.{consumer_at};
+ghost use Rattle.state_outgoing.specs.SentTables.{sent_in};
+ghost use Rattle.state_outgoing.specs.SentViews.{sent_view};
+ghost use Rattle.due_queues.specs.AddressCounts.{AreFew, CountsMore, HasNamedSource, decided_on, detached_all, named_source};
+ghost use Rattle.due_queues.specs.Picks.{ArePicks, DecidesAll, StandsFor};
+ghost use Rattle.due_queues.specs.Undecided.{Spares, decided_link, decides};
+
+use crate::undecided::Undecided;
+use address_table::Table;
+use amqp_perf::{Address, Role};
+use state_answers::Looked;
+use state_outgoing::SentDelivery;
+use state_tables::Links;
+use capture_form::{Rule, distribution_of};
+use std::alloc::{AllocError, Global};
+use std::str::from_utf8;
+use trace_values::{Event, Link, is_decisive};
+
+/// The links of consumers, as picks see them, moved forward by one event after the other.
+#[derive(Drop)]
+pub struct Picks {
+    alloc: Global,
+    table: Table,
+    undecided: Undecided,
+}
+
+/// The consumer's link that the event opens.
+fn opened<'a>(event: &Event<'a, '_>) -> Option<Link<'a>>
+    ensures { option_map link_view result ≡ where_passes is_consumer (own_link (event_view event.now)) }
+{
+    match event.link {
+        Some(link) if link.number == event.number && link.role == Role::Sender => Some(link),
+        _ => None,
+    }
+}
+
+/// The address that an attach of the router names for a link on which it sends; an address that is no text is empty.
+fn named_source<'a>(event: &Event<'_, 'a>) -> &'a str
+    ensures { result.now ≡ named_source (event_view event.now) }
+{
+    let Some(attach) = event.out_attach() else {
+        return "";
+    };
+    match attach.source {
+        Some(source) => match source.address {
+            Some(Address::Text(text)) => text,
+            _ => "",
+        },
+        None => "",
+    }
+}
+
+/// The consumer decides the delivery with the event.
+fn decides(event: &Event, delivery: &SentDelivery, links: &Links) -> bool
+    ensures { (history : Events) → AreLinked links.now history → result ≡ decides (event_view event.now) history (sent_view delivery.now) }
+{
+    let own = delivery.delivery();
+    if own.link.is_pre_settled || delivery.decision().is_some() || !links.is_live(&own.link) {
+        return false;
+    }
+    match event.answering(&own) {
+        Some(fields) => is_decisive(&fields),
+        None => false,
+    }
+}
+
+/// The octets as a text, if they are one.
+#[tactic(auto, using(crate::proofs::Texts::utf8_tests))]
+fn text_of(octets: &[u8]) -> Option<&str>
+    ensures { MatchOption result (is_utf8 octets.now ≡ false) (λ text. text.now ≡ octets.now) }
+{
+    from_utf8(octets).ok()
+}
+
+/// The consumer's live link of this number may be sent a delivery: it has credit, its session has window, and nothing is in
+/// progress.
+fn may_take(looked: &Looked<'_>, number: u64) -> bool
+    ensures { (rules : List RuleText) (records : List Record) → StandsFor rules looked.now (history rules records) →
+        result ≡ is_some_and (consumer_at number (history rules records)) (may_take (history rules records)) }
+{
+    match looked.consumer_links.get(number) {
+        Some(link) => takes(looked, &link),
+        None => false,
+    }
+}
+
+/// The same of a live link.
+fn takes(looked: &Looked<'_>, link: &Link) -> bool
+    ensures { (rules : List RuleText) (records : List Record) → StandsFor rules looked.now (history rules records) →
+        IsLiveLink (link_view link.now) (history rules records) → result ≡ may_take (history rules records) (link_view link.now) }
+{
+    if looked.links.link_credit(link) == 0 {
+        return false;
+    }
+    if looked.connections.session_window(link.session) == 0 {
+        return false;
+    }
+    looked.sent.outgoing_in_progress(link).is_none()
+}
+
+impl Picks {
+    /// No records.
+    pub fn new(alloc: Global) -> Picks
+        ensures { ArePicks result [] }
+    {
+        Picks {
+            alloc,
+            table: Table::new(alloc),
+            undecided: Undecided::new(alloc),
+        }
+    }
+
+    /// The event follows those so far; `before` are the tables without it. The rules say only at which addresses picks are to
+    /// be fast. It takes the time of the links that the event ends and of the deliveries of which a consumer speaks with it;
+    /// where one of these is of a balanced address, or begins there, also that of the links of the address.
+    ///
+    /// # Errors
+    ///
+    /// Memory was refused; then the picks may agree with no records any more.
+    pub fn follow(
+        &mut self,
+        rules: &[Rule],
+        event: &Event,
+        before: &Looked<'_>,
+    ) -> Result<(), AllocError>
+        ensures { OnOk result ((rules : List RuleText) (records : List Record) (r : Record) → IsLawfulNext rules records r (event_view event.now) →
+            StandsFor rules before.now (history rules records) →
+            ArePicks self.old (history rules records) → ArePicks self.new (event_view event.now ∷ history rules records)) }
+    {
+        let ended = before.links.ended(self.alloc, event)?;
+        self.attach(rules, event)?;
+        self.begin(event);
+        self.decide(event, before)?;
+        self.detach(ended);
+        self.undecided.begin(event)?;
+        Ok(())
+    }
+
+    /// The consumer's link that a delivery of the address goes to, of those that may be sent one: for a closest address the
+    /// one whose last delivery began first, where one without a delivery comes before all; for a balanced address the one
+    /// with the fewest deliveries that are not decided; of equal ones the one that was attached first. `None` where none
+    /// may be sent one, and for a multicast address. It takes time linear in the links of the address, and no memory.
+    pub fn pick<'t>(&self, address: &[u8], rules: &[Rule], looked: &Looked<'t>) -> Option<Link<'t>>
+        ensures picked { (records : List Record) → StandsFor rules.now looked.now (history rules.now records) → ArePicks self.now (history rules.now records) →
+            option_map (λ l. (link_view l).number) result ≡ pick rules.now address.now (history rules.now records) }
+        ensures known { (records : List Record) → StandsFor rules.now looked.now (history rules.now records) → ArePicks self.now (history rules.now records) →
+            IfSome (option_map link_view result) (λ l. link_at l.number (history rules.now records) ≡ Some l) }
+    {
+        let text = text_of(address)?;
+        let distribution = distribution_of(rules, address);
+        let number = self.table.pick(
+            text,
+            distribution,
+            |number: u64| -> bool
+                ensures { (rules : List RuleText) (records : List Record) → StandsFor rules looked.entry.now (history rules records) →
+                    result ≡ is_some_and (consumer_at number (history rules records)) (may_take (history rules records)) }
+            { may_take(looked, number) },
+        )?;
+        looked.consumer_links.get(number)
+    }
+
+    /// The link of a consumer that the event opens is attached to its address.
+    fn attach(&mut self, rules: &[Rule], event: &Event) -> Result<(), AllocError>
+        ensures counted { OnOk result (HasNamedSource (event_view event.now) → CountsMore (attached_as (own_link (event_view event.now))) self.old.table self.new.table) }
+        ensures same { self.new.undecided ≡ self.old.undecided }
+    {
+        let Some(link) = opened(event) else {
+            return Ok(());
+        };
+        let address = named_source(event);
+        let distribution = distribution_of(rules, address.as_bytes());
+        self.table
+            .attach(address, link.number, link.is_pre_settled, distribution)?;
+        Ok(())
+    }
+
+    /// A delivery begins on its link with the event. Their count always has room for it.
+    fn begin(&mut self, event: &Event)
+        ensures counted { (past : List AddressEvent) → AreFew past (outgoing.outgoing_begun (event_view event.now)) → IsCount self.old.table past →
+            IsCount self.new.table (begun_by (event_view event.now) ++ past) }
+        ensures same { self.new.undecided ≡ self.old.undecided }
+        ensures number { event.now.number < 2 ^ 64 }
+    {
+        let number = event.number;
+        let Some(delivery) = event.outgoing_begun() else {
+            return;
+        };
+        if self.table.undecided(delivery.link.number) < u64::MAX {
+            self.table.begun(delivery.link.number, number);
+        }
+    }
+
+    /// The deliveries that the event decides are decided.
+    fn decide(&mut self, event: &Event, before: &Looked<'_>) -> Result<(), AllocError>
+        ensures counted { OnOk result ((history : Events) → AreLinked before.now.links.now history →
+            DecidesAll (event_view event.now) history (sent_in before.now.sent.now) self.old.undecided self.old.table self.new.table) }
+        ensures spared { OnOk result ((history : Events) → AreLinked before.now.links.now history →
+            Spares (λ n. is_some (decided_link (event_view event.now) history (sent_in before.now.sent.now n))) self.old.undecided self.new.undecided) }
+    {
+        let mut answered = self.undecided.answered(self.alloc, event)?;
+        while let Some(number) = answered.pop() {
+            self.decide_one(number, event, before);
+        }
+        Ok(())
+    }
+
+    /// The delivery of this number is decided, if the event decides it.
+    fn decide_one(&mut self, number: u64, event: &Event, before: &Looked<'_>)
+        ensures counted { (history : Events) → AreLinked before.now.links.now history →
+            CountsMore (decided_on (decided_link (event_view event.now) history (sent_in before.now.sent.now number))) self.old.table self.new.table }
+        ensures spared { (history : Events) → AreLinked before.now.links.now history →
+            Spares (λ n. is_some (decided_link (event_view event.now) history (sent_in before.now.sent.now n))) self.old.undecided self.new.undecided }
+    {
+        let Some(own) = before.sent.get(number) else {
+            return;
+        };
+        if !decides(event, own, before.links) {
+            return;
+        }
+        let delivery = own.delivery();
+        if self.table.undecided(delivery.link.number) > 0 {
+            self.table.decided(delivery.link.number);
+        }
+        self.undecided.leave(&delivery, number);
+    }
+
+    /// The links of consumers that end are detached.
+    fn detach(&mut self, ended: Vec<Link>)
+        ensures counted { CountsMore (detached_all (views ended.entry.items)) self.old.table self.new.table }
+        ensures same { self.new.undecided ≡ self.old.undecided }
+    {
+        let mut left = ended;
+        while let Some(link) = left.pop() {
+            if link.is_consumer() {
+                self.table.detach(link.number);
+            }
+        }
+    }
+}
