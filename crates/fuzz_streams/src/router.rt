@@ -47,7 +47,7 @@ impl Router {
 
 impl Port for Router {
     ghost use Rattle.std.specs.Prelude.{replicate, true};
-    ghost use Rattle.streamed_inputs.specs.Frames.{empty_frame};
+    ghost use Rattle.fuzz_streams.specs.Frames.{empty_frame};
 
     ghost connection = { λ port. port.connection };
 
