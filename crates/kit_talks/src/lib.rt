@@ -1,5 +1,5 @@
 //! What clients and a router say to one another, in words and by chance. It names no core, so that its functions are proved
-//! beside little; `core_runs` does to a core what is said here.
+//! beside little; `tests_core` does to a core what is said here.
 //!
 //! - `said`: the bodies of clients' frames;
 //! - `lines`: the lines of a scenario, `words`: one as words, `frames`: a client's frame that it tells, and `records`: a record

@@ -1,7 +1,7 @@
 use Rattle.std.proofs.Common.{◌≡◌, sym, ap, ◌∙◌, Some, option_map, arith}
 use Rattle.route_items.specs.Outs.{first_out}
-use Rattle.core_runs.proofs.Found.{asked, within}
-use Rattle.core_runs.proofs.exchanged.port.frame_from.Goals as goal
+use Rattle.tests_core.proofs.Found.{asked, within}
+use Rattle.tests_core.proofs.exchanged.port.frame_from.Goals as goal
 
 pub returns-in_ok-to_vec-in-Some : goal.returns-in_ok-to_vec-in-Some
 returns-in_ok-to_vec-in-Some c =
