@@ -1,6 +1,6 @@
 //! Writes a lawful capture of a wanted shape and size to standard output, for whoever measures an auditor.
 //!
-//! `made_captures SHAPE COUNT` writes COUNT messages and all that goes with them. The modules, in reading order:
+//! `bench_captures SHAPE COUNT` writes COUNT messages and all that goes with them. The modules, in reading order:
 //!
 //! - `shape`: the shapes, and the traffic of each
 //! - `peers`: producers and consumers, and what is said on their links (`attaches`: how these begin)
