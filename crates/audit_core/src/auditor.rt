@@ -10,8 +10,8 @@ ghost use Rattle.audit_core.specs.declared.verdict.Refusal.TheVariants.{Memory};
 ghost use Rattle.audit_core.specs.Auditor.{Agrees, IsRefusalBehind, StandsFor, Stopped, entries_by, refusal_at, refusal_of, rules_of, tally_by};
 
 use crate::verdict::Refusal;
-use state_ledger::{Ledger, NotEntered};
 use capture_form::{Record, Rule};
+use state_ledger::{Ledger, NotEntered};
 use std::alloc::Global;
 use trace_clauses::Tally;
 

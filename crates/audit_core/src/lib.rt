@@ -22,11 +22,11 @@ mod streaming;
 mod verdict;
 mod watching;
 
-pub use state_ledger::Ledger;
 pub use auditor::{Auditor, MOST_RECORDS};
 pub use capture_form::FormKind;
 pub use judging::{audit, audit_bytes};
 pub use laws::{lawful_text, one_verdict};
+pub use state_ledger::Ledger;
 pub use streaming::{audit_stream, audit_text, audit_watched};
 pub use trace_clauses::{Clause, Tally};
 pub use verdict::{Refusal, Verdict};

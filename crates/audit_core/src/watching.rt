@@ -6,8 +6,8 @@ ghost use Rattle.capture_form.specs.Rules.{RuleText};
 ghost use Rattle.state_ledger.specs.Ledger.{Stands};
 ghost use Rattle.audit_core.specs.Watching.{RefusesOneMore, TakesOneMore};
 
-use state_ledger::Ledger;
 use capture_form::{Record, Rule};
+use state_ledger::Ledger;
 use std::alloc::AllocError;
 
 /// Is told of each record that an auditor takes, and of the one that it refuses.

@@ -15,10 +15,10 @@ ghost use Rattle.due_flows.specs.Lent.{AreOf};
 ghost use Rattle.due_copies.specs.Copies.{HasUnsent, IsDueCopy, IsKnownCopy, IsReady, IsUnsentOn};
 
 use crate::lists::Lists;
-use state_addresses::{Copies, receivers_of};
 use capture_form::Rule;
 use due_flows::Looked;
 use pairing_cert::Note;
+use state_addresses::{Copies, receivers_of};
 use std::alloc::{AllocError, Global};
 use trace_judge::{Carriage, Counts};
 use trace_values::{Event, Incoming, Link};

@@ -20,10 +20,10 @@ ghost use Rattle.due_copies.specs.Lists.{AreWith, IsIn, IsKept, IsKeptBut, IsOfB
 
 use crate::by_link::ByLink;
 use crate::candidates::Candidates;
-use state_addresses::{ConsumerLinks, Copies, Receiver};
 use flow_counts::WindowEvent;
 use number_groups::Groups;
 use pairing_cert::Note;
+use state_addresses::{ConsumerLinks, Copies, Receiver};
 use std::alloc::{AllocError, Global};
 use trace_values::{Event, Incoming, Link};
 

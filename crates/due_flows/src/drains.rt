@@ -18,9 +18,9 @@ ghost use Rattle.trace_values.specs.View.{Events, event_view, link_view};
 
 use crate::numbers::Numbers;
 use amqp_perf::Performative;
-use state_answers::Looked;
 use capture_form::Rule;
 use number_groups::OctetGroups;
+use state_answers::Looked;
 use std::alloc::{AllocError, Global};
 use trace_judge::Counts;
 use trace_values::{Event, Link};

@@ -21,8 +21,8 @@ mod numbers;
 mod parts;
 mod windows;
 
-pub use state_answers::Looked;
 pub use credits::Credits;
 pub use drains::Drains;
 pub use parts::{DuePart, Parts};
+pub use state_answers::Looked;
 pub use windows::Windows;

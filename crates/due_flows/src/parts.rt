@@ -19,10 +19,10 @@ ghost use Rattle.due_flows.specs.Parts.{HasParts, IsDuePart, stands, waits};
 ghost use Rattle.trace_values.specs.View.{Events, event_view};
 
 use crate::numbers::Numbers;
-use state_answers::Looked;
 use flow_counts::WindowEvent;
 use number_groups::Groups;
 use pairing_cert::Note;
+use state_answers::Looked;
 use std::alloc::{AllocError, Global};
 use trace_judge::{Carriage, Counts};
 use trace_values::{Event, Link};

@@ -13,8 +13,8 @@ ghost use Rattle.due_flows.specs.Windows.{HasLacking};
 ghost use Rattle.trace_values.specs.View.{Events, event_view};
 
 use crate::candidates::Candidates;
-use state_answers::Looked;
 use flow_counts::RENEWAL_MARK;
+use state_answers::Looked;
 use std::alloc::{AllocError, Global};
 use trace_events::Session;
 use trace_judge::Inputs;

@@ -11,9 +11,9 @@ ghost use Rattle.trace_values.specs.View.{incoming_view};
 ghost use Rattle.due_outcomes.specs.DueOutcomes.{IsDueOutcome};
 ghost use Rattle.due_outcomes.specs.LookedTables.{AreLooked};
 
-use state_answers::Looked;
 use capture_form::Rule;
 use pairing_cert::Why;
+use state_answers::Looked;
 use trace_judge::{Told, first_row, may_be_told};
 use trace_values::Incoming;
 

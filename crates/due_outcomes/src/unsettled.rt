@@ -31,10 +31,10 @@ ghost use Rattle.due_outcomes.specs.Unsettled.{HasUnsettled, IsParked};
 use crate::parked::Parked;
 use crate::sent_numbers::SentNumbers;
 use amqp_perf::{Disposition, Role};
-use state_answers::Looked;
-use state_outgoing::SentDelivery;
 use number_groups::{Ascending, NumberTest};
 use pairing_cert::Note;
+use state_answers::Looked;
+use state_outgoing::SentDelivery;
 use std::alloc::{AllocError, Global};
 use trace_values::{Event, Link, Outgoing};
 

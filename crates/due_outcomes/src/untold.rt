@@ -28,11 +28,11 @@ ghost use Rattle.due_outcomes.specs.Untold.{HasUntold, IsOn, KeepsOn, waits_in};
 
 use crate::outcome::{DueOutcome, outcome_of};
 use crate::sent_numbers::add_of_links;
-use state_answers::Looked;
-use state_incoming::HeldDelivery;
 use capture_form::Rule;
 use number_groups::{Ascending, Groups, OctetGroups};
 use pairing_cert::Note;
+use state_answers::Looked;
+use state_incoming::HeldDelivery;
 use std::alloc::{AllocError, Global};
 use trace_judge::Outcomes;
 use trace_values::{Event, Link, Outgoing, has_multicast};

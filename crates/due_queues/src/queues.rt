@@ -16,10 +16,10 @@ ghost use Rattle.state_tables.specs.Connections.{IsLawfulNext};
 ghost use Rattle.due_queues.specs.Picks.{StandsFor};
 ghost use Rattle.due_queues.specs.Queues.{HaveQueues, IsPushed, IsShorter, queued, waits_in};
 
-use state_answers::Looked;
-use state_incoming::Deliveries;
 use capture_form::Rule;
 use indexmap::IndexMap;
+use state_answers::Looked;
+use state_incoming::Deliveries;
 use std::alloc::{AllocError, Global};
 use std::collections::VecDeque;
 use trace_values::{Event, Incoming, has_multicast};

@@ -17,10 +17,10 @@ ghost use Rattle.due_waiting.specs.Awake.{IsKept, address_at, count_of, is_among
 ghost use Rattle.due_waiting.specs.Waking.{IsGranted};
 
 use crate::by_session::BySession;
-use state_addresses::ConsumerLinks;
 use due_flows::Looked;
 use flow_counts::WindowEvent;
 use indexmap::IndexSet;
+use state_addresses::ConsumerLinks;
 use std::alloc::{AllocError, Global};
 use trace_judge::Counts;
 use trace_values::Event;

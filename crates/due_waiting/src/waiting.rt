@@ -18,8 +18,8 @@ ghost use Rattle.due_waiting.specs.Waiting.{HasWaiting, IsDueWaiting, IsEarliest
 use crate::awake::Awake;
 use crate::by_session::BySession;
 use capture_form::Rule;
-use due_queues::{Picks, Queues};
 use due_flows::Looked;
+use due_queues::{Picks, Queues};
 use std::alloc::{AllocError, Global};
 use trace_values::{Event, Incoming, Link};
 

@@ -1,8 +1,8 @@
 //! What the auditor's tables tell of deliveries beside the questions.
 
+use refusal_facts::{Incoming, Outgoing, Payloads};
 use state_incoming::Deliveries;
 use state_outgoing::SentDeliveries;
-use refusal_facts::{Incoming, Outgoing, Payloads};
 
 /// The tables of deliveries from clients, and of those to clients, lent.
 #[derive(Clone, Copy)]

@@ -6,9 +6,9 @@ ghost use Rattle.state_ledger.specs.Ledger.{Stands, broken_behind};
 ghost use Rattle.refusal_showing.specs.Refused.{IsReasonBehind};
 
 use crate::contents::Contents;
-use state_ledger::Ledger;
 use capture_form::{Record, Rule};
 use refusal_facts::{Reason, explain};
+use state_ledger::Ledger;
 use trace_judge::judge_unopened;
 
 /// The reason why the ledger does not take the record, judged by these rules, if it breaks a clause.

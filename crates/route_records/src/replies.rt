@@ -6,11 +6,11 @@ ghost use Rattle.state_ledger.specs.HeldEvents.{held_event_view};
 ghost use Rattle.route_answers.specs.Replies.{answer_view, reply_view, CanBeSaid, CanBeWritten};
 ghost use Rattle.route_records.specs.Replies.{IsReply, AreReplies, IsAnswerable, IsAnswerOf, AreAnswers, replies_of};
 
-use state_ledger::HeldEvent;
 use capture_form::{Frame, Record, Rule, What};
 use pairing_cert::Note;
 use route_answers::{Answer, Reply, answer_to};
 use route_work::Looked;
+use state_ledger::HeldEvent;
 use std::alloc::{AllocError, Global};
 use trace_values::ReadRecord;
 

@@ -15,9 +15,9 @@ ghost use Rattle.trace_values.specs.View.{Events, event_view};
 
 use crate::dues::Dues;
 use crate::record_of;
+use capture_form::{Record, Rule};
 use state_answers::{Looked, Tables};
 use state_ledger::HeldEvent;
-use capture_form::{Record, Rule};
 use std::alloc::{AllocError, Global};
 use trace_judge::{judge_unopened_read, open};
 use trace_values::{Event, ReadRecord};

@@ -11,8 +11,8 @@ ghost use Rattle.route_work.specs.Dues.{IsDue, is_in_turn};
 ghost use Rattle.route_work.specs.Books.{TellsOf};
 
 use crate::Due;
-use state_answers::Looked;
 use capture_form::Rule;
+use state_answers::Looked;
 use std::alloc::{AllocError, Global};
 use trace_values::Event;
 

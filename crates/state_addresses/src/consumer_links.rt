@@ -10,8 +10,8 @@ ghost use Rattle.state_addresses.specs.Consumers.{opens_consumer};
 ghost use Rattle.trace_values.specs.View.{event_view, link_view};
 
 use crate::consumers::opened;
-use state_tables::HeldLink;
 use number_map::NumberMap;
+use state_tables::HeldLink;
 use std::alloc::{AllocError, Global};
 use trace_values::{Event, Link};
 

@@ -13,8 +13,8 @@ ghost use Rattle.state_addresses.specs.Receivers.{receiver_at};
 
 use crate::copies::{Receiver, copied};
 use crate::{ConsumerLinks, Consumers};
-use state_tables::Links;
 use capture_form::Rule;
+use state_tables::Links;
 use std::alloc::{AllocError, Global};
 use trace_values::Event;
 

@@ -4,12 +4,12 @@ mod carriage;
 mod outcomes;
 
 use amqp_perf::Begin;
+use capture_form::Rule;
 use state_addresses::{ConsumerLinks, Consumers, Copies};
 use state_incoming::Deliveries;
 use state_outgoing::SentDeliveries;
 use state_tables::{Connections, Links};
 use state_verdicts::Verdicts;
-use capture_form::Rule;
 use trace_events::Session;
 use trace_judge::{Counts, History, Inputs, Openings, Questions};
 use trace_values::{Asking, Incoming, Link};

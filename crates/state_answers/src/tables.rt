@@ -9,12 +9,12 @@ ghost use Rattle.state_answers.specs.Tables.{AreTables, StandFor, entries_of};
 ghost use Rattle.trace_values.specs.View.{Events, event_view};
 
 use crate::looked::Looked;
+use capture_form::Rule;
 use state_addresses::{ConsumerLinks, Consumers, Copies, receivers_of};
 use state_incoming::Deliveries;
 use state_outgoing::SentDeliveries;
 use state_tables::{Connections, Links};
 use state_verdicts::Verdicts;
-use capture_form::Rule;
 use std::alloc::{AllocError, Global};
 use trace_values::Event;
 

@@ -19,10 +19,10 @@ ghost use Rattle.trace_values.specs.View.{event_view, link_view};
 
 use crate::groups::{HeldGroups, Marks};
 use crate::held::HeldDelivery;
-use state_addresses::Addresses;
 use capture_form::Rule;
 use number_groups::NumberSet;
 use number_map::NumberMap;
+use state_addresses::Addresses;
 use std::alloc::{AllocError, Global};
 use trace_values::{Event, Link};
 

@@ -20,8 +20,8 @@ ghost use Rattle.state_incoming.specs.Held.{IsEntry, Follows, Begins};
 ghost use Rattle.state_incoming.specs.HeldViews.{held_view};
 ghost use Rattle.trace_values.specs.View.{Events, incoming_view, event_view};
 
-use state_tables::HeldLink;
 use capture_form::{Distribution, Rule, distribution_of};
+use state_tables::HeldLink;
 use std::alloc::{AllocError, Global};
 use trace_values::{Event, Incoming};
 

@@ -11,9 +11,9 @@ ghost use Rattle.trace_values.specs.View.{event_view, link_view};
 
 use crate::groups::HeldGroups;
 use amqp_perf::Role;
-use state_addresses::Addresses;
 use number_groups::{Groups, NumberSet, OctetGroups};
 use pairing_cert::Note;
+use state_addresses::Addresses;
 use std::alloc::{AllocError, Global};
 use trace_values::{Event, Link};
 

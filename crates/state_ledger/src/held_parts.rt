@@ -5,8 +5,8 @@ ghost use Rattle.state_ledger.specs.HeldEvents.{parts_of, has_parts, held_incomi
 ghost use Rattle.state_tables.specs.HeldViews.{held_link_view};
 ghost use Rattle.trace_values.specs.View.{event_view, incoming_view, link_view, outgoing_view};
 
-use state_tables::HeldLink;
 use pairing_cert::Note;
+use state_tables::HeldLink;
 use std::alloc::{AllocError, Global};
 use trace_values::{Event, Incoming, Link, Outgoing};
 

@@ -12,8 +12,8 @@ ghost use Rattle.state_ledger.specs.Ledger.{IsReason, Stands, broken_behind};
 
 use crate::not_entered::NotEntered;
 use crate::{HeldEvent, counted, hold_next};
-use state_answers::{Looked, Tables};
 use capture_form::{Record, Rule};
+use state_answers::{Looked, Tables};
 use std::alloc::{AllocError, Global};
 use trace_clauses::Tally;
 use trace_values::ReadRecord;

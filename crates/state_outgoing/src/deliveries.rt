@@ -33,9 +33,9 @@ use crate::groups::SentGroups;
 use crate::listed::push_some;
 use crate::payload::goes_on_with;
 use crate::sent::SentDelivery;
-use state_verdicts::CopyVerdict;
 use number_groups::{Groups, IdOn, NumberSet};
 use number_map::NumberMap;
+use state_verdicts::CopyVerdict;
 use std::alloc::{AllocError, Global};
 use trace_values::{Event, Link};
 

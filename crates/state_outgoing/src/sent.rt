@@ -26,9 +26,9 @@ ghost use Rattle.trace_values.specs.View.{Events, decision_view, event_view, out
 use crate::decided::Decided;
 use crate::payload::goes_on_with;
 use amqp_perf::Outcome;
+use pairing_cert::Note;
 use state_tables::HeldLink;
 use state_verdicts::CopyVerdict;
-use pairing_cert::Note;
 use std::alloc::{AllocError, Global};
 use trace_values::{Decision, Event, Outgoing, is_decisive};
 

@@ -1,9 +1,9 @@
 //! What stood behind the records of captures, drawn as curves.
 
-use state_ledger::{Ledger, NotEntered};
 use capture_form::{Capture, Record, Rule, read_capture};
 use credit_chart::draw_levels;
 use credit_levels::{Levels, Pick, Place};
+use state_ledger::{Ledger, NotEntered};
 use std::alloc::{AllocError, Global};
 use std::{fs, io};
 

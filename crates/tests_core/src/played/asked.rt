@@ -1,9 +1,9 @@
 //! What the auditor's tables answer behind the records so far, in the words of a scenario's questions.
 
-use state_incoming::HeldDelivery;
-use state_ledger::Ledger;
 use capture_form::Rule;
 use kit_talks::{Names, Telling, Words};
+use state_incoming::HeldDelivery;
+use state_ledger::Ledger;
 use std::alloc::{AllocError, Global};
 use trace_events::Session;
 use trace_judge::{Counts, Inputs, Openings, Outcomes};

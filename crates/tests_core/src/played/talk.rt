@@ -2,10 +2,10 @@
 
 use crate::cores::done;
 use crate::played::asked::Tables;
-use state_ledger::{Ledger, NotEntered};
 use capture_form::Capture;
 use kit_talks::{Difference, Stage, Words, lines_meant};
 use route_core::Core;
+use state_ledger::{Ledger, NotEntered};
 use std::alloc::{AllocError, Global};
 
 /// A scenario that is played.
