@@ -2,7 +2,7 @@
 use Rattle.std.proofs.Common.{◌≡◌, refl, ap, ◌∙◌, suc, Bool, true, false, not, ◌&&◌, ◌||◌, List, [], ◌∷◌, ◌++◌, Option, Some, None, filter, reverse, if◌then◌else◌, ◌==◌, eq-eqb}
 use Rattle.std.specs.List.{cons_option}
 use Rattle.std.proofs.lemmas.List.{reverse-append}
-use Rattle.capture_form.specs.Rules.{RuleText}
+use Rattle.capture_form.specs.Rules.{RuleSet}
 use Rattle.trace_events.specs.Words.{is_some_and}
 use Rattle.trace_events.specs.Event.{Event, Link, Incoming}
 use Rattle.trace_events.specs.Incoming.{completed_by, completes, is_complete}
@@ -31,7 +31,7 @@ unsent-by : (completed comes was before here : Bool) → (completed ≡ true →
 unsent-by true comes was before here none = ap (λ b. comes && not b) (none refl) ∙ and-true comes
 unsent-by false comes was before here none = unsent-bits was before here
 
-module _ (rules : List RuleText) (l : Link) (e : Event) (past : List Event) where
+module _ (rules : RuleSet) (l : Link) (e : Event) (past : List Event) where
   pub due_count-step : due_count rules l (e ∷ past) ≡ (if comes_due rules l e past then suc (due_count rules l past) else due_count rules l past)
   due_count-step = refl
 

@@ -1,6 +1,6 @@
 -- The session on which a judged event stands, by its channel.
 use Rattle.std.proofs.Common.{◌≡◌, sym, ap, subst, ◌∙◌, ℕ, true, List, ◌∷◌, Some, None, is_some, option_and_then}
-use Rattle.capture_form.specs.Rules.{RuleText}
+use Rattle.capture_form.specs.Rules.{RuleSet}
 use Rattle.trace_events.specs.Frame.{Body, NoFrame, Empty, NoPerformative, Says, Spoken, spoken_in, channel_in}
 use Rattle.trace_events.specs.Said.{out_begin}
 use Rattle.trace_events.specs.Event.{Event, Moment, Opened, In, Out, Lost, Broken, spoken_of, channel_of, is_on_channel}
@@ -27,7 +27,7 @@ spoken-channel Broken spoken is = absurd cc
 
 -- ---- a begin that is written stands on the session that it begins
 
-module _ (rules : List RuleText) (e : Event) (past : List Event) (are : AreJudged rules (e ∷ past)) where
+module _ (rules : RuleSet) (e : Event) (past : List Event) (are : AreJudged rules (e ∷ past)) where
   pub session-begun : (c channel : ℕ) → is_some (out_begin e) ≡ true → is_on_channel c channel e ≡ true → e.session ≡ session_begun c channel e past
   session-begun c channel begins on =
       let r = are.0.0 in

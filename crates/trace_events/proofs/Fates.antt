@@ -1,6 +1,6 @@
 -- What becomes of an incoming delivery: one thing at a time, and once for good.
 use Rattle.std.proofs.Common.{◌≡◌, refl, List, ◌∷◌, Bool, true, false, not, ◌&&◌, ◌||◌}
-use Rattle.capture_form.specs.Rules.{RuleText}
+use Rattle.capture_form.specs.Rules.{RuleSet}
 use Rattle.trace_events.specs.Event.{Event, Incoming}
 use Rattle.trace_events.specs.Incoming.{is_complete, is_settled, is_told, is_aborted}
 use Rattle.trace_events.specs.Waiting.{is_unpaired, is_waiting, is_gone, always_had_consumer}
@@ -11,7 +11,7 @@ either true false = refl
 either false c = refl
 
 -- no delivery both waits and is gone
-pub not_both : (rules : List RuleText) (d : Incoming) (past : List Event) → is_waiting rules d past && is_gone rules d past ≡ false
+pub not_both : (rules : RuleSet) (d : Incoming) (past : List Event) → is_waiting rules d past && is_gone rules d past ≡ false
 not_both rules d past = either (is_unpaired rules d past) (always_had_consumer d past)
 
 or-true : (b c : Bool) → c ≡ true → b || c ≡ true

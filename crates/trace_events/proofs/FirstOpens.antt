@@ -2,7 +2,7 @@
 use Rattle.std.proofs.Common.{◌≡◌, refl, sym, ap, ◌∙◌, ℕ, Bool, true, false, ◌&&◌, ◌||◌, List, [], ◌∷◌, Option, Some, None, is_some, if◌then◌else◌, ◌==◌}
 use Rattle.amqp_perf.specs.Meaning.{OpenFields}
 use Rattle.capture_form.specs.declared.records.Record.{Record}
-use Rattle.capture_form.specs.Rules.{RuleText}
+use Rattle.capture_form.specs.Rules.{RuleSet}
 use Rattle.trace_events.specs.Words.{or_else}
 use Rattle.trace_events.specs.Event.{Event}
 use Rattle.trace_events.specs.Said.{in_open}
@@ -41,7 +41,7 @@ pub first_open-stays : (c : ℕ) (e : Event) (past : List Event) → has_in_open
 first_open-stays c e past is = let first = opened-first c past is in first_open-later c e past first.0 first.1 ∙ sym first.1
 
 -- whatever is recorded later
-pub frame_limit-continued : (c : ℕ) (rules : List RuleText) (past : List Event) (rs : List Record) → has_in_open c past ≡ true → frame_limit c (continued rules past rs) ≡ frame_limit c past
+pub frame_limit-continued : (c : ℕ) (rules : RuleSet) (past : List Event) (rs : List Record) → has_in_open c past ≡ true → frame_limit c (continued rules past rs) ≡ frame_limit c past
 frame_limit-continued c rules past [] is = refl
 frame_limit-continued c rules past (r ∷ rs) is =
     frame_limit-continued c rules (judge rules past r ∷ past) rs (has_in_open-stays c (judge rules past r) past is) ∙ frame_limit-stays c (judge rules past r) past is

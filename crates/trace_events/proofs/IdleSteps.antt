@@ -2,7 +2,7 @@
 use Rattle.std.proofs.Common.{◌≡◌, refl, ap, ◌∙◌, ℕ, false, not, ◌&&◌, List, ◌∷◌, Option, Some, None, is_some, is_none, option_and_then, option_map, if◌then◌else◌}
 use Rattle.amqp_perf.specs.Meaning.{Meaning, AnOpen, ABegin, AnAttach, AFlow, ATransfer, ADisposition, ADetach, AnEnd, AClose}
 use Rattle.pairing_cert.specs.declared.note.Note.{Note}
-use Rattle.capture_form.specs.Rules.{RuleText}
+use Rattle.capture_form.specs.Rules.{RuleSet}
 use Rattle.trace_events.specs.Words.{is_some_and}
 use Rattle.trace_events.specs.Frame.{Spoken, spoken_in}
 use Rattle.trace_events.specs.Event.{Event, Link, Incoming, Outgoing, Moment, Opened, In, Out, Lost, Broken}
@@ -116,16 +116,16 @@ module _ (e : Event) (past : List Event) (idle : IsIdle e) where
 
   -- ---- copies that are due
 
-  pub due_count-idle : (rules : List RuleText) (l : Link) → due_count rules l (e ∷ past) ≡ due_count rules l past
+  pub due_count-idle : (rules : RuleSet) (l : Link) → due_count rules l (e ∷ past) ≡ due_count rules l past
   due_count-idle rules l = waits.due_count-none rules e past l (kinds.completed_by-apart e idle.incoming)
 
-  pub is_due-idle : (rules : List RuleText) (d : Incoming) (l : Link) → is_due rules d l (e ∷ past) ≡ is_due rules d l past
+  pub is_due-idle : (rules : RuleSet) (d : Incoming) (l : Link) → is_due rules d l (e ∷ past) ≡ is_due rules d l past
   is_due-idle rules d l = waits.is_due-same rules e past d l (completes-idle d)
 
-  pub is_unsent-idle : (rules : List RuleText) (d : Incoming) (l : Link) → is_unsent rules d l (e ∷ past) ≡ is_unsent rules d l past
+  pub is_unsent-idle : (rules : RuleSet) (d : Incoming) (l : Link) → is_unsent rules d l (e ∷ past) ≡ is_unsent rules d l past
   is_unsent-idle rules d l = waits.is_unsent-same rules e past d l (is_due-idle rules d l) (is_named_on-idle d l)
 
-  pub has_unsent-idle : (rules : List RuleText) (l : Link) → has_unsent rules l (e ∷ past) ≡ has_unsent rules l past
+  pub has_unsent-idle : (rules : RuleSet) (l : Link) → has_unsent rules l (e ∷ past) ≡ has_unsent rules l past
   has_unsent-idle rules l = waits.has_unsent-same rules e past l incoming_begun-idle (λ d. is_unsent-idle rules d l)
 
 -- ---- an idle event that leaves all links
@@ -150,24 +150,24 @@ module _ (e : Event) (past : List Event) (idle : IsIdle e) (steady : IsSteady e)
   pub always_had_consumer-idle : (d : Incoming) → always_had_consumer d (e ∷ past) ≡ always_had_consumer d past
   always_had_consumer-idle d = waits.always_had_consumer-same d e past (completes-idle e past idle d) (has_consumer-steady e past steady d.link.address none)
 
-  pub is_waiting-idle : (rules : List RuleText) (d : Incoming) → is_waiting rules d (e ∷ past) ≡ is_waiting rules d past
+  pub is_waiting-idle : (rules : RuleSet) (d : Incoming) → is_waiting rules d (e ∷ past) ≡ is_waiting rules d past
   is_waiting-idle rules d = waits.is_waiting-same d e past rules (is_complete-idle e past idle d) (is_paired-idle e past idle d) (always_had_consumer-idle d)
 
-  pub is_gone-idle : (rules : List RuleText) (d : Incoming) → is_gone rules d (e ∷ past) ≡ is_gone rules d past
+  pub is_gone-idle : (rules : RuleSet) (d : Incoming) → is_gone rules d (e ∷ past) ≡ is_gone rules d past
   is_gone-idle rules d = waits.is_gone-same d e past rules (is_complete-idle e past idle d) (is_paired-idle e past idle d) (always_had_consumer-idle d)
 
-  pub is_undecided-idle : (rules : List RuleText) (d : Incoming) → is_undecided rules d (e ∷ past) ≡ is_undecided rules d past
+  pub is_undecided-idle : (rules : RuleSet) (d : Incoming) → is_undecided rules d (e ∷ past) ≡ is_undecided rules d past
   is_undecided-idle rules d =
       waits.is_undecided-same d e past rules (is_live-steady e past steady d.link) (is_aborted-idle e past idle d) (is_complete-idle e past idle d)
       (is_waiting-idle rules d) (is_settled-idle e past idle d) (is_told-idle e past idle d)
 
-  pub undecided_count-idle : (rules : List RuleText) (l : Link) → undecided_count rules l (e ∷ past) ≡ undecided_count rules l past
+  pub undecided_count-idle : (rules : RuleSet) (l : Link) → undecided_count rules l (e ∷ past) ≡ undecided_count rules l past
   undecided_count-idle rules l = waits.undecided_count-same rules e past l (incoming_begun-idle e past idle) (is_undecided-idle rules)
 
-  pub to_tell-idle : (rules : List RuleText) (s : Session) (id : ℕ) → to_tell rules s id (e ∷ past) ≡ to_tell rules s id past
+  pub to_tell-idle : (rules : RuleSet) (s : Session) (id : ℕ) → to_tell rules s id (e ∷ past) ≡ to_tell rules s id past
   to_tell-idle rules s id = waits.to_tell-same rules e past s id (incoming_begun-idle e past idle) (is_undecided-idle rules)
 
-  pub has_waiting-idle : (rules : List RuleText) (address : List ℕ) → has_waiting rules address (e ∷ past) ≡ has_waiting rules address past
+  pub has_waiting-idle : (rules : RuleSet) (address : List ℕ) → has_waiting rules address (e ∷ past) ≡ has_waiting rules address past
   has_waiting-idle rules address = waits.has_waiting-same rules e past address (incoming_begun-idle e past idle) (is_waiting-idle rules)
 
 -- ---- which events of a history are idle: neither transfers nor dispositions
@@ -194,7 +194,7 @@ outgoing_part-none e (ADetach x) past none = refl
 outgoing_part-none e (AnEnd x) past none = refl
 outgoing_part-none e (AClose x) past none = refl
 
-told_part-none : (rules : List RuleText) (e : Event) (m : Meaning) (past : List Event) → as_disposition m ≡ None → told_part rules e m past ≡ None
+told_part-none : (rules : RuleSet) (e : Event) (m : Meaning) (past : List Event) → as_disposition m ≡ None → told_part rules e m past ≡ None
 told_part-none rules e (ADisposition x) past none = absurd cc
 told_part-none rules e (AnOpen x) past none = refl
 told_part-none rules e (ABegin x) past none = refl
@@ -238,7 +238,7 @@ outgoing_by-none e Opened past none = refl
 outgoing_by-none e Lost past none = refl
 outgoing_by-none e Broken past none = refl
 
-pub told_by-none : (rules : List RuleText) (e : Event) (moment : Moment) (past : List Event) → option_and_then as_disposition (out_said moment) ≡ None → told_by rules e moment past ≡ None
+pub told_by-none : (rules : RuleSet) (e : Event) (moment : Moment) (past : List Event) → option_and_then as_disposition (out_said moment) ≡ None → told_by rules e moment past ≡ None
 told_by-none rules e (Out frame) past none =
     part_of-none as_disposition (λ m. told_part rules e m past) (λ m. told_part-none rules e m past) (spoken_in frame.body) none
 told_by-none rules e (In frame) past none = refl
@@ -253,7 +253,7 @@ settled_by-none e Opened past none = refl
 settled_by-none e Lost past none = refl
 settled_by-none e Broken past none = refl
 
-module _ (rules : List RuleText) (past : List Event) (c : ℕ) (moment : Moment) (note : Note) where
+module _ (rules : RuleSet) (past : List Event) (c : ℕ) (moment : Moment) (note : Note) where
   pub incoming-judged : in_transfer (judge_moment rules past c moment note) ≡ None → (judge_moment rules past c moment note).incoming ≡ None
   incoming-judged none = incoming_by-none (faulted rules past (heard past (placed past c moment note))) moment past none
 

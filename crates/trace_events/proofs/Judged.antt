@@ -4,7 +4,7 @@ use Rattle.std.specs.Prelude.{if◌then◌else◌}
 use Rattle.amqp_perf.specs.Meaning.{Meaning, AnOpen, ABegin, AnAttach, AFlow, ATransfer, ADisposition, ADetach, AnEnd, AClose, TransferFields, flag}
 use Rattle.pairing_cert.specs.declared.note.Note.{Note}
 use Rattle.capture_form.specs.declared.records.Record.{Record}
-use Rattle.capture_form.specs.Rules.{RuleText}
+use Rattle.capture_form.specs.Rules.{RuleSet}
 use Rattle.trace_events.specs.Words.{is_some_and, or_else}
 use Rattle.trace_events.specs.Said.{out_transfer}
 use Rattle.trace_events.specs.Frame.{Frame, Spoken, spoken_in}
@@ -14,15 +14,15 @@ use Rattle.trace_events.specs.History.{judge, placed, heard, faulted, moment_of,
 use Rattle.trace_events.proofs.Elsewhere.{if-some}
 
 -- each event is a record in its place
-abbrev pub AreJudged : List RuleText → List Event → Type 0
+abbrev pub AreJudged : RuleSet → List Event → Type 0
 AreJudged rules [] = Unit {0}
 AreJudged rules (e ∷ past) = ((r : Record) × (e ≡ judge rules past r)) × AreJudged rules past
 
-pub continued-judged : (rules : List RuleText) (past : List Event) (rs : List Record) → AreJudged rules past → AreJudged rules (continued rules past rs)
+pub continued-judged : (rules : RuleSet) (past : List Event) (rs : List Record) → AreJudged rules past → AreJudged rules (continued rules past rs)
 continued-judged rules past [] are = are
 continued-judged rules past (r ∷ rs) are = continued-judged rules (judge rules past r ∷ past) rs ((r, refl), are)
 
-pub history-judged : (rules : List RuleText) (rs : List Record) → AreJudged rules (history rules rs)
+pub history-judged : (rules : RuleSet) (rs : List Record) → AreJudged rules (history rules rs)
 history-judged rules rs = continued-judged rules [] rs tt
 
 -- a delivery was begun before, or begins here and has the note
@@ -80,7 +80,7 @@ outgoing_by-born e Opened past number are = tt
 outgoing_by-born e Lost past number are = tt
 outgoing_by-born e Broken past number are = tt
 
-pub judged-born : (rules : List RuleText) (past : List Event) → AreJudged rules past → AreBorn past
+pub judged-born : (rules : RuleSet) (past : List Event) → AreJudged rules past → AreBorn past
 judged-born rules [] are = tt
 judged-born rules (e ∷ past) ((r, is), are) = (
   subst (λ (x : Event). IfSome x.outgoing (IsBorn (length past) x.note)) (sym is)
@@ -89,7 +89,7 @@ judged-born rules (e ∷ past) ((r, is), are) = (
 )
 
 -- an event has the number of events before it
-pub judged-number : (rules : List RuleText) (e : Event) (past : List Event) → AreJudged rules (e ∷ past) → e.number ≡ length past
+pub judged-number : (rules : RuleSet) (e : Event) (past : List Event) → AreJudged rules (e ∷ past) → e.number ≡ length past
 judged-number rules e past ((r, is), are) = ap (λ (x : Event). x.number) is
 
 -- ---- only transfers that are written are of deliveries to clients
@@ -133,7 +133,7 @@ outgoing_by-transfer e Opened past = tt
 outgoing_by-transfer e Lost past = tt
 outgoing_by-transfer e Broken past = tt
 
-pub judged-transfer : (rules : List RuleText) (e : Event) (past : List Event) → AreJudged rules (e ∷ past) → IfSome e.outgoing (λ j. IsTransfer e.moment)
+pub judged-transfer : (rules : RuleSet) (e : Event) (past : List Event) → AreJudged rules (e ∷ past) → IfSome e.outgoing (λ j. IsTransfer e.moment)
 judged-transfer rules e past ((r, is), are) =
     subst (λ (x : Event). IfSome x.outgoing (λ j. IsTransfer x.moment)) (sym is)
     (outgoing_by-transfer (faulted rules past (heard past (placed past r.connection (moment_of r.what) r.note))) (moment_of r.what) past)

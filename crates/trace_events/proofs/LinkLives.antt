@@ -4,7 +4,7 @@ use Rattle.std.proofs.lemmas.Bool.{eq-eqb, ne_eqb}
 use Rattle.amqp_perf.specs.declared.begin.Begin.{Begin}
 use Rattle.amqp_perf.specs.Meaning.{Meaning, AnOpen, ABegin, AnAttach, AFlow, ATransfer, ADisposition, ADetach, AnEnd, AClose, AttachFields}
 use Rattle.capture_form.specs.declared.records.Record.{Record}
-use Rattle.capture_form.specs.Rules.{RuleText}
+use Rattle.capture_form.specs.Rules.{RuleSet}
 use Rattle.trace_events.specs.Words.{is_some_and, or_else, where_passes}
 use Rattle.trace_events.specs.Frame.{Spoken}
 use Rattle.trace_events.specs.Event.{Event, Link, spoken_of}
@@ -23,7 +23,7 @@ use Rattle.trace_events.proofs.LinkSteps.{session_link-opened, live_link-of, is_
 use Rattle.trace_events.proofs.SessionSteps.{live_session-same}
 
 -- sessions and links of judged events are those that their records began
-pub judged-stands : (rules : List RuleText) (past : List Event) → AreJudged rules past → Stands past
+pub judged-stands : (rules : RuleSet) (past : List Event) → AreJudged rules past → Stands past
 judged-stands rules [] are = none_stands
 judged-stands rules (e ∷ past) ((r, is), are) = subst (λ (x : Event). Stands (x ∷ past)) (sym is) (stands_step rules past r (judged-stands rules past are))
 
@@ -187,7 +187,7 @@ option_said : (o : Option Meaning) (a : AttachFields) → option_and_then as_att
 option_said None a is = absurd cc
 option_said (Some meaning) a is = ap (λ m. Some m) (said_attach meaning a is)
 
-module _ (rules : List RuleText) (past : List Event) (r : Record) where
+module _ (rules : RuleSet) (past : List Event) (r : Record) where
   opened_lives : (l : Link) → is_some (attach_in (moment_of r.what)) ≡ true → (judge rules past r).link ≡ Some l → is_live (judge rules past r ∷ past) l ≡ true
   opened_lives l attaches is =
       let m = moment_of r.what in
@@ -215,6 +215,6 @@ module _ (rules : List RuleText) (past : List Event) (r : Record) where
       ]
 
 -- one that an event opens lives
-pub is_live-new : (rules : List RuleText) (e : Event) (past : List Event) (l : Link) → AreJudged rules (e ∷ past) → own_link e ≡ Some l → is_live (e ∷ past) l ≡ true
+pub is_live-new : (rules : RuleSet) (e : Event) (past : List Event) (l : Link) → AreJudged rules (e ∷ past) → own_link e ≡ Some l → is_live (e ∷ past) l ≡ true
 is_live-new rules e past l ((r, is), are) own =
     subst (λ (x : Event). own_link x ≡ Some l → is_live (x ∷ past) l ≡ true) (sym is) (judged_lives rules past r l (judged-stands rules past are)) own

@@ -2,7 +2,7 @@
 use Rattle.std.proofs.Common.{◌≡◌, refl, sym, ap, subst, ◌∙◌, ℕ, ◌<◌, ◌≤◌, Bool, true, false, ◌||◌, List, [], ◌∷◌, length, Option, Some, None, filter, find, if◌then◌else◌, ◌==◌, arith}
 use Rattle.std.specs.List.{AllByRecursion, cons_option, list_any}
 use Rattle.std.proofs.lemmas.Bool.{eqb-true, eq-eqb, ne_eqb}
-use Rattle.capture_form.specs.Rules.{RuleText}
+use Rattle.capture_form.specs.Rules.{RuleSet}
 use Rattle.trace_events.specs.Words.{is_some_and}
 use Rattle.trace_events.specs.Event.{Event, Link}
 use Rattle.trace_events.specs.Link.{own_link, links, link_at}
@@ -10,7 +10,7 @@ use Rattle.trace_events.proofs.Judged.{AreJudged, judged-number}
 use Rattle.trace_events.proofs.Links.{AreFound, found_step, none_found, link_opened_number}
 
 -- a link that an event opens has the number of events before it
-pub own_link-number : (rules : List RuleText) (e : Event) (past : List Event) (l : Link) → AreJudged rules (e ∷ past) → own_link e ≡ Some l → l.number ≡ length past
+pub own_link-number : (rules : RuleSet) (e : Event) (past : List Event) (l : Link) → AreJudged rules (e ∷ past) → own_link e ≡ Some l → l.number ≡ length past
 own_link-number rules e past l are is = (link_opened_number e l is).1 ∙ judged-number rules e past are
 
 -- ---- numbers that fall
@@ -28,7 +28,7 @@ falling-more : (n m : ℕ) (o : Option Link) (ls : List Link) → n < m → ((l 
 falling-more n m None ls lt own h = falling-weaker n m ls (omega (arith, lt)) h
 falling-more n m (Some l) ls lt own h = (omega (arith, lt, own l refl), falling-weaker n l.number ls (omega (arith, own l refl)) h)
 
-pub judged-falling : (rules : List RuleText) (past : List Event) → AreJudged rules past → AreFalling (length past) (links past)
+pub judged-falling : (rules : RuleSet) (past : List Event) → AreJudged rules past → AreFalling (length past) (links past)
 judged-falling rules [] are = tt
 judged-falling rules (e ∷ past) are =
     falling-more (length past) (length (e ∷ past)) (own_link e) (links past) (omega arith) (λ l is. own_link-number rules e past l are is) (judged-falling rules past are.1)
@@ -87,7 +87,7 @@ module _ (test : Link → Bool) where
       by false is true passes rest = ap (λ b. b || list_any (λ l. n == l.number) (filter test ls)) (same-sym n l.number ∙ is) ∙ rest
       by false is false passes rest = rest
 
-module _ (rules : List RuleText) (past : List Event) (are : AreJudged rules past) where
+module _ (rules : RuleSet) (past : List Event) (are : AreJudged rules past) where
   -- no link is of a record that is still to come
   pub link_at-later : (n : ℕ) → length past ≤ n → link_at n past ≡ None
   link_at-later n le = find-above n (length past) (links past) (judged-falling rules past are) le
@@ -100,6 +100,6 @@ module _ (rules : List RuleText) (past : List Event) (are : AreJudged rules past
   any-at test n = any-found test n (length past) (links past) (judged-falling rules past are)
 
 -- the link that is found by a number has it
-pub judged-found : (rules : List RuleText) (past : List Event) → AreJudged rules past → AreFound past
+pub judged-found : (rules : RuleSet) (past : List Event) → AreJudged rules past → AreFound past
 judged-found rules [] are = none_found
 judged-found rules (e ∷ past) ((r, is), are) = subst (λ (x : Event). AreFound (x ∷ past)) (sym is) (found_step rules past r (judged-found rules past are))

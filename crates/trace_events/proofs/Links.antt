@@ -4,7 +4,7 @@ use Rattle.std.specs.List.{filter_map, cons_option}
 use Rattle.std.proofs.lemmas.Bool.{eqb-true, eq-eqb}
 use Rattle.amqp_perf.specs.Meaning.{Meaning, AnOpen, ABegin, AnAttach, AFlow, ATransfer, ADisposition, ADetach, AnEnd, AClose, AttachFields, DetachFields}
 use Rattle.capture_form.specs.declared.records.Record.{Record}
-use Rattle.capture_form.specs.Rules.{RuleText}
+use Rattle.capture_form.specs.Rules.{RuleSet}
 use Rattle.trace_events.specs.Words.{is_some_and, or_else, where_passes}
 use Rattle.trace_events.specs.Frame.{Frame, Spoken, spoken_in}
 use Rattle.trace_events.specs.Said.{as_begin, as_attach, out_begin, out_attach, in_detach, out_detach, handle_in}
@@ -89,7 +89,7 @@ first_of_both None p x none e = let never : ◌≡◌ {A = Option _} None (Some 
 first_of_both (Some y) p x none e = e
 
 -- a link has the number of the record that opens it
-pub opened_number : (rules : List RuleText) (past : List Event) (r : Record) (l : Link) → is_some (out_attach (judge rules past r)) ≡ true → (judge rules past r).link ≡ Some l → l.number ≡ length past
+pub opened_number : (rules : RuleSet) (past : List Event) (r : Record) (l : Link) → is_some (out_attach (judge rules past r)) ≡ true → (judge rules past r).link ≡ Some l → l.number ≡ length past
 opened_number rules past r l is e =
     let m = moment_of r.what in
     let session = session_of r.connection m past in
@@ -127,17 +127,17 @@ passing test (Some y) x e = by (test y) refl e
 pub link_opened_number : (e : Event) (l : Link) → own_link e ≡ Some l → (e.link ≡ Some l) × (l.number ≡ e.number)
 link_opened_number e l is = let h = passing (λ (l : Link). l.number == e.number) e.link l is in (h.0, eqb-true l.number e.number h.1)
 
-known_by : (rules : List RuleText) (past : List Event) (r : Record) (l : Link) (o : Option Link) → own_link (judge rules past r) ≡ o → IsKnown past l
+known_by : (rules : RuleSet) (past : List Event) (r : Record) (l : Link) (o : Option Link) → own_link (judge rules past r) ≡ o → IsKnown past l
     → find (λ (m : Link). m.number == l.number) (cons_option o (links past)) ≡ Some l
 known_by rules past r l None is known = known.at
 known_by rules past r l (Some m) is known = at_by l m past (link_opened_number (judge rules past r) m is).1 known
 
 -- one that is known stays so
-pub known_still : (rules : List RuleText) (past : List Event) (r : Record) (l : Link) → IsKnown past l → IsKnown (judge rules past r ∷ past) l
+pub known_still : (rules : RuleSet) (past : List Event) (r : Record) (l : Link) → IsKnown past l → IsKnown (judge rules past r ∷ past) l
 known_still rules past r l known = record { at = known_by rules past r l (own_link (judge rules past r)) refl known; before = omega (arith, known.before) }
 
 -- one that opens is known
-pub known_opened : (rules : List RuleText) (past : List Event) (r : Record) (l : Link) → is_some (out_attach (judge rules past r)) ≡ true → (judge rules past r).link ≡ Some l → IsKnown (judge rules past r ∷ past) l
+pub known_opened : (rules : RuleSet) (past : List Event) (r : Record) (l : Link) → is_some (out_attach (judge rules past r)) ≡ true → (judge rules past r).link ≡ Some l → IsKnown (judge rules past r ∷ past) l
 known_opened rules past r l is e =
     let own = opened_number rules past r l is e in
     let same : (l.number == length past) ≡ true = eq-eqb l.number (length past) own in
@@ -166,7 +166,7 @@ and_false false = refl
 off_and : (a b : Bool) → b ≡ false → (a && b) ≡ false
 off_and a b e = ap (λ (c : Bool). a && c) e ∙ and_false a
 
-pub no_link_step : (rules : List RuleText) (past : List Event) (r : Record) → sessions.AreKnown past → HaveNoLink past → HaveNoLink (judge rules past r ∷ past)
+pub no_link_step : (rules : RuleSet) (past : List Event) (r : Record) → sessions.AreKnown past → HaveNoLink past → HaveNoLink (judge rules past r ∷ past)
 no_link_step rules past r known none s handle after =
     let e = judge rules past r in
     let off : is_on_session s e ≡ false =
@@ -179,7 +179,7 @@ no_link_step rules past r known none s handle after =
     ) refl
 
 -- a session was known before, or is the record's own
-known_or_own : (rules : List RuleText) (past : List Event) (r : Record) (s : Session) → sessions.AreFound past → sessions.IsKnown (judge rules past r ∷ past) s → sessions.IsKnown past s ⊎ (s.number ≡ length past)
+known_or_own : (rules : RuleSet) (past : List Event) (r : Record) (s : Session) → sessions.AreFound past → sessions.IsKnown (judge rules past r ∷ past) s → sessions.IsKnown past s ⊎ (s.number ≡ length past)
 known_or_own rules past r s found known = by (own_session (judge rules past r)) refl known.at
   where
     by : (o : Option Session) → own_session (judge rules past r) ≡ o → find (λ (t : Session). t.number == s.number) (cons_option o (filter_map own_session past)) ≡ Some s → sessions.IsKnown past s ⊎ (s.number ≡ length past)
@@ -198,7 +198,7 @@ attach_is number s handle (Some a) past l same e =
     ap (λ (h : ℕ). option_map (λ (ours : AttachFields). new_link number s ours (last_in_attach s h past)) (where_passes opens_link (Some a))) (eqb-true a.handle handle same) ∙ e
 
 -- the session of an event that stands on this one is this one
-session_is : (rules : List RuleText) (past : List Event) (r : Record) (s : Session) → sessions.AreKnown past → sessions.IsKnown (judge rules past r ∷ past) s → is_on_session s (judge rules past r) ≡ true → (judge rules past r).session ≡ Some s
+session_is : (rules : RuleSet) (past : List Event) (r : Record) (s : Session) → sessions.AreKnown past → sessions.IsKnown (judge rules past r ∷ past) s → is_on_session s (judge rules past r) ≡ true → (judge rules past r).session ≡ Some s
 session_is rules past r s known is on =
     let e = judge rules past r in
     let t = some_passes (λ (t : Session). t.number == s.number) e.session (and_first (is_some_and e.session (λ (t : Session). t.number == s.number)) (e.connection == s.connection) on) in
@@ -206,7 +206,7 @@ session_is rules past r s known is on =
     let same : ◌≡◌ {A = Option Session} (Some t.0) (Some s) = sym own.at ∙ ap (λ (n : ℕ). session_at n (e ∷ past)) (eqb-true t.0.number s.number t.2) ∙ is.at in
     t.1 ∙ same
 
-opened_is : (rules : List RuleText) (past : List Event) (r : Record) (s : Session) (handle : ℕ) (l : Link) → sessions.AreKnown past → sessions.IsKnown (judge rules past r ∷ past) s
+opened_is : (rules : RuleSet) (past : List Event) (r : Record) (s : Session) (handle : ℕ) (l : Link) → sessions.AreKnown past → sessions.IsKnown (judge rules past r ∷ past) s
     → attaches_out s handle (judge rules past r) ≡ true → link_opened s handle (judge rules past r) past ≡ Some l → (judge rules past r).link ≡ Some l
 opened_is rules past r s handle l known is attaches e =
     let e' = judge rules past r in
@@ -219,7 +219,7 @@ opened_is rules past r s handle l known is attaches e =
     ap (λ (o : Option Link). or_else o (link_of m past session))
     (ap (λ (o : Option Session). opened_by (length past) (attach_in m) o past) (unbegun ∙ session_is rules past r s known is on) ∙ attach_is (length past) s handle (attach_in m) past l same e)
 
-earlier_known : (rules : List RuleText) (past : List Event) (r : Record) (s : Session) (handle : ℕ) (l : Link) → AreKnown past → HaveNoLink past → sessions.IsKnown past s ⊎ (s.number ≡ length past)
+earlier_known : (rules : RuleSet) (past : List Event) (r : Record) (s : Session) (handle : ℕ) (l : Link) → AreKnown past → HaveNoLink past → sessions.IsKnown past s ⊎ (s.number ≡ length past)
     → session_link s handle past ≡ Some l → IsKnown (judge rules past r ∷ past) l
 earlier_known rules past r s handle l known none (inl is) e = known_still rules past r l (known s handle l is e)
 earlier_known rules past r s handle l known none (inr own) e =
@@ -231,7 +231,7 @@ or_kinds : {A : Type 0} (o p : Option A) (x : A) → or_else o p ≡ Some x → 
 or_kinds None p x e = inr e
 or_kinds (Some y) p x e = inl e
 
-last_by : (rules : List RuleText) (past : List Event) (r : Record) (s : Session) (handle : ℕ) (l : Link) (detached attached : Bool)
+last_by : (rules : RuleSet) (past : List Event) (r : Record) (s : Session) (handle : ℕ) (l : Link) (detached attached : Bool)
     → attaches_out s handle (judge rules past r) ≡ attached → AreKnown past → HaveNoLink past → sessions.AreKnown past → sessions.AreFound past → sessions.IsKnown (judge rules past r ∷ past) s
     → (if detached then None else if attached then or_else (link_opened s handle (judge rules past r) past) (session_link s handle past) else session_link s handle past) ≡ Some l
     → IsKnown (judge rules past r ∷ past) l
@@ -245,7 +245,7 @@ last_by rules past r s handle l false true is known none all found own e = elim 
 ]
 last_by rules past r s handle l false false is known none all found own e = earlier_known rules past r s handle l known none (known_or_own rules past r s found own) e
 
-pub known_step : (rules : List RuleText) (past : List Event) (r : Record) → sessions.AreKnown past → sessions.AreFound past → HaveNoLink past → AreKnown past → AreKnown (judge rules past r ∷ past)
+pub known_step : (rules : RuleSet) (past : List Event) (r : Record) → sessions.AreKnown past → sessions.AreFound past → HaveNoLink past → AreKnown past → AreKnown (judge rules past r ∷ past)
 known_step rules past r all found none known s handle l own e =
     last_by rules past r s handle l (detaches_in s handle (judge rules past r) || detaches_out s handle (judge rules past r)) (attaches_out s handle (judge rules past r)) refl known none all found own e
 
@@ -277,7 +277,7 @@ handle_begins Lost spoken handle says is = refl
 handle_begins Broken spoken handle says is = refl
 
 -- the link of an event is its own, or one that it names on its session
-pub of_kind : (rules : List RuleText) (past : List Event) (r : Record) (l : Link) → (judge rules past r).link ≡ Some l
+pub of_kind : (rules : RuleSet) (past : List Event) (r : Record) (l : Link) → (judge rules past r).link ≡ Some l
     → (is_some (attach_in (moment_of r.what)) ≡ true) ⊎ ((s : Session) × ((judge rules past r).session ≡ Some s) × Named past s l)
 of_kind rules past r l e = by (attach_in (moment_of r.what)) refl e
   where
@@ -302,7 +302,7 @@ pub record Stands (past : List Event) : Type 0 where
   pub known : AreKnown past
 
 -- one that an event names without opening it was known
-pub named_known : (rules : List RuleText) (past : List Event) (r : Record) (l : Link) → Stands past → (s : Session) → (judge rules past r).session ≡ Some s → Named past s l → IsKnown (judge rules past r ∷ past) l × (l.number < length past)
+pub named_known : (rules : RuleSet) (past : List Event) (r : Record) (l : Link) → Stands past → (s : Session) → (judge rules past r).session ≡ Some s → Named past s l → IsKnown (judge rules past r ∷ past) l × (l.number < length past)
 named_known rules past r l stands s on named = elim (known_or_own rules past r s stands.sessions_found (sessions.event_known rules past r s stands.sessions_known on)) [
   | inl is ↦ let h = stands.known s named.0 l is named.1 in (known_still rules past r l h, h.before)
   | inr own ↦
@@ -312,13 +312,13 @@ named_known rules past r l stands s on named = elim (known_or_own rules past r s
 ]
 
 -- the link of an event is known
-pub event_known : (rules : List RuleText) (past : List Event) (r : Record) (l : Link) → Stands past → (judge rules past r).link ≡ Some l → IsKnown (judge rules past r ∷ past) l
+pub event_known : (rules : RuleSet) (past : List Event) (r : Record) (l : Link) → Stands past → (judge rules past r).link ≡ Some l → IsKnown (judge rules past r ∷ past) l
 event_known rules past r l stands e = elim (of_kind rules past r l e) [
   | inl opens ↦ known_opened rules past r l opens e
   | inr named ↦ (named_known rules past r l stands named.0 named.1 named.2).0
 ]
 
-pub stands_step : (rules : List RuleText) (past : List Event) (r : Record) → Stands past → Stands (judge rules past r ∷ past)
+pub stands_step : (rules : RuleSet) (past : List Event) (r : Record) → Stands past → Stands (judge rules past r ∷ past)
 stands_step rules past r h = record {
   sessions_known = sessions.known_step rules past r h.sessions_known;
   sessions_found = sessions.found_step rules past r h.sessions_found;
@@ -334,7 +334,7 @@ none_stands = record { sessions_known = sessions.none_known; sessions_found = se
 abbrev pub AreFound : List Event → Type 0
 AreFound past = (n : ℕ) (l : Link) → link_at n past ≡ Some l → (l.number ≡ n) × (n < length past)
 
-found_by : (rules : List RuleText) (past : List Event) (r : Record) (n : ℕ) (l : Link) (o : Option Link) → own_link (judge rules past r) ≡ o → AreFound past
+found_by : (rules : RuleSet) (past : List Event) (r : Record) (n : ℕ) (l : Link) (o : Option Link) → own_link (judge rules past r) ≡ o → AreFound past
     → find (λ (m : Link). m.number == n) (cons_option o (links past)) ≡ Some l → (l.number ≡ n) × (n < suc (length past))
 found_by rules past r n l None is found e = let h = found n l e in (h.0, omega (arith, h.1))
 found_by rules past r n l (Some m) is found e =
@@ -346,7 +346,7 @@ found_by rules past r n l (Some m) is found e =
       | inr before ↦ let h = found n l before in (h.0, omega (arith, h.1))
     ]
 
-pub found_step : (rules : List RuleText) (past : List Event) (r : Record) → AreFound past → AreFound (judge rules past r ∷ past)
+pub found_step : (rules : RuleSet) (past : List Event) (r : Record) → AreFound past → AreFound (judge rules past r ∷ past)
 found_step rules past r found n l e = found_by rules past r n l (own_link (judge rules past r)) refl found e
 
 pub none_found : AreFound []

@@ -5,7 +5,7 @@ use Rattle.std.specs.List.{AllByRecursion, cons_option}
 use Rattle.std.proofs.lemmas.Bool.{le-ltb}
 use Rattle.amqp_perf.specs.Meaning.{Meaning, AnOpen, ABegin, AnAttach, AFlow, ATransfer, ADisposition, ADetach, AnEnd, AClose, DispositionFields, TransferFields, flag}
 use Rattle.capture_form.specs.declared.records.Record.{Record}
-use Rattle.capture_form.specs.Rules.{RuleText}
+use Rattle.capture_form.specs.Rules.{RuleSet}
 use Rattle.trace_events.specs.Words.{is_some_and, or_else, where_passes}
 use Rattle.trace_events.specs.Frame.{Spoken, spoken_in}
 use Rattle.trace_events.specs.Said.{as_attach, out_transfer}
@@ -56,7 +56,7 @@ on_link n e fields past None known before = tt
 on_link n e fields past (Some l) known before = or_else-earlier n (in_progress l past) (new_outgoing e.number e.note fields l) (before l) (known l refl)
 
 -- a link that a transfer names was opened before
-named_earlier : (rules : List RuleText) (past : List Event) (r : Record) (fields : TransferFields) (l : Link) → Stands past → out_said (moment_of r.what) ≡ Some (ATransfer fields)
+named_earlier : (rules : RuleSet) (past : List Event) (r : Record) (fields : TransferFields) (l : Link) → Stands past → out_said (moment_of r.what) ≡ Some (ATransfer fields)
     → (standing rules past r).link ≡ Some l → l.number < length past
 named_earlier rules past r fields l stands is on =
     let none : attach_in (moment_of r.what) ≡ None = ap (option_and_then as_attach) is in
@@ -66,7 +66,7 @@ named_earlier rules past r fields l stands is on =
       | inr named ↦ (named_known rules past r l stands named.0 named.1 named.2).1
     ]
 
-module _ (rules : List RuleText) (past : List Event) (r : Record) (stands : Stands past) (before : (l : Link) → IfSome (in_progress l past) (IsOnEarlier (length past))) where
+module _ (rules : RuleSet) (past : List Event) (r : Record) (stands : Stands past) (before : (l : Link) → IfSome (in_progress l past) (IsOnEarlier (length past))) where
   part_earlier : (meaning : Meaning) → out_said (moment_of r.what) ≡ Some meaning → IfSome (outgoing_part (standing rules past r) meaning past) (IsOnEarlier (length past))
   part_earlier (ATransfer fields) is =
       on_link (length past) (standing rules past r) fields past (where_passes is_consumer (standing rules past r).link)
@@ -92,7 +92,7 @@ module _ (rules : List RuleText) (past : List Event) (r : Record) (stands : Stan
   moment_earlier Lost is = tt
   moment_earlier Broken is = tt
 
-pub judged-on_earlier : (rules : List RuleText) (past : List Event) → AreJudged rules past → AreOnEarlier past
+pub judged-on_earlier : (rules : RuleSet) (past : List Event) → AreJudged rules past → AreOnEarlier past
 judged-on_earlier rules [] are = tt
 judged-on_earlier rules (e ∷ past) ((r, is), are) = (
   subst (λ (x : Event). IfSome x.outgoing (IsOnEarlier (length past))) (sym is)
@@ -130,14 +130,14 @@ answering-before j e le =
     let none : nat_lt j.number e.number ≡ false = le-ltb j.number e.number le in
     rw none (simp and-false)
 
-pub first_deciding-before : (rules : List RuleText) (past : List Event) (j : Outgoing) → AreJudged rules past → length past ≤ suc j.number → first_deciding j past ≡ None
+pub first_deciding-before : (rules : RuleSet) (past : List Event) (j : Outgoing) → AreJudged rules past → length past ≤ suc j.number → first_deciding j past ≡ None
 first_deciding-before rules [] j are le = refl
 first_deciding-before rules (e ∷ past) j are le =
     let number : e.number ≡ length past = judged-number rules e past are in
     first_deciding-same e past j (deciding-none e past j (answering-before j e (omega (arith, number, le)))) ∙ first_deciding-before rules past j are.1 (omega (arith, le))
 
 -- one that begins with an event is not decided by it
-pub decision-begun : (rules : List RuleText) (e : Event) (past : List Event) (j : Outgoing) → AreJudged rules (e ∷ past) → j.number ≡ e.number → decision j (e ∷ past) ≡ None
+pub decision-begun : (rules : RuleSet) (e : Event) (past : List Event) (j : Outgoing) → AreJudged rules (e ∷ past) → j.number ≡ e.number → decision j (e ∷ past) ≡ None
 decision-begun rules e past j are same =
     let number : e.number ≡ length past = judged-number rules e past are in
     by j.link.is_pre_settled (first_deciding j (e ∷ past)) (first_deciding-before rules (e ∷ past) j are (omega (arith, number, same)))

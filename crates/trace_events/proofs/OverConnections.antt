@@ -2,7 +2,7 @@
 use Rattle.std.proofs.Common.{◌≡◌, refl, ap, subst, ◌∙◌, ℕ, Bool, true, false, ◌&&◌, ◌||◌, List, [], ◌∷◌, length, Option, Some, None, option_and_then, ◌==◌}
 use Rattle.amqp_perf.specs.Meaning.{AttachFields}
 use Rattle.capture_form.specs.declared.records.Record.{Record}
-use Rattle.capture_form.specs.Rules.{RuleText}
+use Rattle.capture_form.specs.Rules.{RuleSet}
 use Rattle.trace_events.specs.Words.{is_some_and, or_else, where_passes}
 use Rattle.trace_events.specs.Frame.{Spoken}
 use Rattle.trace_events.specs.Said.{out_begin}
@@ -36,7 +36,7 @@ module _ (c : ℕ) (test : Event → Bool) (e : Event) (past : List Event) where
   pub has_event-stays : has_event c test past ≡ true → has_event c test (e ∷ past) ≡ true
   has_event-stays before = rw before (simp or-true)
 
-pub has_event-continued : (c : ℕ) (test : Event → Bool) (rules : List RuleText) (past : List Event) (rs : List Record) → has_event c test past ≡ true → has_event c test (continued rules past rs) ≡ true
+pub has_event-continued : (c : ℕ) (test : Event → Bool) (rules : RuleSet) (past : List Event) (rs : List Record) → has_event c test past ≡ true → has_event c test (continued rules past rs) ≡ true
 has_event-continued c test rules past [] is = is
 has_event-continued c test rules past (r ∷ rs) is = has_event-continued c test rules (judge rules past r ∷ past) rs (has_event-stays c test (judge rules past r) past is)
 
@@ -63,7 +63,7 @@ none_said c past (Some spoken) over = over-no_session c spoken.channel past over
 pub over-session_of : (c : ℕ) (m : Moment) (past : List Event) → is_over c past ≡ true → session_of c m past ≡ None
 over-session_of c m past over = none_said c past (spoken_of m) over
 
-module _ (rules : List RuleText) (past : List Event) (r : Record) (over : is_over r.connection past ≡ true) where
+module _ (rules : RuleSet) (past : List Event) (r : Record) (over : is_over r.connection past ≡ true) where
   -- but for the session of a begin that is written
   pub over-stands_nowhere : out_begin (judge rules past r) ≡ None → (judge rules past r).session ≡ None
   over-stands_nowhere none =
@@ -91,16 +91,16 @@ module _ (rules : List RuleText) (past : List Event) (r : Record) (over : is_ove
       or_none (opened_by (length past) (attach_in m) session past) (link_of m past session) (none_opened (attach_in m) session nowhere) (none_of session nowhere)
 
 -- of judged events
-pub over-no_link_here : (rules : List RuleText) (e : Event) (past : List Event) → AreJudged rules (e ∷ past) → is_over e.connection past ≡ true → e.link ≡ None
+pub over-no_link_here : (rules : RuleSet) (e : Event) (past : List Event) → AreJudged rules (e ∷ past) → is_over e.connection past ≡ true → e.link ≡ None
 over-no_link_here rules e past ((r, same), are) over =
     let here : is_over r.connection past ≡ true = subst (λ (x : Event). is_over x.connection past ≡ true) same over in
     ap (λ (x : Event). x.link) same ∙ over-names_none rules past r here
 
-pub over-no_session_here : (rules : List RuleText) (e : Event) (past : List Event) → AreJudged rules (e ∷ past) → is_over e.connection past ≡ true → out_begin e ≡ None → e.session ≡ None
+pub over-no_session_here : (rules : RuleSet) (e : Event) (past : List Event) → AreJudged rules (e ∷ past) → is_over e.connection past ≡ true → out_begin e ≡ None → e.session ≡ None
 over-no_session_here rules e past ((r, same), are) over none =
     let here : is_over r.connection past ≡ true = subst (λ (x : Event). is_over x.connection past ≡ true) same over in
     ap (λ (x : Event). x.session) same ∙ over-stands_nowhere rules past r here (subst (λ (x : Event). out_begin x ≡ None) same none)
 
 -- so none opens
-pub over-opens_none : (rules : List RuleText) (e : Event) (past : List Event) → AreJudged rules (e ∷ past) → is_over e.connection past ≡ true → own_link e ≡ None
+pub over-opens_none : (rules : RuleSet) (e : Event) (past : List Event) → AreJudged rules (e ∷ past) → is_over e.connection past ≡ true → own_link e ≡ None
 over-opens_none rules e past are over = ap (where_passes (λ (l : Link). l.number == e.number)) (over-no_link_here rules e past are over)

@@ -4,7 +4,7 @@ use Rattle.std.specs.Str.{bytes_eq}
 use Rattle.std.specs.List.{cons_option}
 use Rattle.std.proofs.lemmas.List.{reverse-append, append-nil}
 use Rattle.std.proofs.lemmas.List.Elements.{filter-append}
-use Rattle.capture_form.specs.Rules.{RuleText}
+use Rattle.capture_form.specs.Rules.{RuleSet}
 use Rattle.trace_events.specs.Words.{is_some_and}
 use Rattle.trace_events.specs.Event.{Event, Incoming}
 use Rattle.trace_events.specs.Address.{has_consumer}
@@ -48,19 +48,19 @@ waiting-bits true false true false false false true = refl
 waiting-bits true false true false false false false = refl
 
 -- what waited stays or not; what the event completes begins to wait or not
-pub is_waiting-step : (rules : List RuleText) (d : Incoming) (e : Event) (past : List Event)
+pub is_waiting-step : (rules : RuleSet) (d : Incoming) (e : Event) (past : List Event)
     → is_waiting rules d (e ∷ past) ≡ (if completes d e then not (is_of_multicast rules d) && not (is_paired d past) else is_waiting rules d past) && stays e past d
 is_waiting-step rules d e past =
     ap (λ b. not (is_of_multicast rules d) && is_complete d (e ∷ past) && not b && always_had_consumer d (e ∷ past)) (is_paired-step e past d)
     ∙ waiting-bits (not (is_of_multicast rules d)) (completes d e) (is_complete d past) (is_paired d past) (pairs d e) (has_consumer (address_of d) (e ∷ past)) (always_had_consumer d past)
 
-pub is_waiting-stays : (rules : List RuleText) (d : Incoming) (e : Event) (past : List Event) → completes d e ≡ false
+pub is_waiting-stays : (rules : RuleSet) (d : Incoming) (e : Event) (past : List Event) → completes d e ≡ false
     → is_waiting rules d (e ∷ past) ≡ is_waiting rules d past && stays e past d
 is_waiting-stays rules d e past none =
     is_waiting-step rules d e past
     ∙ ap (λ b. (if b then not (is_of_multicast rules d) && not (is_paired d past) else is_waiting rules d past) && stays e past d) none
 
-pub is_waiting-begins : (rules : List RuleText) (d : Incoming) (e : Event) (past : List Event) → completes d e ≡ true
+pub is_waiting-begins : (rules : RuleSet) (d : Incoming) (e : Event) (past : List Event) → completes d e ≡ true
     → is_waiting rules d (e ∷ past) ≡ (not (is_of_multicast rules d) && not (is_paired d past)) && stays e past d
 is_waiting-begins rules d e past here =
     is_waiting-step rules d e past
@@ -129,7 +129,7 @@ and-again true w s = refl
 and-again false w s = refl
 
 -- the queue behind any event: those that stay, and behind them the one that the event completes, if it waits there
-pub waiting_queue-step : (rules : List RuleText) (address : List ℕ) (e : Event) (past : List Event) → ((d : Incoming) → is_complete d past ≡ true → completes d e ≡ false)
+pub waiting_queue-step : (rules : RuleSet) (address : List ℕ) (e : Event) (past : List Event) → ((d : Incoming) → is_complete d past ≡ true → completes d e ≡ false)
     → waiting_queue rules address (e ∷ past) ≡ filter (stays e past) (waiting_queue rules address past) ++ filter (waits_at rules address (e ∷ past)) (cons_option (completed_by e) [])
 waiting_queue-step rules address e past new =
     let now = waits_at rules address (e ∷ past) in

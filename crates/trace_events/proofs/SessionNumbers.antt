@@ -2,7 +2,7 @@
 use Rattle.std.proofs.Common.{◌≡◌, refl, sym, ap, subst, ◌∙◌, ℕ, ◌<◌, ◌≤◌, List, [], ◌∷◌, length, Option, Some, None, filter_map, find, if◌then◌else◌, ◌==◌, arith}
 use Rattle.std.specs.List.{AllByRecursion, cons_option}
 use Rattle.std.proofs.lemmas.Bool.{eq-eqb, ne_eqb}
-use Rattle.capture_form.specs.Rules.{RuleText}
+use Rattle.capture_form.specs.Rules.{RuleSet}
 use Rattle.trace_events.specs.Event.{Event}
 use Rattle.trace_events.specs.declared.session.Session.{Session}
 use Rattle.trace_events.specs.Session.{own_session, session_at, last_session}
@@ -16,7 +16,7 @@ abbrev pub sessions_begun : List Event → List Session
 sessions_begun past = filter_map own_session past
 
 -- a session that an event begins has the number of events before it
-pub own_session-number : (rules : List RuleText) (e : Event) (past : List Event) (s : Session) → AreJudged rules (e ∷ past) → own_session e ≡ Some s → s.number ≡ length past
+pub own_session-number : (rules : RuleSet) (e : Event) (past : List Event) (s : Session) → AreJudged rules (e ∷ past) → own_session e ≡ Some s → s.number ≡ length past
 own_session-number rules e past s ((r, same), are) is =
     let here = subst (λ (x : Event). own_session x ≡ Some s) same is in
     let begun = if_some _ _ s here in
@@ -37,7 +37,7 @@ falling-more : (n m : ℕ) (o : Option Session) (ss : List Session) → n < m �
 falling-more n m None ss lt own h = falling-weaker n m ss (omega (arith, lt)) h
 falling-more n m (Some s) ss lt own h = (omega (arith, lt, own s refl), falling-weaker n s.number ss (omega (arith, own s refl)) h)
 
-pub judged-falling : (rules : List RuleText) (past : List Event) → AreJudged rules past → AreFalling (length past) (sessions_begun past)
+pub judged-falling : (rules : RuleSet) (past : List Event) → AreJudged rules past → AreFalling (length past) (sessions_begun past)
 judged-falling rules [] are = tt
 judged-falling rules (e ∷ past) are =
     falling-more (length past) (length (e ∷ past)) (own_session e) (sessions_begun past) (omega arith) (λ s is. own_session-number rules e past s are is) (judged-falling rules past are.1)
@@ -64,7 +64,7 @@ each-found n (s ∷ ss) h = (
       ss (each-found s.number ss h.1),
 )
 
-module _ (rules : List RuleText) (past : List Event) (are : AreJudged rules past) where
+module _ (rules : RuleSet) (past : List Event) (are : AreJudged rules past) where
   -- no session is of a record that is still to come
   pub session_at-later : (n : ℕ) → length past ≤ n → session_at n past ≡ None
   session_at-later n le = find-above n (length past) (sessions_begun past) (judged-falling rules past are) le
@@ -86,11 +86,11 @@ pub one_number : (past : List Event) (s t : Session) → IsKnown past s → IsKn
 one_number past s t knows known same = same_some s t (sym knows.at ∙ (ap (λ n. session_at n past) same ∙ known.at))
 
 -- the session on which an event stands, or which it begins, is known with it
-pub judged-event_session : (rules : List RuleText) (e : Event) (past : List Event) (s : Session) → AreJudged rules (e ∷ past) → e.session ≡ Some s → IsKnown (e ∷ past) s
+pub judged-event_session : (rules : RuleSet) (e : Event) (past : List Event) (s : Session) → AreJudged rules (e ∷ past) → e.session ≡ Some s → IsKnown (e ∷ past) s
 judged-event_session rules e past s ((r, same), are) is =
     let here = subst (λ (x : Event). x.session ≡ Some s) same is in
     subst (λ (x : Event). IsKnown (x ∷ past) s) (sym same) (event_known rules past r s (judged-stands rules past are).sessions_known here)
 
 -- and with any event later
-pub known-later : (rules : List RuleText) (e : Event) (past : List Event) (s : Session) → AreJudged rules (e ∷ past) → IsKnown past s → IsKnown (e ∷ past) s
+pub known-later : (rules : RuleSet) (e : Event) (past : List Event) (s : Session) → AreJudged rules (e ∷ past) → IsKnown past s → IsKnown (e ∷ past) s
 known-later rules e past s ((r, same), are) known = subst (λ (x : Event). IsKnown (x ∷ past) s) (sym same) (known_still rules past r s known)

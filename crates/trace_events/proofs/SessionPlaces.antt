@@ -4,7 +4,7 @@ use Rattle.std.specs.List.{cons_option}
 use Rattle.std.proofs.lemmas.Bool.{eq-eqb}
 use Rattle.amqp_perf.specs.declared.begin.Begin.{Begin}
 use Rattle.capture_form.specs.declared.records.Record.{Record}
-use Rattle.capture_form.specs.Rules.{RuleText}
+use Rattle.capture_form.specs.Rules.{RuleSet}
 use Rattle.trace_events.specs.Words.{or_else}
 use Rattle.trace_events.specs.Frame.{Frame, Spoken, spoken_in}
 use Rattle.trace_events.specs.Said.{as_begin, out_begin}
@@ -55,11 +55,11 @@ moment_place number c Opened past s is = absurd cc
 moment_place number c Lost past s is = absurd cc
 moment_place number c Broken past s is = absurd cc
 
-pub session-connection : (rules : List RuleText) (past : List Event) (r : Record) (s : Session) → (judge rules past r).session ≡ Some s → s.connection ≡ r.connection
+pub session-connection : (rules : RuleSet) (past : List Event) (r : Record) (s : Session) → (judge rules past r).session ≡ Some s → s.connection ≡ r.connection
 session-connection rules past r s is = moment_place (length past) r.connection (moment_of r.what) past s is
 
 -- of judged events
-pub judged-connection : (rules : List RuleText) (e : Event) (past : List Event) (s : Session) → AreJudged rules (e ∷ past) → e.session ≡ Some s → s.connection ≡ e.connection
+pub judged-connection : (rules : RuleSet) (e : Event) (past : List Event) (s : Session) → AreJudged rules (e ∷ past) → e.session ≡ Some s → s.connection ≡ e.connection
 judged-connection rules e past s ((r, same), are) is =
     session-connection rules past r s (subst (λ (x : Event). x.session ≡ Some s) same is) ∙ ap (λ (x : Event). x.connection) (sym same)
 
@@ -91,7 +91,7 @@ live_session-framed c channel past s is = by (is_over c past) is
     by true is = absurd cc
     by false is = last_session-framed c channel past s is
 
-module _ (rules : List RuleText) (e : Event) (past : List Event) (are : AreJudged rules (e ∷ past)) (n : ℕ) (s : Session) (earlier : session_at n past ≡ Some s → has_out_frame s.connection past ≡ true) where
+module _ (rules : RuleSet) (e : Event) (past : List Event) (are : AreJudged rules (e ∷ past)) (n : ℕ) (s : Session) (earlier : session_at n past ≡ Some s → has_out_frame s.connection past ≡ true) where
   own_framed : (t : Session) → own_session e ≡ Some t → has_out_frame t.connection (e ∷ past) ≡ true
   own_framed t own =
       let begun = if_some (is_some (out_begin e)) e.session t own in
@@ -105,6 +105,6 @@ module _ (rules : List RuleText) (e : Event) (past : List Event) (are : AreJudge
   at_framed None own is = has_out_frame-stays s.connection e past (earlier is)
   at_framed (Some t) own is = found_by t own (t.number == n) is
 
-pub session_at-framed : (rules : List RuleText) (past : List Event) (n : ℕ) (s : Session) → AreJudged rules past → session_at n past ≡ Some s → has_out_frame s.connection past ≡ true
+pub session_at-framed : (rules : RuleSet) (past : List Event) (n : ℕ) (s : Session) → AreJudged rules past → session_at n past ≡ Some s → has_out_frame s.connection past ≡ true
 session_at-framed rules [] n s are is = absurd cc
 session_at-framed rules (e ∷ past) n s are is = at_framed rules e past are n s (session_at-framed rules past n s are.1) (own_session e) refl is

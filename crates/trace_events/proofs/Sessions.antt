@@ -4,7 +4,7 @@ use Rattle.std.specs.List.{filter_map, cons_option}
 use Rattle.std.proofs.lemmas.Bool.{eqb-true, eq-eqb}
 use Rattle.amqp_perf.specs.declared.begin.Begin.{Begin}
 use Rattle.capture_form.specs.declared.records.Record.{Record}
-use Rattle.capture_form.specs.Rules.{RuleText}
+use Rattle.capture_form.specs.Rules.{RuleSet}
 use Rattle.trace_events.specs.Words.{is_number, is_some_and, or_else}
 use Rattle.trace_events.specs.Frame.{Frame, Body, NoFrame, Empty, NoPerformative, Says, Spoken, spoken_in, channel_in}
 use Rattle.trace_events.specs.Said.{as_begin, out_begin}
@@ -61,7 +61,7 @@ begun_number_by number c Lost past t is e = absurd cc
 begun_number_by number c Broken past t is e = absurd cc
 
 -- a session has the number of the record that begins it
-pub begun_number : (rules : List RuleText) (past : List Event) (r : Record) (t : Session) → is_some (out_begin (judge rules past r)) ≡ true → (judge rules past r).session ≡ Some t → t.number ≡ length past
+pub begun_number : (rules : RuleSet) (past : List Event) (r : Record) (t : Session) → is_some (out_begin (judge rules past r)) ≡ true → (judge rules past r).session ≡ Some t → t.number ≡ length past
 begun_number rules past r t is e = begun_number_by (length past) r.connection (moment_of r.what) past t is e
 
 -- ---- it is the one that is found on its channel
@@ -90,7 +90,7 @@ begun_in number c own channel Opened past begins on = absurd cc
 begun_in number c own channel Lost past begins on = absurd cc
 begun_in number c own channel Broken past begins on = absurd cc
 
-own_is : (rules : List RuleText) (past : List Event) (r : Record) (c channel : ℕ) (s : Session) → begins_out c channel (judge rules past r) ≡ true → session_begun c channel (judge rules past r) past ≡ Some s
+own_is : (rules : RuleSet) (past : List Event) (r : Record) (c channel : ℕ) (s : Session) → begins_out c channel (judge rules past r) ≡ true → session_begun c channel (judge rules past r) past ≡ Some s
     → (judge rules past r).session ≡ Some s
 own_is rules past r c channel s begins e =
     let x = judge rules past r in
@@ -116,7 +116,7 @@ at_by s t past own known = by (t.number == s.number) refl
     by true same = absurd (omega (arith, own, eqb-true t.number s.number same, known.before))
     by false other = known.at
 
-known_by : (rules : List RuleText) (past : List Event) (r : Record) (s : Session) (o : Option Session) → own_session (judge rules past r) ≡ o → IsKnown past s
+known_by : (rules : RuleSet) (past : List Event) (r : Record) (s : Session) (o : Option Session) → own_session (judge rules past r) ≡ o → IsKnown past s
     → find (λ (t : Session). t.number == s.number) (cons_option o (filter_map own_session past)) ≡ Some s
 known_by rules past r s None is known = known.at
 known_by rules past r s (Some t) is known =
@@ -124,11 +124,11 @@ known_by rules past r s (Some t) is known =
     at_by s t past (begun_number rules past r t begun.0 begun.1) known
 
 -- one that is known stays so
-pub known_still : (rules : List RuleText) (past : List Event) (r : Record) (s : Session) → IsKnown past s → IsKnown (judge rules past r ∷ past) s
+pub known_still : (rules : RuleSet) (past : List Event) (r : Record) (s : Session) → IsKnown past s → IsKnown (judge rules past r ∷ past) s
 known_still rules past r s known = record { at = known_by rules past r s (own_session (judge rules past r)) refl known; before = omega (arith, known.before) }
 
 -- one that begins is known
-pub known_begun : (rules : List RuleText) (past : List Event) (r : Record) (s : Session) → is_some (out_begin (judge rules past r)) ≡ true → (judge rules past r).session ≡ Some s → IsKnown (judge rules past r ∷ past) s
+pub known_begun : (rules : RuleSet) (past : List Event) (r : Record) (s : Session) → is_some (out_begin (judge rules past r)) ≡ true → (judge rules past r).session ≡ Some s → IsKnown (judge rules past r ∷ past) s
 known_begun rules past r s is e =
     let own = begun_number rules past r s is e in
     let begun : own_session (judge rules past r) ≡ Some s = ap (λ (b : Bool). if b then (judge rules past r).session else None) is ∙ e in
@@ -138,14 +138,14 @@ known_begun rules past r s is e =
       before = omega (arith, own);
     }
 
-last_by : (rules : List RuleText) (past : List Event) (r : Record) (c channel : ℕ) (s : Session) (ended begun : Bool) → begins_out c channel (judge rules past r) ≡ begun → AreKnown past
+last_by : (rules : RuleSet) (past : List Event) (r : Record) (c channel : ℕ) (s : Session) (ended begun : Bool) → begins_out c channel (judge rules past r) ≡ begun → AreKnown past
     → (if ended then None else if begun then session_begun c channel (judge rules past r) past else last_session c channel past) ≡ Some s → IsKnown (judge rules past r ∷ past) s
 last_by rules past r c channel s true begun is known e = absurd cc
 last_by rules past r c channel s false true is known e =
     known_begun rules past r s (and_first (is_some (out_begin (judge rules past r))) (is_on_channel c channel (judge rules past r)) is) (own_is rules past r c channel s is e)
 last_by rules past r c channel s false false is known e = known_still rules past r s (known c channel s e)
 
-pub known_step : (rules : List RuleText) (past : List Event) (r : Record) → AreKnown past → AreKnown (judge rules past r ∷ past)
+pub known_step : (rules : RuleSet) (past : List Event) (r : Record) → AreKnown past → AreKnown (judge rules past r ∷ past)
 known_step rules past r known c channel s e =
     last_by rules past r c channel s (ends_in c channel (judge rules past r) || ends_out c channel (judge rules past r)) (begins_out c channel (judge rules past r)) refl known e
 
@@ -188,7 +188,7 @@ stands_on number c Lost past s e = absurd cc
 stands_on number c Broken past s e = absurd cc
 
 -- the session of an event is known
-pub event_known : (rules : List RuleText) (past : List Event) (r : Record) (s : Session) → AreKnown past → (judge rules past r).session ≡ Some s → IsKnown (judge rules past r ∷ past) s
+pub event_known : (rules : RuleSet) (past : List Event) (r : Record) (s : Session) → AreKnown past → (judge rules past r).session ≡ Some s → IsKnown (judge rules past r ∷ past) s
 event_known rules past r s known e = elim (stands_on (length past) r.connection (moment_of r.what) past s e) [
   | inl begins ↦ known_begun rules past r s begins e
   | inr live ↦ known_still rules past r s (live_known past r.connection live.0 s known live.1)
@@ -206,7 +206,7 @@ find_kinds p x xs y e = by (p x) refl e
 abbrev pub AreFound : List Event → Type 0
 AreFound past = (n : ℕ) (s : Session) → session_at n past ≡ Some s → (s.number ≡ n) × (n < length past)
 
-found_by : (rules : List RuleText) (past : List Event) (r : Record) (n : ℕ) (s : Session) (o : Option Session) → own_session (judge rules past r) ≡ o → AreFound past
+found_by : (rules : RuleSet) (past : List Event) (r : Record) (n : ℕ) (s : Session) (o : Option Session) → own_session (judge rules past r) ≡ o → AreFound past
     → find (λ (t : Session). t.number == n) (cons_option o (filter_map own_session past)) ≡ Some s → (s.number ≡ n) × (n < suc (length past))
 found_by rules past r n s None is found e = let h = found n s e in (h.0, omega (arith, h.1))
 found_by rules past r n s (Some t) is found e =
@@ -219,7 +219,7 @@ found_by rules past r n s (Some t) is found e =
       | inr before ↦ let h = found n s before in (h.0, omega (arith, h.1))
     ]
 
-pub found_step : (rules : List RuleText) (past : List Event) (r : Record) → AreFound past → AreFound (judge rules past r ∷ past)
+pub found_step : (rules : RuleSet) (past : List Event) (r : Record) → AreFound past → AreFound (judge rules past r ∷ past)
 found_step rules past r found n s e = found_by rules past r n s (own_session (judge rules past r)) refl found e
 
 pub none_found : AreFound []

@@ -3,7 +3,7 @@ use Rattle.std.proofs.Common.{◌≡◌, ℕ, ◌-◌, true, false, List, ◌∷
 use Rattle.amqp_perf.specs.declared.flow.Flow.{Flow}
 use Rattle.amqp_perf.specs.Meaning.{AFlow, ATransfer, ADisposition, ADetach, TransferFields, DispositionFields, DetachFields, flag}
 use Rattle.pairing_cert.specs.declared.note.Note.{Note}
-use Rattle.capture_form.specs.Rules.{RuleText}
+use Rattle.capture_form.specs.Rules.{RuleSet}
 use Rattle.flow_counts.specs.Window as windows
 use Rattle.trace_events.specs.Frame.{Frame}
 use Rattle.trace_events.specs.History.{judge_moment}
@@ -81,10 +81,10 @@ module _ (e : Event) (past : List Event) (flow : Flow) (is : in_meaning e ≡ So
   flow-keeps-live_links : (l : Link) → is_live (e ∷ past) l ≡ is_live past l
   flow-keeps-live_links l = search (kinds, steps)
 
-  flow-keeps-undecided : (rules : List RuleText) (idle : IsIdle e) (d : Incoming) → own_link e ≡ None → is_undecided rules d (e ∷ past) ≡ is_undecided rules d past
+  flow-keeps-undecided : (rules : RuleSet) (idle : IsIdle e) (d : Incoming) → own_link e ≡ None → is_undecided rules d (e ∷ past) ≡ is_undecided rules d past
   flow-keeps-undecided rules idle d none = search (kinds, steps)
 
-  flow-keeps-due : (rules : List RuleText) (l : Link) → e.incoming ≡ None → due_count rules l (e ∷ past) ≡ due_count rules l past
+  flow-keeps-due : (rules : RuleSet) (l : Link) → e.incoming ≡ None → due_count rules l (e ∷ past) ≡ due_count rules l past
   flow-keeps-due rules l none = search (kinds, steps)
 
   flow-sets-window : (s : Session) → is_on_session s e ≡ true → session_window s (e ∷ past) ≡ flow.incoming_window - windows.lag s.our_first_id (next_outgoing_id s past) flow.next_incoming_id
@@ -94,7 +94,7 @@ module _ (e : Event) (past : List Event) (flow : Flow) (is : in_meaning e ≡ So
   flow-keeps-consumers address k of older = search (kinds, steps)
 
 -- the same, in its place in a history
-module _ (rules : List RuleText) (past : List Event) (c : ℕ) (note : Note) (frame : Frame) (flow : Flow)
+module _ (rules : RuleSet) (past : List Event) (c : ℕ) (note : Note) (frame : Frame) (flow : Flow)
     (is : in_meaning (judge_moment rules past c (In frame) note) ≡ Some (AFlow flow)) where
   judged_flow-keeps-complete : (d : Incoming) → is_complete d (judge_moment rules past c (In frame) note ∷ past) ≡ is_complete d past
   judged_flow-keeps-complete d = search (kinds, steps)

@@ -3,7 +3,7 @@ use Rattle.std.proofs.Common.{◌≡◌, refl, ap, ◌∙◌, ℕ, suc, ◌-◌,
 use Rattle.std.specs.Prelude.{nat_lt}
 use Rattle.std.specs.List.{list_any, count_by}
 use Rattle.std.specs.Str.{bytes_eq}
-use Rattle.capture_form.specs.Rules.{RuleText}
+use Rattle.capture_form.specs.Rules.{RuleSet}
 use Rattle.trace_events.specs.Words.{is_some_and, is_number}
 use Rattle.trace_events.specs.Event.{Event, Link, Incoming, Outgoing}
 use Rattle.trace_events.specs.declared.session.Session.{Session}
@@ -50,33 +50,33 @@ module _ (d : Incoming) (e : Event) (past : List Event) where
       and-one true = refl
       and-one false = refl
 
-  pub is_unpaired-same : (rules : List RuleText) → is_complete d (e ∷ past) ≡ is_complete d past → is_paired d (e ∷ past) ≡ is_paired d past
+  pub is_unpaired-same : (rules : RuleSet) → is_complete d (e ∷ past) ≡ is_complete d past → is_paired d (e ∷ past) ≡ is_paired d past
       → is_unpaired rules d (e ∷ past) ≡ is_unpaired rules d past
   is_unpaired-same rules complete paired =
       ap (λ b. not (is_of_multicast rules d) && b && not (is_paired d (e ∷ past))) complete
       ∙ ap (λ b. not (is_of_multicast rules d) && is_complete d past && not b) paired
 
-  pub is_unpaired-paired : (rules : List RuleText) → is_paired d (e ∷ past) ≡ true → is_unpaired rules d (e ∷ past) ≡ false
+  pub is_unpaired-paired : (rules : RuleSet) → is_paired d (e ∷ past) ≡ true → is_unpaired rules d (e ∷ past) ≡ false
   is_unpaired-paired rules paired =
       ap (λ b. not (is_of_multicast rules d) && is_complete d (e ∷ past) && not b) paired ∙ and-false (not (is_of_multicast rules d) && is_complete d (e ∷ past))
 
-  pub is_waiting-same : (rules : List RuleText) → is_complete d (e ∷ past) ≡ is_complete d past → is_paired d (e ∷ past) ≡ is_paired d past
+  pub is_waiting-same : (rules : RuleSet) → is_complete d (e ∷ past) ≡ is_complete d past → is_paired d (e ∷ past) ≡ is_paired d past
       → always_had_consumer d (e ∷ past) ≡ always_had_consumer d past → is_waiting rules d (e ∷ past) ≡ is_waiting rules d past
   is_waiting-same rules complete paired had =
       ap (λ b. b && always_had_consumer d (e ∷ past)) (is_unpaired-same rules complete paired) ∙ ap (λ b. is_unpaired rules d past && b) had
 
-  pub is_waiting-paired : (rules : List RuleText) → is_paired d (e ∷ past) ≡ true → is_waiting rules d (e ∷ past) ≡ false
+  pub is_waiting-paired : (rules : RuleSet) → is_paired d (e ∷ past) ≡ true → is_waiting rules d (e ∷ past) ≡ false
   is_waiting-paired rules paired = ap (λ b. b && always_had_consumer d (e ∷ past)) (is_unpaired-paired rules paired)
 
-  pub is_waiting-lost : (rules : List RuleText) → has_consumer d.link.address (e ∷ past) ≡ false → is_waiting rules d (e ∷ past) ≡ false
+  pub is_waiting-lost : (rules : RuleSet) → has_consumer d.link.address (e ∷ past) ≡ false → is_waiting rules d (e ∷ past) ≡ false
   is_waiting-lost rules lost = ap (λ b. is_unpaired rules d (e ∷ past) && b) (always_had_consumer-lost lost) ∙ and-false (is_unpaired rules d (e ∷ past))
 
-  pub is_gone-same : (rules : List RuleText) → is_complete d (e ∷ past) ≡ is_complete d past → is_paired d (e ∷ past) ≡ is_paired d past
+  pub is_gone-same : (rules : RuleSet) → is_complete d (e ∷ past) ≡ is_complete d past → is_paired d (e ∷ past) ≡ is_paired d past
       → always_had_consumer d (e ∷ past) ≡ always_had_consumer d past → is_gone rules d (e ∷ past) ≡ is_gone rules d past
   is_gone-same rules complete paired had =
       ap (λ b. b && not (always_had_consumer d (e ∷ past))) (is_unpaired-same rules complete paired) ∙ ap (λ b. is_unpaired rules d past && not b) had
 
-  pub is_undecided-same : (rules : List RuleText) → is_live (e ∷ past) d.link ≡ is_live past d.link → is_aborted d (e ∷ past) ≡ is_aborted d past
+  pub is_undecided-same : (rules : RuleSet) → is_live (e ∷ past) d.link ≡ is_live past d.link → is_aborted d (e ∷ past) ≡ is_aborted d past
       → is_complete d (e ∷ past) ≡ is_complete d past → is_waiting rules d (e ∷ past) ≡ is_waiting rules d past → is_settled d (e ∷ past) ≡ is_settled d past
       → is_told d (e ∷ past) ≡ is_told d past → is_undecided rules d (e ∷ past) ≡ is_undecided rules d past
   is_undecided-same rules live aborted complete waiting settled told =
@@ -87,16 +87,16 @@ module _ (d : Incoming) (e : Event) (past : List Event) where
       ∙ (ap (λ b. is_live past d.link && not (is_aborted d past) && (not (is_complete d past) || is_waiting rules d past || not (b || is_told d (e ∷ past)))) settled
       ∙ ap (λ b. is_live past d.link && not (is_aborted d past) && (not (is_complete d past) || is_waiting rules d past || not (is_settled d past || b))) told))))
 
-  pub is_undecided-over : (rules : List RuleText) → is_live (e ∷ past) d.link ≡ false → is_undecided rules d (e ∷ past) ≡ false
+  pub is_undecided-over : (rules : RuleSet) → is_live (e ∷ past) d.link ≡ false → is_undecided rules d (e ∷ past) ≡ false
   is_undecided-over rules over =
       ap (λ b. b && not (is_aborted d (e ∷ past)) && (not (is_complete d (e ∷ past)) || is_waiting rules d (e ∷ past) || not (is_settled d (e ∷ past) || is_told d (e ∷ past)))) over
 
-  pub is_undecided-aborted : (rules : List RuleText) → is_aborted d (e ∷ past) ≡ true → is_undecided rules d (e ∷ past) ≡ false
+  pub is_undecided-aborted : (rules : RuleSet) → is_aborted d (e ∷ past) ≡ true → is_undecided rules d (e ∷ past) ≡ false
   is_undecided-aborted rules aborted =
       ap (λ b. is_live (e ∷ past) d.link && not b && (not (is_complete d (e ∷ past)) || is_waiting rules d (e ∷ past) || not (is_settled d (e ∷ past) || is_told d (e ∷ past)))) aborted
       ∙ ap (λ b. b && (not (is_complete d (e ∷ past)) || is_waiting rules d (e ∷ past) || not (is_settled d (e ∷ past) || is_told d (e ∷ past)))) (and-false (is_live (e ∷ past) d.link))
 
-module _ (rules : List RuleText) (e : Event) (past : List Event) where
+module _ (rules : RuleSet) (e : Event) (past : List Event) where
   -- ---- the deliveries of a link, an address or a session
 
   pub undecided_count-same : (l : Link) → incoming_begun e ≡ None → ((d : Incoming) → is_undecided rules d (e ∷ past) ≡ is_undecided rules d past)

@@ -3,7 +3,7 @@ use Rattle.std.specs.Prelude.{ℕ, Bool, true, false, ◌&&◌, List, reverse, f
 use Rattle.std.specs.List.{list_any}
 use Rattle.capture_form.specs.declared.rules.Distribution.{Distribution}
 use Rattle.capture_form.specs.declared.rules.Distribution.TheVariants.{Closest, Balanced, Multicast}
-use Rattle.capture_form.specs.Rules.{RuleText}
+use Rattle.capture_form.specs.Rules.{RuleSet}
 use Rattle.capture_form.specs.Addresses.{distribution}
 use Rattle.trace_events.specs.Event.{Event, Link}
 use Rattle.trace_events.specs.Link.{is_consumer, is_live, links}
@@ -14,7 +14,7 @@ is_multicast Closest = false
 is_multicast Balanced = false
 
 -- each delivery of the address goes to all its consumers, or to one
-abbrev pub has_multicast : List RuleText → List ℕ → Bool
+abbrev pub has_multicast : RuleSet → List ℕ → Bool
 has_multicast rules address = is_multicast (distribution rules address)
 
 abbrev pub is_consumer_of : List ℕ → List Event → Link → Bool

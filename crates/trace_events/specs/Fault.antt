@@ -9,7 +9,7 @@ use Rattle.amqp_perf.specs.declared.condition.ErrorCondition.TheVariants.{Framin
 use Rattle.amqp_perf.specs.Nested.{AddressFields, AText, AnOther, TerminusFields, TargetFields, ATerminus, ACoordinator}
 use Rattle.amqp_perf.specs.Meaning.{Meaning, AnOpen, ABegin, AnAttach, AFlow, ATransfer, ADisposition, ADetach, AnEnd, AClose, OpenFields, AttachFields, TransferFields, flag}
 use Rattle.amqp_perf.specs.Meaning as meanings
-use Rattle.capture_form.specs.Rules.{RuleText}
+use Rattle.capture_form.specs.Rules.{RuleSet}
 use Rattle.flow_counts.specs.declared.profile.TheConstants.{MIN_MAX_FRAME_SIZE, CHANNEL_MAX, HANDLE_MAX, MAX_MESSAGE_SIZE, MAX_LINK_NAME, MAX_ADDRESS, MAX_DELIVERY_TAG}
 use Rattle.trace_events.specs.declared.fault.Fault.{Fault}
 use Rattle.trace_events.specs.declared.fault.Fault.TheVariants.{Close, End, Refuse, Detach}
@@ -69,10 +69,10 @@ attach_fault s fields past =
 
 -- ---- transfers
 
-abbrev pub is_id_in_use : List RuleText → Session → ℕ → List Event → Bool
+abbrev pub is_id_in_use : RuleSet → Session → ℕ → List Event → Bool
 is_id_in_use rules s id past = list_any (is_undecided_of rules s id past) (incoming_deliveries past)
 
-abbrev pub first_part_fault : List RuleText → Link → TransferFields → List Event → Option Fault
+abbrev pub first_part_fault : RuleSet → Link → TransferFields → List Event → Option Fault
 first_part_fault rules l fields past =
     if is_none fields.delivery_id then Some (Detach InvalidField)
     else if is_some_and fields.delivery_id (λ id. is_id_in_use rules l.session id past) then Some (Detach NotAllowed)
@@ -89,23 +89,23 @@ size_fault fields size =
     if not (flag fields.aborted) && nat_lt MAX_MESSAGE_SIZE size then Some (Detach MessageSizeExceeded) else None
 
 -- of a delivery in progress, or of one that begins
-abbrev pub part_fault : List RuleText → Link → TransferFields → List ℕ → List Event → Option Incoming → Option Fault
+abbrev pub part_fault : RuleSet → Link → TransferFields → List ℕ → List Event → Option Incoming → Option Fault
 part_fault rules l fields octets past None = or_else (first_part_fault rules l fields past) (size_fault fields (length octets))
 part_fault rules l fields octets past (Some d) =
     or_else (next_part_fault d fields) (size_fault fields (length (payload d past) + length octets))
 
-abbrev pub link_transfer_fault : List RuleText → Link → TransferFields → List ℕ → List Event → Option Fault
+abbrev pub link_transfer_fault : RuleSet → Link → TransferFields → List ℕ → List Event → Option Fault
 link_transfer_fault rules l fields octets past =
     if is_consumer l then Some (End NotAllowed)
     else if flag fields.resume then Some (Detach NotImplemented)
     else if is_some_and fields.delivery_tag (λ tag. nat_lt MAX_DELIVERY_TAG (length tag)) then Some (Detach InvalidField)
     else part_fault rules l fields octets past (in_progress l past)
 
-abbrev pub attached_fault : List RuleText → TransferFields → List ℕ → List Event → Option Link → Option Fault
+abbrev pub attached_fault : RuleSet → TransferFields → List ℕ → List Event → Option Link → Option Fault
 attached_fault rules fields octets past None = Some (End UnattachedHandle)
 attached_fault rules fields octets past (Some l) = link_transfer_fault rules l fields octets past
 
-abbrev pub transfer_fault : List RuleText → Session → Event → TransferFields → List ℕ → List Event → Option Fault
+abbrev pub transfer_fault : RuleSet → Session → Event → TransferFields → List ℕ → List Event → Option Fault
 transfer_fault rules s e fields octets past =
     if given_window s past == 0 then Some (End WindowViolation) else attached_fault rules fields octets past e.link
 
@@ -114,7 +114,7 @@ transfer_fault rules s e fields octets past =
 abbrev pub handle_fault : Event → Option Fault
 handle_fault e = if is_none e.link then Some (End UnattachedHandle) else None
 
-abbrev pub session_fault : List RuleText → Session → Event → Spoken → Meaning → List Event → Option Fault
+abbrev pub session_fault : RuleSet → Session → Event → Spoken → Meaning → List Event → Option Fault
 session_fault rules s e spoken (AnAttach fields) past = attach_fault s fields past
 session_fault rules s e spoken (ATransfer fields) past = transfer_fault rules s e fields spoken.payload past
 session_fault rules s e spoken (AFlow flow) past = if is_some flow.handle then handle_fault e else None
@@ -124,30 +124,30 @@ session_fault rules s e spoken _ past = None
 abbrev pub begin_fault : Event → Begin → Option Fault
 begin_fault e begin = if is_some begin.remote_channel || is_some e.session then Some (Close NotAllowed) else None
 
-abbrev pub on_session_fault : List RuleText → Event → Spoken → List Event → Option Session → Option Fault
+abbrev pub on_session_fault : RuleSet → Event → Spoken → List Event → Option Session → Option Fault
 on_session_fault rules e spoken past None = Some (Close NotAllowed)
 on_session_fault rules e spoken past (Some s) = session_fault rules s e spoken spoken.meaning past
 
-abbrev pub channel_fault : List RuleText → Event → Spoken → Meaning → List Event → Option Fault
+abbrev pub channel_fault : RuleSet → Event → Spoken → Meaning → List Event → Option Fault
 channel_fault rules e spoken (ABegin begin) past = begin_fault e begin
 channel_fault rules e spoken _ past = on_session_fault rules e spoken past e.session
 
 abbrev pub open_fault : OpenFields → Option Fault
 open_fault fields = if nat_lt (meanings.frame_limit fields) MIN_MAX_FRAME_SIZE then Some (Close InvalidField) else None
 
-abbrev pub opened_fault : List RuleText → Event → Spoken → List Event → Option Fault
+abbrev pub opened_fault : RuleSet → Event → Spoken → List Event → Option Fault
 opened_fault rules e spoken past =
     if not (has_in_open e.connection past) then Some (Close NotAllowed)
     else if nat_lt CHANNEL_MAX spoken.channel then Some (Close FramingError)
     else channel_fault rules e spoken spoken.meaning past
 
-abbrev pub spoken_fault : List RuleText → Event → Spoken → Meaning → List Event → Option Fault
+abbrev pub spoken_fault : RuleSet → Event → Spoken → Meaning → List Event → Option Fault
 spoken_fault rules e spoken (AnOpen fields) past =
     if has_in_open e.connection past then Some (Close NotAllowed) else open_fault fields
 spoken_fault rules e spoken (AClose error) past = None
 spoken_fault rules e spoken _ past = opened_fault rules e spoken past
 
-abbrev pub body_fault : List RuleText → Event → Body → List Event → Option Fault
+abbrev pub body_fault : RuleSet → Event → Body → List Event → Option Fault
 body_fault rules e NoFrame past = Some (Close FramingError)
 body_fault rules e (NoPerformative channel) past = Some (Close DecodeError)
 body_fault rules e (Empty channel) past = None

@@ -7,7 +7,7 @@ use Rattle.pairing_cert.specs.declared.note.Note.{Note}
 use Rattle.capture_form.specs.declared.records.Record.{Record}
 use Rattle.capture_form.specs.declared.records.What.{What}
 use Rattle.capture_form.specs.declared.records.What.TheVariants as whats
-use Rattle.capture_form.specs.Rules.{RuleText}
+use Rattle.capture_form.specs.Rules.{RuleSet}
 use Rattle.trace_events.specs.declared.fault.Fault.{Fault}
 use Rattle.trace_events.specs.Words.{or_else, where_passes}
 use Rattle.trace_events.specs.Frame.{frame_read, spoken_in}
@@ -50,7 +50,7 @@ abbrev pub heard_by : Event → Moment → List Event → Bool
 heard_by e (In frame) past = is_heard_body e frame.body past
 heard_by e _ past = false
 
-abbrev pub fault_by : List RuleText → Event → Moment → List Event → Option Fault
+abbrev pub fault_by : RuleSet → Event → Moment → List Event → Option Fault
 fault_by rules e (In frame) past = if e.is_heard then body_fault rules e frame.body past else None
 fault_by rules e _ past = None
 
@@ -88,7 +88,7 @@ outgoing_by e _ past = None
 
 -- ---- what a disposition that the router writes tells or settles, by its first id
 
-abbrev pub told_by_role : List RuleText → Session → ℕ → Role → List Event → Option ℕ
+abbrev pub told_by_role : RuleSet → Session → ℕ → Role → List Event → Option ℕ
 told_by_role rules s first Receiver past = option_map (λ d. d.number) (to_tell rules s first past)
 told_by_role rules s first Sender past = None
 
@@ -96,7 +96,7 @@ abbrev pub settled_by_role : Session → ℕ → Role → List Event → Option 
 settled_by_role s first Sender past = option_map (λ j. j.number) (to_settle s first past)
 settled_by_role s first Receiver past = None
 
-abbrev pub told_part : List RuleText → Event → Meaning → List Event → Option ℕ
+abbrev pub told_part : RuleSet → Event → Meaning → List Event → Option ℕ
 told_part rules e (ADisposition fields) past = option_and_then (λ s. told_by_role rules s fields.first fields.role past) e.session
 told_part rules e _ past = None
 
@@ -104,7 +104,7 @@ abbrev pub settled_part : Event → Meaning → List Event → Option ℕ
 settled_part e (ADisposition fields) past = option_and_then (λ s. settled_by_role s fields.first fields.role past) e.session
 settled_part e _ past = None
 
-abbrev pub told_by : List RuleText → Event → Moment → List Event → Option ℕ
+abbrev pub told_by : RuleSet → Event → Moment → List Event → Option ℕ
 told_by rules e (Out frame) past = option_and_then (λ spoken. told_part rules e spoken.meaning past) (spoken_in frame.body)
 told_by rules e _ past = None
 
@@ -145,10 +145,10 @@ placed past c moment note =
 abbrev pub heard : List Event → Event → Event
 heard past e = record e { is_heard = heard_by e e.moment past }
 
-abbrev pub faulted : List RuleText → List Event → Event → Event
+abbrev pub faulted : RuleSet → List Event → Event → Event
 faulted rules past e = record e { fault = fault_by rules e e.moment past }
 
-abbrev pub delivered : List RuleText → List Event → Event → Event
+abbrev pub delivered : RuleSet → List Event → Event → Event
 delivered rules past e = record e {
   incoming = incoming_by e e.moment past;
   outgoing = outgoing_by e e.moment past;
@@ -161,22 +161,22 @@ abbrev pub opened : List Event → Event → Event
 opened past e = record e { session = or_else (opened_session e past) e.session; link = or_else (opened_link e past) e.link }
 
 -- before the last step: the law can be asked there, since no clause reads what a begin or an attach opens
-abbrev pub judge_unopened : List RuleText → List Event → ℕ → Moment → Note → Event
+abbrev pub judge_unopened : RuleSet → List Event → ℕ → Moment → Note → Event
 judge_unopened rules past c moment note = delivered rules past (faulted rules past (heard past (placed past c moment note)))
 
 -- a moment of a connection, with its note, in its place
-abbrev pub judge_moment : List RuleText → List Event → ℕ → Moment → Note → Event
+abbrev pub judge_moment : RuleSet → List Event → ℕ → Moment → Note → Event
 judge_moment rules past c moment note = opened past (judge_unopened rules past c moment note)
 
 -- a record in its place
-abbrev pub judge : List RuleText → List Event → Record → Event
+abbrev pub judge : RuleSet → List Event → Record → Event
 judge rules past r = judge_moment rules past r.connection (moment_of r.what) r.note
 
 -- the events after these records, which follow those of past
-abbrev pub continued : List RuleText → List Event → List Record → List Event
+abbrev pub continued : RuleSet → List Event → List Record → List Event
 continued rules past [] = past
 continued rules past (r ∷ rs) = continued rules (judge rules past r ∷ past) rs
 
 -- the events of a capture's records, the newest first
-abbrev pub history : List RuleText → List Record → List Event
+abbrev pub history : RuleSet → List Record → List Event
 history rules records = continued rules [] records

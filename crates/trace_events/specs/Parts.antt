@@ -1,7 +1,7 @@
 -- The deliveries of a session, as the counts of `flow_counts` over its own parts: what each event of a capture does to them.
 use Rattle.std.specs.Prelude.{ℕ, ◌&&◌, ◌||◌, not, Bool, List, [], ◌∷◌, ◌++◌, Option, Some, None, filter_map, map, ◌==◌, if◌then◌else◌}
 use Rattle.amqp_perf.specs.Meaning.{TransferFields, flag}
-use Rattle.capture_form.specs.Rules.{RuleText}
+use Rattle.capture_form.specs.Rules.{RuleSet}
 use Rattle.flow_counts.specs.Parts.{PartEvent, Part, Aborted, Completed, Freed, Partial}
 use Rattle.trace_events.specs.Event.{Event, Link, Incoming}
 use Rattle.trace_events.specs.declared.session.Session.{Session}
@@ -25,20 +25,20 @@ parts_of s e (Some d) = if d.link.session.number == s.number then parts_on d.lin
 
 -- the event decides a delivery of the session, other than by an abort: undecided before, or begun by this event, it isn't
 -- undecided with it
-abbrev pub frees : List RuleText → Session → Event → List Event → Incoming → Bool
+abbrev pub frees : RuleSet → Session → Event → List Event → Incoming → Bool
 frees rules s e past d =
     d.link.session.number == s.number && (is_undecided rules d past || d.number == e.number)
     && not (is_undecided rules d (e ∷ past)) && not (is_aborted d (e ∷ past))
 
 -- the ids of the deliveries that it decides so
-abbrev pub freed_id : List RuleText → Session → Event → List Event → Incoming → Option ℕ
+abbrev pub freed_id : RuleSet → Session → Event → List Event → Incoming → Option ℕ
 freed_id rules s e past d = if frees rules s e past d then d.id else None
 
-abbrev pub freed_ids : List RuleText → Session → Event → List Event → List ℕ
+abbrev pub freed_ids : RuleSet → Session → Event → List Event → List ℕ
 freed_ids rules s e past = filter_map (freed_id rules s e past) (incoming_deliveries (e ∷ past))
 
 -- all that moves the session's deliveries, the newest first; what an event decides comes behind its part
-abbrev pub part_events : List RuleText → Session → List Event → List PartEvent
+abbrev pub part_events : RuleSet → Session → List Event → List PartEvent
 part_events rules s [] = []
 part_events rules s (e ∷ past) =
     let earlier = part_events rules s past in map Freed (freed_ids rules s e past) ++ (parts_of s e e.incoming ++ earlier)

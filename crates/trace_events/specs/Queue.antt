@@ -1,6 +1,6 @@
 -- Deliveries that wait, as the queue of their address (own rules).
 use Rattle.std.specs.Prelude.{ℕ, Bool, ◌&&◌, not, List, ◌∷◌, filter, filter_map, reverse, bytes_eq}
-use Rattle.capture_form.specs.Rules.{RuleText}
+use Rattle.capture_form.specs.Rules.{RuleSet}
 use Rattle.trace_events.specs.Words.{is_some_and}
 use Rattle.trace_events.specs.Event.{Event, Incoming}
 use Rattle.trace_events.specs.Address.{has_consumer}
@@ -20,9 +20,9 @@ stays e past d = has_consumer (address_of d) (e ∷ past) && not (pairs d e)
 abbrev pub completed_deliveries : List Event → List Incoming
 completed_deliveries past = filter_map completed_by past
 
-abbrev pub waits_at : List RuleText → List ℕ → List Event → Incoming → Bool
+abbrev pub waits_at : RuleSet → List ℕ → List Event → Incoming → Bool
 waits_at rules address past d = bytes_eq (address_of d) address && is_waiting rules d past
 
 -- those that wait at the address, in the order in which they were completed
-abbrev pub waiting_queue : List RuleText → List ℕ → List Event → List Incoming
+abbrev pub waiting_queue : RuleSet → List ℕ → List Event → List Incoming
 waiting_queue rules address past = reverse (filter (waits_at rules address past) (completed_deliveries past))

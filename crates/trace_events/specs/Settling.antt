@@ -1,7 +1,7 @@
 -- Which delivery the router settles with its consumer, and which one an outcome is told of (part 2 of the standard,
 -- section 2.6.12; own rules).
 use Rattle.std.specs.Prelude.{ℕ, Bool, ◌&&◌, ◌||◌, not, List, Option, is_some, find, reverse, ◌==◌}
-use Rattle.capture_form.specs.Rules.{RuleText}
+use Rattle.capture_form.specs.Rules.{RuleSet}
 use Rattle.trace_events.specs.Words.{is_some_and, is_number}
 use Rattle.trace_events.specs.Event.{Event, Incoming, Outgoing}
 use Rattle.trace_events.specs.declared.session.Session.{Session}
@@ -27,5 +27,5 @@ to_settle s id past =
     find (λ j. j.link.session.number == s.number && is_number j.id id && is_to_settle past j) (reverse (outgoing_deliveries past))
 
 -- the undecided delivery of the id on the session, whose outcome may be told
-abbrev pub to_tell : List RuleText → Session → ℕ → List Event → Option Incoming
+abbrev pub to_tell : RuleSet → Session → ℕ → List Event → Option Incoming
 to_tell rules s id past = find (is_undecided_of rules s id past) (incoming_deliveries past)

@@ -2,7 +2,7 @@
 -- one event does to them (own rules).
 use Rattle.std.specs.Prelude.{Bool, ◌&&◌, ◌||◌, not, List, is_some, filter, reverse}
 use Rattle.amqp_perf.specs.Meaning.{flag}
-use Rattle.capture_form.specs.Rules.{RuleText}
+use Rattle.capture_form.specs.Rules.{RuleSet}
 use Rattle.trace_events.specs.Words.{is_some_and, is_number}
 use Rattle.trace_events.specs.Event.{Event, Link, Incoming, Outgoing}
 use Rattle.trace_events.specs.Link.{is_live}
@@ -54,9 +54,9 @@ comes_to_settle e past j =
 -- ---- copies to send
 
 -- all that are due to the link and unsent, the first completed first
-abbrev pub unsent_copies : List RuleText → Link → List Event → List Incoming
+abbrev pub unsent_copies : RuleSet → Link → List Event → List Incoming
 unsent_copies rules l past = reverse (filter (λ d. is_unsent rules d l past) (completed_deliveries past))
 
 -- a copy of what the event completes is due to the link
-abbrev pub comes_due : List RuleText → Link → Event → List Event → Bool
+abbrev pub comes_due : RuleSet → Link → Event → List Event → Bool
 comes_due rules l e past = makes_due rules l e past (due_count rules l past)
