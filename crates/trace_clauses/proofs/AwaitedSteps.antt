@@ -5,7 +5,7 @@ use Rattle.std.specs.Prelude.{Contains}
 use Rattle.std.specs.List.{AllByRecursion, cons_option, list_any}
 use Rattle.amqp_perf.specs.declared.descriptor.Outcome.{Outcome}
 use Rattle.amqp_perf.specs.declared.descriptor.Outcome.TheVariants.{Modified}
-use Rattle.capture_form.specs.Rules.{RuleText}
+use Rattle.capture_form.specs.Rules.{RuleSet}
 use Rattle.trace_events.specs.Words.{is_some_and, or_else}
 use Rattle.trace_events.specs.Event.{Event, Link, Incoming, Outgoing}
 use Rattle.trace_events.specs.declared.session.Session.{Session}
@@ -46,7 +46,7 @@ last_of : (over : Bool) (last : Option Session) (s : Session) → (if over then 
 last_of true last s is = absurd cc
 last_of false last s is = is
 
-lives_below : (rules : List RuleText) (past : List Event) → AreJudged rules past → (l : Link) → is_live past l ≡ true → l.number < length past
+lives_below : (rules : RuleSet) (past : List Event) → AreJudged rules past → (l : Link) → is_live past l ≡ true → l.number < length past
 lives_below rules past are l is =
     let found = some_passes (λ (m : Link). m.number == l.number) (live_link l.session.connection l.session.channel l.handle past) is in
     let on = and_then_some (λ (s : Session). session_link s l.handle past) (live_session l.session.connection l.session.channel past) found.0 found.1 in
@@ -56,14 +56,14 @@ lives_below rules past are l is =
     let same = eqb-true found.0.number l.number found.2 in
     omega (arith, lt, same)
 
-comes_due-live : (rules : List RuleText) (l : Link) (e : Event) (past : List Event) → comes_due rules l e past ≡ true → is_live past l ≡ true
+comes_due-live : (rules : RuleSet) (l : Link) (e : Event) (past : List Event) → comes_due rules l e past ≡ true → is_live past l ≡ true
 comes_due-live rules l e past is =
     let copied : is_copied_to rules l e past ≡ true = and_first (is_copied_to rules l e past) _ is in
     let d = some_passes (λ d. is_of_multicast rules d && is_consumer_of (address_of d) past l) (completed_by e) copied in
     let mine : is_consumer_of (address_of d.0) past l ≡ true = and_last (is_of_multicast rules d.0) (is_consumer_of (address_of d.0) past l) d.2 in
     and_last (is_consumer l && bytes_eq l.address (address_of d.0)) (is_live past l) mine
 
-pub due_below : (rules : List RuleText) (past : List Event) → AreJudged rules past → (d : Incoming) (l : Link) → is_due rules d l past ≡ true → l.number < length past
+pub due_below : (rules : RuleSet) (past : List Event) → AreJudged rules past → (d : Incoming) (l : Link) → is_due rules d l past ≡ true → l.number < length past
 due_below rules [] are d l due = absurd cc
 due_below rules (e ∷ past) are d l due = by (completes d e) (due_below rules past are.1 d l) due
   where
@@ -76,7 +76,7 @@ due_below rules (e ∷ past) are d l due = by (completes d e) (due_below rules p
 same_some : {A : Type 0} (a b : A) → Some a ≡ Some b → a ≡ b
 same_some a b is = cc
 
-comes_due-many : (rules : List RuleText) (e : Event) (past : List Event) → AreJudged rules (e ∷ past) → (d : Incoming) → incoming_at d.number (e ∷ past) ≡ Some d → (l : Link) → completes d e ≡ true
+comes_due-many : (rules : RuleSet) (e : Event) (past : List Event) → AreJudged rules (e ∷ past) → (d : Incoming) → incoming_at d.number (e ∷ past) ≡ Some d → (l : Link) → completes d e ≡ true
     → comes_due rules l e past ≡ true → is_of_multicast rules d ≡ true
 comes_due-many rules e past are d found l here is =
     let x = some_passes (λ x. is_of_multicast rules x && is_consumer_of (address_of x) past l) (completed_by e) (and_first (is_copied_to rules l e past) _ is) in
@@ -88,7 +88,7 @@ comes_due-many rules e past are d found l here is =
     let same : own.0 ≡ d = same_some own.0 d (sym kept.at ∙ (ap (λ n. incoming_at n (e ∷ past)) (eqb-true own.0.number d.number own.2) ∙ found)) in
     ap (is_of_multicast rules) (sym same ∙ sym both) ∙ and_first (is_of_multicast rules x.0) (is_consumer_of (address_of x.0) past l) x.2
 
-pub due-many : (rules : List RuleText) (past : List Event) → AreJudged rules past → (d : Incoming) → incoming_at d.number past ≡ Some d → (l : Link) → is_due rules d l past ≡ true → is_of_multicast rules d ≡ true
+pub due-many : (rules : RuleSet) (past : List Event) → AreJudged rules past → (d : Incoming) → incoming_at d.number past ≡ Some d → (l : Link) → is_due rules d l past ≡ true → is_of_multicast rules d ≡ true
 due-many rules [] are d found l due = absurd cc
 due-many rules (e ∷ past) are d found l due = by (completes d e) refl (λ old is. due-many rules past are.1 d old l is) due
   where
@@ -104,7 +104,7 @@ due-many rules (e ∷ past) are d found l due = by (completes d e) refl (λ old 
 
 -- ---- of a delivery that the event completes no copy was begun
 
-module _ (rules : List RuleText) (e : Event) (past : List Event) (are : AreJudged rules (e ∷ past)) (lawful : first_broken rules (e ∷ past) ≡ None) where
+module _ (rules : RuleSet) (e : Event) (past : List Event) (are : AreJudged rules (e ∷ past)) (lawful : first_broken rules (e ∷ past) ≡ None) where
   was_lawful : first_broken rules past ≡ None
   was_lawful = lawful-past rules e past lawful
 

@@ -3,7 +3,7 @@
 use Rattle.std.proofs.Common.{◌≡◌, refl, sym, ap, subst, ◌∙◌, ◌<◌, Bool, true, false, List, [], ◌∷◌, length, Option, Some, None, IfSome, IsSomeAnd, find, option_and_then, option_map, is_some, if◌then◌else◌, ◌&&◌, ◌==◌, inl, inr, arith, eqb-true, eq-eqb}
 use Rattle.std.specs.List.{cons_option}
 use Rattle.pairing_cert.specs.declared.note.Note.TheVariants as notes
-use Rattle.capture_form.specs.Rules.{RuleText}
+use Rattle.capture_form.specs.Rules.{RuleSet}
 use Rattle.trace_events.specs.Words.{is_some_and}
 use Rattle.trace_events.specs.Frame.{Frame, Spoken, spoken_in}
 use Rattle.trace_events.specs.Event.{Event, Link, Incoming, Outgoing, out_frame, is_on_link}
@@ -54,7 +54,7 @@ known P o x is h = subst (λ (p : Option _). IfSome p P) is h
 known_and : {A : Type 0} (P : A → Type 0) (o : Option A) (x : A) → o ≡ Some x → IsSomeAnd o P → P x
 known_and P o x is h = subst (λ (p : Option _). IsSomeAnd p P) is h
 
-module _ (rules : List RuleText) (e : Event) (past : List Event) (are : AreJudged rules (e ∷ past)) where
+module _ (rules : RuleSet) (e : Event) (past : List Event) (are : AreJudged rules (e ∷ past)) where
   linked_still : (l : Link) → links.IsKnown past l → links.IsKnown (e ∷ past) l
   linked_still l is = subst (λ (x : Event). links.IsKnown (x ∷ past) l) (sym are.0.1) (links.known_still rules past are.0.0 l is)
 
@@ -224,7 +224,7 @@ module _ (rules : List RuleText) (e : Event) (past : List Event) (are : AreJudge
 
 -- ---- all of them
 
-pub judged-begun : (rules : List RuleText) (past : List Event) → AreJudged rules past → first_broken rules past ≡ None → AllOf (IsBegun past) (outgoing_deliveries past)
+pub judged-begun : (rules : RuleSet) (past : List Event) → AreJudged rules past → first_broken rules past ≡ None → AllOf (IsBegun past) (outgoing_deliveries past)
 judged-begun rules [] are lawful = tt
 judged-begun rules (e ∷ past) are lawful =
     by (outgoing_begun e) refl
@@ -235,6 +235,6 @@ judged-begun rules (e ∷ past) are lawful =
     by (Some j) is earlier = (begun-here rules e past are lawful j is, earlier)
 
 -- one that is found among them
-pub found-begun : (rules : List RuleText) (past : List Event) → AreJudged rules past → first_broken rules past ≡ None → (test : Outgoing → Bool) (j : Outgoing)
+pub found-begun : (rules : RuleSet) (past : List Event) → AreJudged rules past → first_broken rules past ≡ None → (test : Outgoing → Bool) (j : Outgoing)
     → find test (outgoing_deliveries past) ≡ Some j → IsBegun past j
 found-begun rules past are lawful test j found = found_holds (IsBegun past) test (outgoing_deliveries past) j (judged-begun rules past are lawful) found

@@ -4,7 +4,7 @@ use Rattle.std.proofs.Common.{◌≡◌, refl, sym, ap, ◌∙◌, subst, ℕ, L
 use lib.Pointwise.{bytes_decides}
 use Rattle.amqp_perf.specs.Meaning.{ATransfer, TransferFields, flag}
 use Rattle.capture_form.specs.declared.records.Record.{Record}
-use Rattle.capture_form.specs.Rules.{RuleText}
+use Rattle.capture_form.specs.Rules.{RuleSet}
 use Rattle.trace_clauses.specs.declared.clause.Clause.TheVariants.{L7, L8}
 use Rattle.trace_events.specs.Words.{is_some_and}
 use Rattle.trace_events.specs.Frame.{Frame, Spoken, spoken_in}
@@ -30,7 +30,7 @@ so-far false whole so_far e =
     let same : so_far ≡ whole = sym ((bytes_decides whole so_far).0 e) in
     (same ∙ sym (ap (λ xs. take (length xs) whole) same ∙ take_all (length whole) whole (le_refl (length whole))), λ no. same)
 
-module _ (rules : List RuleText) (e : Event) (past : List Event) (lawful : first_broken rules (e ∷ past) ≡ None) (frame : Frame) (spoken : Spoken)
+module _ (rules : RuleSet) (e : Event) (past : List Event) (lawful : first_broken rules (e ∷ past) ≡ None) (frame : Frame) (spoken : Spoken)
     (written : e.moment ≡ Out frame) (says : spoken_in frame.body ≡ Some spoken) (fields : TransferFields) (means : spoken.meaning ≡ ATransfer fields) where
   seven : is_some_and e.link (names_carried rules e fields past) ≡ true
   seven = sym (ap (λ m. meaning_meets rules e spoken past m L7) means) ∙ met rules e past lawful frame written spoken says L7
@@ -70,7 +70,7 @@ module _ (rules : List RuleText) (e : Event) (past : List Event) (lawful : first
       let all = joined j is_j in
       (and-left _ _ is.1, subst (λ xs. AreFirst xs (incoming.payload d.0 past)) (sym all) h.0, λ last. all ∙ h.1 last)))
 
-module _ (rules : List RuleText) (e : Event) (past : List Event) (lawful : first_broken rules (e ∷ past) ≡ None) where
+module _ (rules : RuleSet) (e : Event) (past : List Event) (lawful : first_broken rules (e ∷ past) ≡ None) where
   abbrev Carried : TransferFields → Type 0
   Carried fields = IsSomeAnd (noted e.note past) (λ d. IsSomeAnd e.outgoing (λ j.
       (is_complete d past ≡ true) × AreFirst (outgoing.payload j (e ∷ past)) (incoming.payload d past)
@@ -96,8 +96,8 @@ module _ (rules : List RuleText) (e : Event) (past : List Event) (lawful : first
   went-to-address = of_written as_transfer e Addressed means-addressed
 
 -- the laws of a capture
-pub lawful-addressed : (rules : List RuleText) (rs : List Record) → first_broken rules (history rules rs) ≡ None → AtEach WentToAddress (history rules rs)
+pub lawful-addressed : (rules : RuleSet) (rs : List Record) → first_broken rules (history rules rs) ≡ None → AtEach WentToAddress (history rules rs)
 lawful-addressed rules rs lawful = at_each rules WentToAddress (went-to-address rules) (history rules rs) lawful
 
-pub lawful-carried : (rules : List RuleText) (rs : List Record) → first_broken rules (history rules rs) ≡ None → AtEach HasCarried (history rules rs)
+pub lawful-carried : (rules : RuleSet) (rs : List Record) → first_broken rules (history rules rs) ≡ None → AtEach HasCarried (history rules rs)
 lawful-carried rules rs lawful = at_each rules HasCarried (has-carried rules) (history rules rs) lawful

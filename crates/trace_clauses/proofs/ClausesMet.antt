@@ -2,7 +2,7 @@
 use Rattle.std.proofs.Common.{◌≡◌, refl, sym, ap, ◌∙◌, List, [], ◌∷◌, Bool, true, false, not, Option, Some, None}
 use Rattle.std.specs.Prelude.{find, cond, option_map}
 use Rattle.std.specs.List.{AllByRecursion}
-use Rattle.capture_form.specs.Rules.{RuleText}
+use Rattle.capture_form.specs.Rules.{RuleSet}
 use Rattle.trace_clauses.specs.declared.clause.Clause.{Clause}
 use Rattle.trace_clauses.specs.declared.clause.Clause.TheVariants.{L1, L2, L3, L4, L5, L6, L7, L8, L9, L10, L11, L12, L13, L14}
 use Rattle.trace_events.specs.Words.{or_else}
@@ -20,10 +20,10 @@ map-none : {A B : Type 0} (f : A → B) (o : Option A) → option_map f o ≡ No
 map-none f None e = refl
 map-none f (Some x) e = absurd cc
 
-pub lawful-past : (rules : List RuleText) (e : Event) (past : List Event) → first_broken rules (e ∷ past) ≡ None → first_broken rules past ≡ None
+pub lawful-past : (rules : RuleSet) (e : Event) (past : List Event) → first_broken rules (e ∷ past) ≡ None → first_broken rules past ≡ None
 lawful-past rules e past lawful = (or_else-none (first_broken rules past) _ lawful).0
 
-pub lawful-here : (rules : List RuleText) (e : Event) (past : List Event) → first_broken rules (e ∷ past) ≡ None → broken_clause rules e past ≡ None
+pub lawful-here : (rules : RuleSet) (e : Event) (past : List Event) → first_broken rules (e ∷ past) ≡ None → broken_clause rules e past ≡ None
 lawful-here rules e past lawful =
     map-none (λ clause. (e.number, clause)) (broken_clause rules e past) (or_else-none (first_broken rules past) _ lawful).1
 
@@ -59,7 +59,7 @@ each-clause test h L12 = not-false (test L12) h.1.1.1.1.1.1.1.1.1.1.1.0
 each-clause test h L13 = not-false (test L13) h.1.1.1.1.1.1.1.1.1.1.1.1.0
 each-clause test h L14 = not-false (test L14) h.1.1.1.1.1.1.1.1.1.1.1.1.1.0
 
-module _ (rules : List RuleText) (e : Event) (past : List Event) (lawful : first_broken rules (e ∷ past) ≡ None) (frame : Frame)
+module _ (rules : RuleSet) (e : Event) (past : List Event) (lawful : first_broken rules (e ∷ past) ≡ None) (frame : Frame)
     (written : e.moment ≡ Out frame) (spoken : Spoken) (says : spoken_in frame.body ≡ Some spoken) where
   unbroken : find (λ clause. not (spoken_meets rules e frame past spoken clause)) clauses ≡ None
   unbroken =

@@ -3,7 +3,7 @@
 use Rattle.std.proofs.Common.{◌≡◌, refl, sym, ap, ◌∙◌, ℕ, ◌<◌, List, [], ◌∷◌, Bool, true, false, ◌≤◌, ◌==◌, Option, Some, None, option_map, find, arith, eqb-true, eq-eqb, lt-ltb}
 use Rattle.std.specs.Prelude.{nat_lt}
 use Rattle.std.proofs.lemmas.Bool.{ltb-true, ltb-false, le-ltb}
-use Rattle.capture_form.specs.Rules.{RuleText}
+use Rattle.capture_form.specs.Rules.{RuleSet}
 use Rattle.trace_events.specs.Words.{is_some_and}
 use Rattle.trace_events.specs.Event.{Event, Incoming}
 use Rattle.trace_events.specs.Incoming.{completed_by, completes, is_complete, completion, completed_before}
@@ -63,7 +63,7 @@ both-of : (a b : Incoming) (o : Option Incoming) → is_some_and o (λ x. x.numb
 both-of a b None first second = absurd cc
 both-of a b (Some x) first second = sym (eqb-true x.number a.number first) ∙ eqb-true x.number b.number second
 
-pub completion-one : (rules : List RuleText) (past : List Event) → AreJudged rules past → (a b : Incoming) (m : ℕ) → completion a past ≡ Some m → completion b past ≡ Some m → a.number ≡ b.number
+pub completion-one : (rules : RuleSet) (past : List Event) → AreJudged rules past → (a b : Incoming) (m : ℕ) → completion a past ≡ Some m → completion b past ≡ Some m → a.number ≡ b.number
 completion-one rules [] are a b m first second = absurd cc
 completion-one rules (e ∷ past) are a b m first second = by (completes a e) (completes b e) refl refl (completion-one rules past are.1 a b m)
   where
@@ -84,7 +84,7 @@ completion-one rules (e ∷ past) are a b m first second = by (completes a e) (c
     by false false here there earlier = earlier (sym (completion-same e past a here) ∙ first) (sym (completion-same e past b there) ∙ second)
 
 -- so of two that are complete one comes first
-pub one-before : (rules : List RuleText) (past : List Event) → AreJudged rules past → (a b : Incoming) → is_complete a past ≡ true → is_complete b past ≡ true → (a.number == b.number) ≡ false
+pub one-before : (rules : RuleSet) (past : List Event) → AreJudged rules past → (a b : Incoming) → is_complete a past ≡ true → is_complete b past ≡ true → (a.number == b.number) ≡ false
     → completed_before b a past ≡ false → completed_before a b past ≡ true
 one-before rules past are a b first second apart not_before =
     let m = completed_below rules past are a first in
@@ -106,7 +106,7 @@ one-before rules past are a b first second apart not_before =
 
 -- ---- what an event completes comes behind all that were complete
 
-pub before-completed : (rules : List RuleText) (e : Event) (past : List Event) → AreJudged rules (e ∷ past) → (a d : Incoming) → is_complete a past ≡ true → completes d e ≡ true
+pub before-completed : (rules : RuleSet) (e : Event) (past : List Event) → AreJudged rules (e ∷ past) → (a d : Incoming) → is_complete a past ≡ true → completes d e ≡ true
     → completed_before a d (e ∷ past) ≡ true
 before-completed rules e past are a d done here =
     let below = completed_below rules past are.1 a done in

@@ -10,14 +10,14 @@ use Rattle.amqp_frames.specs.Writing.{frame_octets}
 use Rattle.amqp_frames.specs.Reading.{whole_frame, frame_at, sized_frame, headed_frame}
 use Rattle.capture_form.specs.declared.records.Record.{Record}
 use Rattle.capture_form.specs.declared.rules.Distribution.TheVariants.{Multicast}
-use Rattle.capture_form.specs.Rules.{RuleText}
+use Rattle.capture_form.specs.Rules.{RuleText, RuleSet}
 use Rattle.trace_events.specs.Words.{is_some_and}
 use Rattle.trace_events.specs.Frame.{frame_read}
 use Rattle.trace_events.specs.History.{history, judge}
 use Rattle.trace_events.specs.Incoming.{incoming_at}
 use Rattle.trace_events.specs.Link.{link_at}
 use Rattle.trace_clauses.specs.Written.{spoken_octets}
-use Rattle.trace_clauses.proofs.Captures.{rule}
+use Rattle.trace_clauses.proofs.Captures.{rule, unmarked}
 use Rattle.trace_clauses.proofs.Made.{from, from_with, to, carry, gives, shows, first, disposes, detach_of, producer, consumer, q, hi}
 use Rattle.trace_clauses.specs.CopyVerdict.{copy_verdict, verdict_by, awaits_verdict, awaits_now}
 use Rattle.trace_clauses.specs.BestVerdict.{multicast_row}
@@ -62,33 +62,33 @@ received = Some (0x00 ∷ 0x53 ∷ 0x23 ∷ 0xC0 ∷ 0x03 ∷ 0x02 ∷ 0x43 ∷ 
 unfoldable pub verdict_in : List RuleText → List Record → ℕ → ℕ → Option Outcome
 unfolding frame_read whole_frame frame_at sized_frame headed_frame read digits spoken_octets frame_octets written
 verdict_in rules records n m =
-    let past = history rules records in
+    let past = history (unmarked rules) records in
     option_and_then (λ d. option_and_then (λ l. copy_verdict d l past) (link_at m past)) (incoming_at n past)
 
 -- a copy awaits its verdict there, or does with one more record; and the verdict that this one gives
 unfoldable pub awaits_in : List RuleText → List Record → ℕ → ℕ → Bool
 unfolding frame_read whole_frame frame_at sized_frame headed_frame read digits spoken_octets frame_octets written
 awaits_in rules records n m =
-    let past = history rules records in
-    is_some_and (incoming_at n past) (λ d. is_some_and (link_at m past) (awaits_verdict rules d past))
+    let past = history (unmarked rules) records in
+    is_some_and (incoming_at n past) (λ d. is_some_and (link_at m past) (awaits_verdict (unmarked rules) d past))
 
 unfoldable pub awaits_by : List RuleText → List Record → Record → ℕ → ℕ → Bool
 unfolding frame_read whole_frame frame_at sized_frame headed_frame read digits spoken_octets frame_octets written
 awaits_by rules records r n m =
-    let past = history rules records in
-    let e = judge rules past r in
-    is_some_and (incoming_at n (e ∷ past)) (λ d. is_some_and (link_at m past) (awaits_now rules e past d))
+    let past = history (unmarked rules) records in
+    let e = judge (unmarked rules) past r in
+    is_some_and (incoming_at n (e ∷ past)) (λ d. is_some_and (link_at m past) (awaits_now (unmarked rules) e past d))
 
 unfoldable pub given_by : List RuleText → List Record → Record → ℕ → ℕ → Option Outcome
 unfolding frame_read whole_frame frame_at sized_frame headed_frame read digits spoken_octets frame_octets written
 given_by rules records r n m =
-    let past = history rules records in
-    let e = judge rules past r in
+    let past = history (unmarked rules) records in
+    let e = judge (unmarked rules) past r in
     option_and_then (λ d. option_and_then (verdict_by e past d) (link_at m past)) (incoming_at n past)
 
 -- what the row of the delivery tells
 unfoldable pub row_in : List RuleText → List Record → ℕ → Option (Option (List ℕ))
 unfolding frame_read whole_frame frame_at sized_frame headed_frame read digits spoken_octets frame_octets written
 row_in rules records n =
-    let past = history rules records in
-    option_and_then (λ d. multicast_row rules d past) (incoming_at n past)
+    let past = history (unmarked rules) records in
+    option_and_then (λ d. multicast_row (unmarked rules) d past) (incoming_at n past)

@@ -9,7 +9,7 @@ use Rattle.std.proofs.lemmas.Slice.Eq.{bytes_eq-Decides}
 use Rattle.amqp_perf.specs.Meaning.{Meaning, AnOpen, ABegin, AnAttach, AFlow, ATransfer, ADisposition, ADetach, AnEnd, AClose, TransferFields}
 use Rattle.pairing_cert.specs.declared.note.Note.TheVariants as notes
 use Rattle.capture_form.specs.declared.records.Record.{Record}
-use Rattle.capture_form.specs.Rules.{RuleText}
+use Rattle.capture_form.specs.Rules.{RuleSet}
 use Rattle.flow_counts.specs.GivenCredit as given
 use Rattle.flow_counts.specs.Credit.{LinkEvent, TheirFlow, OurFlow, Begun}
 use Rattle.trace_clauses.specs.declared.clause.Clause.TheVariants.{L6, L9}
@@ -91,7 +91,7 @@ one-less n (x ∷ xs) d apart there same = elim (contains_cases x xs d there) [
 ]
 
 -- copies to send are of different deliveries
-pub unsent_apart : (rules : List RuleText) (l : Link) (past : List Event) → AreJudged rules past → HaveOwnNumbers (unsent_copies rules l past)
+pub unsent_apart : (rules : RuleSet) (l : Link) (past : List Event) → AreJudged rules past → HaveOwnNumbers (unsent_copies rules l past)
 unsent_apart rules l past are = λ i j x lt within.
     let ds = unsent_copies rules l past in
     let before = unsent_in_order rules l past are i j x lt within in
@@ -108,7 +108,7 @@ unsent_apart rules l past are = λ i j x lt within.
 
 -- ---- a link before it is opened
 
-module _ (rules : List RuleText) (past : List Event) (are : AreJudged rules past) (l : Link) (later : length past ≤ l.number) where
+module _ (rules : RuleSet) (past : List Event) (are : AreJudged rules past) (l : Link) (later : length past ≤ l.number) where
   unborn_by : (b : Bool) → is_live past l ≡ b → b ≡ false
   unborn_by false is = refl
   unborn_by true is =
@@ -126,14 +126,14 @@ module _ (rules : List RuleText) (past : List Event) (are : AreJudged rules past
   unborn : is_live past l ≡ false
   unborn = unborn_by (is_live past l) refl
 
-not_copied : (rules : List RuleText) (l : Link) (past : List Event) (o : Option Incoming) → is_live past l ≡ false → is_some_and o (λ d. is_of_multicast rules d && is_consumer_of (address_of d) past l) ≡ false
+not_copied : (rules : RuleSet) (l : Link) (past : List Event) (o : Option Incoming) → is_live past l ≡ false → is_some_and o (λ d. is_of_multicast rules d && is_consumer_of (address_of d) past l) ≡ false
 not_copied rules l past None over = refl
 not_copied rules l past (Some d) over =
     ap (λ b. is_of_multicast rules d && (is_consumer l && bytes_eq l.address (address_of d) && b)) over
     ∙ (ap (λ b. is_of_multicast rules d && b) (and-false (is_consumer l && bytes_eq l.address (address_of d))) ∙ and-false (is_of_multicast rules d))
 
 -- nothing was due to it
-none_due : (rules : List RuleText) (past : List Event) → AreJudged rules past → (l : Link) → length past ≤ suc l.number → (due_count rules l past ≡ 0) × ((d : Incoming) → is_due rules d l past ≡ false)
+none_due : (rules : RuleSet) (past : List Event) → AreJudged rules past → (l : Link) → length past ≤ suc l.number → (due_count rules l past ≡ 0) × ((d : Incoming) → is_due rules d l past ≡ false)
 none_due rules [] are l later = (refl, λ d. refl)
 none_due rules (e ∷ past) are l later =
     let before = none_due rules past are.1 l (omega (arith, later)) in
@@ -148,14 +148,14 @@ none_due rules (e ∷ past) are l later =
     both-off true = refl
     both-off false = refl
 
-judged-unused : (rules : List RuleText) (past : List Event) → AreJudged rules past → AreUnused past
+judged-unused : (rules : RuleSet) (past : List Event) → AreJudged rules past → AreUnused past
 judged-unused rules [] are = λ l after. refl
 judged-unused rules (e ∷ past) ((r, is), are) = subst (λ (x : Event). AreUnused (x ∷ past)) (sym is) (unused_step rules past r (judged-stands rules past are) (judged-unused rules past are))
 
 -- ---- an event that begins a delivery on the link
 
 -- of the client's, none does on a consumer's link
-module _ (rules : List RuleText) (past : List Event) (r : Record) (are : AreJudged rules past) (l : Link) (known : links.IsKnown past l) (consumer : is_consumer l ≡ true)
+module _ (rules : RuleSet) (past : List Event) (r : Record) (are : AreJudged rules past) (l : Link) (known : links.IsKnown past l) (consumer : is_consumer l ≡ true)
     (on : is_on_link l (judge rules past r) ≡ true) where
   none_comes : begins_incoming (judge rules past r) ≡ true → ⊥
   none_comes comes =
@@ -167,7 +167,7 @@ module _ (rules : List RuleText) (past : List Event) (r : Record) (are : AreJudg
       let one = same_link rules past r l from.0 (judged-stands rules past are) known (unopened ∙ from.1) on in
       not_both l (subst (λ (m : Link). is_producer m ≡ true) one from.2) consumer
 
-module _ (rules : List RuleText) (e : Event) (past : List Event) (are : AreJudged rules (e ∷ past)) (lawful : first_broken rules (e ∷ past) ≡ None)
+module _ (rules : RuleSet) (e : Event) (past : List Event) (are : AreJudged rules (e ∷ past)) (lawful : first_broken rules (e ∷ past) ≡ None)
     (l : Link) (known : links.IsKnown past l) (consumer : is_consumer l ≡ true) where
   -- a link of its number is the link
   same_of : (m : Link) → links.IsKnown past m → (m.number == l.number) ≡ true → m ≡ l
@@ -372,7 +372,7 @@ sums-more due begun left unsent now c was less is = omega (arith, was, less, is)
 sums-same : (due begun left unsent now c : ℕ) → due ≡ begun + unsent → left ≡ unsent → now ≡ left + c → c + due ≡ begun + now
 sums-same due begun left unsent now c was same is = omega (arith, was, same, is)
 
-module _ (rules : List RuleText) (e : Event) (past : List Event) (are : AreJudged rules (e ∷ past)) (lawful : first_broken rules (e ∷ past) ≡ None)
+module _ (rules : RuleSet) (e : Event) (past : List Event) (are : AreJudged rules (e ∷ past)) (lawful : first_broken rules (e ∷ past) ≡ None)
     (l : Link) (known : links.IsKnown past l) (consumer : is_consumer l ≡ true) (many : has_multicast rules l.address ≡ true) where
   one-added : (o : Option Incoming) → completed_by e ≡ o → length (if comes_due rules l e past then cons_option o [] else []) ≡ cond (comes_due rules l e past) 1 0
   one-added None is = none-added (comes_due rules l e past)
@@ -419,7 +419,7 @@ module _ (rules : List RuleText) (e : Event) (past : List Event) (are : AreJudge
 
 -- ---- a link that opens with the event
 
-module _ (rules : List RuleText) (e : Event) (past : List Event) (are : AreJudged rules (e ∷ past)) (l : Link) (new : l.number ≡ length past) where
+module _ (rules : RuleSet) (e : Event) (past : List Event) (are : AreJudged rules (e ∷ past)) (l : Link) (new : l.number ≡ length past) where
   unmoved : is_on_link l e ≡ true → link_event e e.moment ≡ None
   unmoved on =
       let m = some_passes (λ (m : Link). m.number == l.number) e.link (and_first (is_some_and e.link (λ (m : Link). m.number == l.number)) (e.connection == l.session.connection) on) in
@@ -453,7 +453,7 @@ module _ (rules : List RuleText) (e : Event) (past : List Event) (are : AreJudge
 -- ---- along a history
 
 -- what was due to a consumer's link of a multicast address has begun there, or is unsent
-pub copies_counted : (rules : List RuleText) (past : List Event) → AreJudged rules past → first_broken rules past ≡ None → (l : Link) → link_at l.number past ≡ Some l → is_consumer l ≡ true → has_multicast rules l.address ≡ true
+pub copies_counted : (rules : RuleSet) (past : List Event) → AreJudged rules past → first_broken rules past ≡ None → (l : Link) → link_at l.number past ≡ Some l → is_consumer l ≡ true → has_multicast rules l.address ≡ true
     → due_count rules l past ≡ begun_count l past + length (unsent_copies rules l past)
 copies_counted rules [] are lawful l at consumer many = absurd cc
 copies_counted rules (e ∷ past) are lawful l at consumer many =
@@ -465,7 +465,7 @@ copies_counted rules (e ∷ past) are lawful l at consumer many =
     by (inr new) earlier = new_counted rules e past are l new
 
 -- a copy comes due to a link where it has more credit than copies that are unsent
-pub comes_due_listed : (rules : List RuleText) (e : Event) (past : List Event) → AreJudged rules past → first_broken rules past ≡ None → (l : Link) → link_at l.number past ≡ Some l
+pub comes_due_listed : (rules : RuleSet) (e : Event) (past : List Event) → AreJudged rules past → first_broken rules past ≡ None → (l : Link) → link_at l.number past ≡ Some l
     → comes_due rules l e past ≡ is_copied_to rules l e past && nat_lt (length (unsent_copies rules l past)) (link_credit l past)
 comes_due_listed rules e past are lawful l at = by (is_copied_to rules l e past) refl
   where

@@ -7,7 +7,7 @@ use Rattle.pairing_cert.specs.declared.note.Note.TheVariants as notes
 use Rattle.pairing_cert.specs.declared.note.Why.{Why}
 use Rattle.pairing_cert.specs.declared.note.Why.TheVariants.{C, Z, S, L, N, M}
 use Rattle.capture_form.specs.declared.records.Record.{Record}
-use Rattle.capture_form.specs.Rules.{RuleText}
+use Rattle.capture_form.specs.Rules.{RuleSet}
 use Rattle.trace_events.specs.Words.{is_number, is_some_and, are_same_octets}
 use Rattle.trace_events.specs.Event.{Event, Incoming, Outgoing}
 use Rattle.trace_events.specs.Link.{is_live}
@@ -35,7 +35,7 @@ unpaired-off false complete false (inl h) = absurd cc
 unpaired-off false complete false (inr h) = absurd cc
 
 -- of multicast, or paired, it does not wait
-not-waiting : (rules : List RuleText) (d : Incoming) (past : List Event) → (is_of_multicast rules d ≡ true) ⊎ (is_paired d past ≡ true) → is_waiting rules d past ≡ false
+not-waiting : (rules : RuleSet) (d : Incoming) (past : List Event) → (is_of_multicast rules d ≡ true) ⊎ (is_paired d past ≡ true) → is_waiting rules d past ≡ false
 not-waiting rules d past h = ap (λ b. b && always_had_consumer d past) (unpaired-off (is_of_multicast rules d) (is_complete d past) (is_paired d past) h)
 
 and-not : (a b : Bool) → a && b ≡ false → b ≡ true → a ≡ false
@@ -43,7 +43,7 @@ and-not true true e is = e
 and-not false true e is = refl
 and-not a false e is = absurd cc
 
-gone-apart : (rules : List RuleText) (d : Incoming) (past : List Event) → is_gone rules d past ≡ true → is_waiting rules d past ≡ false
+gone-apart : (rules : RuleSet) (d : Incoming) (past : List Event) → is_gone rules d past ≡ true → is_waiting rules d past ≡ false
 gone-apart rules d past gone = and-not (is_waiting rules d past) (is_gone rules d past) (not_both rules d past) gone
 
 if-then : {A : Type 0} (b : Bool) (x : A) (test : A → Bool) → is_some_and (if b then Some x else None) test ≡ true → b ≡ true
@@ -62,12 +62,12 @@ row-paired : (d : Incoming) (past : List Event) (why : Why) (o : Option Outgoing
 row-paired d past why None test e = absurd cc
 row-paired d past why (Some j) test e = refl
 
-paired-by : (rules : List RuleText) (d : Incoming) (past : List Event) (why : Why) (test : Option (List ℕ) → Bool)
+paired-by : (rules : RuleSet) (d : Incoming) (past : List Event) (why : Why) (test : Option (List ℕ) → Bool)
     → is_some_and (if is_of_multicast rules d then None else anycast_row d past why (pairing d past)) test ≡ true → is_waiting rules d past ≡ false
 paired-by rules d past why test e =
     not-waiting rules d past (inr (anycast-paired (is_of_multicast rules d) (anycast_row d past why (pairing d past)) test (is_paired d past) (row-paired d past why (pairing d past) test) e))
 
-by-row : (rules : List RuleText) (d : Incoming) (past : List Event) (why : Why) (test : Option (List ℕ) → Bool) → is_some_and (row rules d past why) test ≡ true → is_waiting rules d past ≡ false
+by-row : (rules : RuleSet) (d : Incoming) (past : List Event) (why : Why) (test : Option (List ℕ) → Bool) → is_some_and (row rules d past why) test ≡ true → is_waiting rules d past ≡ false
 by-row rules d past N test e = gone-apart rules d past (if-then (is_gone rules d past) _ test e)
 by-row rules d past M test e = not-waiting rules d past (inl (if-some (is_of_multicast rules d) _ test e))
 by-row rules d past C test e = paired-by rules d past C test e
@@ -75,14 +75,14 @@ by-row rules d past Z test e = paired-by rules d past Z test e
 by-row rules d past S test e = paired-by rules d past S test e
 by-row rules d past L test e = paired-by rules d past L test e
 
-by-note : (rules : List RuleText) (d : Incoming) (note : Note) (state : Option (List ℕ)) (past : List Event) → tells_by rules d note state past ≡ true → is_waiting rules d past ≡ false
+by-note : (rules : RuleSet) (d : Incoming) (note : Note) (state : Option (List ℕ)) (past : List Event) → tells_by rules d note state past ≡ true → is_waiting rules d past ≡ false
 by-note rules d (notes.Told why) state past e = by-row rules d past why (are_same_octets state) e
 by-note rules d notes.None state past e = absurd cc
 by-note rules d (notes.Pair n) state past e = absurd cc
 
 -- ---- and does not wait later
 
-pub record IsDone (rules : List RuleText) (d : Incoming) (past : List Event) : Type 0 where
+pub record IsDone (rules : RuleSet) (d : Incoming) (past : List Event) : Type 0 where
   pub complete : is_complete d past ≡ true
   pub quiet : is_waiting rules d past ≡ false
 
@@ -101,7 +101,7 @@ and-off : (b c : Bool) → c ≡ false → b && c ≡ false
 and-off true c e = e
 and-off false c e = refl
 
-module _ (rules : List RuleText) (e : Event) (past : List Event) (are : AreJudged rules (e ∷ past)) (d : Incoming) where
+module _ (rules : RuleSet) (e : Event) (past : List Event) (are : AreJudged rules (e ∷ past)) (d : Incoming) where
   quiet-by : (multicast paired always : Bool) → is_of_multicast rules d ≡ multicast → is_paired d past ≡ paired → always_had_consumer d past ≡ always
       → is_complete d past ≡ true → not multicast && true && not paired && always ≡ false → is_waiting rules d (e ∷ past) ≡ false
   quiet-by true paired always m p a done h = not-waiting rules d (e ∷ past) (inl m)
@@ -122,7 +122,7 @@ module _ (rules : List RuleText) (e : Event) (past : List Event) (are : AreJudge
 
 -- ---- the event that tells
 
-module _ (rules : List RuleText) (e : Event) (past : List Event) (are : AreJudged rules (e ∷ past)) (lawful : first_broken rules (e ∷ past) ≡ None)
+module _ (rules : RuleSet) (e : Event) (past : List Event) (are : AreJudged rules (e ∷ past)) (lawful : first_broken rules (e ∷ past) ≡ None)
     (n : ℕ) (tells : e.told ≡ Some n) where
   told-one : (d : Incoming) × (incoming_at n past ≡ Some d) × IsDone rules d past
   told-one =
@@ -141,7 +141,7 @@ module _ (rules : List RuleText) (e : Event) (past : List Event) (are : AreJudge
 -- ---- along a history
 
 -- what was told began before
-known-by : (rules : List RuleText) (e : Event) (past : List Event) (are : AreJudged rules (e ∷ past)) (lawful : first_broken rules (e ∷ past) ≡ None) (n : ℕ) (here : Bool)
+known-by : (rules : RuleSet) (e : Event) (past : List Event) (are : AreJudged rules (e ∷ past)) (lawful : first_broken rules (e ∷ past) ≡ None) (n : ℕ) (here : Bool)
     → is_number e.told n ≡ here → (list_any (λ x. is_number x.told n) past ≡ true → n < length past) → here || list_any (λ x. is_number x.told n) past ≡ true → n < suc (length past)
 known-by rules e past are lawful n true is earlier told =
     let one = told-one rules e past are lawful n (number-some e.told n is) in
@@ -149,16 +149,16 @@ known-by rules e past are lawful n true is earlier told =
     omega (arith, at.0)
 known-by rules e past are lawful n false is earlier told = omega (arith, earlier told)
 
-pub told-known : (rules : List RuleText) (past : List Event) → AreJudged rules past → first_broken rules past ≡ None → (n : ℕ) → list_any (λ e. is_number e.told n) past ≡ true → n < length past
+pub told-known : (rules : RuleSet) (past : List Event) → AreJudged rules past → first_broken rules past ≡ None → (n : ℕ) → list_any (λ e. is_number e.told n) past ≡ true → n < length past
 told-known rules [] are lawful n told = absurd cc
 told-known rules (e ∷ past) are lawful n told =
     known-by rules e past are lawful n (is_number e.told n) refl (told-known rules past are.1 (lawful-past rules e past lawful) n) told
 
 -- the delivery of this number, if it was told, is done
-abbrev IsDoneAt : List RuleText → ℕ → Incoming → List Event → Type 0
+abbrev IsDoneAt : RuleSet → ℕ → Incoming → List Event → Type 0
 IsDoneAt rules n d past = incoming_at n past ≡ Some d → list_any (λ e. is_number e.told n) past ≡ true → IsDone rules d past
 
-module _ (rules : List RuleText) (e : Event) (past : List Event) (are : AreJudged rules (e ∷ past)) (lawful : first_broken rules (e ∷ past) ≡ None) (n : ℕ) (d : Incoming)
+module _ (rules : RuleSet) (e : Event) (past : List Event) (are : AreJudged rules (e ∷ past)) (lawful : first_broken rules (e ∷ past) ≡ None) (n : ℕ) (d : Incoming)
     (earlier : IsDoneAt rules n d past) where
   before : incoming_at n past ≡ Some d → (here : Bool) → is_number e.told n ≡ here → here || list_any (λ x. is_number x.told n) past ≡ true → IsDone rules d (e ∷ past)
   before found true is told =
@@ -181,7 +181,7 @@ module _ (rules : List RuleText) (e : Event) (past : List Event) (are : AreJudge
     | inr new ↦ own new (is_number e.told n) refl told
   ]
 
-done-at : (rules : List RuleText) (past : List Event) → AreJudged rules past → first_broken rules past ≡ None → (n : ℕ) (d : Incoming) → IsDoneAt rules n d past
+done-at : (rules : RuleSet) (past : List Event) → AreJudged rules past → first_broken rules past ≡ None → (n : ℕ) (d : Incoming) → IsDoneAt rules n d past
 done-at rules [] are lawful n d found told = absurd cc
 done-at rules (e ∷ past) are lawful n d found told =
     done-next rules e past are lawful n d (done-at rules past are.1 (lawful-past rules e past lawful) n d) found told
@@ -199,7 +199,7 @@ decided-by live aborted complete true settled told c w t = absurd cc
 decided-by live aborted complete waiting settled false c w t = absurd cc
 
 -- of a lawful capture
-pub told-decided : (rules : List RuleText) (rs : List Record) → first_broken rules (history rules rs) ≡ None → (n : ℕ) (d : Incoming) → incoming_at n (history rules rs) ≡ Some d
+pub told-decided : (rules : RuleSet) (rs : List Record) → first_broken rules (history rules rs) ≡ None → (n : ℕ) (d : Incoming) → incoming_at n (history rules rs) ≡ Some d
     → is_told d (history rules rs) ≡ true → is_undecided rules d (history rules rs) ≡ false
 told-decided rules rs lawful n d found told =
     let past = history rules rs in

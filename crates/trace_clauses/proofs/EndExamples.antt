@@ -8,6 +8,7 @@ use Rattle.amqp_perf.specs.declared.attach.Role.TheVariants.{Receiver}
 use Rattle.amqp_perf.specs.declared.attach.SenderSettleMode.TheVariants.{Mixed}
 use Rattle.amqp_perf.specs.Meaning.{AFlow, AnEnd}
 use Rattle.capture_form.specs.declared.records.Record.{Record}
+use Rattle.capture_form.specs.Rules.{no_rules}
 use Rattle.trace_events.specs.Words.{is_some_and}
 use Rattle.trace_events.specs.Frame.{frame_read}
 use Rattle.trace_events.specs.Event.{Event}
@@ -25,7 +26,7 @@ ends_by n (e ∷ past) = is_some_and (link_at n past) (λ l. ends_link l e)
 -- whether a record behind the pair ends the link of this number
 unfoldable ends_with : Record → ℕ → Bool
 unfolding frame_read whole_frame frame_at sized_frame headed_frame read digits spoken_octets frame_octets written
-ends_with r n = ends_by n (history [] (pair ++ (r ∷ [])))
+ends_with r n = ends_by n (history no_rules (pair ++ (r ∷ [])))
 
 -- the end of the connection, and of no other
 by_loss : ends_with (lost 0) 6 ≡ true

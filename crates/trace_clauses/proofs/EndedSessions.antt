@@ -2,7 +2,7 @@
 use Rattle.std.proofs.Common.{◌≡◌, refl, sym, ap, ◌∙◌, ℕ, Bool, true, false, ◌&&◌, ◌||◌, List, [], ◌∷◌, Option, Some, None, is_some, option_and_then, option_map, if◌then◌else◌}
 use Rattle.amqp_perf.specs.declared.begin.Begin.{Begin}
 use Rattle.amqp_perf.specs.Meaning.{Meaning, AnOpen, ABegin, AnAttach, AFlow, ATransfer, ADisposition, ADetach, AnEnd, AClose}
-use Rattle.capture_form.specs.Rules.{RuleText}
+use Rattle.capture_form.specs.Rules.{RuleSet}
 use Rattle.trace_clauses.specs.declared.clause.Clause.TheVariants.{L13}
 use Rattle.trace_events.specs.Words.{is_some_and}
 use Rattle.trace_events.specs.Frame.{Frame, Spoken, spoken_in}
@@ -110,7 +110,7 @@ means_end : (e : Event) (frame : Frame) (spoken : Spoken) → e.moment ≡ Out f
 means_end e frame spoken written says =
     ap (λ m. is_some_and (out_said m) is_end) written ∙ ap (λ o. is_some_and (option_map (λ (s : Spoken). s.meaning) o) is_end) says
 
-ended_meets : (rules : List RuleText) (e : Event) (spoken : Spoken) (past : List Event) (m : Meaning) → is_end m ≡ true → meaning_meets rules e spoken past m L13 ≡ true → may_end e spoken.channel past ≡ true
+ended_meets : (rules : RuleSet) (e : Event) (spoken : Spoken) (past : List Event) (m : Meaning) → is_end m ≡ true → meaning_meets rules e spoken past m L13 ≡ true → may_end e spoken.channel past ≡ true
 ended_meets rules e spoken past (AnEnd error) is meets = meets
 ended_meets rules e spoken past (AnOpen fields) is meets = absurd cc
 ended_meets rules e spoken past (ABegin begin) is meets = absurd cc
@@ -127,7 +127,7 @@ said_of e frame spoken written says = ap spoken_of written ∙ says
 some_channel : (a b : ℕ) → ◌≡◌ {A = Option ℕ} (Some a) (Some b) → a ≡ b
 some_channel a b is = cc
 
-module _ (rules : List RuleText) (e : Event) (past : List Event) (are : AreJudged rules (e ∷ past)) (lawful : first_broken rules (e ∷ past) ≡ None) (ends : is_out_end e ≡ true) where
+module _ (rules : RuleSet) (e : Event) (past : List Event) (are : AreJudged rules (e ∷ past)) (lawful : first_broken rules (e ∷ past) ≡ None) (ends : is_out_end e ≡ true) where
   place : IsInPlace e past
   place = written-in_place rules e past lawful (end_out e.moment ends)
 

@@ -4,7 +4,7 @@ use Rattle.std.proofs.Common.{◌≡◌, refl, sym, ap, subst, ◌∙◌, inl, i
 use Rattle.std.specs.Prelude.{nat_lt, ◌-◌}
 use Rattle.std.specs.Str.{bytes_eq}
 use Rattle.std.proofs.lemmas.Slice.Eq.{bytes_eq-Decides}
-use Rattle.capture_form.specs.Rules.{RuleText}
+use Rattle.capture_form.specs.Rules.{RuleSet}
 use Rattle.trace_events.specs.Words.{is_some_and, where_passes}
 use Rattle.trace_events.specs.Event.{Event, Link, Incoming}
 use Rattle.trace_events.specs.Said.{in_transfer}
@@ -28,7 +28,7 @@ use Rattle.trace_clauses.proofs.UnsentCopies.{due_complete}
 -- ---- a copy that is due
 
 -- its delivery is of multicast, and of the link's address
-pub record IsCopy (rules : List RuleText) (l : Link) (d : Incoming) : Type 0 where
+pub record IsCopy (rules : RuleSet) (l : Link) (d : Incoming) : Type 0 where
   pub multicast : is_of_multicast rules d ≡ true
   pub address : address_of d ≡ l.address
 
@@ -39,7 +39,7 @@ completed_part : (b : Bool) (o : Option Incoming) (d : Incoming) → (if b then 
 completed_part true o d is = is
 completed_part false o d is = absurd cc
 
-module _ (rules : List RuleText) (e : Event) (past : List Event) (are : AreJudged rules (e ∷ past)) (l : Link) (d : Incoming) (found : incoming_at d.number (e ∷ past) ≡ Some d) where
+module _ (rules : RuleSet) (e : Event) (past : List Event) (are : AreJudged rules (e ∷ past)) (l : Link) (d : Incoming) (found : incoming_at d.number (e ∷ past) ≡ Some d) where
   due_here : completes d e ≡ true → comes_due rules l e past ≡ true → IsCopy rules l d
   due_here here comes =
       let copied : is_copied_to rules l e past ≡ true = and_first (is_copied_to rules l e past) (nat_lt (due_count rules l past - begun_count l past) (link_credit l past)) comes in
@@ -62,7 +62,7 @@ module _ (rules : List RuleText) (e : Event) (past : List Event) (are : AreJudge
     | inr new ↦ let none : is_complete d past ≡ false = (judged-sound rules past are.1).fresh d (omega (arith, new)) in absurd cc
   ]
 
-pub due_copy : (rules : List RuleText) (past : List Event) → AreJudged rules past → (l : Link) (d : Incoming) → incoming_at d.number past ≡ Some d → is_due rules d l past ≡ true → IsCopy rules l d
+pub due_copy : (rules : RuleSet) (past : List Event) → AreJudged rules past → (l : Link) (d : Incoming) → incoming_at d.number past ≡ Some d → is_due rules d l past ≡ true → IsCopy rules l d
 due_copy rules [] are l d found due = absurd cc
 due_copy rules (e ∷ past) are l d found due = by (completes d e) refl due (due_copy rules past are.1 l d)
   where
@@ -73,7 +73,7 @@ due_copy rules (e ∷ past) are l d found due = by (completes d e) refl due (due
 -- ---- what may begin
 
 -- it is complete and not gone, and goes to the link for the first time
-pub record GoesFirst (rules : List RuleText) (l : Link) (past : List Event) (d : Incoming) : Type 0 where
+pub record GoesFirst (rules : RuleSet) (l : Link) (past : List Event) (d : Incoming) : Type 0 where
   pub complete : is_complete d past ≡ true
   pub whole : is_gone rules d past ≡ false
   pub first : is_first_to rules l past d ≡ true
@@ -88,7 +88,7 @@ due_first true true true alone is unsent = absurd cc
 due_first true false named alone is unsent = absurd cc
 due_first false due named alone is unsent = absurd cc
 
-pub copy_goes_first : (rules : List RuleText) (past : List Event) → AreJudged rules past → (l : Link) (d : Incoming) → incoming_at d.number past ≡ Some d → is_unsent rules d l past ≡ true → GoesFirst rules l past d
+pub copy_goes_first : (rules : RuleSet) (past : List Event) → AreJudged rules past → (l : Link) (d : Incoming) → incoming_at d.number past ≡ Some d → is_unsent rules d l past ≡ true → GoesFirst rules l past d
 copy_goes_first rules past are l d found unsent =
     let due = and_first (is_due rules d l past) (not (is_named_on d l past)) unsent in
     let copy = due_copy rules past are l d found due in
@@ -116,7 +116,7 @@ waits-first false true true had due is = absurd cc
 waits-first false false paired had due is = absurd cc
 waits-first true complete paired had due is = absurd cc
 
-pub waiting_goes_first : (rules : List RuleText) (past : List Event) (l : Link) (d : Incoming) → is_waiting rules d past ≡ true → GoesFirst rules l past d
+pub waiting_goes_first : (rules : RuleSet) (past : List Event) (l : Link) (d : Incoming) → is_waiting rules d past ≡ true → GoesFirst rules l past d
 waiting_goes_first rules past l d waits = record {
   complete = waits-complete (is_of_multicast rules d) (is_complete d past) (is_paired d past) (always_had_consumer d past) waits;
   whole = waits-whole (is_of_multicast rules d) (is_complete d past) (is_paired d past) (always_had_consumer d past) waits;
@@ -129,7 +129,7 @@ passes-so : (b : Bool) (d : Incoming) (test : Incoming → Bool) → b ≡ true 
 passes-so true d test is passes = passes
 passes-so false d test is passes = absurd cc
 
-pub may_go : (rules : List RuleText) (e : Event) (past : List Event) (l : Link) (d : Incoming) → noted e.note past ≡ Some d → GoesFirst rules l past d → is_in_order l past d ≡ true → may_go_to rules e past l ≡ true
+pub may_go : (rules : RuleSet) (e : Event) (past : List Event) (l : Link) (d : Incoming) → noted e.note past ≡ Some d → GoesFirst rules l past d → is_in_order l past d ≡ true → may_go_to rules e past l ≡ true
 may_go rules e past l d named goes order =
     ap (λ o. is_some_and (where_passes (λ x. is_complete x past && not (is_gone rules x past)) o) (λ x. is_first_to rules l past x && is_in_order l past x)) named
     ∙ passes-so (is_complete d past && not (is_gone rules d past)) d (λ x. is_first_to rules l past x && is_in_order l past x)

@@ -3,7 +3,7 @@ use Rattle.std.proofs.Common.{◌≡◌, refl, sym, ap, ◌∙◌, ℕ, ◌⊎�
 use Rattle.std.specs.Prelude.{if◌then◌else◌}
 use Rattle.std.specs.List.{list_any, cons_option}
 use Rattle.capture_form.specs.declared.records.Record.{Record}
-use Rattle.capture_form.specs.Rules.{RuleText}
+use Rattle.capture_form.specs.Rules.{RuleSet}
 use Rattle.trace_events.specs.Words.{is_some_and, is_number}
 use Rattle.trace_events.specs.Event.{Event, Incoming}
 use Rattle.trace_events.specs.declared.session.Session.{Session}
@@ -91,13 +91,13 @@ keep_by true false before now keeps is = absurd cc
 keep_by false has before now keeps is = absurd cc
 
 -- an undecided delivery of the session and the id was one before
-pub of_before : (rules : List RuleText) (past : List Event) (r : Record) (s : Session) (id : ℕ) (d : Incoming) → AreKept rules past → IsKept past d
+pub of_before : (rules : RuleSet) (past : List Event) (r : Record) (s : Session) (id : ℕ) (d : Incoming) → AreKept rules past → IsKept past d
     → is_undecided_of rules s id (judge rules past r ∷ past) d ≡ true → is_undecided_of rules s id past d ≡ true
 of_before rules past r s id d all kept is =
     keep_by (d.link.session.number == s.number) (is_number d.id id) (is_undecided rules d past) (is_undecided rules d (judge rules past r ∷ past))
     (undecided_before rules past r d all kept.link.before) is
 
-pub all_keep : (rules : List RuleText) (past : List Event) (r : Record) (s : Session) (id : ℕ) → AreKept rules past
+pub all_keep : (rules : RuleSet) (past : List Event) (r : Record) (s : Session) (id : ℕ) → AreKept rules past
     → AllOf (Keeps (is_undecided_of rules s id past) (is_undecided_of rules s id (judge rules past r ∷ past))) (incoming_deliveries past)
 all_keep rules past r s id all =
     all_such (IsKept past) (Keeps (is_undecided_of rules s id past) (is_undecided_of rules s id (judge rules past r ∷ past))) (incoming_deliveries past)
@@ -108,14 +108,14 @@ is_given None id e = absurd cc
 is_given (Some n) id e = ap Some (eqb-true n id e)
 
 -- the id of a delivery that begins is of no undecided one of its session
-pub free_of : (rules : List RuleText) (past : List Event) (s : Session) (id : ℕ) (d : Incoming) → IsFree rules past d → (d.link.session.number == s.number) ≡ true → is_number d.id id ≡ true
+pub free_of : (rules : RuleSet) (past : List Event) (s : Session) (id : ℕ) (d : Incoming) → IsFree rules past d → (d.link.session.number == s.number) ≡ true → is_number d.id id ≡ true
     → list_any (is_undecided_of rules s id past) (incoming_deliveries past) ≡ false
 free_of rules past s id d free on has =
     ap (λ (n : ℕ). list_any (λ (x : Incoming). x.link.session.number == n && is_number x.id id && is_undecided rules x past) (incoming_deliveries past)) (sym (eqb-true d.link.session.number s.number on))
     ∙ (sym (ap (λ (o : Option ℕ). is_some_and o (λ n. list_any (is_undecided_of rules d.link.session n past) (incoming_deliveries past))) (is_given d.id id has)) ∙ free.free)
 
 -- a delivery that a record begins has an id that is free
-pub begun_free : (rules : List RuleText) (past : List Event) (r : Record) (d : Incoming) → AreKept rules past → incoming_begun (judge rules past r) ≡ Some d → IsFree rules past d
+pub begun_free : (rules : RuleSet) (past : List Event) (r : Record) (d : Incoming) → AreKept rules past → incoming_begun (judge rules past r) ≡ Some d → IsFree rules past d
 begun_free rules past r d all is =
     let e = judge rules past r in
     let begun = passing (λ (x : Incoming). x.number == e.number) e.incoming d is in
@@ -130,10 +130,10 @@ begun_free rules past r d all is =
 -- ---- along a history
 
 -- at most one delivery of the session and the id is undecided
-abbrev pub AreApart : List RuleText → List Event → Type 0
+abbrev pub AreApart : RuleSet → List Event → Type 0
 AreApart rules past = (s : Session) (id : ℕ) → AtMostOne (is_undecided_of rules s id past) (incoming_deliveries past)
 
-pub apart_step : (rules : List RuleText) (past : List Event) (r : Record) → AreKept rules past → AreApart rules past → AreApart rules (judge rules past r ∷ past)
+pub apart_step : (rules : RuleSet) (past : List Event) (r : Record) → AreKept rules past → AreApart rules past → AreApart rules (judge rules past r ∷ past)
 apart_step rules past r all apart s id = by (incoming_begun (judge rules past r)) refl
   where
     by : (o : Option Incoming) → incoming_begun (judge rules past r) ≡ o → AtMostOne (is_undecided_of rules s id (judge rules past r ∷ past)) (cons_option o (incoming_deliveries past))
@@ -148,17 +148,17 @@ apart_step rules past r all apart s id = by (incoming_begun (judge rules past r)
       fewer (is_undecided_of rules s id past) (is_undecided_of rules s id (judge rules past r ∷ past)) (incoming_deliveries past) (all_keep rules past r s id all) (apart s id),
     )
 
-record Apart (rules : List RuleText) (past : List Event) : Type 0 where
+record Apart (rules : RuleSet) (past : List Event) : Type 0 where
   kept : AreKept rules past
   apart : AreApart rules past
 
-pub history_apart : (rules : List RuleText) (rs : List Record) → AreApart rules (history rules rs)
+pub history_apart : (rules : RuleSet) (rs : List Record) → AreApart rules (history rules rs)
 history_apart rules rs =
     (along rules (Apart rules) (record { kept = none_kept rules; apart = λ s id. tt })
     (λ past r h. record { kept = kept_step rules past r h.kept; apart = apart_step rules past r h.kept h.apart }) rs).apart
 
 -- of a capture: two undecided deliveries of one session and one id are one
-pub undecided_one : (rules : List RuleText) (rs : List Record) (s : Session) (id m n : ℕ) (a b : Incoming) → incoming_at m (history rules rs) ≡ Some a → incoming_at n (history rules rs) ≡ Some b
+pub undecided_one : (rules : RuleSet) (rs : List Record) (s : Session) (id m n : ℕ) (a b : Incoming) → incoming_at m (history rules rs) ≡ Some a → incoming_at n (history rules rs) ≡ Some b
     → is_undecided_of rules s id (history rules rs) a ≡ true → is_undecided_of rules s id (history rules rs) b ≡ true → a ≡ b
 undecided_one rules rs s id m n a b found other first second =
     one_found (is_undecided_of rules s id (history rules rs)) (λ d. d.number == m) (λ d. d.number == n) (incoming_deliveries (history rules rs)) a b (history_apart rules rs s id) found other first second

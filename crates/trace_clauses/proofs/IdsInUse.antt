@@ -4,7 +4,7 @@ use Rattle.std.specs.Prelude.{if◌then◌else◌}
 use Rattle.std.specs.List.{list_any, cons_option}
 use Rattle.amqp_perf.specs.Meaning.{TransferFields, flag}
 use Rattle.capture_form.specs.declared.records.Record.{Record}
-use Rattle.capture_form.specs.Rules.{RuleText}
+use Rattle.capture_form.specs.Rules.{RuleSet}
 use Rattle.flow_counts.specs.Parts.{PartEvent, Part, Aborted, Completed, Freed, Partial, is_id, has_id, begins}
 use Rattle.flow_counts.specs.Parts as counted
 use Rattle.trace_events.specs.Words.{is_some_and, is_number, where_passes}
@@ -111,7 +111,7 @@ not_aborted false true complete waiting closed is = absurd cc
 
 -- ---- one more record
 
-module _ (rules : List RuleText) (s : Session) (id : ℕ) (past : List Event) (r : Record) (all : AreKept rules past) (apart : AreApart rules past)
+module _ (rules : RuleSet) (s : Session) (id : ℕ) (past : List Event) (r : Record) (all : AreKept rules past) (apart : AreApart rules past)
     (before : counted.is_in_use id (part_events rules s past) ≡ is_id_in_use rules s id past) where
   abbrev now : Event
   now = judge rules past r
@@ -213,7 +213,7 @@ parts_leave id l e fields rest true more = refl
 parts_leave id l e fields rest false true = refl
 parts_leave id l e fields rest false false = refl
 
-module _ (rules : List RuleText) (s : Session) (id : ℕ) (past : List Event) (r : Record) (all : AreKept rules past) (apart : AreApart rules past)
+module _ (rules : RuleSet) (s : Session) (id : ℕ) (past : List Event) (r : Record) (all : AreKept rules past) (apart : AreApart rules past)
     (before : counted.is_in_use id (part_events rules s past) ≡ is_id_in_use rules s id past) (whole : AreWhole past) (counts : (l : Link) → IsCounted rules s l past) where
   abbrev e : Event
   e = judge rules past r
@@ -459,14 +459,14 @@ module _ (rules : List RuleText) (s : Session) (id : ℕ) (past : List Event) (r
 
 -- ---- along a history
 
-record AreUsed (rules : List RuleText) (s : Session) (id : ℕ) (past : List Event) : Type 0 where
+record AreUsed (rules : RuleSet) (s : Session) (id : ℕ) (past : List Event) : Type 0 where
   kept : AreKept rules past
   apart : AreApart rules past
   whole : AreWhole past
   counts : (l : Link) → IsCounted rules s l past
   used : counted.is_in_use id (part_events rules s past) ≡ is_id_in_use rules s id past
 
-none_used : (rules : List RuleText) (s : Session) (id : ℕ) → AreUsed rules s id []
+none_used : (rules : RuleSet) (s : Session) (id : ℕ) → AreUsed rules s id []
 none_used rules s id = record {
   kept = none_kept rules;
   apart = λ s id. tt;
@@ -475,7 +475,7 @@ none_used rules s id = record {
   used = refl;
 }
 
-used_step : (rules : List RuleText) (s : Session) (id : ℕ) (past : List Event) (r : Record) → AreUsed rules s id past → AreUsed rules s id (judge rules past r ∷ past)
+used_step : (rules : RuleSet) (s : Session) (id : ℕ) (past : List Event) (r : Record) → AreUsed rules s id past → AreUsed rules s id (judge rules past r ∷ past)
 used_step rules s id past r h = record {
   kept = kept_step rules past r h.kept;
   apart = apart_step rules past r h.kept h.apart;
@@ -485,5 +485,5 @@ used_step rules s id past r h = record {
 }
 
 -- of each session of a capture: the ids in use are those counted over its parts
-pub id_in_use_counted : (rules : List RuleText) (rs : List Record) (s : Session) (id : ℕ) → counted.is_in_use id (part_events rules s (history rules rs)) ≡ is_id_in_use rules s id (history rules rs)
+pub id_in_use_counted : (rules : RuleSet) (rs : List Record) (s : Session) (id : ℕ) → counted.is_in_use id (part_events rules s (history rules rs)) ≡ is_id_in_use rules s id (history rules rs)
 id_in_use_counted rules rs s id = (along rules (AreUsed rules s id) (none_used rules s id) (used_step rules s id) rs).used

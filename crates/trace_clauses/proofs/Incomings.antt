@@ -4,7 +4,7 @@ use Rattle.std.specs.Prelude.{is_none, if◌then◌else◌}
 use Rattle.std.specs.List.{list_any, cons_option}
 use Rattle.amqp_perf.specs.Meaning.{Meaning, AnOpen, ABegin, AnAttach, AFlow, ATransfer, ADisposition, ADetach, AnEnd, AClose, TransferFields, flag}
 use Rattle.capture_form.specs.declared.records.Record.{Record}
-use Rattle.capture_form.specs.Rules.{RuleText}
+use Rattle.capture_form.specs.Rules.{RuleSet}
 use Rattle.trace_events.specs.Words.{is_some_and, or_else, where_passes}
 use Rattle.trace_events.specs.Frame.{Frame, Spoken, spoken_in}
 use Rattle.trace_events.specs.Event.{Event, Link, Incoming, Moment, Opened, In, Out, Lost, Broken}
@@ -53,7 +53,7 @@ module _ (e : Event) (past : List Event) (number : e.number ≡ length past) whe
   incoming_by-part Lost = tt
   incoming_by-part Broken = tt
 
-pub judged-part : (rules : List RuleText) (e : Event) (past : List Event) → AreJudged rules (e ∷ past) → IfSome e.incoming (IsPartOf past)
+pub judged-part : (rules : RuleSet) (e : Event) (past : List Event) → AreJudged rules (e ∷ past) → IfSome e.incoming (IsPartOf past)
 judged-part rules e past ((r, is), are) =
     subst (λ (x : Event). IfSome x.incoming (IsPartOf past)) (sym is)
     (incoming_by-part (faulted rules past (heard past (placed past r.connection (moment_of r.what) r.note))) past refl (moment_of r.what))
@@ -217,7 +217,7 @@ module _ (e : Event) (past : List Event) (number : e.number ≡ length past) (pa
       let none : is_part d e ≡ false = not-part d done e.incoming part in
       ap (λ b. cond b (payload d past ++ part_payload (in_spoken e)) (payload d past)) none
 
-pub judged-sound : (rules : List RuleText) (past : List Event) → AreJudged rules past → AreSound past
+pub judged-sound : (rules : RuleSet) (past : List Event) → AreJudged rules past → AreSound past
 judged-sound rules [] are = record {
   below = λ l d is. absurd cc;
   own = λ l d is. absurd cc;
@@ -229,12 +229,12 @@ judged-sound rules (e ∷ past) are =
     sound-step e past (judged-number rules e past are) (judged-part rules e past are) (judged-sound rules past are.1)
 
 -- the payload of a complete delivery is that which it had at its completion
-pub complete-payload : (rules : List RuleText) (e : Event) (past : List Event) → AreJudged rules (e ∷ past) → (d : Incoming) → is_complete d past ≡ true
+pub complete-payload : (rules : RuleSet) (e : Event) (past : List Event) → AreJudged rules (e ∷ past) → (d : Incoming) → is_complete d past ≡ true
     → payload d (e ∷ past) ≡ payload d past
 complete-payload rules e past are d done =
     payload-final e past (judged-number rules e past are) (judged-part rules e past are) (judged-sound rules past are.1) d done
 
-payload-continued : (rules : List RuleText) (past : List Event) (rs : List Record) → AreJudged rules past → (d : Incoming) → is_complete d past ≡ true
+payload-continued : (rules : RuleSet) (past : List Event) (rs : List Record) → AreJudged rules past → (d : Incoming) → is_complete d past ≡ true
     → payload d (continued rules past rs) ≡ payload d past
 payload-continued rules past [] are d done = refl
 payload-continued rules past (r ∷ rs) are d done =
@@ -243,7 +243,7 @@ payload-continued rules past (r ∷ rs) are d done =
     ∙ complete-payload rules (judge rules past r) past now d done
 
 -- whatever is recorded later
-pub payload-stays : (rules : List RuleText) (rs qs : List Record) (d : Incoming) → is_complete d (history rules rs) ≡ true
+pub payload-stays : (rules : RuleSet) (rs qs : List Record) (d : Incoming) → is_complete d (history rules rs) ≡ true
     → payload d (history rules (rs ++ qs)) ≡ payload d (history rules rs)
 payload-stays rules rs qs d done =
     ap (payload d) (continued-append rules [] rs qs) ∙ payload-continued rules (history rules rs) qs (history-judged rules rs) d done
@@ -268,7 +268,7 @@ module _ (e : Event) (past : List Event) (number : e.number ≡ length past) (pa
       ap (λ b. has_consumer d.link.address (e ∷ past) && (b || always_had_consumer d past)) not-again
       ∙ (ap (λ b. has_consumer d.link.address (e ∷ past) && b) lost ∙ and-none (has_consumer d.link.address (e ∷ past)))
 
-lost-continued : (rules : List RuleText) (past : List Event) (rs : List Record) → AreJudged rules past → (d : Incoming) → is_complete d past ≡ true
+lost-continued : (rules : RuleSet) (past : List Event) (rs : List Record) → AreJudged rules past → (d : Incoming) → is_complete d past ≡ true
     → always_had_consumer d past ≡ false → always_had_consumer d (continued rules past rs) ≡ false
 lost-continued rules past [] are d done lost = lost
 lost-continued rules past (r ∷ rs) are d done lost =
@@ -293,7 +293,7 @@ and-off : (b c : Bool) → c ≡ false → b && c ≡ false
 and-off true c e = e
 and-off false c e = refl
 
-pub gone-for-good : (rules : List RuleText) (rs qs : List Record) (d : Incoming) → is_gone rules d (history rules rs) ≡ true
+pub gone-for-good : (rules : RuleSet) (rs qs : List Record) (d : Incoming) → is_gone rules d (history rules rs) ≡ true
     → is_waiting rules d (history rules (rs ++ qs)) ≡ false
 gone-for-good rules rs qs d gone =
     let past = history rules rs in

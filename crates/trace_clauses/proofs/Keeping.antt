@@ -1,7 +1,7 @@
 -- All that a lawful capture keeps, together.
 use Rattle.std.proofs.Common.{◌≡◌, List, None}
 use Rattle.capture_form.specs.declared.records.Record.{Record}
-use Rattle.capture_form.specs.Rules.{RuleText}
+use Rattle.capture_form.specs.Rules.{RuleSet}
 use Rattle.trace_events.specs.History.{history}
 use Rattle.trace_clauses.specs.Clauses.{first_broken}
 use Rattle.trace_clauses.specs.Kept.{Keeps}
@@ -10,7 +10,7 @@ use Rattle.trace_clauses.proofs.Carried.{lawful-addressed, lawful-carried}
 use Rattle.trace_clauses.proofs.OneConsumer.{lawful-reaches-one}
 use Rattle.trace_clauses.proofs.OneOutcome.{lawful-told-once}
 
-pub lawful-keeps : (rules : List RuleText) (rs : List Record) → first_broken rules (history rules rs) ≡ None → Keeps rules (history rules rs)
+pub lawful-keeps : (rules : RuleSet) (rs : List Record) → first_broken rules (history rules rs) ≡ None → Keeps rules (history rules rs)
 lawful-keeps rules rs lawful = record {
   within = lawful-stood-within rules rs lawful;
   addressed = lawful-addressed rules rs lawful;

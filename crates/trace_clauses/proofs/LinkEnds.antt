@@ -1,6 +1,6 @@
 -- A link of a judged history lives on unless an event ends it, whatever the event.
 use Rattle.std.proofs.Common.{◌≡◌, sym, ap, subst, ◌∙◌, Bool, true, false, not, ◌&&◌, List, ◌∷◌, Option, Some, None, if◌then◌else◌, ◌==◌, eqb-true}
-use Rattle.capture_form.specs.Rules.{RuleText}
+use Rattle.capture_form.specs.Rules.{RuleSet}
 use Rattle.trace_events.specs.Event.{Event, Link}
 use Rattle.trace_events.specs.declared.session.Session.{Session}
 use Rattle.trace_events.specs.Connection.{is_over}
@@ -23,7 +23,7 @@ last_of false last s is = is
 same_some : {A : Type 0} (a b : A) → Some a ≡ Some b → a ≡ b
 same_some a b is = cc
 
-module _ (rules : List RuleText) (past : List Event) (are : AreJudged rules past) where
+module _ (rules : RuleSet) (past : List Event) (are : AreJudged rules past) where
   -- one that lives, and is found by its number, is the live link of its handle on a live session
   pub lives-live : (l : Link) → link_at l.number past ≡ Some l → is_live past l ≡ true → IsLiveLink l past
   lives-live l at is =
@@ -36,14 +36,14 @@ module _ (rules : List RuleText) (past : List Event) (are : AreJudged rules past
       subst (λ (m : Link). IsLiveLink m past) one
       (live-link on.0 l.handle past found.0 (live-on l.session.connection l.session.channel past on.0 on.1) on.2)
 
-pub is_live-next : (rules : List RuleText) (e : Event) (past : List Event) → AreJudged rules (e ∷ past) → (l : Link) → link_at l.number past ≡ Some l
+pub is_live-next : (rules : RuleSet) (e : Event) (past : List Event) → AreJudged rules (e ∷ past) → (l : Link) → link_at l.number past ≡ Some l
     → is_live (e ∷ past) l ≡ is_live past l && not (ends_link l e)
 is_live-next rules e past are l at =
     is_live-next_by e past (judged-stands rules past are.1).no_link (judged-number rules e past are) l (judged-found rules past are.1 l.number l at).1
     (lives-live rules past are.1 l at)
 
 -- and so does a session
-pub judged-is_live_session : (rules : List RuleText) (e : Event) (past : List Event) → AreJudged rules (e ∷ past) → (s : Session) → session_at s.number past ≡ Some s
+pub judged-is_live_session : (rules : RuleSet) (e : Event) (past : List Event) → AreJudged rules (e ∷ past) → (s : Session) → session_at s.number past ≡ Some s
     → is_live_session (e ∷ past) s ≡ is_live_session past s && not (ends_session s e)
 judged-is_live_session rules e past are s at =
     is_live_session-next e past (judged-number rules e past are) s ((judged-stands rules past are.1).sessions_found s.number s at).1

@@ -2,7 +2,7 @@
 use Rattle.std.proofs.Common.{◌≡◌, refl, sym, ap, subst, ◌∙◌, ◌⊎◌, inl, inr, List, [], ◌∷◌, length, Bool, true, false, Option, Some, None, find, option_and_then, if◌then◌else◌, ◌==◌, arith, eqb-true, ne_eqb}
 use Rattle.std.specs.List.{AllByRecursion, cons_option}
 use Rattle.pairing_cert.specs.declared.note.Note.TheVariants as notes
-use Rattle.capture_form.specs.Rules.{RuleText}
+use Rattle.capture_form.specs.Rules.{RuleSet}
 use Rattle.trace_events.specs.Words.{is_some_and, is_none_or}
 use Rattle.trace_events.specs.Event.{Event, Link, Incoming, Outgoing}
 use Rattle.trace_events.specs.Link as all
@@ -40,7 +40,7 @@ same_some : {A : Type 0} (a b : A) → Some a ≡ Some b → a ≡ b
 same_some a b is = cc
 
 -- it is complete, and of the link's address where the link is known
-pub carried-begun : (rules : List RuleText) (past : List Event) → AreJudged rules past → first_broken rules past ≡ None → (l : Link) (b : Incoming) → carried_before l past ≡ Some b → is_complete b past ≡ true
+pub carried-begun : (rules : RuleSet) (past : List Event) → AreJudged rules past → first_broken rules past ≡ None → (l : Link) (b : Incoming) → carried_before l past ≡ Some b → is_complete b past ≡ true
 carried-begun rules past are lawful l b is =
     let step = and_then_some (λ (j : Outgoing). noted j.note past) (find (is_on l) (outgoing_deliveries past)) b is in
     let begun = found-begun rules past are lawful (is_on l) step.0 step.1 in
@@ -57,7 +57,7 @@ pub record BeginsWith (e : Event) (past : List Event) (l : Link) (b : Incoming) 
   pub complete : is_complete b past ≡ true
   pub address : delivery.link.address ≡ b.link.address
 
-module _ (rules : List RuleText) (e : Event) (past : List Event) (are : AreJudged rules (e ∷ past)) (lawful : first_broken rules (e ∷ past) ≡ None) (l : Link) (b : Incoming) where
+module _ (rules : RuleSet) (e : Event) (past : List Event) (are : AreJudged rules (e ∷ past)) (lawful : first_broken rules (e ∷ past) ≡ None) (l : Link) (b : Incoming) where
   -- of one that began before, what it carries is what it carried
   carried_still : (j : Outgoing) → find (is_on l) (outgoing_deliveries past) ≡ Some j → noted j.note (e ∷ past) ≡ Some b → carried_before l past ≡ Some b
   carried_still j found is =
@@ -106,7 +106,7 @@ module _ (rules : List RuleText) (e : Event) (past : List Event) (are : AreJudge
   ]
 
 -- of a link that is known, it names that delivery there and no other
-module _ (rules : List RuleText) (e : Event) (past : List Event) (are : AreJudged rules (e ∷ past)) (lawful : first_broken rules (e ∷ past) ≡ None) (l : Link) (b : Incoming)
+module _ (rules : RuleSet) (e : Event) (past : List Event) (are : AreJudged rules (e ∷ past)) (lawful : first_broken rules (e ∷ past) ≡ None) (l : Link) (b : Incoming)
     (at : link_at l.number (e ∷ past) ≡ Some l) (here : BeginsWith e past l b) where
   pub begins-link : here.delivery.link ≡ l
   begins-link =
@@ -138,13 +138,13 @@ none_on l (j ∷ js) all =
     let lt = all.0 in
     ap (λ b. if b then Some j else find (is_on l) js) (ne_eqb j.link.number l.number (λ same. omega (arith, same, lt))) ∙ none_on l js all.1
 
-pub new-in_order : (rules : List RuleText) (e : Event) (past : List Event) → AreJudged rules (e ∷ past) → (l : Link) (d : Incoming) → l.number ≡ length past → is_in_order l (e ∷ past) d ≡ true
+pub new-in_order : (rules : RuleSet) (e : Event) (past : List Event) → AreJudged rules (e ∷ past) → (l : Link) (d : Incoming) → l.number ≡ length past → is_in_order l (e ∷ past) d ≡ true
 new-in_order rules e past are l d new =
     let all = subst (λ n. AllByRecursion (IsOnEarlier n) (outgoing_deliveries (e ∷ past))) (sym new) (deliveries-earlier_now e past (judged-on_earlier rules (e ∷ past) are)) in
     ap (λ o. is_none_or (option_and_then (λ (j : Outgoing). noted j.note (e ∷ past)) o) (λ b. completed_before b d (e ∷ past))) (none_on l (outgoing_deliveries (e ∷ past)) all)
 
 -- a link is known before the event, or opens with it
-pub link-cases : (rules : List RuleText) (e : Event) (past : List Event) → AreJudged rules (e ∷ past) → (l : Link) → link_at l.number (e ∷ past) ≡ Some l → (link_at l.number past ≡ Some l) ⊎ (l.number ≡ length past)
+pub link-cases : (rules : RuleSet) (e : Event) (past : List Event) → AreJudged rules (e ∷ past) → (l : Link) → link_at l.number (e ∷ past) ≡ Some l → (link_at l.number past ≡ Some l) ⊎ (l.number ≡ length past)
 link-cases rules e past are l at = by (own_link e) refl at
   where
     test : (m : Link) → own_link e ≡ Some m → (b : Bool) → (m.number == l.number) ≡ b → (if b then Some m else link_at l.number past) ≡ Some l → (link_at l.number past ≡ Some l) ⊎ (l.number ≡ length past)
@@ -157,7 +157,7 @@ link-cases rules e past are l at = by (own_link e) refl at
 
 -- ---- a step
 
-module _ (rules : List RuleText) (e : Event) (past : List Event) (are : AreJudged rules (e ∷ past)) (lawful : first_broken rules (e ∷ past) ≡ None) (l : Link) (d : Incoming) where
+module _ (rules : RuleSet) (e : Event) (past : List Event) (are : AreJudged rules (e ∷ past)) (lawful : first_broken rules (e ∷ past) ≡ None) (l : Link) (d : Incoming) where
   -- what the event completes is in order
   pub in_order-completed : completes d e ≡ true → is_in_order l (e ∷ past) d ≡ true
   in_order-completed here = in_order-by l (e ∷ past) d (λ b is. before-completed rules e past are b d (carried-complete rules e past are lawful l b is) here)

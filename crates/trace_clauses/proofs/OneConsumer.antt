@@ -5,7 +5,7 @@ use Rattle.std.specs.List.{cons_option}
 use Rattle.pairing_cert.specs.declared.note.Note.{Note}
 use Rattle.pairing_cert.specs.declared.note.Note.TheVariants as notes
 use Rattle.capture_form.specs.declared.records.Record.{Record}
-use Rattle.capture_form.specs.Rules.{RuleText}
+use Rattle.capture_form.specs.Rules.{RuleSet}
 use Rattle.trace_clauses.specs.declared.clause.Clause.TheVariants.{L9}
 use Rattle.trace_events.specs.Words.{is_some_and, where_passes}
 use Rattle.trace_events.specs.Event.{Event, Incoming, Outgoing}
@@ -83,7 +83,7 @@ at-later : (n len : ℕ) (o : Option Incoming) → IfSome o (λ d. (n < len) × 
 at-later n len None h = tt
 at-later n len (Some d) h = let lt = h.0 in (omega (arith, lt), h.1)
 
-pub incoming_at-is : (rules : List RuleText) (past : List Event) (n : ℕ) → AreJudged rules past
+pub incoming_at-is : (rules : RuleSet) (past : List Event) (n : ℕ) → AreJudged rules past
     → IfSome (incoming_at n past) (λ d. (n < length past) × (d.number ≡ n))
 incoming_at-is rules [] n are = tt
 incoming_at-is rules (e ∷ past) n are =
@@ -95,7 +95,7 @@ incoming_at-is rules (e ∷ past) n are =
     (at-later n (length past) (incoming_at n past) (incoming_at-is rules past n are.1))
 
 -- a delivery that is found was begun before, or has the event's number
-module _ (rules : List RuleText) (e : Event) (past : List Event) (are : AreJudged rules (e ∷ past)) (n : ℕ) (d : Incoming) where
+module _ (rules : RuleSet) (e : Event) (past : List Event) (are : AreJudged rules (e ∷ past)) (n : ℕ) (d : Incoming) where
   found-by : (x : Incoming) → incoming_begun e ≡ Some x → (b : Bool) → (x.number == n) ≡ b → cond b (Some x) (incoming_at n past) ≡ Some d
       → (incoming_at n past ≡ Some d) ⊎ (n ≡ length past)
   found-by x begun true is found =
@@ -111,7 +111,7 @@ module _ (rules : List RuleText) (e : Event) (past : List Event) (are : AreJudge
 
 -- ---- an event that begins a delivery to a client
 
-pub record Begins (rules : List RuleText) (e : Event) (past : List Event) (j : Outgoing) : Type 0 where
+pub record Begins (rules : RuleSet) (e : Event) (past : List Event) (j : Outgoing) : Type 0 where
   pub note : j.note ≡ e.note
   pub carried : Incoming
   pub is : noted e.note past ≡ Some carried
@@ -125,7 +125,7 @@ otherwise : (b x y : Bool) → b ≡ false → cond b x y ≡ true → y ≡ tru
 otherwise true x y is e = absurd cc
 otherwise false x y is e = e
 
-module _ (rules : List RuleText) (e : Event) (past : List Event) (are : AreJudged rules (e ∷ past)) (lawful : first_broken rules (e ∷ past) ≡ None) (j : Outgoing)
+module _ (rules : RuleSet) (e : Event) (past : List Event) (are : AreJudged rules (e ∷ past)) (lawful : first_broken rules (e ∷ past) ≡ None) (j : Outgoing)
     (begun : outgoing_begun e ≡ Some j) where
   own : (e.outgoing ≡ Some j) × ((j.number == e.number) ≡ true)
   own = passes-some (λ (x : Outgoing). x.number == e.number) e.outgoing j begun
@@ -172,7 +172,7 @@ module _ (rules : List RuleText) (e : Event) (past : List Event) (are : AreJudge
 
 -- ---- nothing carries a delivery that hasn't begun
 
-module _ (rules : List RuleText) (e : Event) (past : List Event) (are : AreJudged rules (e ∷ past)) (lawful : first_broken rules (e ∷ past) ≡ None)
+module _ (rules : RuleSet) (e : Event) (past : List Event) (are : AreJudged rules (e ∷ past)) (lawful : first_broken rules (e ∷ past) ≡ None)
     (n : ℕ) (above : suc (length past) ≤ n) (before : carriers n past ≡ []) where
   none-by : (j : Outgoing) → outgoing_begun e ≡ Some j → (b : Bool) → names n j.note ≡ b → cond b (j ∷ carriers n past) (carriers n past) ≡ []
   none-by j begun true named = let at = carried-at rules e past are lawful j begun n named in let lt = at.2 in absurd (omega (arith, lt, above))
@@ -182,14 +182,14 @@ module _ (rules : List RuleText) (e : Event) (past : List Event) (are : AreJudge
   none-at None begun = before
   none-at (Some j) begun = none-by j begun (names n j.note) refl
 
-none-named : (rules : List RuleText) (past : List Event) → AreJudged rules past → first_broken rules past ≡ None → (n : ℕ) → length past ≤ n → carriers n past ≡ []
+none-named : (rules : RuleSet) (past : List Event) → AreJudged rules past → first_broken rules past ≡ None → (n : ℕ) → length past ≤ n → carriers n past ≡ []
 none-named rules [] are lawful n above = refl
 none-named rules (e ∷ past) are lawful n above =
     none-at rules e past are lawful n above (none-named rules past are.1 (lawful-past rules e past lawful) n (omega (arith, above))) (outgoing_begun e) refl
 
 -- ---- one at most
 
-module _ (rules : List RuleText) (e : Event) (past : List Event) (are : AreJudged rules (e ∷ past)) (lawful : first_broken rules (e ∷ past) ≡ None)
+module _ (rules : RuleSet) (e : Event) (past : List Event) (are : AreJudged rules (e ∷ past)) (lawful : first_broken rules (e ∷ past) ≡ None)
     (n : ℕ) (d : Incoming) (anycast : is_of_multicast rules d ≡ false) (before : ReachesOne rules past) where
   few-before : (incoming_at n past ≡ Some d) ⊎ (n ≡ length past) → length (carriers n past) ≤ 1
   few-before (inl found) = before n d found anycast
@@ -220,12 +220,12 @@ module _ (rules : List RuleText) (e : Event) (past : List Event) (are : AreJudge
   few-at None begun found = few-before found
   few-at (Some j) begun found = few-by j begun found (names n j.note) refl
 
-reaches_one : (rules : List RuleText) (past : List Event) → AreJudged rules past → first_broken rules past ≡ None → ReachesOne rules past
+reaches_one : (rules : RuleSet) (past : List Event) → AreJudged rules past → first_broken rules past ≡ None → ReachesOne rules past
 reaches_one rules [] are lawful n d found anycast = omega arith
 reaches_one rules (e ∷ past) are lawful n d found anycast =
     few-at rules e past are lawful n d anycast (reaches_one rules past are.1 (lawful-past rules e past lawful)) (outgoing_begun e) refl
     (found-at rules e past are n d (incoming_begun e) refl found)
 
 -- the law of a capture
-pub lawful-reaches-one : (rules : List RuleText) (rs : List Record) → first_broken rules (history rules rs) ≡ None → ReachesOne rules (history rules rs)
+pub lawful-reaches-one : (rules : RuleSet) (rs : List Record) → first_broken rules (history rules rs) ≡ None → ReachesOne rules (history rules rs)
 lawful-reaches-one rules rs lawful = reaches_one rules (history rules rs) (history-judged rules rs) lawful

@@ -4,7 +4,7 @@ use Rattle.std.proofs.Common.{◌≡◌, refl, sym, ap, subst, ◌∙◌, ◌⊎
 use Rattle.std.specs.List.{cons_option}
 use Rattle.amqp_perf.specs.declared.descriptor.Outcome.{Outcome}
 use Rattle.amqp_perf.specs.declared.descriptor.Outcome.TheVariants.{Modified}
-use Rattle.capture_form.specs.Rules.{RuleText}
+use Rattle.capture_form.specs.Rules.{RuleSet}
 use Rattle.trace_events.specs.Words.{or_else}
 use Rattle.trace_events.specs.Event.{Event, Link, Incoming, Outgoing}
 use Rattle.trace_events.specs.Link.{is_live, link_at}
@@ -33,7 +33,7 @@ same_some a b is = cc
 abbrev is_copy : ℕ → ℕ → Outgoing → Bool
 is_copy link n j = j.link.number == link && names n j.note
 
-module _ (rules : List RuleText) (e : Event) (past : List Event) (are : AreJudged rules (e ∷ past)) (lawful : first_broken rules (e ∷ past) ≡ None)
+module _ (rules : RuleSet) (e : Event) (past : List Event) (are : AreJudged rules (e ∷ past)) (lawful : first_broken rules (e ∷ past) ≡ None)
     (d : Incoming) (found : incoming_at d.number (e ∷ past) ≡ Some d) (link : ℕ) (j : Outgoing) (is : is_copy link d.number j ≡ true) (at : outgoing_at j.number past ≡ Some j) where
   begun_before : IsBegun past j
   begun_before = found-begun rules past are.1 (lawful-past rules e past lawful) (λ (k : Outgoing). k.number == j.number) j at
@@ -66,7 +66,7 @@ module _ (rules : List RuleText) (e : Event) (past : List Event) (are : AreJudge
           absurd cc
 
 -- the one that is found there is each that there is
-pub one-copy : (rules : List RuleText) (past : List Event) → AreJudged rules past → first_broken rules past ≡ None → (d : Incoming) → incoming_at d.number past ≡ Some d → is_of_multicast rules d ≡ true
+pub one-copy : (rules : RuleSet) (past : List Event) → AreJudged rules past → first_broken rules past ≡ None → (d : Incoming) → incoming_at d.number past ≡ Some d → is_of_multicast rules d ≡ true
     → (link : ℕ) (j : Outgoing) → is_copy link d.number j ≡ true → outgoing_at j.number past ≡ Some j → find (is_copy link d.number) (outgoing_deliveries past) ≡ Some j
 one-copy rules [] are lawful d found many link j is at = absurd cc
 one-copy rules (e ∷ past) are lawful d found many link j is at =
@@ -93,7 +93,7 @@ none-else true None live is = refl
 none-else true (Some x) live is = absurd cc
 none-else false o live is = absurd cc
 
-module _ (rules : List RuleText) (e : Event) (past : List Event) (are : AreJudged rules (e ∷ past)) (lawful : first_broken rules (e ∷ past) ≡ None)
+module _ (rules : RuleSet) (e : Event) (past : List Event) (are : AreJudged rules (e ∷ past)) (lawful : first_broken rules (e ∷ past) ≡ None)
     (d : Incoming) (found : incoming_at d.number (e ∷ past) ≡ Some d) (l : Link) (awaits : awaits_now rules e past d l ≡ true) where
   -- it is due
   pub awaits-due : is_due rules d l (e ∷ past) ≡ true

@@ -5,7 +5,7 @@ use Rattle.amqp_perf.specs.declared.attach.Role.{Role}
 use Rattle.amqp_perf.specs.declared.attach.Role.TheVariants.{Sender, Receiver}
 use Rattle.amqp_perf.specs.Meaning.{Meaning, AnOpen, ABegin, AnAttach, AFlow, ATransfer, ADisposition, ADetach, AnEnd, AClose, DispositionFields}
 use Rattle.capture_form.specs.declared.records.Record.{Record}
-use Rattle.capture_form.specs.Rules.{RuleText}
+use Rattle.capture_form.specs.Rules.{RuleSet}
 use Rattle.trace_clauses.specs.declared.clause.Clause.TheVariants.{L11}
 use Rattle.trace_events.specs.Words.{is_number}
 use Rattle.trace_events.specs.Frame.{Frame, Spoken, spoken_in}
@@ -33,7 +33,7 @@ pub record IsOutcome (m : Moment) : Type 0 where
   pub means : spoken.meaning ≡ ADisposition fields
   pub receives : fields.role ≡ Receiver
 
-module _ (rules : List RuleText) (e : Event) (past : List Event) (frame : Frame) (spoken : Spoken) (says : spoken_in frame.body ≡ Some spoken) where
+module _ (rules : RuleSet) (e : Event) (past : List Event) (frame : Frame) (spoken : Spoken) (says : spoken_in frame.body ≡ Some spoken) where
   role-outcome : (fields : DispositionFields) → spoken.meaning ≡ ADisposition fields → (role : Role) → fields.role ≡ role → (s : Session) (first : ℕ)
       → IfSome (told_by_role rules s first role past) (λ n. IsOutcome (Out frame))
   role-outcome fields means Receiver is s first =
@@ -54,19 +54,19 @@ module _ (rules : List RuleText) (e : Event) (past : List Event) (frame : Frame)
   meaning-outcome (AnEnd error) means = tt
   meaning-outcome (AClose error) means = tt
 
-spoken-outcome : (rules : List RuleText) (e : Event) (past : List Event) (frame : Frame) (o : Option Spoken) → spoken_in frame.body ≡ o
+spoken-outcome : (rules : RuleSet) (e : Event) (past : List Event) (frame : Frame) (o : Option Spoken) → spoken_in frame.body ≡ o
     → IfSome (option_and_then (λ (spoken : Spoken). told_part rules e spoken.meaning past) o) (λ n. IsOutcome (Out frame))
 spoken-outcome rules e past frame None is = tt
 spoken-outcome rules e past frame (Some spoken) is = meaning-outcome rules e past frame spoken is spoken.meaning refl
 
-told_by-outcome : (rules : List RuleText) (e : Event) (m : Moment) (past : List Event) → IfSome (told_by rules e m past) (λ n. IsOutcome m)
+told_by-outcome : (rules : RuleSet) (e : Event) (m : Moment) (past : List Event) → IfSome (told_by rules e m past) (λ n. IsOutcome m)
 told_by-outcome rules e (Out frame) past = spoken-outcome rules e past frame (spoken_in frame.body) refl
 told_by-outcome rules e (In frame) past = tt
 told_by-outcome rules e Opened past = tt
 told_by-outcome rules e Lost past = tt
 told_by-outcome rules e Broken past = tt
 
-judged-outcome : (rules : List RuleText) (e : Event) (past : List Event) → AreJudged rules (e ∷ past) → IfSome e.told (λ n. IsOutcome e.moment)
+judged-outcome : (rules : RuleSet) (e : Event) (past : List Event) → AreJudged rules (e ∷ past) → IfSome e.told (λ n. IsOutcome e.moment)
 judged-outcome rules e past ((r, is), are) =
     subst (λ (x : Event). IfSome x.told (λ n. IsOutcome x.moment)) (sym is)
     (told_by-outcome rules (faulted rules past (heard past (placed past r.connection (moment_of r.what) r.note))) (moment_of r.what) past)
@@ -90,7 +90,7 @@ pub number-some : (o : Option ℕ) (n : ℕ) → is_number o n ≡ true → o �
 number-some None n e = absurd cc
 number-some (Some m) n e = ap Some (eqb-true m n e)
 
-module _ (rules : List RuleText) (e : Event) (past : List Event) (are : AreJudged rules (e ∷ past)) (lawful : first_broken rules (e ∷ past) ≡ None)
+module _ (rules : RuleSet) (e : Event) (past : List Event) (are : AreJudged rules (e ∷ past)) (lawful : first_broken rules (e ∷ past) ≡ None)
     (n : ℕ) (tells : e.told ≡ Some n) where
   pub outcome : IsOutcome e.moment
   outcome = subst (λ (o : Option ℕ). IfSome o (λ m. IsOutcome e.moment)) tells (judged-outcome rules e past are)
@@ -115,17 +115,17 @@ module _ (rules : List RuleText) (e : Event) (past : List Event) (are : AreJudge
       let quiet : is_told d past ≡ false = not-true (is_told d past) (and-right _ _ (and-left _ (is_live past d.link) may)) in
       sym (ap (λ m. tellings m past) at.1) ∙ none-passes (λ (x : Event). is_number x.told d.number) past quiet
 
-module _ (rules : List RuleText) (e : Event) (past : List Event) (are : AreJudged rules (e ∷ past)) (lawful : first_broken rules (e ∷ past) ≡ None)
+module _ (rules : RuleSet) (e : Event) (past : List Event) (are : AreJudged rules (e ∷ past)) (lawful : first_broken rules (e ∷ past) ≡ None)
     (n : ℕ) (before : length (tellings n past) ≤ 1) where
   few-by : (b : Bool) → is_number e.told n ≡ b → length (cond b (e ∷ tellings n past) (tellings n past)) ≤ 1
   few-by true is = rw (untold rules e past are lawful n (number-some e.told n is)) (omega arith)
   few-by false is = before
 
-told_once : (rules : List RuleText) (past : List Event) → AreJudged rules past → first_broken rules past ≡ None → ToldOnce past
+told_once : (rules : RuleSet) (past : List Event) → AreJudged rules past → first_broken rules past ≡ None → ToldOnce past
 told_once rules [] are lawful n = omega arith
 told_once rules (e ∷ past) are lawful n =
     few-by rules e past are lawful n (told_once rules past are.1 (lawful-past rules e past lawful) n) (is_number e.told n) refl
 
 -- the law of a capture
-pub lawful-told-once : (rules : List RuleText) (rs : List Record) → first_broken rules (history rules rs) ≡ None → ToldOnce (history rules rs)
+pub lawful-told-once : (rules : RuleSet) (rs : List Record) → first_broken rules (history rules rs) ≡ None → ToldOnce (history rules rs)
 lawful-told-once rules rs lawful = told_once rules (history rules rs) (history-judged rules rs) lawful

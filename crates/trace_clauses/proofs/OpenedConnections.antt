@@ -3,7 +3,7 @@
 use Rattle.std.proofs.Common.{◌≡◌, refl, sym, ap, ◌∙◌, ℕ, Bool, true, false, not, ◌&&◌, ◌||◌, List, [], ◌∷◌, Option, Some, None, is_some, option_and_then, option_map, if◌then◌else◌, ◌==◌, eqb-true}
 use Rattle.std.specs.Prelude.{is_none}
 use Rattle.amqp_perf.specs.Meaning.{Meaning, AnOpen, ABegin, AnAttach, AFlow, ATransfer, ADisposition, ADetach, AnEnd, AClose, OpenFields}
-use Rattle.capture_form.specs.Rules.{RuleText}
+use Rattle.capture_form.specs.Rules.{RuleSet}
 use Rattle.trace_clauses.specs.declared.clause.Clause.{Clause}
 use Rattle.trace_clauses.specs.declared.clause.Clause.TheVariants.{L1}
 use Rattle.trace_events.specs.Words.{is_some_and}
@@ -45,7 +45,7 @@ frame_of Opened is = absurd cc
 frame_of Lost is = absurd cc
 frame_of Broken is = absurd cc
 
-module _ (rules : List RuleText) (e : Event) (past : List Event) (lawful : first_broken rules (e ∷ past) ≡ None) where
+module _ (rules : RuleSet) (e : Event) (past : List Event) (lawful : first_broken rules (e ∷ past) ≡ None) where
   spoken_of : (frame : Frame) → e.moment ≡ Out frame → (o : Option Spoken) → spoken_in frame.body ≡ o → (spoken : Spoken) × (spoken_in frame.body ≡ Some spoken)
   spoken_of frame written None is =
       let never : ◌≡◌ {A = Option Clause} (Some L1) None = sym (ap (broken_by rules e frame past) is) ∙ (sym (ap (broken_at rules e past) written) ∙ lawful-here rules e past lawful) in absurd cc
@@ -82,7 +82,7 @@ first_is_open : (before : Bool) (opening : Option OpenFields) → before ≡ fal
 first_is_open true opening is e = absurd cc
 first_is_open false opening is e = e
 
-module _ (rules : List RuleText) (c : ℕ) (e : Event) (past : List Event) (lawful : first_broken rules (e ∷ past) ≡ None)
+module _ (rules : RuleSet) (c : ℕ) (e : Event) (past : List Event) (lawful : first_broken rules (e ∷ past) ≡ None)
     (earlier : has_out_frame c past ≡ true → (was_opened c past ≡ true) × (has_out_open c past ≡ true)) where
   framed_here : has_out_frame c past ≡ false → is_out e.moment ≡ true → (e.connection == c) ≡ true → (was_opened c (e ∷ past) ≡ true) × (has_out_open c (e ∷ past) ≡ true)
   framed_here none out own =
@@ -102,21 +102,21 @@ module _ (rules : List RuleText) (c : ℕ) (e : Event) (past : List Event) (lawf
       or_none true is = refl
       or_none false is = is
 
-pub lawful-framed : (rules : List RuleText) (c : ℕ) (past : List Event) → first_broken rules past ≡ None → has_out_frame c past ≡ true → (was_opened c past ≡ true) × (has_out_open c past ≡ true)
+pub lawful-framed : (rules : RuleSet) (c : ℕ) (past : List Event) → first_broken rules past ≡ None → has_out_frame c past ≡ true → (was_opened c past ≡ true) × (has_out_open c past ≡ true)
 lawful-framed rules c [] lawful is = absurd cc
 lawful-framed rules c (e ∷ past) lawful is = framed_by rules c e past lawful (lawful-framed rules c past (lawful-past rules e past lawful)) (has_out_frame c past) refl is
 
 -- ---- so it is of the sessions that were begun
 
-pub last_session-opened : (rules : List RuleText) (c channel : ℕ) (past : List Event) (s : Session) → first_broken rules past ≡ None → last_session c channel past ≡ Some s
+pub last_session-opened : (rules : RuleSet) (c channel : ℕ) (past : List Event) (s : Session) → first_broken rules past ≡ None → last_session c channel past ≡ Some s
     → (was_opened c past ≡ true) × (has_out_open c past ≡ true)
 last_session-opened rules c channel past s lawful is = lawful-framed rules c past lawful (last_session-framed c channel past s is)
 
-pub live_session-opened : (rules : List RuleText) (c channel : ℕ) (past : List Event) (s : Session) → first_broken rules past ≡ None → live_session c channel past ≡ Some s
+pub live_session-opened : (rules : RuleSet) (c channel : ℕ) (past : List Event) (s : Session) → first_broken rules past ≡ None → live_session c channel past ≡ Some s
     → (was_opened c past ≡ true) × (has_out_open c past ≡ true)
 live_session-opened rules c channel past s lawful is = lawful-framed rules c past lawful (live_session-framed c channel past s is)
 
-pub session_at-opened : (rules : List RuleText) (past : List Event) (n : ℕ) (s : Session) → AreJudged rules past → first_broken rules past ≡ None → session_at n past ≡ Some s
+pub session_at-opened : (rules : RuleSet) (past : List Event) (n : ℕ) (s : Session) → AreJudged rules past → first_broken rules past ≡ None → session_at n past ≡ Some s
     → (was_opened s.connection past ≡ true) × (has_out_open s.connection past ≡ true)
 session_at-opened rules past n s are lawful is = lawful-framed rules s.connection past lawful (session_at-framed rules past n s are is)
 
@@ -184,7 +184,7 @@ unstopped_by : (of stopped : Bool) → of ≡ false → of || not stopped ≡ tr
 unstopped_by true stopped apart is = absurd cc
 unstopped_by false stopped apart is = not-true stopped is
 
-module _ (rules : List RuleText) (e : Event) (past : List Event) (lawful : first_broken rules (e ∷ past) ≡ None) where
+module _ (rules : RuleSet) (e : Event) (past : List Event) (lawful : first_broken rules (e ∷ past) ≡ None) where
   -- what is written and is neither an open nor a close stands on a connection that is not over
   pub written-not_over : (place : IsInPlace e past) → is_of_connection place.spoken.meaning ≡ false → is_over e.connection past ≡ false
   written-not_over place apart =

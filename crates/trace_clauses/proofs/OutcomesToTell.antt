@@ -9,7 +9,7 @@ use Rattle.amqp_perf.specs.declared.descriptor.Outcome.TheVariants.{Accepted, Re
 use Rattle.amqp_perf.specs.Meaning.{DispositionFields, flag}
 use Rattle.amqp_perf.specs.Router.{delivery_failed}
 use Rattle.pairing_cert.specs.declared.note.Why.TheVariants.{C, Z, S, L}
-use Rattle.capture_form.specs.Rules.{RuleText}
+use Rattle.capture_form.specs.Rules.{RuleSet}
 use Rattle.trace_clauses.specs.declared.clause.Clause.TheVariants.{L9}
 use Rattle.trace_events.specs.Words.{is_some_and}
 use Rattle.trace_events.specs.Event.{Event, Incoming, Outgoing}
@@ -110,7 +110,7 @@ rows-by d past false k p h all told None = gone-bits (k && not p && not h) (Some
 rows-by d past false k p h all told (Some j) = paired-rows d j past (decision j past) (k && not p && not h)
 
 -- it has an outcome, and something is still to be told of it
-pub is_to_tell-parts : (rules : List RuleText) (past : List Event) (d : Incoming) → is_to_tell rules past d ≡ has_outcome rules past d && not (is_closed past d)
+pub is_to_tell-parts : (rules : RuleSet) (past : List Event) (d : Incoming) → is_to_tell rules past d ≡ has_outcome rules past d && not (is_closed past d)
 is_to_tell-parts rules past d =
     ap (λ b. may_be_told d past && b) (rows-by d past (is_of_multicast rules d) (is_complete d past) (is_paired d past) (always_had_consumer d past)
     (has_all_verdicts rules d past) (best_verdict rules d past) (pairing d past))
@@ -171,7 +171,7 @@ nothing-carries false true false true once = refl
 nothing-carries false true false false once = refl
 nothing-carries false false h a once = refl
 
-module _ (rules : List RuleText) (e : Event) (past : List Event) (are : AreJudged rules (e ∷ past)) (lawful : first_broken rules (e ∷ past) ≡ None) where
+module _ (rules : RuleSet) (e : Event) (past : List Event) (are : AreJudged rules (e ∷ past)) (lawful : first_broken rules (e ∷ past) ≡ None) where
   before : first_broken rules past ≡ None
   before = lawful-past rules e past lawful
 
@@ -211,7 +211,7 @@ module _ (rules : List RuleText) (e : Event) (past : List Event) (are : AreJudge
         unanswered-bits false unsettled last ends = refl
 
 -- what a transfer that begins a delivery carries is not gone, and not paired where it is anycast
-pub record IsFirst (rules : List RuleText) (past : List Event) (d : Incoming) : Type 0 where
+pub record IsFirst (rules : RuleSet) (past : List Event) (d : Incoming) : Type 0 where
   pub whole : is_gone rules d past ≡ false
   pub alone : is_of_multicast rules d ≡ false → is_paired d past ≡ false
 
@@ -219,7 +219,7 @@ off : (b : Bool) → not b ≡ true → b ≡ false
 off false is = refl
 off true is = absurd cc
 
-module _ (rules : List RuleText) (e : Event) (past : List Event) (are : AreJudged rules (e ∷ past)) (lawful : first_broken rules (e ∷ past) ≡ None) (j : Outgoing) (begun : outgoing_begun e ≡ Some j) where
+module _ (rules : RuleSet) (e : Event) (past : List Event) (are : AreJudged rules (e ∷ past)) (lawful : first_broken rules (e ∷ past) ≡ None) (j : Outgoing) (begun : outgoing_begun e ≡ Some j) where
   pub carries_first : IsFirst rules past (begun-carries rules e past are lawful j begun).delivery
   carries_first =
       let own = passing (λ (x : Outgoing). x.number == e.number) e.outgoing j begun in
@@ -285,7 +285,7 @@ none-bits : (before after test : Outgoing → Bool) (many : Bool) (was is : Opti
     || (if many then last else k && not h || not many && c && not (is_some was) && a && not h && not pairs_it || is_some_and is test)
 none-bits before after test many was is pairs_it k c h a all all_now last m w i p once = rw (m, w, i, p) (nothing-carries k c h a once)
 
-module _ (rules : List RuleText) (e : Event) (past : List Event) (are : AreJudged rules (e ∷ past)) (lawful : first_broken rules (e ∷ past) ≡ None) (d : Incoming) (kept : IsKept past d) where
+module _ (rules : RuleSet) (e : Event) (past : List Event) (are : AreJudged rules (e ∷ past)) (lawful : first_broken rules (e ∷ past) ≡ None) (d : Incoming) (kept : IsKept past d) where
   was_lawful : first_broken rules past ≡ None
   was_lawful = lawful-past rules e past lawful
 
@@ -410,7 +410,7 @@ each_such P Q (x ∷ xs) more all = (more x all.0, each_such P Q xs more all.1)
 
 -- those that were to be told, and those that come, but for those that the event closes; and behind them the one that it
 -- begins, if that is to be told at once
-pub outcomes_to_tell_move : (rules : List RuleText) (e : Event) (past : List Event) → AreJudged rules (e ∷ past) → first_broken rules (e ∷ past) ≡ None
+pub outcomes_to_tell_move : (rules : RuleSet) (e : Event) (past : List Event) → AreJudged rules (e ∷ past) → first_broken rules (e ∷ past) ≡ None
     → outcomes_to_tell rules (e ∷ past) ≡ filter (λ d. not (closes_incoming e d)) (filter (λ d. is_to_tell rules past d || gets_outcome rules e past d && not (is_closed past d)) (reverse (incoming_deliveries past)))
     ++ filter (is_to_tell rules (e ∷ past)) (cons_option (incoming_begun e) [])
 outcomes_to_tell_move rules e past are lawful =
@@ -425,10 +425,10 @@ outcomes_to_tell_move rules e past are lawful =
     ∙ (filter-reverse stays (filter were ds) ∙ ap (filter stays) (filter-reverse were ds))))
 
 -- which deliveries they are
-pub listed_to_tell : (rules : List RuleText) (past : List Event) (d : Incoming) → Contains (outcomes_to_tell rules past) d → Contains (incoming_deliveries past) d × (is_to_tell rules past d ≡ true)
+pub listed_to_tell : (rules : RuleSet) (past : List Event) (d : Incoming) → Contains (outcomes_to_tell rules past) d → Contains (incoming_deliveries past) d × (is_to_tell rules past d ≡ true)
 listed_to_tell rules past d listed =
     let h = in_filter (is_to_tell rules past) (reverse (incoming_deliveries past)) d listed in
     (in_reverse (incoming_deliveries past) d h.0, h.1)
 
-pub to_tell_listed : (rules : List RuleText) (past : List Event) (d : Incoming) → Contains (incoming_deliveries past) d → is_to_tell rules past d ≡ true → Contains (outcomes_to_tell rules past) d
+pub to_tell_listed : (rules : RuleSet) (past : List Event) (d : Incoming) → Contains (incoming_deliveries past) d → is_to_tell rules past d ≡ true → Contains (outcomes_to_tell rules past) d
 to_tell_listed rules past d there is = filter_has (is_to_tell rules past) (reverse (incoming_deliveries past)) d is (reverse_has (incoming_deliveries past) d there)

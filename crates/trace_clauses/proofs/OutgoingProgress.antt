@@ -6,7 +6,7 @@ use Rattle.amqp_perf.specs.Meaning.{Meaning, AnOpen, ABegin, AnAttach, AFlow, AT
 use Rattle.pairing_cert.specs.declared.note.Note.{Note}
 use Rattle.pairing_cert.specs.declared.note.Note.TheVariants as notes
 use Rattle.capture_form.specs.declared.records.Record.{Record}
-use Rattle.capture_form.specs.Rules.{RuleText}
+use Rattle.capture_form.specs.Rules.{RuleSet}
 use Rattle.trace_clauses.specs.declared.clause.Clause.TheVariants.{L6}
 use Rattle.trace_events.specs.Words.{is_some_and, or_else, where_passes}
 use Rattle.trace_events.specs.Frame.{Frame, Spoken, spoken_in}
@@ -54,13 +54,13 @@ module _ (e : Event) (past : List Event) where
   on_part fields (Some l) named = link_part fields l (named l refl) (in_progress l past) refl
 
 -- the link that a transfer names is the event's
-transfer_link : (rules : List RuleText) (past : List Event) (r : Record) (fields : TransferFields) (l : Link) → out_said (moment_of r.what) ≡ Some (ATransfer fields)
+transfer_link : (rules : RuleSet) (past : List Event) (r : Record) (fields : TransferFields) (l : Link) → out_said (moment_of r.what) ≡ Some (ATransfer fields)
     → (standing rules past r).link ≡ Some l → (judge rules past r).link ≡ Some l
 transfer_link rules past r fields l is on =
     let none : attach_in (moment_of r.what) ≡ None = ap (option_and_then as_attach) is in
     opened-link (judge_unopened rules past r.connection (moment_of r.what) r.note) past none ∙ on
 
-module _ (rules : List RuleText) (past : List Event) (r : Record) where
+module _ (rules : RuleSet) (past : List Event) (r : Record) where
   meaning_part : (meaning : Meaning) → out_said (moment_of r.what) ≡ Some meaning → IfSome (outgoing_part (standing rules past r) meaning past) (IsPartOf (judge rules past r) past)
   meaning_part (ATransfer fields) is =
       on_part (judge rules past r) past fields (where_passes is_consumer (standing rules past r).link)
@@ -86,7 +86,7 @@ module _ (rules : List RuleText) (past : List Event) (r : Record) where
   moment_part Lost is = tt
   moment_part Broken is = tt
 
-pub judged-outgoing_part : (rules : List RuleText) (e : Event) (past : List Event) → AreJudged rules (e ∷ past) → IfSome e.outgoing (IsPartOf e past)
+pub judged-outgoing_part : (rules : RuleSet) (e : Event) (past : List Event) → AreJudged rules (e ∷ past) → IfSome e.outgoing (IsPartOf e past)
 judged-outgoing_part rules e past ((r, same), are) =
     subst (λ (x : Event). IfSome x.outgoing (IsPartOf x past)) (sym same) (moment_part rules past r (moment_of r.what) refl)
 
@@ -134,7 +134,7 @@ or_other true c none is = absurd cc
 or_other false c none is = is
 
 -- what a note names is the delivery of its number
-pub noted_pair : (rules : List RuleText) (past : List Event) → AreJudged rules past → (note : Note) (d : Incoming) → noted note past ≡ Some d
+pub noted_pair : (rules : RuleSet) (past : List Event) → AreJudged rules past → (note : Note) (d : Incoming) → noted note past ≡ Some d
     → (note ≡ notes.Pair d.number) × (d.number < length past) × (incoming_at d.number past ≡ Some d)
 noted_pair rules past are notes.None d is = absurd cc
 noted_pair rules past are (notes.Told why) d is = absurd cc
@@ -142,7 +142,7 @@ noted_pair rules past are (notes.Pair n) d is =
     let at = known (λ (d : Incoming). (n < length past) × (d.number ≡ n)) (incoming_at n past) d is (incoming_at-is rules past n are) in
     (ap notes.Pair (sym at.1), omega (arith, at.0, at.1), ap (λ m. incoming_at m past) at.1 ∙ is)
 
-module _ (rules : List RuleText) (e : Event) (past : List Event) (are : AreJudged rules (e ∷ past)) (lawful : first_broken rules (e ∷ past) ≡ None) (going : AreCarrying past) where
+module _ (rules : RuleSet) (e : Event) (past : List Event) (are : AreJudged rules (e ∷ past)) (lawful : first_broken rules (e ∷ past) ≡ None) (going : AreCarrying past) where
   number : e.number ≡ length past
   number = judged-number rules e past are
 
@@ -321,7 +321,7 @@ module _ (rules : List RuleText) (e : Event) (past : List Event) (are : AreJudge
   carrying_step : AreCarrying (e ∷ past)
   carrying_step l j is = step_by l j _ refl _ is
 
-pub judged-carrying : (rules : List RuleText) (past : List Event) → AreJudged rules past → first_broken rules past ≡ None → AreCarrying past
+pub judged-carrying : (rules : RuleSet) (past : List Event) → AreJudged rules past → first_broken rules past ≡ None → AreCarrying past
 judged-carrying rules [] are lawful l j is = absurd cc
 judged-carrying rules (e ∷ past) are lawful l j is = carrying_step rules e past are lawful (judged-carrying rules past are.1 (lawful-past rules e past lawful)) l j is
 
@@ -332,11 +332,11 @@ pub carrying-noted : (past : List Event) (j : Outgoing) (c : IsCarrying past j) 
 carrying-noted past j c = ap (λ note. noted note past) c.named ∙ c.found
 
 -- which is not gone
-pub carrying-not_gone : (rules : List RuleText) (past : List Event) (j : Outgoing) (c : IsCarrying past j) → is_gone rules c.delivery past ≡ false
+pub carrying-not_gone : (rules : RuleSet) (past : List Event) (j : Outgoing) (c : IsCarrying past j) → is_gone rules c.delivery past ≡ false
 carrying-not_gone rules past j c = paired-not_gone rules c.delivery past c.paired
 
 -- on a link that is known it is a delivery of that link
-pub carrying-link : (rules : List RuleText) (past : List Event) (l : Link) (j : Outgoing) → AreJudged rules past → first_broken rules past ≡ None → link_at l.number past ≡ Some l → in_progress l past ≡ Some j
+pub carrying-link : (rules : RuleSet) (past : List Event) (l : Link) (j : Outgoing) → AreJudged rules past → first_broken rules past ≡ None → link_at l.number past ≡ Some l → in_progress l past ≡ Some j
     → j.link ≡ l
 carrying-link rules past l j are lawful at is =
     let h = judged-carrying rules past are lawful l j is in

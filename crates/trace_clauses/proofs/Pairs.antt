@@ -3,7 +3,7 @@
 use Rattle.std.proofs.Common.{◌≡◌, refl, sym, ap, subst, ◌∙◌, ℕ, suc, ◌<◌, ◌≤◌, Bool, true, false, cond, not, ◌&&◌, List, [], ◌∷◌, length, Option, Some, None, IfSome, is_some, filter, find, arith}
 use Rattle.std.specs.List.{AllByRecursion, cons_option}
 use Rattle.capture_form.specs.declared.records.Record.{Record}
-use Rattle.capture_form.specs.Rules.{RuleText}
+use Rattle.capture_form.specs.Rules.{RuleSet}
 use Rattle.trace_events.specs.Event.{Event, Incoming, Outgoing}
 use Rattle.trace_events.specs.Incoming.{incoming_at, is_complete, is_told}
 use Rattle.trace_events.specs.Outgoing.{outgoing_begun, outgoing_deliveries, names, pairing, is_paired}
@@ -37,10 +37,10 @@ none_gone false false paired had is = refl
 none_gone false true true had is = refl
 none_gone false true false had is = absurd cc
 
-pub paired-not_gone : (rules : List RuleText) (d : Incoming) (past : List Event) → is_paired d past ≡ true → is_gone rules d past ≡ false
+pub paired-not_gone : (rules : RuleSet) (d : Incoming) (past : List Event) → is_paired d past ≡ true → is_gone rules d past ≡ false
 paired-not_gone rules d past is = none_gone (is_of_multicast rules d) (is_complete d past) (is_paired d past) (always_had_consumer d past) is
 
-pub paired-never_gone : (rules : List RuleText) (d : Incoming) (past : List Event) (rs : List Record) → is_paired d past ≡ true → is_gone rules d (continued rules past rs) ≡ false
+pub paired-never_gone : (rules : RuleSet) (d : Incoming) (past : List Event) (rs : List Record) → is_paired d past ≡ true → is_gone rules d (continued rules past rs) ≡ false
 paired-never_gone rules d past [] is = paired-not_gone rules d past is
 paired-never_gone rules d past (r ∷ rs) is = paired-never_gone rules d (judge rules past r ∷ past) rs (is_paired-stays d (judge rules past r) past is)
 
@@ -99,7 +99,7 @@ found_stays test (Some y) xs x is le = by (test y) le
 
 -- ---- the one that carries an anycast delivery
 
-module _ (rules : List RuleText) (past : List Event) (are : AreJudged rules past) (lawful : first_broken rules past ≡ None) where
+module _ (rules : RuleSet) (past : List Event) (are : AreJudged rules past) (lawful : first_broken rules past ≡ None) where
   pub judged-reaches_one : ReachesOne rules past
   judged-reaches_one = (judged-keeps rules past are lawful).one
 
@@ -119,7 +119,7 @@ module _ (rules : List RuleText) (past : List Event) (are : AreJudged rules past
   carries-pairing n d found anycast = each_one (λ (j : Outgoing). names d.number j.note) (pairing d past) (outgoing_deliveries past) (carriers-pairing n d found anycast)
 
 -- the pair stays
-pub pairing-stays : (rules : List RuleText) (e : Event) (past : List Event) → AreJudged rules (e ∷ past) → first_broken rules (e ∷ past) ≡ None → (n : ℕ) (d : Incoming) → incoming_at n past ≡ Some d
+pub pairing-stays : (rules : RuleSet) (e : Event) (past : List Event) → AreJudged rules (e ∷ past) → first_broken rules (e ∷ past) ≡ None → (n : ℕ) (d : Incoming) → incoming_at n past ≡ Some d
     → is_of_multicast rules d ≡ false → (j : Outgoing) → pairing d past ≡ Some j → pairing d (e ∷ past) ≡ Some j
 pairing-stays rules e past are lawful n d found anycast j is =
     let at = own_number rules past are.1 (lawful-past rules e past lawful) n d found in
@@ -128,7 +128,7 @@ pairing-stays rules e past are lawful n d found anycast j is =
 
 -- ---- what is told is decided
 
-pub told-is_decided : (rules : List RuleText) (past : List Event) → AreJudged rules past → first_broken rules past ≡ None → (n : ℕ) (d : Incoming) → incoming_at n past ≡ Some d → is_told d past ≡ true
+pub told-is_decided : (rules : RuleSet) (past : List Event) → AreJudged rules past → first_broken rules past ≡ None → (n : ℕ) (d : Incoming) → incoming_at n past ≡ Some d → is_told d past ≡ true
     → is_undecided rules d past ≡ false
 told-is_decided rules past are lawful =
     of_captures rules (λ (xs : List Event). (n : ℕ) (d : Incoming) → incoming_at n xs ≡ Some d → is_told d xs ≡ true → is_undecided rules d xs ≡ false) (told-decided rules) past are lawful

@@ -5,7 +5,7 @@ use Rattle.std.specs.Prelude.{is_none, find, if◌then◌else◌}
 use Rattle.std.specs.List.{cons_option}
 use Rattle.amqp_perf.specs.Meaning.{Meaning, AnOpen, ABegin, AnAttach, AFlow, ATransfer, ADisposition, ADetach, AnEnd, AClose, TransferFields, flag}
 use Rattle.capture_form.specs.declared.records.Record.{Record}
-use Rattle.capture_form.specs.Rules.{RuleText}
+use Rattle.capture_form.specs.Rules.{RuleSet}
 use Rattle.trace_events.specs.Words.{is_some_and, or_else, where_passes}
 use Rattle.trace_events.specs.Frame.{Frame, Body, NoFrame, Empty, NoPerformative, Says, Spoken, spoken_in}
 use Rattle.trace_events.specs.Event.{Event, Link, Incoming, Moment, Opened, In, Out, Lost, Broken, in_frame}
@@ -117,11 +117,11 @@ part_by e Lost past d came is = absurd cc
 part_by e Broken past d came is = absurd cc
 
 -- a frame of the client opens nothing
-pub came_link : (rules : List RuleText) (past : List Event) (r : Record) (frame : Frame) → moment_of r.what ≡ In frame → (judge rules past r).link ≡ (standing rules past r).link
+pub came_link : (rules : RuleSet) (past : List Event) (r : Record) (frame : Frame) → moment_of r.what ≡ In frame → (judge rules past r).link ≡ (standing rules past r).link
 came_link rules past r frame came =
     opened-link (judge_unopened rules past r.connection (moment_of r.what) r.note) past (ap (λ (m : Moment). attach_in m) came)
 
-pub record_part : (rules : List RuleText) (past : List Event) (r : Record) (d : Incoming) → (judge rules past r).incoming ≡ Some d → IsPart (judge rules past r) past d
+pub record_part : (rules : RuleSet) (past : List Event) (r : Record) (d : Incoming) → (judge rules past r).incoming ≡ Some d → IsPart (judge rules past r) past d
 record_part rules past r d is =
     let p = part_by (standing rules past r) (moment_of r.what) past d refl is in
     record {
@@ -137,7 +137,7 @@ record_part rules past r d is =
       part = record { link = p.part.link; on = came_link rules past r p.frame p.came ∙ p.part.on; kind = p.part.kind };
     }
 
-pub judged_is_part : (rules : List RuleText) (e : Event) (past : List Event) → AreJudged rules (e ∷ past) → (d : Incoming) → e.incoming ≡ Some d → IsPart e past d
+pub judged_is_part : (rules : RuleSet) (e : Event) (past : List Event) → AreJudged rules (e ∷ past) → (d : Incoming) → e.incoming ≡ Some d → IsPart e past d
 judged_is_part rules e past ((r, is), are) d here =
     subst (λ (x : Event). IsPart x past d) (sym is) (record_part rules past r d (sym (ap (λ (x : Event). x.incoming) is) ∙ here))
 
@@ -157,7 +157,7 @@ body_is (Empty channel) spoken e = absurd cc
 body_is (NoPerformative channel) spoken e = absurd cc
 body_is (Says other) spoken e = ap Says (some_is other spoken e)
 
-module _ (rules : List RuleText) (e : Event) (spoken : Spoken) (fields : TransferFields) (l : Link) (past : List Event) (means : spoken.meaning ≡ ATransfer fields)
+module _ (rules : RuleSet) (e : Event) (spoken : Spoken) (fields : TransferFields) (l : Link) (past : List Event) (means : spoken.meaning ≡ ATransfer fields)
     (on : e.link ≡ Some l) where
   session_allows : (o : Option Session) → on_session_fault rules e spoken past o ≡ None → link_transfer_fault rules l fields spoken.payload past ≡ None
   session_allows None none = absurd cc
@@ -179,7 +179,7 @@ where_heard : (b : Bool) (o : Option Fault) → b ≡ true → (if b then o else
 where_heard true o is e = e
 where_heard false o is e = absurd cc
 
-pub part_allowed : (rules : List RuleText) (past : List Event) (r : Record) (d : Incoming) (p : IsPart (judge rules past r) past d)
+pub part_allowed : (rules : RuleSet) (past : List Event) (r : Record) (d : Incoming) (p : IsPart (judge rules past r) past d)
     → link_transfer_fault rules p.part.link p.fields p.spoken.payload past ≡ None
 part_allowed rules past r d p =
     let e = heard past (placed past r.connection (moment_of r.what) r.note) in
@@ -187,7 +187,7 @@ part_allowed rules past r d p =
     body_allows rules e p.spoken p.fields p.part.link past p.means (sym (came_link rules past r p.frame p.came) ∙ p.part.on) p.frame.body p.said
     (where_heard e.is_heard (body_fault rules e p.frame.body past) p.heard none)
 
-first_is : (rules : List RuleText) (l : Link) (fields : TransferFields) (octets : List ℕ) (past : List Event) → in_progress l past ≡ None → link_transfer_fault rules l fields octets past ≡ None
+first_is : (rules : RuleSet) (l : Link) (fields : TransferFields) (octets : List ℕ) (past : List Event) → in_progress l past ≡ None → link_transfer_fault rules l fields octets past ≡ None
     → first_part_fault rules l fields past ≡ None
 first_is rules l fields octets past begins none =
     let part = (no_fault _ _ _ (no_fault (flag fields.resume) _ _ (no_fault (is_consumer l) _ _ none).1).1).1 in
@@ -198,11 +198,11 @@ not_none None e = absurd cc
 not_none (Some x) e = refl
 
 -- the first part of a delivery has an id, which is not in use
-pub record IsFree (rules : List RuleText) (past : List Event) (d : Incoming) : Type 0 where
+pub record IsFree (rules : RuleSet) (past : List Event) (d : Incoming) : Type 0 where
   pub given : is_some d.id ≡ true
   pub free : is_some_and d.id (λ id. is_id_in_use rules d.link.session id past) ≡ false
 
-pub first_free : (rules : List RuleText) (past : List Event) (r : Record) (d : Incoming) (p : IsPart (judge rules past r) past d) → in_progress p.part.link past ≡ None
+pub first_free : (rules : RuleSet) (past : List Event) (r : Record) (d : Incoming) (p : IsPart (judge rules past r) past d) → in_progress p.part.link past ≡ None
     → d ≡ new_incoming (length past) p.fields p.part.link → IsFree rules past d
 first_free rules past r d p begins new =
     let none = no_fault (is_none p.fields.delivery_id) _ _ (first_is rules p.part.link p.fields p.spoken.payload past begins (part_allowed rules past r d p)) in
@@ -250,12 +250,12 @@ pub record IsKept (past : List Event) (d : Incoming) : Type 0 where
   pub given : is_some d.id ≡ true
   pub link : IsKnown past d.link
 
-pub record AreKept (rules : List RuleText) (past : List Event) : Type 0 where
+pub record AreKept (rules : RuleSet) (past : List Event) : Type 0 where
   pub are : AreJudged rules past
   pub stands : Stands past
   pub each : EachPart (IsKept past) past
 
-pub kept_still : (rules : List RuleText) (past : List Event) (r : Record) (d : Incoming) → AreKept rules past → IsKept past d → IsKept (judge rules past r ∷ past) d
+pub kept_still : (rules : RuleSet) (past : List Event) (r : Record) (d : Incoming) → AreKept rules past → IsKept past d → IsKept (judge rules past r ∷ past) d
 kept_still rules past r d all kept =
     let e = judge rules past r in
     let lt = kept.before in
@@ -266,7 +266,7 @@ kept_still rules past r d all kept =
       link = known_still rules past r d.link kept.link;
     }
 
-kept_part : (rules : List RuleText) (past : List Event) (r : Record) (d : Incoming) → AreKept rules past → (judge rules past r).incoming ≡ Some d → (p : IsPart (judge rules past r) past d)
+kept_part : (rules : RuleSet) (past : List Event) (r : Record) (d : Incoming) → AreKept rules past → (judge rules past r).incoming ≡ Some d → (p : IsPart (judge rules past r) past d)
     → (in_progress p.part.link past ≡ Some d) ⊎ ((in_progress p.part.link past ≡ None) × (d ≡ new_incoming (length past) p.fields p.part.link)) → IsKept (judge rules past r ∷ past) d
 kept_part rules past r d all is p (inl going) = kept_still rules past r d all (progress_holds (IsKept past) p.part.link past d all.each going)
 kept_part rules past r d all is p (inr new) =
@@ -279,7 +279,7 @@ kept_part rules past r d all is p (inr new) =
       link = subst (λ (x : Incoming). IsKnown (e ∷ past) x.link) (sym new.1) (event_known rules past r p.part.link all.stands p.part.on);
     }
 
-pub kept_step : (rules : List RuleText) (past : List Event) (r : Record) → AreKept rules past → AreKept rules (judge rules past r ∷ past)
+pub kept_step : (rules : RuleSet) (past : List Event) (r : Record) → AreKept rules past → AreKept rules (judge rules past r ∷ past)
 kept_step rules past r all =
     let e = judge rules past r in
     record {
@@ -291,10 +291,10 @@ kept_step rules past r all =
       );
     }
 
-pub none_kept : (rules : List RuleText) → AreKept rules []
+pub none_kept : (rules : RuleSet) → AreKept rules []
 none_kept rules = record { are = tt; stands = none_stands; each = tt }
 
-pub history_kept : (rules : List RuleText) (rs : List Record) → AreKept rules (history rules rs)
+pub history_kept : (rules : RuleSet) (rs : List Record) → AreKept rules (history rules rs)
 history_kept rules rs = along rules (AreKept rules) (none_kept rules) (kept_step rules) rs
 
 -- ---- the deliveries themselves
@@ -323,10 +323,10 @@ each_delivery P (e ∷ past) each = by (incoming_begun e) refl (each_delivery P 
     by None is earlier = earlier
     by (Some d) is earlier = (holds_some P e.incoming d (passing (λ (x : Incoming). x.number == e.number) e.incoming d is).0 each.0, earlier)
 
-pub delivery_kept : (rules : List RuleText) (past : List Event) (n : ℕ) (d : Incoming) → AreKept rules past → incoming_at n past ≡ Some d → IsKept past d
+pub delivery_kept : (rules : RuleSet) (past : List Event) (n : ℕ) (d : Incoming) → AreKept rules past → incoming_at n past ≡ Some d → IsKept past d
 delivery_kept rules past n d all found =
     found_holds (IsKept past) (λ (x : Incoming). x.number == n) (incoming_deliveries past) d (each_delivery (IsKept past) past all.each) found
 
 -- of a capture: each delivery from a client has an id
-pub delivery_has_id : (rules : List RuleText) (rs : List Record) (n : ℕ) (d : Incoming) → incoming_at n (history rules rs) ≡ Some d → is_some d.id ≡ true
+pub delivery_has_id : (rules : RuleSet) (rs : List Record) (n : ℕ) (d : Incoming) → incoming_at n (history rules rs) ≡ Some d → is_some d.id ≡ true
 delivery_has_id rules rs n d found = (delivery_kept rules (history rules rs) n d (history_kept rules rs) found).given

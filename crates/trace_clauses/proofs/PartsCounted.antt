@@ -3,7 +3,7 @@ use Rattle.std.proofs.Common.{◌≡◌, refl, sym, ap, ◌∙◌, ℕ, ◌⊎�
 use Rattle.std.specs.Prelude.{if◌then◌else◌}
 use Rattle.amqp_perf.specs.Meaning.{TransferFields, flag}
 use Rattle.capture_form.specs.declared.records.Record.{Record}
-use Rattle.capture_form.specs.Rules.{RuleText}
+use Rattle.capture_form.specs.Rules.{RuleSet}
 use Rattle.flow_counts.specs.Parts.{PartEvent, Part, Aborted, Completed, Freed, Partial, joined}
 use Rattle.flow_counts.specs.Parts as counted
 use Rattle.trace_events.specs.Words.{is_some_and}
@@ -130,7 +130,7 @@ same_parts l m e (Some fields) same =
     ap (λ (n : ℕ). let part = Part n e.number fields.delivery_id (part_payload (in_spoken e)) in
     if flag fields.aborted then Aborted n ∷ [] else if flag fields.more then part ∷ [] else Completed n ∷ part ∷ []) same
 
-module _ (rules : List RuleText) (s : Session) (l : Link) (past : List Event) (r : Record) (all : AreKept rules past) (rest : List PartEvent)
+module _ (rules : RuleSet) (s : Session) (l : Link) (past : List Event) (r : Record) (all : AreKept rules past) (rest : List PartEvent)
     (before : counted.in_progress l.number rest ≡ option_map (partial_of past) (in_progress l past)) where
   abbrev now : Event
   now = judge rules past r
@@ -181,11 +181,11 @@ module _ (rules : List RuleText) (s : Session) (l : Link) (past : List Event) (r
 
 -- ---- along a history
 
-pub record IsCounted (rules : List RuleText) (s : Session) (l : Link) (past : List Event) : Type 0 where
+pub record IsCounted (rules : RuleSet) (s : Session) (l : Link) (past : List Event) : Type 0 where
   pub kept : AreKept rules past
   pub counts : EachPart (IsOf s l) past → counted.in_progress l.number (part_events rules s past) ≡ option_map (partial_of past) (in_progress l past)
 
-pub counted_step : (rules : List RuleText) (s : Session) (l : Link) (past : List Event) (r : Record) → IsCounted rules s l past → IsCounted rules s l (judge rules past r ∷ past)
+pub counted_step : (rules : RuleSet) (s : Session) (l : Link) (past : List Event) (r : Record) → IsCounted rules s l past → IsCounted rules s l (judge rules past r ∷ past)
 counted_step rules s l past r h = record {
   kept = kept_step rules past r h.kept;
   counts = λ of.
@@ -194,13 +194,13 @@ counted_step rules s l past r h = record {
       ∙ moved rules s l past r h.kept (part_events rules s past) (h.counts of.1) e.incoming refl of.0;
 }
 
-pub in_progress_counted_of : (rules : List RuleText) (s : Session) (l : Link) (rs : List Record) → EachPart (IsOf s l) (history rules rs)
+pub in_progress_counted_of : (rules : RuleSet) (s : Session) (l : Link) (rs : List Record) → EachPart (IsOf s l) (history rules rs)
     → counted.in_progress l.number (part_events rules s (history rules rs)) ≡ option_map (partial_of (history rules rs)) (in_progress l (history rules rs))
 in_progress_counted_of rules s l rs of =
     (along rules (IsCounted rules s l) (record { kept = none_kept rules; counts = λ of. refl }) (counted_step rules s l) rs).counts of
 
 -- the deliveries of a link of a history are of its session
-pub link_is_of : (rules : List RuleText) (past : List Event) (l : Link) → AreKept rules past → link_at l.number past ≡ Some l → EachPart (IsOf l.session l) past
+pub link_is_of : (rules : RuleSet) (past : List Event) (l : Link) → AreKept rules past → link_at l.number past ≡ Some l → EachPart (IsOf l.session l) past
 link_is_of rules past l all at =
     each_such (IsKept past) (IsOf l.session l) past (λ d kept same.
     let found : ◌≡◌ {A = Option Link} (Some d.link) (Some l) = sym kept.link.at ∙ (ap (λ (n : ℕ). link_at n past) same ∙ at) in
@@ -208,7 +208,7 @@ link_is_of rules past l all at =
     ap (λ (m : Link). m.session.number) one) all.each
 
 -- of each link of a capture: the delivery in progress is the one counted over the parts of the link's session
-pub in_progress_counted : (rules : List RuleText) (rs : List Record) (s : Session) (l : Link) → link_at l.number (history rules rs) ≡ Some l → l.session.number ≡ s.number
+pub in_progress_counted : (rules : RuleSet) (rs : List Record) (s : Session) (l : Link) → link_at l.number (history rules rs) ≡ Some l → l.session.number ≡ s.number
     → counted.in_progress l.number (part_events rules s (history rules rs)) ≡ option_map (partial_of (history rules rs)) (in_progress l (history rules rs))
 in_progress_counted rules rs s l at own =
     in_progress_counted_of rules s l rs

@@ -4,7 +4,7 @@ use Rattle.std.proofs.Common.{◌≡◌, refl, sym, ap, subst, ◌∙◌, ℕ, �
 use Rattle.std.specs.List.{list_any}
 use Rattle.std.proofs.lemmas.Bool.{le-ltb}
 use Rattle.capture_form.specs.declared.records.Record.{Record}
-use Rattle.capture_form.specs.Rules.{RuleText}
+use Rattle.capture_form.specs.Rules.{RuleSet}
 use Rattle.trace_events.specs.Words.{is_some_and}
 use Rattle.trace_events.specs.Frame.{Frame}
 use Rattle.trace_events.specs.Event.{Event, Link, Incoming, In, is_on_session}
@@ -30,7 +30,7 @@ use Rattle.trace_clauses.proofs.Parts.{EachPart, record_part, came_link, holds_s
 use Rattle.trace_clauses.proofs.Undecided.{AreWhole, whole_step, part_whole, part_link, named_live}
 
 -- what is in progress was not given up
-pub judged-whole : (rules : List RuleText) (past : List Event) → AreJudged rules past → AreWhole past
+pub judged-whole : (rules : RuleSet) (past : List Event) → AreJudged rules past → AreWhole past
 judged-whole rules [] are = λ l d is. absurd cc
 judged-whole rules (e ∷ past) ((r, is), are) =
     subst (λ (x : Event). AreWhole (x ∷ past)) (sym is) (whole_step rules past r (judged-kept rules past are) (judged-whole rules past are))
@@ -48,14 +48,14 @@ last_of true last s is = absurd cc
 last_of false last s is = is
 
 -- the link that a frame of the client names was opened before
-named_linked : (rules : List RuleText) (past : List Event) (r : Record) (frame : Frame) (l : Link) → AreJudged rules past → moment_of r.what ≡ In frame → (judge rules past r).link ≡ Some l → IsKnown past l
+named_linked : (rules : RuleSet) (past : List Event) (r : Record) (frame : Frame) (l : Link) → AreJudged rules past → moment_of r.what ≡ In frame → (judge rules past r).link ≡ Some l → IsKnown past l
 named_linked rules past r frame l are came on =
     let live : IsLiveLink l past = holds_some (λ (m : Link). IsLiveLink m past) (standing rules past r).link l (sym (came_link rules past r frame came) ∙ on) (placed-names past r.connection (moment_of r.what) r.note) in
     let s = l.session in
     (judged-stands rules past are).known s l.handle l
     (last_session-known rules past are s.connection s.channel s (last_of (is_over s.connection past) (last_session s.connection s.channel past) s live.0)) live.1
 
-record-goes_on : (rules : List RuleText) (past : List Event) (r : Record) (d : Incoming) → AreJudged rules past → (judge rules past r).incoming ≡ Some d → MayGoOn past d
+record-goes_on : (rules : RuleSet) (past : List Event) (r : Record) (d : Incoming) → AreJudged rules past → (judge rules past r).incoming ≡ Some d → MayGoOn past d
 record-goes_on rules past r d are is =
     let all = judged-kept rules past are in
     let p = record_part rules past r d is in
@@ -72,7 +72,7 @@ record-goes_on rules past r d are is =
       linked = subst (IsKnown past) (part_link rules past r d all p p.part.kind) (named_linked rules past r p.frame p.part.link are p.came p.part.on);
     }
 
-pub part-goes_on : (rules : List RuleText) (e : Event) (past : List Event) → AreJudged rules (e ∷ past) → (d : Incoming) → e.incoming ≡ Some d → MayGoOn past d
+pub part-goes_on : (rules : RuleSet) (e : Event) (past : List Event) → AreJudged rules (e ∷ past) → (d : Incoming) → e.incoming ≡ Some d → MayGoOn past d
 part-goes_on rules e past ((r, is), are) d part = record-goes_on rules past r d are (sym (ap (λ (x : Event). x.incoming) is) ∙ part)
 
 -- ---- a delivery before its first part
@@ -103,7 +103,7 @@ and_off : (b : Bool) → b && false ≡ false
 and_off true = refl
 and_off false = refl
 
-pub unbegun-settled : (rules : List RuleText) (past : List Event) (d : Incoming) → AreJudged rules past → EachPart (λ x. (x.number == d.number) ≡ false) past → length past ≤ d.number
+pub unbegun-settled : (rules : RuleSet) (past : List Event) (d : Incoming) → AreJudged rules past → EachPart (λ x. (x.number == d.number) ≡ false) past → length past ≤ d.number
     → is_settled d past ≡ false
 unbegun-settled rules [] d are each above = refl
 unbegun-settled rules (e ∷ past) d are each above =
@@ -144,7 +144,7 @@ same_aborted past c d same =
 same_complete : (past : List Event) (c d : Incoming) → c.number ≡ d.number → is_complete c past ≡ is_complete d past
 same_complete past c d same = ap (λ (n : ℕ). list_any (λ (e : Event). is_some_and (completed_by e) (λ x. x.number == n)) past) same
 
-pub complete-whole : (rules : List RuleText) (past : List Event) → AreJudged rules past → (d : Incoming) → is_complete d past ≡ true → is_aborted d past ≡ false
+pub complete-whole : (rules : RuleSet) (past : List Event) → AreJudged rules past → (d : Incoming) → is_complete d past ≡ true → is_aborted d past ≡ false
 complete-whole rules [] are d done = absurd cc
 complete-whole rules (e ∷ past) are d done = by (completes d e) refl done (complete-whole rules past are.1 d)
   where

@@ -13,7 +13,7 @@ use Rattle.amqp_perf.specs.declared.condition.ErrorCondition.TheVariants.{Invali
 use Rattle.capture_form.specs.Addresses.{distribution, fits}
 use Rattle.flow_counts.specs.Covers.{covers}
 use Rattle.trace_clauses.specs.Written.{written_open, written_begin, written_close, written_detach, written_settling}
-use Rattle.trace_clauses.proofs.Captures.{rule, opened, broken_of, fault_of}
+use Rattle.trace_clauses.proofs.Captures.{rule, opened, broken_of, fault_of, unmarked}
 use Rattle.trace_clauses.proofs.Made.{from, from_with, write, to, carry, tell, open_of, begin_of, bare, sends_to, receives_from, session_flow, gives, shows, draining, first, next, with_more, as_settled, disposes, accepted, released, detach_of, q, hi, connect, join, producer, consumer, pair, sent, terminus, written_to_producer, written_to_consumer}
 
 -- ---- sessions
@@ -184,10 +184,10 @@ flow_without_credit = refl
 fitting : (fits (codes "a/b") (codes "a/b") ≡ true) × (fits (codes "a") (codes "a/b") ≡ true) × (fits (codes "a") (codes "a.b") ≡ true) × (fits (codes "a") (codes "ab") ≡ false) × (fits (codes "a/b") (codes "a") ≡ false)
 fitting = (refl, refl, refl, refl, refl)
 
-longest : distribution (rule Closest (codes "a") ∷ rule Multicast (codes "a/b") ∷ rule Balanced (codes "a/b/c/d") ∷ []) (codes "a/b/c") ≡ Multicast
+longest : distribution (unmarked (rule Closest (codes "a") ∷ rule Multicast (codes "a/b") ∷ rule Balanced (codes "a/b/c/d") ∷ [])) (codes "a/b/c") ≡ Multicast
 longest = refl
 
-no_rule : distribution (rule Closest (codes "a") ∷ []) (codes "b") ≡ Balanced
+no_rule : distribution (unmarked (rule Closest (codes "a") ∷ [])) (codes "b") ≡ Balanced
 no_rule = refl
 
 -- a range goes round; one that goes backwards covers nothing

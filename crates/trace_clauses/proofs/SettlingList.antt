@@ -1,7 +1,7 @@
 -- The deliveries to settle, in a lawful history: how one event moves them, whatever it is.
 use Rattle.std.proofs.Common.{◌≡◌, refl, sym, ap, subst, ◌∙◌, Bool, true, false, not, ◌&&◌, ◌||◌, List, [], ◌∷◌, Option, Some, None, IfSome, is_some, filter, reverse, ◌==◌, eqb-true}
 use Rattle.std.specs.Prelude.{Contains}
-use Rattle.capture_form.specs.Rules.{RuleText}
+use Rattle.capture_form.specs.Rules.{RuleSet}
 use Rattle.trace_events.specs.Event.{Event, Incoming, Outgoing}
 use Rattle.trace_events.specs.Link.{is_live}
 use Rattle.trace_events.specs.Ends.{ends_link}
@@ -27,7 +27,7 @@ never : (live by_consumer by_router closed : Bool) → live && false && by_consu
 never true by_consumer by_router closed = refl
 never false by_consumer by_router closed = refl
 
-module _ (rules : List RuleText) (e : Event) (past : List Event) (are : AreJudged rules (e ∷ past)) (lawful : first_broken rules past ≡ None) where
+module _ (rules : RuleSet) (e : Event) (past : List Event) (are : AreJudged rules (e ∷ past)) (lawful : first_broken rules past ≡ None) where
   -- a delivery that began before stands on its link, and on that of what it carries
   pub begun-stands_on : (j : Outgoing) → IsBegun past j → StandsOn e past j
   begun-stands_on j b =

@@ -4,7 +4,7 @@ use Rattle.std.specs.Prelude.{if◌then◌else◌}
 use Rattle.amqp_perf.specs.declared.begin.Begin.{Begin}
 use Rattle.amqp_perf.specs.Meaning.{AttachFields, TransferFields, flag}
 use Rattle.capture_form.specs.declared.records.Record.{Record}
-use Rattle.capture_form.specs.Rules.{RuleText}
+use Rattle.capture_form.specs.Rules.{RuleSet}
 use Rattle.trace_events.specs.Words.{is_some_and, or_else, where_passes}
 use Rattle.trace_events.specs.Frame.{Frame, Spoken, spoken_in}
 use Rattle.trace_events.specs.Event.{Event, Link, Incoming, Moment, In, is_on_session}
@@ -163,7 +163,7 @@ or_stays false c b_now c_now f g e = ap (λ (x : Bool). b_now || x) (g e) ∙ on
     on false = refl
 
 -- one that is undecided was undecided before
-pub undecided_before : (rules : List RuleText) (past : List Event) (r : Record) (d : Incoming) → AreKept rules past → d.link.number < length past
+pub undecided_before : (rules : RuleSet) (past : List Event) (r : Record) (d : Incoming) → AreKept rules past → d.link.number < length past
     → is_undecided rules d (judge rules past r ∷ past) ≡ true → is_undecided rules d past ≡ true
 undecided_before rules past r d all before now =
     let e = judge rules past r in
@@ -179,7 +179,7 @@ not_now : (now before : Bool) → (now ≡ true → before ≡ true) → before 
 not_now false before undecided decided = refl
 not_now true before undecided decided = let yes : before ≡ true = undecided refl in absurd cc
 
-decided_continued : (rules : List RuleText) (past : List Event) (rs : List Record) (d : Incoming) → AreKept rules past → IsKept past d → is_undecided rules d past ≡ false
+decided_continued : (rules : RuleSet) (past : List Event) (rs : List Record) (d : Incoming) → AreKept rules past → IsKept past d → is_undecided rules d past ≡ false
     → is_undecided rules d (continued rules past rs) ≡ false
 decided_continued rules past [] d all kept decided = decided
 decided_continued rules past (r ∷ rs) d all kept decided =
@@ -187,7 +187,7 @@ decided_continued rules past (r ∷ rs) d all kept decided =
     (not_now (is_undecided rules d (judge rules past r ∷ past)) (is_undecided rules d past) (undecided_before rules past r d all kept.link.before) decided)
 
 -- of a capture: what is decided stays so, whatever is recorded later
-pub decided_stays : (rules : List RuleText) (rs more : List Record) (n : ℕ) (d : Incoming) → incoming_at n (history rules rs) ≡ Some d → is_undecided rules d (history rules rs) ≡ false
+pub decided_stays : (rules : RuleSet) (rs more : List Record) (n : ℕ) (d : Incoming) → incoming_at n (history rules rs) ≡ Some d → is_undecided rules d (history rules rs) ≡ false
     → is_undecided rules d (history rules (rs ++ more)) ≡ false
 decided_stays rules rs more n d found decided =
     ap (is_undecided rules d) (continued-append rules [] rs more)
@@ -232,7 +232,7 @@ progress_kinds l e past d false more part goes is = inr (part, is)
 abbrev pub AreWhole : List Event → Type 0
 AreWhole past = (l : Link) (d : Incoming) → in_progress l past ≡ Some d → is_aborted d past ≡ false
 
-module _ (rules : List RuleText) (past : List Event) (r : Record) (all : AreKept rules past) (whole : AreWhole past) where
+module _ (rules : RuleSet) (past : List Event) (r : Record) (all : AreKept rules past) (whole : AreWhole past) where
   abbrev now : Event
   now = judge rules past r
 
@@ -273,7 +273,7 @@ live_is c channel handle past s l live linked =
     ∙ (ap (λ (o : Option Session). is_some_and (option_and_then (λ (t : Session). session_link t handle past) o) (λ m. m.number == l.number)) live
     ∙ (ap (λ (o : Option Link). is_some_and o (λ m. m.number == l.number)) linked ∙ eq-eqb l.number l.number refl))))
 
-pub named_live : (rules : List RuleText) (past : List Event) (r : Record) (frame : Frame) (l : Link) → moment_of r.what ≡ In frame → (judge rules past r).link ≡ Some l → is_live past l ≡ true
+pub named_live : (rules : RuleSet) (past : List Event) (r : Record) (frame : Frame) (l : Link) → moment_of r.what ≡ In frame → (judge rules past r).link ≡ Some l → is_live past l ≡ true
 named_live rules past r frame l came on = elim (of_kind rules past r l on) [
   | inl opens ↦ let never : false ≡ true = sym (ap (λ (m : Moment). is_some (attach_in m)) came) ∙ opens in absurd cc
   | inr named ↦
@@ -283,7 +283,7 @@ named_live rules past r frame l came on = elim (of_kind rules past r l on) [
 ]
 
 -- the link of a part is that of its delivery
-pub part_link : (rules : List RuleText) (past : List Event) (r : Record) (d : Incoming) → AreKept rules past → (p : IsPart (judge rules past r) past d)
+pub part_link : (rules : RuleSet) (past : List Event) (r : Record) (d : Incoming) → AreKept rules past → (p : IsPart (judge rules past r) past d)
     → (in_progress p.part.link past ≡ Some d) ⊎ ((in_progress p.part.link past ≡ None) × (d ≡ new_incoming (length past) p.fields p.part.link)) → p.part.link ≡ d.link
 part_link rules past r d all p (inr new) = sym (ap (λ (x : Incoming). x.link) new.1)
 part_link rules past r d all p (inl going) =
@@ -299,7 +299,7 @@ undecided_is : (live aborted complete waiting closed : Bool) → live ≡ true �
 undecided_is live aborted complete waiting closed l a c = rw (l, a, c) refl
 
 -- a part is of a delivery that was undecided before it, or begins
-pub part_undecided : (rules : List RuleText) (past : List Event) (r : Record) (d : Incoming) → AreKept rules past → AreWhole past → (judge rules past r).incoming ≡ Some d → (p : IsPart (judge rules past r) past d)
+pub part_undecided : (rules : RuleSet) (past : List Event) (r : Record) (d : Incoming) → AreKept rules past → AreWhole past → (judge rules past r).incoming ≡ Some d → (p : IsPart (judge rules past r) past d)
     → in_progress p.part.link past ≡ Some d → is_undecided rules d past ≡ true
 part_undecided rules past r d all whole here p going =
     undecided_is (is_live past d.link) (is_aborted d past) (is_complete d past) (is_waiting rules d past) (is_settled d past || is_told d past)

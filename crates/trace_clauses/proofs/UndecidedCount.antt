@@ -3,7 +3,7 @@ use Rattle.std.proofs.Common.{◌≡◌, refl, sym, ap, ◌∙◌, ℕ, ◌+◌,
 use Rattle.std.specs.List.{cons_option, count_by}
 use Rattle.std.proofs.lemmas.List.Sums.{sum_by-cons}
 use Rattle.capture_form.specs.declared.records.Record.{Record}
-use Rattle.capture_form.specs.Rules.{RuleText}
+use Rattle.capture_form.specs.Rules.{RuleSet}
 use Rattle.trace_events.specs.Words.{is_some_and}
 use Rattle.trace_events.specs.Event.{Link, Event, Incoming}
 use Rattle.trace_events.specs.Incoming.{incoming_begun, incoming_deliveries, is_from}
@@ -52,7 +52,7 @@ less count gone was new is = omega (arith, is)
 
 -- ---- a step
 
-module _ (rules : List RuleText) (l : Link) (past : List Event) (r : Record) (all : AreKept rules past) where
+module _ (rules : RuleSet) (l : Link) (past : List Event) (r : Record) (all : AreKept rules past) where
   abbrev now : Event
   now = judge rules past r
 

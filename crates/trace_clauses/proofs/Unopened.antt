@@ -3,7 +3,7 @@ use Rattle.std.proofs.Common.{◌≡◌, refl, ap, ◌∙◌, List, not, Option,
 use Rattle.amqp_perf.specs.declared.begin.Begin.{Begin}
 use Rattle.amqp_perf.specs.Meaning.{Meaning, AnOpen, ABegin, AnAttach, AFlow, ATransfer, ADisposition, ADetach, AnEnd, AClose, AttachFields}
 use Rattle.capture_form.specs.declared.records.Record.{Record}
-use Rattle.capture_form.specs.Rules.{RuleText}
+use Rattle.capture_form.specs.Rules.{RuleSet}
 use Rattle.trace_clauses.specs.declared.clause.Clause.{Clause}
 use Rattle.trace_clauses.specs.declared.clause.Clause.TheVariants.{L1, L2, L3}
 use Rattle.trace_events.specs.Words.{is_some_and}
@@ -18,18 +18,18 @@ use Rattle.trace_clauses.specs.LinkClause.{answers_attach}
 use Rattle.trace_clauses.specs.Clauses.{broken_clause, broken_at, broken_by, spoken_meets, meaning_meets, clauses}
 
 -- a begin is read by its connection, channel and note alone
-begin_meets : (rules : List RuleText) (e : Event) (session : Option Session) (link : Option Link) (spoken : Spoken) (past : List Event) (begin : Begin) (clause : Clause)
+begin_meets : (rules : RuleSet) (e : Event) (session : Option Session) (link : Option Link) (spoken : Spoken) (past : List Event) (begin : Begin) (clause : Clause)
     → meaning_meets rules (record e { session = session; link = link }) spoken past (ABegin begin) clause ≡ meaning_meets rules e spoken past (ABegin begin) clause
 begin_meets rules e session link spoken past begin L2 = refl
 begin_meets rules e session link spoken past begin clause = refl
 
 -- an attach by its session and note
-attach_meets : (rules : List RuleText) (e : Event) (session : Option Session) (link : Option Link) (spoken : Spoken) (past : List Event) (fields : AttachFields) → session ≡ e.session → (clause : Clause)
+attach_meets : (rules : RuleSet) (e : Event) (session : Option Session) (link : Option Link) (spoken : Spoken) (past : List Event) (fields : AttachFields) → session ≡ e.session → (clause : Clause)
     → meaning_meets rules (record e { session = session; link = link }) spoken past (AnAttach fields) clause ≡ meaning_meets rules e spoken past (AnAttach fields) clause
 attach_meets rules e session link spoken past fields same L3 = ap (λ (s : Option Session). is_some_and s (answers_attach fields past)) same
 attach_meets rules e session link spoken past fields same clause = refl
 
-module _ (rules : List RuleText) (e : Event) (past : List Event) where
+module _ (rules : RuleSet) (e : Event) (past : List Event) where
   says_begin : (m : Meaning) → out_meaning e ≡ Some m → out_begin e ≡ as_begin m
   says_begin m says = ap (option_and_then as_begin) says
 
@@ -76,6 +76,6 @@ module _ (rules : List RuleText) (e : Event) (past : List Event) where
   broken-opened = broken_when e.moment refl
 
 -- of a record in its place
-pub broken-unopened : (rules : List RuleText) (past : List Event) (r : Record)
+pub broken-unopened : (rules : RuleSet) (past : List Event) (r : Record)
     → broken_clause rules (judge rules past r) past ≡ broken_clause rules (judge_unopened rules past r.connection (moment_of r.what) r.note) past
 broken-unopened rules past r = broken-opened rules (judge_unopened rules past r.connection (moment_of r.what) r.note) past

@@ -5,7 +5,7 @@ use Rattle.std.specs.Prelude.{Contains, AllPairs}
 use Rattle.std.specs.List.{cons_option, list_any}
 use Rattle.std.proofs.lemmas.List.Kept.{AllPairs-filter}
 use Rattle.amqp_perf.specs.Meaning.{TransferFields}
-use Rattle.capture_form.specs.Rules.{RuleText}
+use Rattle.capture_form.specs.Rules.{RuleSet}
 use Rattle.trace_events.specs.Words.{is_some_and}
 use Rattle.trace_events.specs.Event.{Event, Link, Incoming, Moment, Opened, In, Out, Lost, Broken, is_on_link}
 use Rattle.trace_events.specs.Said.{as_transfer, in_transfer, out_transfer}
@@ -38,7 +38,7 @@ is_there : {A : Type 0} (o : Option A) → is_some o ≡ true → (x : A) × (o 
 is_there None is = absurd cc
 is_there (Some x) is = (x, refl)
 
-module _ (rules : List RuleText) (e : Event) (past : List Event) (are : AreJudged rules (e ∷ past)) (lawful : first_broken rules (e ∷ past) ≡ None) where
+module _ (rules : RuleSet) (e : Event) (past : List Event) (are : AreJudged rules (e ∷ past)) (lawful : first_broken rules (e ∷ past) ≡ None) where
   named_here : (d : Incoming) (l : Link) → names_on d l e ≡ true → is_complete d past ≡ true
   named_here d l named =
       let both = and_first (is_some (out_transfer e) && names d.number e.note) (is_on_link l e) named in
@@ -50,7 +50,7 @@ module _ (rules : List RuleText) (e : Event) (past : List Event) (are : AreJudge
       let same : (x.0.number == d.number) ≡ true = sym (ap (names d.number) pair.0) ∙ and_last (is_some (out_transfer e)) (names d.number e.note) both in
       ap (λ (n : ℕ). list_any (λ (y : Event). is_some_and (completed_by y) (λ other. other.number == n)) past) (sym (eqb-true x.0.number d.number same)) ∙ j.2.0
 
-pub named_complete : (rules : List RuleText) (past : List Event) → AreJudged rules past → first_broken rules past ≡ None → (d : Incoming) (l : Link) → is_named_on d l past ≡ true → is_complete d past ≡ true
+pub named_complete : (rules : RuleSet) (past : List Event) → AreJudged rules past → first_broken rules past ≡ None → (d : Incoming) (l : Link) → is_named_on d l past ≡ true → is_complete d past ≡ true
 named_complete rules [] are lawful d l named = absurd cc
 named_complete rules (e ∷ past) are lawful d l named = by (names_on d l e) refl (named_complete rules past are.1 (lawful-past rules e past lawful) d l) named
   where
@@ -76,7 +76,7 @@ completes-written_none d e here = by (in_transfer e) refl e.incoming here
 
 -- ---- a step
 
-module _ (rules : List RuleText) (l : Link) (e : Event) (past : List Event) (are : AreJudged rules (e ∷ past)) (lawful : first_broken rules past ≡ None) where
+module _ (rules : RuleSet) (l : Link) (e : Event) (past : List Event) (are : AreJudged rules (e ∷ past)) (lawful : first_broken rules past ≡ None) where
   -- nothing has named what the event completes
   pub completed-unnamed : (d : Incoming) → completes d e ≡ true → is_named_on d l (e ∷ past) ≡ false
   completed-unnamed d here =
@@ -98,7 +98,7 @@ module _ (rules : List RuleText) (l : Link) (e : Event) (past : List Event) (are
 
 -- ---- which deliveries they are
 
-pub due_complete : (rules : List RuleText) (past : List Event) (d : Incoming) (l : Link) → is_due rules d l past ≡ true → is_complete d past ≡ true
+pub due_complete : (rules : RuleSet) (past : List Event) (d : Incoming) (l : Link) → is_due rules d l past ≡ true → is_complete d past ≡ true
 due_complete rules [] d l due = absurd cc
 due_complete rules (e ∷ past) d l due = by (completes d e) (due_complete rules past d l) due
   where
@@ -106,11 +106,11 @@ due_complete rules (e ∷ past) d l due = by (completes d e) (due_complete rules
     by true earlier due = refl
     by false earlier due = earlier due
 
-pub unsent_complete : (rules : List RuleText) (past : List Event) (d : Incoming) (l : Link) → is_unsent rules d l past ≡ true → is_complete d past ≡ true
+pub unsent_complete : (rules : RuleSet) (past : List Event) (d : Incoming) (l : Link) → is_unsent rules d l past ≡ true → is_complete d past ≡ true
 unsent_complete rules past d l unsent = due_complete rules past d l (and_first (is_due rules d l past) (not (is_named_on d l past)) unsent)
 
 -- a delivery of the history that is complete stands among those that events completed
-pub completed_listed : (rules : List RuleText) (past : List Event) → AreKept rules past → (d : Incoming) → Contains (incoming_deliveries past) d → is_complete d past ≡ true → Contains (completed_deliveries past) d
+pub completed_listed : (rules : RuleSet) (past : List Event) → AreKept rules past → (d : Incoming) → Contains (incoming_deliveries past) d → is_complete d past ≡ true → Contains (completed_deliveries past) d
 completed_listed rules past all d there done =
     let kept = all_contained (IsKept past) (incoming_deliveries past) d (each_delivery (IsKept past) past all.each) there in
     let one = completed_numbered d.number past done in
@@ -119,7 +119,7 @@ completed_listed rules past all d there done =
     let same : one.0 ≡ d = cc in
     subst (Contains (completed_deliveries past)) same one.1
 
-module _ (rules : List RuleText) (l : Link) (past : List Event) (all : AreKept rules past) where
+module _ (rules : RuleSet) (l : Link) (past : List Event) (all : AreKept rules past) where
   -- one that stands there is a delivery of the history of which a copy is unsent
   pub listed_unsent : (d : Incoming) → Contains (unsent_copies rules l past) d → Contains (incoming_deliveries past) d × (is_unsent rules d l past ≡ true)
   listed_unsent d listed =
@@ -162,7 +162,7 @@ module _ (rules : List RuleText) (l : Link) (past : List Event) (all : AreKept r
 -- ---- in which order they stand
 
 -- each before those that were completed later
-pub unsent_in_order : (rules : List RuleText) (l : Link) (past : List Event) → AreJudged rules past → AllPairs (λ a b. completed_before a b past ≡ true) (unsent_copies rules l past)
+pub unsent_in_order : (rules : RuleSet) (l : Link) (past : List Event) → AreJudged rules past → AllPairs (λ a b. completed_before a b past ≡ true) (unsent_copies rules l past)
 unsent_in_order rules l past are =
     subst (AllPairs (λ a b. completed_before a b past ≡ true)) (sym (filter-reverse (λ (d : Incoming). is_unsent rules d l past) (completed_deliveries past)))
     (AllPairs-filter (λ a b. completed_before a b past ≡ true) (λ (d : Incoming). is_unsent rules d l past) (reverse (completed_deliveries past)) (completed_in_order rules past are))

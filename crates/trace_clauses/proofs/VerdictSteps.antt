@@ -4,7 +4,7 @@ use Rattle.std.specs.List.{cons_option}
 use Rattle.amqp_perf.specs.declared.descriptor.Outcome.{Outcome}
 use Rattle.amqp_perf.specs.declared.descriptor.Outcome.TheVariants.{Modified}
 use Rattle.amqp_perf.specs.Meaning.{DispositionFields, flag}
-use Rattle.capture_form.specs.Rules.{RuleText}
+use Rattle.capture_form.specs.Rules.{RuleSet}
 use Rattle.trace_clauses.specs.declared.clause.Clause.TheVariants.{L9}
 use Rattle.trace_events.specs.Words.{is_some_and, or_else, where_passes}
 use Rattle.trace_events.specs.Frame.{Spoken}
@@ -110,7 +110,7 @@ record IsNumbered (past : List Event) (j : Outgoing) : Type 0 where
   below : j.number < length past
   at : outgoing_at j.number past ≡ Some j
 
-judged-numbered : (rules : List RuleText) (past : List Event) → AreJudged rules past → AllOf (IsNumbered past) (outgoing_deliveries past)
+judged-numbered : (rules : RuleSet) (past : List Event) → AreJudged rules past → AllOf (IsNumbered past) (outgoing_deliveries past)
 judged-numbered rules [] are = tt
 judged-numbered rules (e ∷ past) are = by (outgoing_begun e) refl (judged-numbered rules past are.1)
   where
@@ -137,7 +137,7 @@ judged-numbered rules (e ∷ past) are = by (outgoing_begun e) refl (judged-numb
           all_such (IsNumbered past) (IsNumbered (e ∷ past)) (outgoing_deliveries past) later earlier,
         )
 
-found-at : (rules : List RuleText) (past : List Event) → AreJudged rules past → (test : Outgoing → Bool) (j : Outgoing) → find test (outgoing_deliveries past) ≡ Some j → outgoing_at j.number past ≡ Some j
+found-at : (rules : RuleSet) (past : List Event) → AreJudged rules past → (test : Outgoing → Bool) (j : Outgoing) → find test (outgoing_deliveries past) ≡ Some j → outgoing_at j.number past ≡ Some j
 found-at rules past are test j found = (found_holds (IsNumbered past) test (outgoing_deliveries past) j (judged-numbered rules past are) found).at
 
 -- nothing is sent of a delivery before it begins
@@ -156,7 +156,7 @@ sent-not_yet (e ∷ past) j born later =
 
 -- ---- the parts of a delivery to a client are written while its link lives
 
-module _ (rules : List RuleText) (e : Event) (past : List Event) (are : AreJudged rules (e ∷ past)) (lawful : first_broken rules (e ∷ past) ≡ None) where
+module _ (rules : RuleSet) (e : Event) (past : List Event) (are : AreJudged rules (e ∷ past)) (lawful : first_broken rules (e ∷ past) ≡ None) where
   was_lawful : first_broken rules past ≡ None
   was_lawful = lawful-past rules e past lawful
 

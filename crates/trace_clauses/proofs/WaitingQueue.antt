@@ -8,7 +8,7 @@ use Rattle.std.proofs.lemmas.List.Elements.{Contains-append_left, Contains-appen
 use Rattle.std.proofs.lemmas.List.Kept.{AllPairs-filter}
 use Rattle.std.proofs.lemmas.List.Quantifiers.{all_pairs_push}
 use Rattle.capture_form.specs.declared.records.Record.{Record}
-use Rattle.capture_form.specs.Rules.{RuleText}
+use Rattle.capture_form.specs.Rules.{RuleSet}
 use Rattle.trace_events.specs.Words.{is_some_and}
 use Rattle.trace_events.specs.Event.{Event, Incoming}
 use Rattle.trace_events.specs.Said.{in_transfer}
@@ -27,11 +27,11 @@ use Rattle.trace_clauses.proofs.Parts.{EachPart, IsKept, AreKept, history_kept, 
 -- ---- how it moves
 
 -- no delivery is completed twice
-pub completed_once : (rules : List RuleText) (e : Event) (past : List Event) → AreJudged rules (e ∷ past) → (d : Incoming) → is_complete d past ≡ true → completes d e ≡ false
+pub completed_once : (rules : RuleSet) (e : Event) (past : List Event) → AreJudged rules (e ∷ past) → (d : Incoming) → is_complete d past ≡ true → completes d e ≡ false
 completed_once rules e past are d done = not-again e past (judged-number rules e past are) (judged-part rules e past are) (judged-sound rules past are.1) d done
 
 -- those that stay, and behind them the one that the event completes, if it waits there
-pub waiting_queue_moves : (rules : List RuleText) (address : List ℕ) (e : Event) (past : List Event) → AreJudged rules (e ∷ past)
+pub waiting_queue_moves : (rules : RuleSet) (address : List ℕ) (e : Event) (past : List Event) → AreJudged rules (e ∷ past)
     → waiting_queue rules address (e ∷ past) ≡ filter (stays e past) (waiting_queue rules address past) ++ filter (waits_at rules address (e ∷ past)) (cons_option (completed_by e) [])
 waiting_queue_moves rules address e past are = waiting_queue-step rules address e past (completed_once rules e past are)
 
@@ -149,7 +149,7 @@ waits_complete true false false paired always e = absurd cc
 waits_complete true true complete paired always e = absurd cc
 waits_complete false many complete paired always e = absurd cc
 
-module _ (rules : List RuleText) (address : List ℕ) (past : List Event) (all : AreKept rules past) (d : Incoming) where
+module _ (rules : RuleSet) (address : List ℕ) (past : List Event) (all : AreKept rules past) (d : Incoming) where
   -- one that stands there is a delivery of the history that waits at the address
   pub queued_waits : Contains (waiting_queue rules address past) d → Contains (incoming_deliveries past) d × (waits_at rules address past d ≡ true)
   queued_waits queued =
@@ -170,7 +170,7 @@ module _ (rules : List RuleText) (address : List ℕ) (past : List Event) (all :
       (filter_has (waits_at rules address past) (completed_deliveries past) d waits (subst (Contains (completed_deliveries past)) same one.1))
 
 -- of a capture: the queue has exactly the deliveries that wait at the address
-pub waiting_queue_has : (rules : List RuleText) (rs : List Record) (address : List ℕ) (d : Incoming) → let past = history rules rs in
+pub waiting_queue_has : (rules : RuleSet) (rs : List Record) (address : List ℕ) (d : Incoming) → let past = history rules rs in
     (Contains (waiting_queue rules address past) d → Contains (incoming_deliveries past) d × (waits_at rules address past d ≡ true))
     × (Contains (incoming_deliveries past) d → waits_at rules address past d ≡ true → Contains (waiting_queue rules address past) d)
 waiting_queue_has rules rs address d =
@@ -186,7 +186,7 @@ each_all P (x ∷ xs) each = (each.0, each_all P xs each.1)
 abbrev pub IsCompletedBelow : List Event → Incoming → Type 0
 IsCompletedBelow past d = (m : ℕ) × (completion d past ≡ Some m) × (m < length past)
 
-pub completed_below : (rules : List RuleText) (past : List Event) → AreJudged rules past → (d : Incoming) → is_complete d past ≡ true → IsCompletedBelow past d
+pub completed_below : (rules : RuleSet) (past : List Event) → AreJudged rules past → (d : Incoming) → is_complete d past ≡ true → IsCompletedBelow past d
 completed_below rules [] are d done = absurd cc
 completed_below rules (e ∷ past) are d done = by (completes d e) refl (completed_below rules past are.1 d) done
   where
@@ -215,7 +215,7 @@ completion_lower a b past m n first second below =
     ∙ (ap (λ (o : Option ℕ). is_some_and o (λ n. nat_lt m n)) second ∙ below)
 
 -- an order of completion stays
-pub before_stays : (rules : List RuleText) (e : Event) (past : List Event) → AreJudged rules (e ∷ past) → (a b : Incoming) → completed_before a b past ≡ true → completed_before a b (e ∷ past) ≡ true
+pub before_stays : (rules : RuleSet) (e : Event) (past : List Event) → AreJudged rules (e ∷ past) → (a b : Incoming) → completed_before a b past ≡ true → completed_before a b (e ∷ past) ≡ true
 before_stays rules e past are a b before =
     let first = some-and (completion a past) (λ m. is_some_and (completion b past) (λ n. nat_lt m n)) before in
     let second = some-and (completion b past) (λ n. nat_lt first.0 n) first.2 in
@@ -225,7 +225,7 @@ before_stays rules e past are a b before =
     second.2
 
 -- one that the event completes is behind each that was complete
-before_new : (rules : List RuleText) (e : Event) (past : List Event) → AreJudged rules (e ∷ past) → (a d : Incoming) → is_complete a past ≡ true → completed_by e ≡ Some d → completed_before a d (e ∷ past) ≡ true
+before_new : (rules : RuleSet) (e : Event) (past : List Event) → AreJudged rules (e ∷ past) → (a d : Incoming) → is_complete a past ≡ true → completed_by e ≡ Some d → completed_before a d (e ∷ past) ≡ true
 before_new rules e past are a d done is =
     let below = completed_below rules past are.1 a done in
     let number = judged-number rules e past are in
@@ -238,7 +238,7 @@ before_new rules e past are a d done is =
 abbrev pub AreInOrder : List Event → List Incoming → Type 0
 AreInOrder past ds = AllPairs (λ a b. completed_before a b past ≡ true) ds
 
-order_step : (rules : List RuleText) (e : Event) (past : List Event) → AreJudged rules (e ∷ past) → AreInOrder (e ∷ past) (reverse (completed_deliveries past)) → (o : Option Incoming) → completed_by e ≡ o
+order_step : (rules : RuleSet) (e : Event) (past : List Event) → AreJudged rules (e ∷ past) → AreInOrder (e ∷ past) (reverse (completed_deliveries past)) → (o : Option Incoming) → completed_by e ≡ o
     → AreInOrder (e ∷ past) (reverse (cons_option o (completed_deliveries past)))
 order_step rules e past are older None is = older
 order_step rules e past are older (Some d) is =
@@ -249,18 +249,18 @@ order_step rules e past are older (Some d) is =
     (all_contained (λ a. is_complete a past ≡ true) (completed_deliveries past) a (each_all (λ a. is_complete a past ≡ true) (completed_deliveries past) (completed-complete past))
     (in_reverse (completed_deliveries past) a (Contains-get_or (reverse (completed_deliveries past)) k x within))) is))
 
-pub completed_in_order : (rules : List RuleText) (past : List Event) → AreJudged rules past → AreInOrder past (reverse (completed_deliveries past))
+pub completed_in_order : (rules : RuleSet) (past : List Event) → AreJudged rules past → AreInOrder past (reverse (completed_deliveries past))
 completed_in_order rules [] are = λ i j d lt within. absurd (omega (arith, within))
 completed_in_order rules (e ∷ past) are =
     order_step rules e past are (λ i j d lt within. let ds = reverse (completed_deliveries past) in before_stays rules e past are (get_or ds i d) (get_or ds j d) (completed_in_order rules past are.1 i j d lt within))
     (completed_by e) refl
 
 -- each stands before those that were completed later
-pub queued_in_order : (rules : List RuleText) (address : List ℕ) (past : List Event) → AreJudged rules past → AllPairs (λ a b. completed_before a b past ≡ true) (waiting_queue rules address past)
+pub queued_in_order : (rules : RuleSet) (address : List ℕ) (past : List Event) → AreJudged rules past → AllPairs (λ a b. completed_before a b past ≡ true) (waiting_queue rules address past)
 queued_in_order rules address past are =
     subst (AllPairs (λ a b. completed_before a b past ≡ true)) (sym (filter-reverse (waits_at rules address past) (completed_deliveries past)))
     (AllPairs-filter (λ a b. completed_before a b past ≡ true) (waits_at rules address past) (reverse (completed_deliveries past)) (completed_in_order rules past are))
 
 -- of a capture
-pub waiting_queue_in_order : (rules : List RuleText) (rs : List Record) (address : List ℕ) → AllPairs (λ a b. completed_before a b (history rules rs) ≡ true) (waiting_queue rules address (history rules rs))
+pub waiting_queue_in_order : (rules : RuleSet) (rs : List Record) (address : List ℕ) → AllPairs (λ a b. completed_before a b (history rules rs) ≡ true) (waiting_queue rules address (history rules rs))
 waiting_queue_in_order rules rs address = queued_in_order rules address (history rules rs) (history-judged rules rs)

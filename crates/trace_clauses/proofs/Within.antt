@@ -6,7 +6,7 @@ use Rattle.amqp_perf.specs.Meaning.{DispositionFields, ATransfer, ADisposition, 
 use Rattle.pairing_cert.specs.declared.note.Note.{Note}
 use Rattle.pairing_cert.specs.declared.note.Note.TheVariants as notes
 use Rattle.capture_form.specs.declared.records.Record.{Record}
-use Rattle.capture_form.specs.Rules.{RuleText}
+use Rattle.capture_form.specs.Rules.{RuleSet}
 use Rattle.trace_clauses.specs.declared.clause.Clause.TheVariants.{L4, L5, L11}
 use Rattle.trace_events.specs.Words.{is_some_and, are_same_octets}
 use Rattle.trace_events.specs.Frame.{Frame, Spoken, spoken_in}
@@ -35,7 +35,7 @@ pub some-each : {A : Type 0} (o : Option A) (test : A → Bool) (P : A → Type 
 some-each None test P e each = absurd cc
 some-each (Some x) test P e each = each x refl
 
-module _ (rules : List RuleText) (e : Event) (past : List Event) (lawful : first_broken rules (e ∷ past) ≡ None) (frame : Frame) (spoken : Spoken)
+module _ (rules : RuleSet) (e : Event) (past : List Event) (lawful : first_broken rules (e ∷ past) ≡ None) (frame : Frame) (spoken : Spoken)
     (written : e.moment ≡ Out frame) (says : spoken_in frame.body ≡ Some spoken) (fields : TransferFields) (means : spoken.meaning ≡ ATransfer fields) where
   four : may_be_sent e fields past ≡ true
   four = sym (ap (λ m. meaning_meets rules e spoken past m L4) means) ∙ met rules e past lawful frame written spoken says L4
@@ -59,7 +59,7 @@ module _ (rules : List RuleText) (e : Event) (past : List Event) (lawful : first
       let here : may_begin l fields past ≡ true = sym (ap (λ o. is_some_and o (λ m. may_begin m fields past)) is) ∙ begun in
       let lt = ltb-true 0 (link_credit l past) (and-left (nat_lt 0 (link_credit l past)) _ here) in omega (arith, lt))
 
-module _ (rules : List RuleText) (e : Event) (past : List Event) (lawful : first_broken rules (e ∷ past) ≡ None) where
+module _ (rules : RuleSet) (e : Event) (past : List Event) (lawful : first_broken rules (e ∷ past) ≡ None) where
   abbrev Within : TransferFields → Type 0
   Within fields = IsSomeAnd e.session (λ s. 1 ≤ session_window s past) × IsSomeAnd e.link (λ l. begins_outgoing e ≡ true → 1 ≤ link_credit l past)
 
@@ -73,12 +73,12 @@ module _ (rules : List RuleText) (e : Event) (past : List Event) (lawful : first
   stood-within = of_written as_transfer e Within means-within
 
 -- the law of a capture
-pub lawful-stood-within : (rules : List RuleText) (rs : List Record) → first_broken rules (history rules rs) ≡ None → AtEach StoodWithin (history rules rs)
+pub lawful-stood-within : (rules : RuleSet) (rs : List Record) → first_broken rules (history rules rs) ≡ None → AtEach StoodWithin (history rules rs)
 lawful-stood-within rules rs lawful = at_each rules StoodWithin (stood-within rules) (history rules rs) lawful
 
 -- ---- outcomes
 
-row-of : (rules : List RuleText) (d : Incoming) (past : List Event) (state : Option (List ℕ)) (note : Note) → tells_by rules d note state past ≡ true
+row-of : (rules : RuleSet) (d : Incoming) (past : List Event) (state : Option (List ℕ)) (note : Note) → tells_by rules d note state past ≡ true
     → IsSomeAnd (why_of note) (λ why. IsSomeAnd (row rules d past why) (λ said. are_same_octets state said ≡ true))
 row-of rules d past state (notes.Told why) e = some-such (row rules d past why) (are_same_octets state) (λ said. are_same_octets state said ≡ true) e (λ said is. is)
 row-of rules d past state notes.None e = absurd cc
@@ -88,7 +88,7 @@ receiver-is : (role : Role) → is_receiver role ≡ true → role ≡ Receiver
 receiver-is Receiver e = refl
 receiver-is Sender e = absurd cc
 
-module _ (rules : List RuleText) (e : Event) (past : List Event) (lawful : first_broken rules (e ∷ past) ≡ None) where
+module _ (rules : RuleSet) (e : Event) (past : List Event) (lawful : first_broken rules (e ∷ past) ≡ None) where
   abbrev Row : DispositionFields → ℕ → Type 0
   Row fields n = IsSomeAnd (incoming_at n past) (λ d. IsSomeAnd (why_of e.note) (λ why.
       IsSomeAnd (row rules d past why) (λ state. are_same_octets (told_state fields) state ≡ true)))
@@ -122,5 +122,5 @@ module _ (rules : List RuleText) (e : Event) (past : List Event) (lawful : first
   of-row = of_written as_disposition e OfRow means-row
 
 -- the law of a capture
-pub lawful-of-row : (rules : List RuleText) (rs : List Record) → first_broken rules (history rules rs) ≡ None → AtEach (IsOfRow rules) (history rules rs)
+pub lawful-of-row : (rules : RuleSet) (rs : List Record) → first_broken rules (history rules rs) ≡ None → AtEach (IsOfRow rules) (history rules rs)
 lawful-of-row rules rs lawful = at_each rules (IsOfRow rules) (of-row rules) (history rules rs) lawful

@@ -6,7 +6,7 @@ use Rattle.amqp_perf.specs.declared.attach.Role.{Role}
 use Rattle.amqp_perf.specs.declared.attach.Role.TheVariants.{Sender, Receiver}
 use Rattle.amqp_perf.specs.Meaning.{Meaning, AnOpen, ABegin, AnAttach, AFlow, ATransfer, ADisposition, ADetach, AnEnd, AClose, TransferFields}
 use Rattle.capture_form.specs.declared.records.Record.{Record}
-use Rattle.capture_form.specs.Rules.{RuleText}
+use Rattle.capture_form.specs.Rules.{RuleSet}
 use Rattle.flow_counts.specs.Credit.{LinkEvent, TheirFlow, OurFlow, Begun, begun_since_grant, granted_credit, credit, is_drain_answer}
 use Rattle.trace_events.specs.Words.{is_some_and, or_else, where_passes}
 use Rattle.trace_events.specs.Frame.{Frame, Spoken, spoken_in}
@@ -37,7 +37,7 @@ on_none l (Some m) below = by (m.number == l.number) refl
     by true same = absurd (omega (arith, eqb-true m.number l.number same, below m refl))
     by false other = refl
 
-pub unused_step : (rules : List RuleText) (past : List Event) (r : Record) → Stands past → AreUnused past → AreUnused (judge rules past r ∷ past)
+pub unused_step : (rules : RuleSet) (past : List Event) (r : Record) → Stands past → AreUnused past → AreUnused (judge rules past r ∷ past)
 unused_step rules past r known unused l after =
     let e = judge rules past r in
     let off : is_on_link l e ≡ false =
@@ -133,7 +133,7 @@ not_both l p c = by l.role p c
 
 -- ---- a delivery that begins had credit
 
-had_credit : (rules : List RuleText) (e : Event) (past : List Event) → first_broken rules (e ∷ past) ≡ None → Begins e → (m : Link) × (e.link ≡ Some m) × (1 ≤ link_credit m past)
+had_credit : (rules : RuleSet) (e : Event) (past : List Event) → first_broken rules (e ∷ past) ≡ None → Begins e → (m : Link) × (e.link ≡ Some m) × (1 ≤ link_credit m past)
 had_credit rules e past lawful b =
     let on = some_such (λ l. begins_outgoing e ≡ true → 1 ≤ link_credit l past) e.link (in_credit rules e past lawful b.frame b.spoken b.moment_is b.says b.fields b.transfer) in
     (on.0, on.1, on.2 b.begins)
@@ -154,7 +154,7 @@ moves first own (Some Begun) room h = omega (arith, room refl)
 
 -- ---- one more record
 
-pub same_link : (rules : List RuleText) (past : List Event) (r : Record) (l m : Link) → Stands past → IsKnown past l → (judge rules past r).link ≡ Some m → is_on_link l (judge rules past r) ≡ true → m ≡ l
+pub same_link : (rules : RuleSet) (past : List Event) (r : Record) (l m : Link) → Stands past → IsKnown past l → (judge rules past r).link ≡ Some m → is_on_link l (judge rules past r) ≡ true → m ≡ l
 same_link rules past r l m known is there on =
     let e = judge rules past r in
     let same_number : (m.number == l.number) ≡ true = ap (λ (o : Option Link). is_some_and o (λ (m : Link). m.number == l.number)) (sym there) ∙ and_first (is_some_and e.link (λ (m : Link). m.number == l.number)) (e.connection == l.session.connection) on in
@@ -163,7 +163,7 @@ same_link rules past r l m known is there on =
     let same : ◌≡◌ {A = Option Link} (Some m) (Some l) = sym own.at ∙ ap (λ (n : ℕ). link_at n (e ∷ past)) (eqb-true m.number l.number same_number) ∙ other.at in
     cc
 
-older : (rules : List RuleText) (past : List Event) (r : Record) (l : Link) → Stands past → IsKnown past l → first_broken rules (judge rules past r ∷ past) ≡ None → IsWithinCredit past (Some l)
+older : (rules : RuleSet) (past : List Event) (r : Record) (l : Link) → Stands past → IsKnown past l → first_broken rules (judge rules past r ∷ past) ≡ None → IsWithinCredit past (Some l)
     → IsWithinCredit (judge rules past r ∷ past) (Some l)
 older rules past r l known is kept h consumer =
     let e = judge rules past r in
@@ -210,7 +210,7 @@ opens_still e Opened is = absurd cc
 opens_still e Lost is = absurd cc
 opens_still e Broken is = absurd cc
 
-newer : (rules : List RuleText) (past : List Event) (r : Record) (l : Link) → Stands past → AreUnused past → own_link (judge rules past r) ≡ Some l → IsWithinCredit (judge rules past r ∷ past) (Some l)
+newer : (rules : RuleSet) (past : List Event) (r : Record) (l : Link) → Stands past → AreUnused past → own_link (judge rules past r) ≡ Some l → IsWithinCredit (judge rules past r ∷ past) (Some l)
 newer rules past r l known unused is consumer =
     let e = judge rules past r in
     let opened = link_opened_number e l is in
@@ -225,7 +225,7 @@ newer rules past r l known unused is consumer =
     by true o still own none = rw (still, none) (omega arith)
     by false o still own none = rw none (omega arith)
 
-within_by : (rules : List RuleText) (past : List Event) (r : Record) (n : ℕ) (o : Option Link) → own_link (judge rules past r) ≡ o → Stands past → AreUnused past
+within_by : (rules : RuleSet) (past : List Event) (r : Record) (n : ℕ) (o : Option Link) → own_link (judge rules past r) ≡ o → Stands past → AreUnused past
     → ((l : Link) → link_at n past ≡ Some l → IsKnown past l) → first_broken rules (judge rules past r ∷ past) ≡ None → IsWithinCredit past (link_at n past)
     → IsWithinCredit (judge rules past r ∷ past) (find (λ (m : Link). m.number == n) (cons_option o (links past)))
 within_by rules past r n None is known unused found kept h = at (link_at n past) refl h
@@ -243,7 +243,7 @@ within_by rules past r n (Some m) is known unused found kept h = by (m.number ==
     by true = newer rules past r m known unused is
     by false = at (link_at n past) refl h
 
-pub record Keeps (rules : List RuleText) (past : List Event) : Type 0 where
+pub record Keeps (rules : RuleSet) (past : List Event) : Type 0 where
   pub known : Stands past
   pub unused : AreUnused past
   pub found : AreFound past
@@ -254,7 +254,7 @@ found_known past found n l is =
     let h = found n l is in
     record { at = ap (λ (k : ℕ). link_at k past) h.0 ∙ is; before = omega (arith, h.0, h.1) }
 
-keeps_step : (rules : List RuleText) (past : List Event) (r : Record) → Keeps rules past → Keeps rules (judge rules past r ∷ past)
+keeps_step : (rules : RuleSet) (past : List Event) (r : Record) → Keeps rules past → Keeps rules (judge rules past r ∷ past)
 keeps_step rules past r h = record {
   known = stands_step rules past r h.known;
   unused = unused_step rules past r h.known h.unused;
@@ -265,5 +265,5 @@ keeps_step rules past r h = record {
 }
 
 -- of a lawful capture
-pub within_credit : (rules : List RuleText) (rs : List Record) → first_broken rules (history rules rs) ≡ None → (n : ℕ) → IsWithinCredit (history rules rs) (link_at n (history rules rs))
+pub within_credit : (rules : RuleSet) (rs : List Record) → first_broken rules (history rules rs) ≡ None → (n : ℕ) → IsWithinCredit (history rules rs) (link_at n (history rules rs))
 within_credit rules rs = (along rules (Keeps rules) (record { known = none_stands; unused = λ l after. refl; found = none_found; within = λ lawful n. tt }) (keeps_step rules) rs).within

@@ -4,7 +4,7 @@ use Rattle.std.specs.List.{filter_map, cons_option}
 use Rattle.std.proofs.lemmas.Bool.{eqb-true}
 use Rattle.amqp_perf.specs.Meaning.{Meaning, AnOpen, ABegin, AnAttach, AFlow, ATransfer, ADisposition, ADetach, AnEnd, AClose, TransferFields}
 use Rattle.capture_form.specs.declared.records.Record.{Record}
-use Rattle.capture_form.specs.Rules.{RuleText}
+use Rattle.capture_form.specs.Rules.{RuleSet}
 use Rattle.flow_counts.specs.declared.events.WindowEvent.{WindowEvent}
 use Rattle.flow_counts.specs.declared.events.WindowEvent.TheVariants.{TheirFlow, Sent, OurFlow, Received}
 use Rattle.flow_counts.specs.Window.{sent_since_flow, granted_window, window}
@@ -28,7 +28,7 @@ use Rattle.trace_events.proofs.Sessions.{begin_in, begun_number, IsKnown, AreKno
 abbrev pub AreUnused : List Event → Type 0
 AreUnused past = (s : Session) → length past ≤ s.number → window_events s past ≡ []
 
-unused_step : (rules : List RuleText) (past : List Event) (r : Record) → AreKnown past → AreUnused past → AreUnused (judge rules past r ∷ past)
+unused_step : (rules : RuleSet) (past : List Event) (r : Record) → AreKnown past → AreUnused past → AreUnused (judge rules past r ∷ past)
 unused_step rules past r known unused s after =
     let e = judge rules past r in
     let off : is_on_session s e ≡ false =
@@ -105,7 +105,7 @@ begins_still Broken e = absurd cc
 
 -- ---- a transfer had window
 
-had_window : (rules : List RuleText) (e : Event) (past : List Event) → first_broken rules (e ∷ past) ≡ None → Transfers e → (t : Session) × (e.session ≡ Some t) × (1 ≤ session_window t past)
+had_window : (rules : RuleSet) (e : Event) (past : List Event) → first_broken rules (e ∷ past) ≡ None → Transfers e → (t : Session) × (e.session ≡ Some t) × (1 ≤ session_window t past)
 had_window rules e past lawful t = some_such (λ s. 1 ≤ session_window s past) e.session (in_window rules e past lawful t.frame t.spoken t.moment_is t.says t.fields t.transfer)
 
 -- ---- one more event of a session's own
@@ -121,7 +121,7 @@ moves first begun own (Some Received) room h = h
 -- ---- one more record
 
 -- a session that was known
-older : (rules : List RuleText) (past : List Event) (r : Record) (s : Session) → AreKnown past → IsKnown past s → first_broken rules (judge rules past r ∷ past) ≡ None → IsWithinWindow past (Some s)
+older : (rules : RuleSet) (past : List Event) (r : Record) (s : Session) → AreKnown past → IsKnown past s → first_broken rules (judge rules past r ∷ past) ≡ None → IsWithinWindow past (Some s)
     → IsWithinWindow (judge rules past r ∷ past) (Some s)
 older rules past r s known is kept h =
     let e = judge rules past r in
@@ -141,7 +141,7 @@ older rules past r s known is kept h =
         subst (λ (t : Session). 0 < session_window t past) one there.2
 
 -- one that begins
-newer : (rules : List RuleText) (past : List Event) (r : Record) (s : Session) → AreUnused past → own_session (judge rules past r) ≡ Some s → IsWithinWindow (judge rules past r ∷ past) (Some s)
+newer : (rules : RuleSet) (past : List Event) (r : Record) (s : Session) → AreUnused past → own_session (judge rules past r) ≡ Some s → IsWithinWindow (judge rules past r ∷ past) (Some s)
 newer rules past r s unused is =
     let e = judge rules past r in
     let begun = if_some (is_some (out_begin e)) e.session s is in
@@ -154,7 +154,7 @@ newer rules past r s unused is =
     by true o still own none = rw (still, none) (omega arith)
     by false o still own none = rw none (omega arith)
 
-within_by : (rules : List RuleText) (past : List Event) (r : Record) (n : ℕ) (o : Option Session) → own_session (judge rules past r) ≡ o → AreKnown past → AreUnused past
+within_by : (rules : RuleSet) (past : List Event) (r : Record) (n : ℕ) (o : Option Session) → own_session (judge rules past r) ≡ o → AreKnown past → AreUnused past
     → ((s : Session) → session_at n past ≡ Some s → IsKnown past s) → first_broken rules (judge rules past r ∷ past) ≡ None → IsWithinWindow past (session_at n past)
     → IsWithinWindow (judge rules past r ∷ past) (find (λ (t : Session). t.number == n) (cons_option o (filter_map own_session past)))
 within_by rules past r n None is known unused found kept h = at (session_at n past) refl h
@@ -172,7 +172,7 @@ within_by rules past r n (Some t) is known unused found kept h = by (t.number ==
     by true = newer rules past r t unused is
     by false = at (session_at n past) refl h
 
-pub record Keeps (rules : List RuleText) (past : List Event) : Type 0 where
+pub record Keeps (rules : RuleSet) (past : List Event) : Type 0 where
   pub known : AreKnown past
   pub unused : AreUnused past
   pub found : AreFound past
@@ -183,7 +183,7 @@ found_known past found n s is =
     let h = found n s is in
     record { at = ap (λ (k : ℕ). session_at k past) h.0 ∙ is; before = omega (arith, h.0, h.1) }
 
-keeps_step : (rules : List RuleText) (past : List Event) (r : Record) → Keeps rules past → Keeps rules (judge rules past r ∷ past)
+keeps_step : (rules : RuleSet) (past : List Event) (r : Record) → Keeps rules past → Keeps rules (judge rules past r ∷ past)
 keeps_step rules past r h = record {
   known = known_step rules past r h.known;
   unused = unused_step rules past r h.known h.unused;
@@ -194,5 +194,5 @@ keeps_step rules past r h = record {
 }
 
 -- of a lawful capture
-pub within_window : (rules : List RuleText) (rs : List Record) → first_broken rules (history rules rs) ≡ None → (n : ℕ) → IsWithinWindow (history rules rs) (session_at n (history rules rs))
+pub within_window : (rules : RuleSet) (rs : List Record) → first_broken rules (history rules rs) ≡ None → (n : ℕ) → IsWithinWindow (history rules rs) (session_at n (history rules rs))
 within_window rules rs = (along rules (Keeps rules) (record { known = none_known; unused = λ s after. refl; found = none_found; within = λ lawful n. tt }) (keeps_step rules) rs).within

@@ -1,7 +1,7 @@
 -- What holds of each performative of a kind that a lawful capture has written, from what its clauses say.
 use Rattle.std.proofs.Common.{◌≡◌, refl, ap, List, [], ◌∷◌, Option, Some, None, IfSome, option_and_then, option_map}
 use Rattle.amqp_perf.specs.Meaning.{Meaning, AnOpen, ABegin, AnAttach, AFlow, ATransfer, ADisposition, ADetach, AnEnd, AClose, TransferFields, DispositionFields}
-use Rattle.capture_form.specs.Rules.{RuleText}
+use Rattle.capture_form.specs.Rules.{RuleSet}
 use Rattle.trace_events.specs.Frame.{Frame, Spoken, spoken_in}
 use Rattle.trace_events.specs.Event.{Event, Moment, Opened, In, Out, Lost, Broken, out_frame}
 use Rattle.trace_events.specs.Said.{as_transfer, as_disposition}
@@ -59,7 +59,7 @@ disposition-is (AClose error) fields is = absurd cc
 
 -- ---- at each event
 
-pub at_each : (rules : List RuleText) (K : Event → List Event → Type 0)
+pub at_each : (rules : RuleSet) (K : Event → List Event → Type 0)
     → ((e : Event) (past : List Event) → first_broken rules (e ∷ past) ≡ None → K e past)
     → (past : List Event) → first_broken rules past ≡ None → AtEach K past
 at_each rules K each [] lawful = tt

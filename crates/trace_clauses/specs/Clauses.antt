@@ -6,7 +6,7 @@ use Rattle.amqp_perf.specs.Meaning.{Meaning, ABegin, AnAttach, AFlow, ATransfer,
 use Rattle.pairing_cert.specs.declared.note.Note.{Note}
 use Rattle.pairing_cert.specs.declared.note.Note.TheVariants as notes
 use Rattle.capture_form.specs.declared.records.Record.{Record}
-use Rattle.capture_form.specs.Rules.{RuleText}
+use Rattle.capture_form.specs.Rules.{RuleSet}
 use Rattle.trace_clauses.specs.declared.clause.Clause.{Clause}
 use Rattle.trace_clauses.specs.declared.clause.Clause.TheVariants.{L1, L2, L3, L4, L5, L6, L7, L8, L9, L10, L11, L12, L13, L14}
 use Rattle.trace_events.specs.Words.{is_some_and, or_else}
@@ -29,7 +29,7 @@ has_no_note notes.None = true
 has_no_note (notes.Pair n) = false
 has_no_note (notes.Told why) = false
 
-abbrev pub transfer_meets : List RuleText → Event → TransferFields → List ℕ → List Event → Clause → Bool
+abbrev pub transfer_meets : RuleSet → Event → TransferFields → List ℕ → List Event → Clause → Bool
 transfer_meets rules e fields octets past L4 = may_be_sent e fields past
 transfer_meets rules e fields octets past L5 = not (begins_outgoing e) || is_some_and e.link (λ l. may_begin l fields past)
 transfer_meets rules e fields octets past L6 = begins_outgoing e || is_some_and e.outgoing (λ j. goes_on_with j e.note fields)
@@ -38,7 +38,7 @@ transfer_meets rules e fields octets past L8 = carries_noted rules e fields octe
 transfer_meets rules e fields octets past L9 = not (begins_outgoing e) || is_some_and e.link (may_go_to rules e past)
 transfer_meets rules e fields octets past _ = true
 
-abbrev pub outcome_meets : List RuleText → Event → DispositionFields → List Event → Clause → Bool
+abbrev pub outcome_meets : RuleSet → Event → DispositionFields → List Event → Clause → Bool
 outcome_meets rules e fields past L11 = is_outcome rules e fields past
 outcome_meets rules e fields past _ = true
 
@@ -48,12 +48,12 @@ settling_meets e fields L14 = has_no_note e.note
 settling_meets e fields _ = true
 
 -- an outcome is told by a receiver, a settling by a sender
-abbrev pub disposition_meets : List RuleText → Event → DispositionFields → List Event → Role → Clause → Bool
+abbrev pub disposition_meets : RuleSet → Event → DispositionFields → List Event → Role → Clause → Bool
 disposition_meets rules e fields past Receiver clause = outcome_meets rules e fields past clause
 disposition_meets rules e fields past Sender clause = settling_meets e fields clause
 
 -- all others
-abbrev pub other_meets : List RuleText → Event → ℕ → List Event → Meaning → Clause → Bool
+abbrev pub other_meets : RuleSet → Event → ℕ → List Event → Meaning → Clause → Bool
 other_meets rules e channel past (ABegin begin) L2 = answers_begin e.connection channel begin past
 other_meets rules e channel past (AnAttach fields) L3 = is_some_and e.session (answers_attach fields past)
 other_meets rules e channel past (AFlow flow) L10 = tells_counts rules e flow past
@@ -62,13 +62,13 @@ other_meets rules e channel past (AnEnd error) L13 = may_end e channel past
 other_meets rules e channel past _ L14 = has_no_note e.note
 other_meets rules e channel past _ _ = true
 
-abbrev pub meaning_meets : List RuleText → Event → Spoken → List Event → Meaning → Clause → Bool
+abbrev pub meaning_meets : RuleSet → Event → Spoken → List Event → Meaning → Clause → Bool
 meaning_meets rules e spoken past (ATransfer fields) clause = transfer_meets rules e fields spoken.payload past clause
 meaning_meets rules e spoken past (ADisposition fields) clause = disposition_meets rules e fields past fields.role clause
 meaning_meets rules e spoken past meaning clause = other_meets rules e spoken.channel past meaning clause
 
 -- a performative, by clause; L1 speaks of each
-abbrev pub spoken_meets : List RuleText → Event → Frame → List Event → Spoken → Clause → Bool
+abbrev pub spoken_meets : RuleSet → Event → Frame → List Event → Spoken → Clause → Bool
 spoken_meets rules e frame past spoken L1 = may_be_written e.connection spoken.meaning past && fits_limit e.connection frame past
 spoken_meets rules e frame past spoken clause = meaning_meets rules e spoken past spoken.meaning clause
 
@@ -78,24 +78,24 @@ abbrev pub clauses : List Clause
 clauses = L1 ∷ L2 ∷ L3 ∷ L4 ∷ L5 ∷ L6 ∷ L7 ∷ L8 ∷ L9 ∷ L10 ∷ L11 ∷ L12 ∷ L13 ∷ L14 ∷ []
 
 -- a frame that is no performative breaks L1
-abbrev pub broken_by : List RuleText → Event → Frame → List Event → Option Spoken → Option Clause
+abbrev pub broken_by : RuleSet → Event → Frame → List Event → Option Spoken → Option Clause
 broken_by rules e frame past None = Some L1
 broken_by rules e frame past (Some spoken) = find (λ clause. not (spoken_meets rules e frame past spoken clause)) clauses
 
-abbrev pub broken_at : List RuleText → Event → List Event → Moment → Option Clause
+abbrev pub broken_at : RuleSet → Event → List Event → Moment → Option Clause
 broken_at rules e past (Out frame) = broken_by rules e frame past (spoken_in frame.body)
 broken_at rules e past _ = None
 
 -- the first clause that an event breaks
-abbrev pub broken_clause : List RuleText → Event → List Event → Option Clause
+abbrev pub broken_clause : RuleSet → Event → List Event → Option Clause
 broken_clause rules e past = broken_at rules e past e.moment
 
 -- the first event that breaks a clause, by its number, with the first clause that it breaks
-abbrev pub first_broken : List RuleText → List Event → Option (ℕ × Clause)
+abbrev pub first_broken : RuleSet → List Event → Option (ℕ × Clause)
 first_broken rules [] = None
 first_broken rules (e ∷ past) =
     let earlier = first_broken rules past in or_else earlier (option_map (λ clause. (e.number, clause)) (broken_clause rules e past))
 
 -- no record breaks a clause
-abbrev pub is_lawful : List RuleText → List Record → Bool
+abbrev pub is_lawful : RuleSet → List Record → Bool
 is_lawful rules records = is_none (first_broken rules (history rules records))

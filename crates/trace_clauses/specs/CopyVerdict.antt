@@ -4,7 +4,7 @@ use Rattle.std.specs.Prelude.{Bool, ◌&&◌, not, List, ◌∷◌, Option, Some
 use Rattle.amqp_perf.specs.declared.descriptor.Outcome.{Outcome}
 use Rattle.amqp_perf.specs.declared.descriptor.Outcome.TheVariants.{Accepted, Modified}
 use Rattle.amqp_perf.specs.Meaning.{DispositionFields, flag}
-use Rattle.capture_form.specs.Rules.{RuleText}
+use Rattle.capture_form.specs.Rules.{RuleSet}
 use Rattle.trace_events.specs.Words.{is_some_and, or_else}
 use Rattle.trace_events.specs.Event.{Event, Link, Incoming, Outgoing}
 use Rattle.trace_events.specs.Said.{out_transfer}
@@ -48,7 +48,7 @@ copy_verdict d l past = verdict_on past l (copy_on d l past)
 -- ---- all copies
 
 -- a copy is due to the link, and has no verdict yet
-abbrev pub awaits_verdict : List RuleText → Incoming → List Event → Link → Bool
+abbrev pub awaits_verdict : RuleSet → Incoming → List Event → Link → Bool
 awaits_verdict rules d past l = is_due rules d l past && is_none (copy_verdict d l past)
 
 -- ---- what one event does
@@ -70,5 +70,5 @@ abbrev pub verdict_by : Event → List Event → Incoming → Link → Option Ou
 verdict_by e past d l = or_else (begun_verdict_by e past d l) (if ends_link l e then Some Modified else None)
 
 -- a copy awaits its verdict with the event: it did before, or it comes due to the link
-abbrev pub awaits_now : List RuleText → Event → List Event → Incoming → Link → Bool
+abbrev pub awaits_now : RuleSet → Event → List Event → Incoming → Link → Bool
 awaits_now rules e past d l = if completes d e then comes_due rules l e past else awaits_verdict rules d past l

@@ -3,7 +3,7 @@ use Rattle.std.specs.Prelude.{ℕ, ◌+◌, ◌-◌, Bool, ◌&&◌, ◌||◌, n
 use Rattle.std.specs.Bool.{beq}
 use Rattle.amqp_perf.specs.declared.flow.Flow.{Flow}
 use Rattle.amqp_perf.specs.Meaning.{flag}
-use Rattle.capture_form.specs.Rules.{RuleText}
+use Rattle.capture_form.specs.Rules.{RuleSet}
 use Rattle.flow_counts.specs.Serial.{serial_add}
 use Rattle.flow_counts.specs.declared.profile.TheConstants.{OUTGOING_WINDOW, INCOMING_WINDOW, CAPACITY, LOW_MARK}
 use Rattle.trace_events.specs.Words.{is_some_and, is_number}
@@ -25,16 +25,16 @@ has_session_numbers flow past s =
 
 -- its credit and undecided deliveries have come down so far that it is to be given more, and someone may take its
 -- deliveries (own rule)
-abbrev pub may_be_topped_up : List RuleText → List Event → Link → Bool
+abbrev pub may_be_topped_up : RuleSet → List Event → Link → Bool
 may_be_topped_up rules past l =
     nat_le (given_credit l past + undecided_count rules l past) LOW_MARK
     && (has_multicast rules l.address || has_consumer l.address past)
 
 -- the credit that fills it up
-abbrev pub full_credit : List RuleText → List Event → Link → ℕ
+abbrev pub full_credit : RuleSet → List Event → Link → ℕ
 full_credit rules past l = CAPACITY - undecided_count rules l past
 
-abbrev pub has_producer_numbers : List RuleText → Flow → List Event → Link → Bool
+abbrev pub has_producer_numbers : RuleSet → Flow → List Event → Link → Bool
 has_producer_numbers rules flow past l =
     not (flag flow.drain) && is_number flow.delivery_count (received_count l past)
     && (is_number flow.link_credit (given_credit l past)
@@ -43,21 +43,21 @@ has_producer_numbers rules flow past l =
 -- ---- a consumer's link
 
 -- nothing waits for it: no delivery at its address, and no copy that is due to it
-abbrev pub nothing_waits : List RuleText → List Event → Link → Bool
+abbrev pub nothing_waits : RuleSet → List Event → Link → Bool
 nothing_waits rules past l = not (has_waiting rules l.address past) && not (has_unsent rules l past)
 
 -- its credit may be used up, since nothing waits and the client asks for it (2.6.7)
-abbrev pub may_be_drained : List RuleText → List Event → Link → Bool
+abbrev pub may_be_drained : RuleSet → List Event → Link → Bool
 may_be_drained rules past l = is_draining l past && nat_lt 0 (link_credit l past) && nothing_waits rules past l
 
 abbrev pub drained_count : List Event → Link → ℕ
 drained_count past l = serial_add (delivery_count l past) (link_credit l past)
 
-abbrev pub is_drain_answer : List RuleText → Flow → List Event → Link → Bool
+abbrev pub is_drain_answer : RuleSet → Flow → List Event → Link → Bool
 is_drain_answer rules flow past l =
     may_be_drained rules past l && is_number flow.delivery_count (drained_count past l) && is_number flow.link_credit 0
 
-abbrev pub has_consumer_numbers : List RuleText → Flow → List Event → Link → Bool
+abbrev pub has_consumer_numbers : RuleSet → Flow → List Event → Link → Bool
 has_consumer_numbers rules flow past l =
     beq (flag flow.drain) (is_draining l past)
     && (is_number flow.delivery_count (delivery_count l past) && is_number flow.link_credit (link_credit l past)
@@ -65,12 +65,12 @@ has_consumer_numbers rules flow past l =
 
 -- ---- both
 
-abbrev pub has_link_numbers : List RuleText → Flow → List Event → Link → Bool
+abbrev pub has_link_numbers : RuleSet → Flow → List Event → Link → Bool
 has_link_numbers rules flow past l =
     if is_consumer l then has_consumer_numbers rules flow past l else has_producer_numbers rules flow past l
 
 -- a flow stands on a live session and has its numbers; with a handle, those of a live link too; without one, no drain
-abbrev pub tells_counts : List RuleText → Event → Flow → List Event → Bool
+abbrev pub tells_counts : RuleSet → Event → Flow → List Event → Bool
 tells_counts rules e flow past =
     is_some_and e.session (has_session_numbers flow past)
     && (if is_some flow.handle then is_some_and e.link (has_link_numbers rules flow past) else not (flag flow.drain))

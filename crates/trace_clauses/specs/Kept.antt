@@ -4,7 +4,7 @@ use Rattle.amqp_perf.specs.Meaning.{DispositionFields, flag}
 use Rattle.pairing_cert.specs.declared.note.Note.{Note}
 use Rattle.pairing_cert.specs.declared.note.Note.TheVariants as notes
 use Rattle.pairing_cert.specs.declared.note.Why.{Why}
-use Rattle.capture_form.specs.Rules.{RuleText}
+use Rattle.capture_form.specs.Rules.{RuleSet}
 use Rattle.trace_events.specs.Words.{is_number, are_same_octets}
 use Rattle.trace_events.specs.Event.{Event, Incoming, Outgoing}
 use Rattle.trace_events.specs.Said.{out_transfer, out_disposition}
@@ -33,7 +33,7 @@ abbrev pub carriers : ℕ → List Event → List Outgoing
 carriers n past = filter (λ j. names n j.note) (outgoing_deliveries past)
 
 -- each anycast delivery reached at most one consumer
-abbrev pub ReachesOne : List RuleText → List Event → Type 0
+abbrev pub ReachesOne : RuleSet → List Event → Type 0
 ReachesOne rules past =
     (n : ℕ) (d : Incoming) → incoming_at n past ≡ Some d → is_of_multicast rules d ≡ false → length (carriers n past) ≤ 1
 
@@ -71,7 +71,7 @@ HasCarried e past =
     × (flag fields.more ≡ false → outgoing.payload j (e ∷ past) ≡ incoming.payload d past))))
 
 -- each outcome tells of a delivery the state that the row of its note has for it
-abbrev pub IsOfRow : List RuleText → Event → List Event → Type 0
+abbrev pub IsOfRow : RuleSet → Event → List Event → Type 0
 IsOfRow rules e past =
     IfSome (out_disposition e) (λ fields. is_receiver fields.role ≡ true →
     IsSomeAnd e.told (λ n. IsSomeAnd (incoming_at n past) (λ d. IsSomeAnd (why_of e.note) (λ why.
@@ -85,7 +85,7 @@ AtEach P (e ∷ past) = P e past × AtEach P past
 -- What every lawful history keeps: each transfer stood within its session's window and its link's credit, went to a link
 -- of the address of the delivery that its note names, and carried that delivery's octets; each anycast delivery reached
 -- at most one consumer; each outcome is that of the row of its note, and at most one was told of each delivery.
-pub record Keeps (rules : List RuleText) (past : List Event) : Type 0 where
+pub record Keeps (rules : RuleSet) (past : List Event) : Type 0 where
   pub within : AtEach StoodWithin past
   pub addressed : AtEach WentToAddress past
   pub carried : AtEach HasCarried past

@@ -7,7 +7,7 @@ use Rattle.amqp_perf.specs.Meaning.{DispositionFields}
 use Rattle.amqp_perf.specs.Router.{bare_state, delivery_failed}
 use Rattle.pairing_cert.specs.declared.note.Why.{Why}
 use Rattle.pairing_cert.specs.declared.note.Why.TheVariants.{C, Z, S, L, N, M}
-use Rattle.capture_form.specs.Rules.{RuleText}
+use Rattle.capture_form.specs.Rules.{RuleSet}
 use Rattle.trace_events.specs.Event.{Event, Incoming, Outgoing}
 use Rattle.trace_events.specs.Connection.{frame_limit}
 use Rattle.trace_events.specs.Link.{is_live}
@@ -61,7 +61,7 @@ anycast_row d past why None = None
 anycast_row d past why (Some j) = paired_row d j past (decision j past) why
 
 -- N: released, where the delivery is gone. M: of a multicast delivery the best verdict of its copies, once each has its own.
-abbrev pub row : List RuleText → Incoming → List Event → Why → Option (Option (List ℕ))
+abbrev pub row : RuleSet → Incoming → List Event → Why → Option (Option (List ℕ))
 row rules d past N = if is_gone rules d past then Some (Some (bare_octets Released)) else None
 row rules d past M = multicast_row rules d past
 row rules d past why = if is_of_multicast rules d then None else anycast_row d past why (pairing d past)
@@ -74,5 +74,5 @@ abbrev pub reasons : List Why
 reasons = C ∷ Z ∷ S ∷ L ∷ N ∷ M ∷ []
 
 -- and a row applies to it
-abbrev pub is_to_tell : List RuleText → List Event → Incoming → Bool
+abbrev pub is_to_tell : RuleSet → List Event → Incoming → Bool
 is_to_tell rules past d = may_be_told d past && list_any (λ why. is_some (row rules d past why)) reasons

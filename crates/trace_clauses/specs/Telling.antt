@@ -2,7 +2,7 @@
 -- that (own rules).
 use Rattle.std.specs.Prelude.{Bool, ◌&&◌, ◌||◌, not, List, ◌∷◌, is_some, filter, reverse, if◌then◌else◌}
 use Rattle.amqp_perf.specs.Meaning.{flag}
-use Rattle.capture_form.specs.Rules.{RuleText}
+use Rattle.capture_form.specs.Rules.{RuleSet}
 use Rattle.trace_events.specs.Words.{is_some_and}
 use Rattle.trace_events.specs.Event.{Event, Incoming, Outgoing}
 use Rattle.trace_events.specs.Said.{out_transfer}
@@ -18,7 +18,7 @@ use Rattle.trace_clauses.specs.BestVerdict.{has_all_verdicts}
 use Rattle.trace_clauses.specs.Outcome.{is_sent_settled, is_to_tell}
 
 -- all that are to be told, the first begun first
-abbrev pub outcomes_to_tell : List RuleText → List Event → List Incoming
+abbrev pub outcomes_to_tell : RuleSet → List Event → List Incoming
 outcomes_to_tell rules past = filter (is_to_tell rules past) (reverse (incoming_deliveries past))
 
 -- of a delivery to a client: its consumer has decided it, or was sent all of it on a pre-settled link, or its link is over
@@ -27,7 +27,7 @@ is_answered past j = is_some (decision j past) || is_sent_settled j past || not 
 
 -- a complete delivery has an outcome where it is gone, or what carries it is answered; one of multicast, where each copy that
 -- is due has its verdict
-abbrev pub has_outcome : List RuleText → List Event → Incoming → Bool
+abbrev pub has_outcome : RuleSet → List Event → Incoming → Bool
 has_outcome rules past d =
     is_complete d past
     && (if is_of_multicast rules d then has_all_verdicts rules d past
@@ -41,13 +41,13 @@ answers_now e past j =
     || j.link.is_pre_settled && (is_part j e && is_some_and (out_transfer e) (λ fields. not (flag fields.more))) || ends_link j.link e
 
 -- the event completes a delivery of multicast of which no copy is due, or gives its last verdict to one that lacked some
-abbrev pub gets_last_verdict : List RuleText → Event → List Event → Incoming → Bool
+abbrev pub gets_last_verdict : RuleSet → Event → List Event → Incoming → Bool
 gets_last_verdict rules e past d =
     (completes d e || is_complete d past && not (has_all_verdicts rules d past)) && has_all_verdicts rules d (e ∷ past)
 
 -- the event gives a delivery its outcome: the last verdict of one of multicast; it completes one whose address has no
 -- consumer; it leaves one that waits without a consumer; or it answers what carries it
-abbrev pub gets_outcome : List RuleText → Event → List Event → Incoming → Bool
+abbrev pub gets_outcome : RuleSet → Event → List Event → Incoming → Bool
 gets_outcome rules e past d =
     if is_of_multicast rules d then gets_last_verdict rules e past d
     else completes d e && not (has_consumer (address_of d) (e ∷ past))

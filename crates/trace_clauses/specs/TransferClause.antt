@@ -6,7 +6,7 @@ use Rattle.amqp_perf.specs.Meaning.{TransferFields, flag}
 use Rattle.pairing_cert.specs.declared.note.Note.{Note}
 use Rattle.pairing_cert.specs.declared.note.Note.TheVariants as notes
 use Rattle.pairing_cert.specs.Notes.{why_octet}
-use Rattle.capture_form.specs.Rules.{RuleText}
+use Rattle.capture_form.specs.Rules.{RuleSet}
 use Rattle.trace_events.specs.Words.{is_some_and, is_none_or, is_number, where_passes}
 use Rattle.trace_events.specs.Event.{Event, Link, Incoming, Outgoing}
 use Rattle.trace_events.specs.declared.session.Session.{Session}
@@ -51,7 +51,7 @@ goes_on_with j note fields =
 -- ---- L7: the incoming delivery that the note names may go to the link
 
 -- the delivery that a note names, where it may go to consumers: it is complete, and not gone
-abbrev pub to_carry : List RuleText → Note → List Event → Option Incoming
+abbrev pub to_carry : RuleSet → Note → List Event → Option Incoming
 to_carry rules note past = where_passes (λ d. is_complete d past && not (is_gone rules d past)) (noted note past)
 
 -- the first transfer has its message-format, 0 where it is absent, and is settled just on a pre-settled link
@@ -62,7 +62,7 @@ has_form d l fields = unwrap_or fields.message_format 0 == d.format && beq (flag
 abbrev pub is_alike : Event → Link → TransferFields → Incoming → Bool
 is_alike e l fields d = bytes_eq (address_of d) l.address && (not (begins_outgoing e) || has_form d l fields)
 
-abbrev pub names_carried : List RuleText → Event → TransferFields → List Event → Link → Bool
+abbrev pub names_carried : RuleSet → Event → TransferFields → List Event → Link → Bool
 names_carried rules e fields past l = is_some_and (to_carry rules e.note past) (is_alike e l fields)
 
 -- ---- L8: the payloads so far are the first octets of that delivery's payload, and at the last transfer all of it
@@ -74,7 +74,7 @@ abbrev pub carries : Outgoing → TransferFields → List ℕ → List Event →
 carries j fields octets past d =
     is_payload_so_far (flag fields.more) (incoming.payload d past) (outgoing.payload j past ++ octets)
 
-abbrev pub carries_noted : List RuleText → Event → TransferFields → List ℕ → List Event → Bool
+abbrev pub carries_noted : RuleSet → Event → TransferFields → List ℕ → List Event → Bool
 carries_noted rules e fields octets past =
     is_some_and (to_carry rules e.note past) (λ d. is_some_and e.outgoing (λ j. carries j fields octets past d))
 
@@ -84,12 +84,12 @@ carries_noted rules e fields octets past =
 abbrev pub carried_before : Link → List Event → Option Incoming
 carried_before l past = option_and_then (λ j. noted j.note past) (find (is_on l) (outgoing_deliveries past))
 
-abbrev pub is_first_to : List RuleText → Link → List Event → Incoming → Bool
+abbrev pub is_first_to : RuleSet → Link → List Event → Incoming → Bool
 is_first_to rules l past d =
     if is_of_multicast rules d then not (is_named_on d l past) && is_due rules d l past else not (is_paired d past)
 
 abbrev pub is_in_order : Link → List Event → Incoming → Bool
 is_in_order l past d = is_none_or (carried_before l past) (λ before. completed_before before d past)
 
-abbrev pub may_go_to : List RuleText → Event → List Event → Link → Bool
+abbrev pub may_go_to : RuleSet → Event → List Event → Link → Bool
 may_go_to rules e past l = is_some_and (to_carry rules e.note past) (λ d. is_first_to rules l past d && is_in_order l past d)

@@ -1,7 +1,7 @@
 -- What is to be said of a capture's records: which record breaks which clause first, or a tally.
 use Rattle.std.specs.Prelude.{ℕ, Bool, List, length, Option, Some, None, Result, Ok, Err, count_by}
 use Rattle.capture_form.specs.declared.records.Record.{Record}
-use Rattle.capture_form.specs.Rules.{RuleText}
+use Rattle.capture_form.specs.Rules.{RuleSet}
 use Rattle.trace_clauses.specs.declared.clause.Clause.{Clause}
 use Rattle.trace_clauses.specs.declared.tally.Tally.{Tally}
 use Rattle.trace_events.specs.Words.{is_some_and}
@@ -24,9 +24,9 @@ tallied_or tally None = Ok tally
 tallied_or tally (Some broken) = Err broken
 
 -- of events
-abbrev pub judgement : List RuleText → List Event → Result Tally (ℕ × Clause)
+abbrev pub judgement : RuleSet → List Event → Result Tally (ℕ × Clause)
 judgement rules past = tallied_or (tally_of past) (first_broken rules past)
 
 -- of a capture
-abbrev pub verdict : List RuleText → List Record → Result Tally (ℕ × Clause)
+abbrev pub verdict : RuleSet → List Record → Result Tally (ℕ × Clause)
 verdict rules records = judgement rules (history rules records)
