@@ -5,7 +5,7 @@ use Rattle.std.specs.Prelude.{Contains}
 use Rattle.amqp_perf.specs.declared.attach.Role.{Role}
 use Rattle.amqp_perf.specs.declared.attach.Role.TheVariants.{Sender, Receiver}
 use Rattle.amqp_perf.specs.Meaning.{Meaning, AnOpen, ABegin, AnAttach, AFlow, ATransfer, ADisposition, ADetach, AnEnd, AClose}
-use Rattle.capture_form.specs.Rules.{RuleText}
+use Rattle.capture_form.specs.Rules.{RuleSet}
 use Rattle.trace_events.specs.Words.{is_some_and}
 use Rattle.trace_events.specs.Event.{Event, Link, Incoming, Outgoing}
 use Rattle.trace_events.specs.Link.{is_receiver, is_consumer}
@@ -22,7 +22,7 @@ not_true : (b : Bool) → not b ≡ true → b ≡ false
 not_true false is = refl
 not_true true is = absurd cc
 
-module _ (rules : List RuleText) (e : Event) (past : List Event) (turn : transfer_in_turn rules e past ≡ true) where
+module _ (rules : RuleSet) (e : Event) (past : List Event) (turn : transfer_in_turn rules e past ≡ true) where
   all_told : is_all_told rules past ≡ true
   all_told = and_first (is_all_told rules past) _ turn
 
@@ -45,7 +45,7 @@ abbrev pub is_outcome : Meaning → Bool
 is_outcome (ADisposition fields) = is_receiver fields.role
 is_outcome _ = false
 
-module _ (rules : List RuleText) (e : Event) (past : List Event) where
+module _ (rules : RuleSet) (e : Event) (past : List Event) where
   sent-told : is_all_sent rules past ≡ true → none_is_untold rules past ≡ true
   sent-told sent =
       and_first (none_is_untold rules past) (none_is_unsettled past)

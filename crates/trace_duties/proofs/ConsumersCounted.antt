@@ -7,7 +7,7 @@ use Rattle.std.proofs.lemmas.Bool.{ne_eqb}
 use Rattle.std.proofs.lemmas.Cmp.{nat_list_eq_equiv}
 use Rattle.std.proofs.lemmas.List.{map-append, reverse-append}
 use Rattle.std.proofs.lemmas.List.Elements.{filter-append}
-use Rattle.capture_form.specs.Rules.{RuleText}
+use Rattle.capture_form.specs.Rules.{RuleSet}
 use Rattle.flow_counts.specs.Picks.{AddressEvent, Attached, Detached, Begun, Decided, Consumer, attached, begun, consumer}
 use Rattle.flow_counts.specs.Picks as picks
 use Rattle.trace_events.specs.Words.{is_some_and}
@@ -98,7 +98,7 @@ consumer-begun_by n e past = by (begins_outgoing e)
     by false = refl
 
 -- the event as a whole
-module _ (rules : List RuleText) (e : Event) (past : List Event) (are : AreJudged rules past) where
+module _ (rules : RuleSet) (e : Event) (past : List Event) (are : AreJudged rules past) where
   pub consumer-step : (n : ℕ) → consumer n (address_events (e ∷ past))
       ≡ (if is_some_and (link_at n past) (detaches_consumer e past) then None else option_map (fewer (decided_count n e past)) (with_begun n e (consumer n (attached_as (own_link e) ++ address_events past))))
   consumer-step n =
@@ -120,7 +120,7 @@ pub consumer-nothing : (ended : Bool) (count : ℕ) (n : ℕ) (e : Event) (o : O
     → (if ended then None else option_map (fewer count) (with_begun n e o)) ≡ None
 consumer-nothing ended count n e o is = consumer-none ended (option_map (fewer count) (with_begun n e o)) (ap (option_map (fewer count)) (consumer-mapped_none (begins_on n e) (begun e.number) o is))
 
-pub consumer-later : (rules : List RuleText) (past : List Event) → AreJudged rules past → (n : ℕ) → length past ≤ n → consumer n (address_events past) ≡ None
+pub consumer-later : (rules : RuleSet) (past : List Event) → AreJudged rules past → (n : ℕ) → length past ≤ n → consumer n (address_events past) ≡ None
 consumer-later rules [] are n le = refl
 consumer-later rules (e ∷ past) are n le =
     consumer-step rules e past are.1 n
@@ -161,7 +161,7 @@ consumers-begun address e past = by (begins_outgoing e) e.outgoing
     by true None = refl
     by false o = refl
 
-module _ (rules : List RuleText) (e : Event) (past : List Event) (are : AreJudged rules (e ∷ past)) (address : List ℕ) where
+module _ (rules : RuleSet) (e : Event) (past : List Event) (are : AreJudged rules (e ∷ past)) (address : List ℕ) where
   live-step : (l : Link) → l.number < length past → is_live (e ∷ past) l ≡ is_live past l && is_live (e ∷ past) l
   live-step l below = is_live-after e past (judged-stands rules past are.1).no_link (judged-number rules e past are) l below
 
@@ -223,7 +223,7 @@ module _ (rules : List RuleText) (e : Event) (past : List Event) (are : AreJudge
       ∙ attached-step (own_link e) refl)
 
 -- the consumers that are counted over a capture's events are those of the capture
-pub consumers-counted : (rules : List RuleText) (past : List Event) → AreJudged rules past → (address : List ℕ)
+pub consumers-counted : (rules : RuleSet) (past : List Event) → AreJudged rules past → (address : List ℕ)
     → picks.consumers address (address_events past) ≡ map (λ l. l.number) (consumers address past)
 consumers-counted rules [] are address = refl
 consumers-counted rules (e ∷ past) are address =

@@ -2,7 +2,7 @@
 -- link.
 use Rattle.std.proofs.Common.{◌≡◌, refl, sym, ap, subst, ◌∙◌, ℕ, inl, inr, List, [], ◌∷◌, Bool, true, false, not, ◌&&◌, ◌||◌, Some, None, is_some, ◌==◌, if◌then◌else◌}
 use Rattle.std.specs.Prelude.{Contains, AllPairs}
-use Rattle.capture_form.specs.Rules.{RuleText}
+use Rattle.capture_form.specs.Rules.{RuleSet}
 use Rattle.trace_events.specs.Words.{is_some_and, is_none_or}
 use Rattle.trace_events.specs.Event.{Event, Link, Incoming, is_on_link}
 use Rattle.trace_events.specs.Said.{out_transfer}
@@ -35,13 +35,13 @@ use Rattle.trace_duties.proofs.PicksInOrder.{none-passes, none-before, first-pai
 
 -- ---- what is known of a copy goes by the number of its delivery
 
-due_number : (rules : List RuleText) (past : List Event) (a b : Incoming) (l : Link) → a.number ≡ b.number → is_due rules a l past ≡ is_due rules b l past
+due_number : (rules : RuleSet) (past : List Event) (a b : Incoming) (l : Link) → a.number ≡ b.number → is_due rules a l past ≡ is_due rules b l past
 due_number rules [] a b l same = refl
 due_number rules (e ∷ past) a b l same =
     ap (λ (n : ℕ). if is_some_and (completed_by e) (λ other. other.number == n) then comes_due rules l e past else is_due rules a l past) same
     ∙ ap (λ c. if completes b e then comes_due rules l e past else c) (due_number rules past a b l same)
 
-unsent_number : (rules : List RuleText) (past : List Event) (a b : Incoming) (l : Link) → a.number ≡ b.number → is_unsent rules a l past ≡ is_unsent rules b l past
+unsent_number : (rules : RuleSet) (past : List Event) (a b : Incoming) (l : Link) → a.number ≡ b.number → is_unsent rules a l past ≡ is_unsent rules b l past
 unsent_number rules past a b l same =
     ap (λ c. c && not (is_named_on a l past)) (due_number rules past a b l same) ∙ ap (λ c. is_due rules b l past && not c) (named_number past same)
   where
@@ -54,7 +54,7 @@ unsent_number rules past a b l same =
 
 -- ---- a delivery that is sent before a copy was completed before it
 
-module _ (rules : List RuleText) (e : Event) (past : List Event) (are : AreJudged rules (e ∷ past)) (lawful : first_broken rules (e ∷ past) ≡ None) (earliest : is_earliest rules e past ≡ true)
+module _ (rules : RuleSet) (e : Event) (past : List Event) (are : AreJudged rules (e ∷ past)) (lawful : first_broken rules (e ∷ past) ≡ None) (earliest : is_earliest rules e past ≡ true)
     (l : Link) (at : link_at l.number (e ∷ past) ≡ Some l) (d : Incoming) (unsent : is_unsent rules d l past ≡ true) (unnamed : names_on d l e ≡ false) where
   complete : is_complete d past ≡ true
   complete = unsent_complete rules past d l unsent
@@ -88,7 +88,7 @@ module _ (rules : List RuleText) (e : Event) (past : List Event) (are : AreJudge
 
 -- ---- a step
 
-module _ (rules : List RuleText) (e : Event) (past : List Event) (are : AreJudged rules (e ∷ past)) (lawful : first_broken rules (e ∷ past) ≡ None) (earliest : is_earliest rules e past ≡ true)
+module _ (rules : RuleSet) (e : Event) (past : List Event) (are : AreJudged rules (e ∷ past)) (lawful : first_broken rules (e ∷ past) ≡ None) (earliest : is_earliest rules e past ≡ true)
     (order : CopiesInOrder rules past) where
   not-yes : (b : Bool) → not b ≡ true → b ≡ false
   not-yes false is = refl
@@ -112,24 +112,24 @@ module _ (rules : List RuleText) (e : Event) (past : List Event) (are : AreJudge
   ]
 
 -- an event that begins no delivery to a client sends no copy out of order
-pub earliest-none : (rules : List RuleText) (e : Event) (past : List Event) → begins_outgoing e ≡ false → is_earliest rules e past ≡ true
+pub earliest-none : (rules : RuleSet) (e : Event) (past : List Event) → begins_outgoing e ≡ false → is_earliest rules e past ≡ true
 earliest-none rules e past none =
     ap (λ b. not b || is_none_or (noted e.note past) (λ d. is_none_or e.link (λ l. not (has_earlier_unsent rules past l d)))) none
 
 -- nor does one that sends what no unsent copy of the link was completed before
-pub earliest-sent : (rules : List RuleText) (e : Event) (past : List Event) (l : Link) (d : Incoming) → e.link ≡ Some l → noted e.note past ≡ Some d → has_earlier_unsent rules past l d ≡ false → is_earliest rules e past ≡ true
+pub earliest-sent : (rules : RuleSet) (e : Event) (past : List Event) (l : Link) (d : Incoming) → e.link ≡ Some l → noted e.note past ≡ Some d → has_earlier_unsent rules past l d ≡ false → is_earliest rules e past ≡ true
 earliest-sent rules e past l d on is none =
     ap (λ o. not (begins_outgoing e) || is_none_or o (λ d. is_none_or e.link (λ l. not (has_earlier_unsent rules past l d)))) is
     ∙ (ap (λ o. not (begins_outgoing e) || is_none_or o (λ l. not (has_earlier_unsent rules past l d))) on
     ∙ (ap (λ b. not (begins_outgoing e) || not b) none ∙ or-true (not (begins_outgoing e))))
 
 -- before any event they are in order
-pub copies_in_order-none : (rules : List RuleText) → CopiesInOrder rules []
+pub copies_in_order-none : (rules : RuleSet) → CopiesInOrder rules []
 copies_in_order-none rules l d at lives unsent = refl
 
 -- ---- the first of a link's unsent copies is the earliest
 
-pub first_unsent-earliest : (rules : List RuleText) (past : List Event) → AreJudged rules past → (l : Link) (d : Incoming) (ds : List Incoming) → unsent_copies rules l past ≡ d ∷ ds → has_earlier_unsent rules past l d ≡ false
+pub first_unsent-earliest : (rules : RuleSet) (past : List Event) → AreJudged rules past → (l : Link) (d : Incoming) (ds : List Incoming) → unsent_copies rules l past ≡ d ∷ ds → has_earlier_unsent rules past l d ≡ false
 first_unsent-earliest rules past are l d ds is =
     none-before (λ (x : Incoming). completed_before x d past && is_unsent rules x l past) (incoming_deliveries past) (λ x there. by x there (is_unsent rules x l past) refl)
   where

@@ -1,6 +1,6 @@
 -- Which of a router's duties a history neglects, each by a name.
 use Rattle.std.specs.Prelude.{ℕ, List, Bool, true, ◌&&◌, ◌||◌, [], ◌∷◌, ◌++◌, replicate, if◌then◌else◌}
-use Rattle.capture_form.specs.Rules.{RuleText}
+use Rattle.capture_form.specs.Rules.{RuleSet}
 use Rattle.trace_events.specs.Words.{is_some_and}
 use Rattle.trace_events.specs.Event.{Event, is_out, out_frame}
 use Rattle.trace_duties.specs.Quiet.{none_waits_in_vain, none_stands_still, none_is_untold, none_lacks_credit, none_lacks_window, none_is_undrained, copies_are_sent, none_is_unsettled}
@@ -25,10 +25,10 @@ each_written test (e ∷ past) = let earlier = each_written test past in (if is_
 abbrev pub unless : Bool → Duty → List Duty → List Duty
 unless kept duty others = if kept then others else duty ∷ others
 
-abbrev pub is_due : List RuleText → Event → List Event → Bool
+abbrev pub is_due : RuleSet → Event → List Event → Bool
 is_due rules e past = is_some_and (out_frame e.moment) (λ frame. is_due_frame rules e frame past)
 
-abbrev pub neglected : List RuleText → List Event → List Duty
+abbrev pub neglected : RuleSet → List Event → List Duty
 neglected rules past =
     unless (always (none_waits_in_vain rules) past) Waiting
     (unless (always none_stands_still past) Progress
@@ -48,7 +48,7 @@ is_window_left n [] = true
 is_window_left n (e ∷ past) = none_lacks_window (replicate n e ++ past)
 
 -- what is left to be written
-abbrev pub left : List RuleText → List Event → List Duty
+abbrev pub left : RuleSet → List Event → List Duty
 left rules past =
     unless (none_is_untold rules past) Outcome
     (unless (none_is_unsettled past) Settling

@@ -5,7 +5,7 @@ use Rattle.std.specs.Option.{option_map}
 use Rattle.std.proofs.lemmas.Bool.{eqb-true, eq-eqb, ne_eqb}
 use Rattle.std.proofs.lemmas.List.Sums.{sum_by-cons}
 use Rattle.amqp_perf.specs.Meaning.{DispositionFields}
-use Rattle.capture_form.specs.Rules.{RuleText}
+use Rattle.capture_form.specs.Rules.{RuleSet}
 use Rattle.flow_counts.specs.Picks.{Attached, Consumer, attached, begun, consumer, balanced_rank}
 use Rattle.trace_events.specs.Words.{is_some_and, where_passes}
 use Rattle.trace_events.specs.Event.{Event, Link, Outgoing}
@@ -89,7 +89,7 @@ begins-not : (n m number : ℕ) (o : Option Outgoing) → n ≡ m → IfSome o (
 begins-not n m number None own lt = refl
 begins-not n m number (Some j) own lt = ap (λ b. (j.number == number) && b) (ne_eqb n j.link.number (λ same. omega (arith, same, own, lt))) ∙ and-false (j.number == number)
 
-module _ (rules : List RuleText) (e : Event) (past : List Event) (are : AreJudged rules (e ∷ past)) where
+module _ (rules : RuleSet) (e : Event) (past : List Event) (are : AreJudged rules (e ∷ past)) where
   earlier : AreOnEarlier (e ∷ past)
   earlier = judged-on_earlier rules (e ∷ past) are
 
@@ -201,7 +201,7 @@ left-by false false is (Some a) now stays = refl
 left-by true false is before now stays = absurd cc
 left-by false true is before now stays = absurd cc
 
-module _ (rules : List RuleText) (e : Event) (past : List Event) (are : AreJudged rules (e ∷ past)) (l : Link) where
+module _ (rules : RuleSet) (e : Event) (past : List Event) (are : AreJudged rules (e ∷ past)) (l : Link) where
   left : count_by (is_undecided_on l past) (outgoing_deliveries past) ≡ count_by (is_undecided_on l (e ∷ past)) (outgoing_deliveries past) + decided_count l.number e past
   left =
       count-split (is_undecided_on l past) (is_undecided_on l (e ∷ past)) (λ j. decides_outgoing e past j && (l.number == j.link.number))
@@ -238,7 +238,7 @@ module _ (rules : List RuleText) (e : Event) (past : List Event) (are : AreJudge
 
 -- ---- the links of all numbers
 
-module _ (rules : List RuleText) (e : Event) (past : List Event) (are : AreJudged rules (e ∷ past)) where
+module _ (rules : RuleSet) (e : Event) (past : List Event) (are : AreJudged rules (e ∷ past)) where
   -- a number of which the event opens no link
   number-kept : (n : ℕ) (o : Option Link) → link_at n past ≡ o → consumer n (attached_as (own_link e) ++ address_events past) ≡ option_and_then (counted_at past) o
       → consumer n (address_events (e ∷ past)) ≡ option_and_then (counted_at (e ∷ past)) o
@@ -263,13 +263,13 @@ module _ (rules : List RuleText) (e : Event) (past : List Event) (are : AreJudge
           (ap (λ o. consumer n (attached_as o ++ address_events past)) is ∙ (consumer-other n (Some l) (address_events past) (same-sym n l.number ∙ other) ∙ before))
 
 -- Of each number: the link that opened in this record, as it is counted, if it is a consumer's and lives; else nothing.
-pub consumer-counted : (rules : List RuleText) (past : List Event) → AreJudged rules past → (n : ℕ) → consumer n (address_events past) ≡ option_and_then (counted_at past) (link_at n past)
+pub consumer-counted : (rules : RuleSet) (past : List Event) → AreJudged rules past → (n : ℕ) → consumer n (address_events past) ≡ option_and_then (counted_at past) (link_at n past)
 consumer-counted rules [] are n = refl
 consumer-counted rules (e ∷ past) are n = number-is rules e past are n (own_link e) refl (consumer-counted rules past are.1 n)
 
 -- ---- of a link that is found by its number
 
-module _ (rules : List RuleText) (past : List Event) (are : AreJudged rules past) (l : Link) (at : link_at l.number past ≡ Some l) where
+module _ (rules : RuleSet) (past : List Event) (are : AreJudged rules past) (l : Link) (at : link_at l.number past ≡ Some l) where
   pub consumer-is : consumer l.number (address_events past) ≡ counted_at past l
   consumer-is = consumer-counted rules past are l.number ∙ ap (option_and_then (counted_at past)) at
 
@@ -291,7 +291,7 @@ module _ (rules : List RuleText) (past : List Event) (are : AreJudged rules past
   undecided-is consumes lives = ap balanced_rank (consumer-live consumes lives)
 
 -- each link of a history, by its number
-pub links-counted : (rules : List RuleText) (past : List Event) → AreJudged rules past → AllByRecursion (λ l. consumer l.number (address_events past) ≡ counted_at past l) (links past)
+pub links-counted : (rules : RuleSet) (past : List Event) → AreJudged rules past → AllByRecursion (λ l. consumer l.number (address_events past) ≡ counted_at past l) (links past)
 links-counted rules past are =
     each-weaker (λ l. (link_at l.number past ≡ Some l) × (l.number < length past)) (λ l. consumer l.number (address_events past) ≡ counted_at past l)
     (λ l found. consumer-is rules past are l found.0) (links past) (links-found rules past are)

@@ -5,7 +5,7 @@ use Rattle.std.specs.Prelude.{Contains, AllPairs}
 use Rattle.std.specs.Str.{bytes_eq}
 use Rattle.std.specs.List.{list_any}
 use Rattle.std.proofs.lemmas.Slice.Eq.{bytes_eq-Decides}
-use Rattle.capture_form.specs.Rules.{RuleText}
+use Rattle.capture_form.specs.Rules.{RuleSet}
 use Rattle.trace_events.specs.Words.{is_some_and, is_none_or}
 use Rattle.trace_events.specs.Event.{Event, Link, Incoming, Outgoing}
 use Rattle.trace_events.specs.Link.{link_at}
@@ -37,7 +37,7 @@ not_begun : (b c : Bool) → b ≡ false → not b || c ≡ true
 not_begun false c is = refl
 not_begun true c is = absurd cc
 
-keeps_picked : (rules : List RuleText) (e : Event) (past : List Event) → AreJudged rules (e ∷ past) → moment_keeps rules e past e.moment ≡ true → is_picked rules e past ≡ true
+keeps_picked : (rules : RuleSet) (e : Event) (past : List Event) → AreJudged rules (e ∷ past) → moment_keeps rules e past e.moment ≡ true → is_picked rules e past ≡ true
 keeps_picked rules e past are keeps = by e.outgoing refl (judged-transfer rules e past are)
   where
     by : (o : Option Outgoing) → e.outgoing ≡ o → IfSome o (λ j. IsTransfer e.moment) → is_picked rules e past ≡ true
@@ -46,7 +46,7 @@ keeps_picked rules e past are keeps = by e.outgoing refl (judged-transfer rules 
         (ap (λ o. is_some_and o (λ (j : Outgoing). j.number == e.number)) none)
     by (Some j) is t = and_first (is_picked rules e past) (is_due_frame rules e t.frame past) (sym (ap (moment_keeps rules e past) t.written) ∙ keeps)
 
-pub all_picked : (rules : List RuleText) (past : List Event) → AreJudged rules past → all_keep rules past ≡ true → AtEach (λ e past. is_picked rules e past ≡ true) past
+pub all_picked : (rules : RuleSet) (past : List Event) → AreJudged rules past → all_keep rules past ≡ true → AtEach (λ e past. is_picked rules e past ≡ true) past
 all_picked rules [] are keeps = tt
 all_picked rules (e ∷ past) are keeps = (
   keeps_picked rules e past are (and_first (moment_keeps rules e past e.moment) (all_keep rules past) keeps),
@@ -81,7 +81,7 @@ otherwise true rest is all = absurd cc
 
 -- ---- an event that begins a delivery on a link, to which another waits
 
-module _ (rules : List RuleText) (e : Event) (past : List Event) (are : AreJudged rules (e ∷ past)) (lawful : first_broken rules (e ∷ past) ≡ None) (picked : is_picked rules e past ≡ true)
+module _ (rules : RuleSet) (e : Event) (past : List Event) (are : AreJudged rules (e ∷ past)) (lawful : first_broken rules (e ∷ past) ≡ None) (picked : is_picked rules e past ≡ true)
     (l : Link) (at : link_at l.number (e ∷ past) ≡ Some l) (d : Incoming) (known : incoming_at d.number past ≡ Some d) (address : address_of d ≡ l.address)
     (waits : is_waiting rules d past ≡ true) (unpaired : pairs d e ≡ false) where
   anycast : is_of_multicast rules d ≡ false
@@ -127,11 +127,11 @@ no-pair true false is = refl
 no-pair true true is = absurd cc
 no-pair false pair is = absurd cc
 
-abbrev IsInOrder : List RuleText → List Event → Link → Incoming → Type 0
+abbrev IsInOrder : RuleSet → List Event → Link → Incoming → Type 0
 IsInOrder rules past l d =
     link_at l.number past ≡ Some l → incoming_at d.number past ≡ Some d → address_of d ≡ l.address → is_waiting rules d past ≡ true → is_in_order l past d ≡ true
 
-module _ (rules : List RuleText) (e : Event) (past : List Event) (are : AreJudged rules (e ∷ past)) (lawful : first_broken rules (e ∷ past) ≡ None) (picked : is_picked rules e past ≡ true)
+module _ (rules : RuleSet) (e : Event) (past : List Event) (are : AreJudged rules (e ∷ past)) (lawful : first_broken rules (e ∷ past) ≡ None) (picked : is_picked rules e past ≡ true)
     (l : Link) (d : Incoming) (earlier : IsInOrder rules past l d) where
   -- what waits began before
   known_before : is_complete d past ≡ true → incoming_at d.number (e ∷ past) ≡ Some d → incoming_at d.number past ≡ Some d
@@ -158,14 +158,14 @@ module _ (rules : List RuleText) (e : Event) (past : List Event) (are : AreJudge
   ]
 
 -- an anycast delivery that waits is in order on each link of its address
-pub waiting_in_order : (rules : List RuleText) (past : List Event) → AreJudged rules past → first_broken rules past ≡ None → AtEach (λ e past. is_picked rules e past ≡ true) past
+pub waiting_in_order : (rules : RuleSet) (past : List Event) → AreJudged rules past → first_broken rules past ≡ None → AtEach (λ e past. is_picked rules e past ≡ true) past
     → (l : Link) (d : Incoming) → link_at l.number past ≡ Some l → incoming_at d.number past ≡ Some d → address_of d ≡ l.address → is_waiting rules d past ≡ true → is_in_order l past d ≡ true
 waiting_in_order rules [] are lawful picked l d = λ at known address waits. refl
 waiting_in_order rules (e ∷ past) are lawful picked l d =
     order_step rules e past are lawful picked.0 l d (waiting_in_order rules past are.1 (lawful-past rules e past lawful) picked.1 l d)
 
 -- where each event kept the router's duties
-pub kept_in_order : (rules : List RuleText) (past : List Event) → AreJudged rules past → first_broken rules past ≡ None → all_keep rules past ≡ true
+pub kept_in_order : (rules : RuleSet) (past : List Event) → AreJudged rules past → first_broken rules past ≡ None → all_keep rules past ≡ true
     → (l : Link) (d : Incoming) → link_at l.number past ≡ Some l → incoming_at d.number past ≡ Some d → address_of d ≡ l.address → is_waiting rules d past ≡ true → is_in_order l past d ≡ true
 kept_in_order rules past are lawful keeps = waiting_in_order rules past are lawful (all_picked rules past are keeps)
 
@@ -178,7 +178,7 @@ pub none-before : (test : Incoming → Bool) (xs : List Incoming) → ((x : Inco
 none-before test [] none = refl
 none-before test (x ∷ xs) none = ap (λ b. b || list_any test xs) (none x (contains_first x xs)) ∙ none-before test xs (λ y there. none y (contains_later x xs y there))
 
-pub first_waiting-next : (rules : List RuleText) (past : List Event) → AreJudged rules past → (address : List ℕ) (d : Incoming) (ds : List Incoming) → waiting_queue rules address past ≡ d ∷ ds → is_next_waiting rules past d ≡ true
+pub first_waiting-next : (rules : RuleSet) (past : List Event) → AreJudged rules past → (address : List ℕ) (d : Incoming) (ds : List Incoming) → waiting_queue rules address past ≡ d ∷ ds → is_next_waiting rules past d ≡ true
 first_waiting-next rules past are address d ds is =
     ap (λ b. b && not (list_any earlier (incoming_deliveries past))) waits
     ∙ ap not (none-before earlier (incoming_deliveries past) (λ x there. by x there (bytes_eq (address_of x) (address_of d)) refl (is_waiting rules x past) refl))

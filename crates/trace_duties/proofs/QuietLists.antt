@@ -5,7 +5,7 @@ use Rattle.std.specs.Prelude.{Contains}
 use Rattle.std.specs.Str.{bytes_eq}
 use Rattle.std.specs.List.{list_all}
 use Rattle.std.proofs.lemmas.Slice.Eq.{bytes_eq-Decides}
-use Rattle.capture_form.specs.Rules.{RuleText}
+use Rattle.capture_form.specs.Rules.{RuleSet}
 use Rattle.trace_events.specs.Event.{Event, Link, Incoming, Outgoing}
 use Rattle.trace_events.specs.declared.session.Session.{Session}
 use Rattle.trace_events.specs.Session.{live_sessions}
@@ -74,7 +74,7 @@ not-empty : {A : Type 0} (x : A) (xs : List A) → Contains xs x → (length xs 
 not-empty x [] there = contains_none x there
 not-empty x (y ∷ ys) there = ne_eqb (length (y ∷ ys)) 0 (λ same. omega (arith, same))
 
-module _ (rules : List RuleText) (past : List Event) where
+module _ (rules : RuleSet) (past : List Event) where
   -- ---- outcomes and settlings
 
   -- no outcome could be told: no delivery stands in a list of all that are to be told

@@ -7,7 +7,7 @@ use Rattle.amqp_perf.specs.declared.condition.ErrorCondition.TheVariants.{Framin
 use Rattle.amqp_perf.specs.declared.flow.Flow.{Flow}
 use Rattle.amqp_perf.specs.Meaning.{Meaning, AnOpen, ABegin, AnAttach, AFlow, ATransfer, ADisposition, ADetach, AnEnd, AClose, AttachFields, flag, sender_mode}
 use Rattle.amqp_perf.specs.Router.{attach_to_producer, attach_to_consumer, attach_refused}
-use Rattle.capture_form.specs.Rules.{RuleText}
+use Rattle.capture_form.specs.Rules.{RuleSet}
 use Rattle.trace_events.specs.declared.fault.Fault.{Fault}
 use Rattle.trace_events.specs.declared.fault.Fault.TheVariants.{Close, End, Refuse, Detach}
 use Rattle.trace_events.specs.Frame.{Body, Says, Spoken}
@@ -48,7 +48,7 @@ abbrev pub echo_on : Option Session → Option Link → Flow → List Event → 
 echo_on None l flow past = []
 echo_on (Some s) l flow past = if flag flow.echo then flow_on s l past ∷ [] else []
 
-abbrev pub plain_answer : List RuleText → Event → ℕ → Meaning → List Event → List Spoken
+abbrev pub plain_answer : RuleSet → Event → ℕ → Meaning → List Event → List Spoken
 plain_answer rules e channel (AnOpen fields) past = written_open ∷ []
 plain_answer rules e channel (ABegin begin) past = written_begin channel ∷ []
 plain_answer rules e channel (AnAttach fields) past = says channel (AnAttach (attach_answer e.number fields fields.role)) ∷ []
@@ -73,7 +73,7 @@ fault_answer e channel meaning (Refuse condition) past = refusal channel conditi
 fault_answer e channel meaning (Detach condition) past =
     written_detach channel (unwrap_or (handle_in meaning) 0) true (Some condition) ∷ []
 
-abbrev pub heard_answer : List RuleText → Event → ℕ → Meaning → Option Fault → List Event → List Spoken
+abbrev pub heard_answer : RuleSet → Event → ℕ → Meaning → Option Fault → List Event → List Spoken
 heard_answer rules e channel meaning None past = plain_answer rules e channel meaning past
 heard_answer rules e channel meaning (Some fault) past = fault_answer e channel meaning fault past
 
@@ -87,17 +87,17 @@ abbrev pub unread_answer : Event → Option Fault → List Event → List Spoken
 unread_answer e (Some (Close condition)) past = closing e.connection (Some condition) past
 unread_answer e _ past = []
 
-abbrev pub body_answer : List RuleText → Event → Body → List Event → List Spoken
+abbrev pub body_answer : RuleSet → Event → Body → List Event → List Spoken
 body_answer rules e (Says spoken) past =
     if e.is_heard then heard_answer rules e spoken.channel spoken.meaning e.fault past else passed_answer e spoken.meaning past
 body_answer rules e _ past = unread_answer e e.fault past
 
-abbrev pub moment_answer : List RuleText → Event → Moment → List Event → List Spoken
+abbrev pub moment_answer : RuleSet → Event → Moment → List Event → List Spoken
 moment_answer rules e (In frame) past = body_answer rules e frame.body past
 moment_answer rules e Broken past =
     if has_out_close e.connection past then [] else closing e.connection (Some FramingError) past
 moment_answer rules e _ past = []
 
 -- the frames, in order, on the event's connection
-abbrev pub answer : List RuleText → Event → List Event → List Spoken
+abbrev pub answer : RuleSet → Event → List Event → List Spoken
 answer rules e past = moment_answer rules e e.moment past

@@ -7,7 +7,7 @@ use Rattle.amqp_perf.specs.declared.attach.Role.TheVariants.{Sender, Receiver}
 use Rattle.amqp_perf.specs.declared.flow.Flow.{Flow}
 use Rattle.amqp_perf.specs.Meaning.{Meaning, AFlow, ATransfer, ADisposition, TransferFields, DispositionFields}
 use Rattle.capture_form.specs.declared.records.Record.{Record}
-use Rattle.capture_form.specs.Rules.{RuleText}
+use Rattle.capture_form.specs.Rules.{RuleSet}
 use Rattle.trace_events.specs.Words.{is_some_and, is_none_or, is_number}
 use Rattle.trace_events.specs.Frame.{Frame, Spoken, spoken_in}
 use Rattle.trace_events.specs.Event.{Event, Link, Incoming, Outgoing, Moment, Out, is_out, out_frame}
@@ -38,12 +38,12 @@ abbrev pub up_to_input : List Event → List Event
 up_to_input [] = []
 up_to_input (e ∷ past) = let earlier = up_to_input past in if is_out e.moment then earlier else e ∷ past
 
-abbrev pub input_answer : List RuleText → List Event → List Spoken
+abbrev pub input_answer : RuleSet → List Event → List Spoken
 input_answer rules [] = []
 input_answer rules (e ∷ past) = answer rules e (e ∷ past)
 
 -- the answer to the last input
-abbrev pub last_answer : List RuleText → List Event → List Spoken
+abbrev pub last_answer : RuleSet → List Event → List Spoken
 last_answer rules past = input_answer rules (up_to_input past)
 
 -- the event writes this frame, octet by octet
@@ -60,22 +60,22 @@ begin_with from [] events = true
 begin_with from (spoken ∷ answer) [] = false
 begin_with from (spoken ∷ answer) (e ∷ events) = is_on_connection_of from e && writes e spoken && begin_with from answer events
 
-abbrev pub is_answered : List RuleText → List Event → Bool
+abbrev pub is_answered : RuleSet → List Event → Bool
 is_answered rules past = begin_with (up_to_input past) (last_answer rules past) (reverse (group past))
 
 -- ---- each frame that is written
 
 -- the delivery waits, and no other that was completed before it waits at its address
-abbrev pub is_next_waiting : List RuleText → List Event → Incoming → Bool
+abbrev pub is_next_waiting : RuleSet → List Event → Incoming → Bool
 is_next_waiting rules past d =
     is_waiting rules d past
     && not (list_any (λ other. bytes_eq (address_of other) (address_of d) && is_waiting rules other past && completed_before other d past) (incoming_deliveries past))
 
-abbrev pub is_picked_link : List RuleText → List Event → Incoming → Link → Bool
+abbrev pub is_picked_link : RuleSet → List Event → Incoming → Link → Bool
 is_picked_link rules past d l = is_number (pick rules (address_of d) past) l.number
 
 -- an anycast delivery that begins carries the next waiting one of its address, on the link that is picked
-abbrev pub is_picked : List RuleText → Event → List Event → Bool
+abbrev pub is_picked : RuleSet → Event → List Event → Bool
 is_picked rules e past =
     not (begins_outgoing e)
     || is_none_or (noted e.note past) (λ d. is_of_multicast rules d
@@ -111,29 +111,29 @@ disposition_as_written channel fields Receiver = written_outcome channel fields.
 disposition_as_written channel fields Sender = written_settling channel fields.first
 
 -- a flow gives a producer's link its credit, or answers a drain
-abbrev pub is_owed_on : List RuleText → Event → List Event → Link → Bool
+abbrev pub is_owed_on : RuleSet → Event → List Event → Link → Bool
 is_owed_on rules e past l =
     if is_consumer l then may_be_drained rules past l && writes e (written_count l (drained_count past l) 0 past)
     else may_be_topped_up rules past l && writes e (written_credit l (full_credit rules past l) past)
 
 -- or gives a session its window
-abbrev pub is_owed_flow : List RuleText → Event → Flow → List Event → Bool
+abbrev pub is_owed_flow : RuleSet → Event → Flow → List Event → Bool
 is_owed_flow rules e flow past =
     if is_some flow.handle then is_some_and e.link (is_owed_on rules e past)
     else is_some_and e.session (λ s. lacks_window past s && writes e (written_session_flow s past))
 
 -- an outcome, a settling, a transfer, or a flow that is owed, each as it is to be written
-abbrev pub is_called_for : List RuleText → Event → ℕ → List Event → Meaning → Bool
+abbrev pub is_called_for : RuleSet → Event → ℕ → List Event → Meaning → Bool
 is_called_for rules e channel past (ADisposition fields) = writes e (disposition_as_written channel fields fields.role)
 is_called_for rules e channel past (ATransfer fields) = is_filled_transfer e past
 is_called_for rules e channel past (AFlow flow) = is_owed_flow rules e flow past
 is_called_for rules e channel past _ = false
 
 -- it stands where the answer to the last input does; `is_answered` compares the two
-abbrev pub is_of_answer : List RuleText → List Event → Bool
+abbrev pub is_of_answer : RuleSet → List Event → Bool
 is_of_answer rules past = nat_lt (length (group past)) (length (last_answer rules past))
 
-abbrev pub is_due_frame : List RuleText → Event → Frame → List Event → Bool
+abbrev pub is_due_frame : RuleSet → Event → Frame → List Event → Bool
 is_due_frame rules e frame past =
     is_of_answer rules past
     || is_some_and (spoken_in frame.body) (λ spoken. is_called_for rules e spoken.channel past spoken.meaning)
@@ -141,17 +141,17 @@ is_due_frame rules e frame past =
 -- ---- all of it
 
 -- before an input nothing is left, and the last one is answered; a frame that is written is due, and goes where it is to
-abbrev pub moment_keeps : List RuleText → Event → List Event → Moment → Bool
+abbrev pub moment_keeps : RuleSet → Event → List Event → Moment → Bool
 moment_keeps rules e past (Out frame) = is_picked rules e past && is_due_frame rules e frame past
 moment_keeps rules e past _ = is_quiet rules past && is_answered rules past
 
-abbrev pub all_keep : List RuleText → List Event → Bool
+abbrev pub all_keep : RuleSet → List Event → Bool
 all_keep rules [] = true
 all_keep rules (e ∷ past) = let earlier = all_keep rules past in moment_keeps rules e past e.moment && earlier
 
 -- each event keeps this, and nothing is left at the end
-abbrev pub is_diligent_history : List RuleText → List Event → Bool
+abbrev pub is_diligent_history : RuleSet → List Event → Bool
 is_diligent_history rules past = all_keep rules past && is_quiet rules past && is_answered rules past
 
-abbrev pub is_diligent : List RuleText → List Record → Bool
+abbrev pub is_diligent : RuleSet → List Record → Bool
 is_diligent rules records = is_diligent_history rules (history rules records)

@@ -1,7 +1,7 @@
 -- The consumer that a waiting delivery goes to, as the pick of `address_table` over what happened to the links of
 -- consumers (Qpid Dispatch Router: closest, balanced; ties are own rules).
 use Rattle.std.specs.Prelude.{ℕ, Bool, ◌&&◌, List, Option, is_none, filter, nat_lt}
-use Rattle.capture_form.specs.Rules.{RuleText}
+use Rattle.capture_form.specs.Rules.{RuleSet}
 use Rattle.capture_form.specs.Addresses.{distribution}
 use Rattle.address_table.specs.Picking.{pick_of}
 use Rattle.trace_events.specs.Words.{is_some_and}
@@ -26,5 +26,5 @@ abbrev pub is_eligible : List Event → ℕ → Bool
 is_eligible past link = is_some_and (link_at link past) (may_take past)
 
 -- the link that is picked, by its number
-abbrev pub pick : List RuleText → List ℕ → List Event → Option ℕ
+abbrev pub pick : RuleSet → List ℕ → List Event → Option ℕ
 pick rules address past = pick_of (distribution rules address) (is_eligible past) address (address_events past)

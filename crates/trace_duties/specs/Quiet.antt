@@ -1,7 +1,7 @@
 -- That nothing is left which a router could write (own rules).
 use Rattle.std.specs.Prelude.{Bool, ◌&&◌, ◌||◌, not, List, length, is_some, nat_le, nat_lt, ◌==◌}
 use Rattle.std.specs.List.{list_any, list_all}
-use Rattle.capture_form.specs.Rules.{RuleText}
+use Rattle.capture_form.specs.Rules.{RuleSet}
 use Rattle.flow_counts.specs.declared.profile.TheConstants.{RENEWAL_MARK}
 use Rattle.trace_events.specs.Event.{Event, Link, Incoming}
 use Rattle.trace_events.specs.declared.session.Session.{Session}
@@ -20,7 +20,7 @@ use Rattle.trace_clauses.specs.FlowClause.{may_be_topped_up, may_be_drained}
 use Rattle.trace_duties.specs.Pick.{eligible}
 
 -- no delivery waits at an address with a link that may be sent it
-abbrev pub none_waits_in_vain : List RuleText → List Event → Bool
+abbrev pub none_waits_in_vain : RuleSet → List Event → Bool
 none_waits_in_vain rules past =
     list_all (λ d. not (is_waiting rules d past) || length (eligible (address_of d) past) == 0) (incoming_deliveries past)
 
@@ -32,11 +32,11 @@ abbrev pub none_stands_still : List Event → Bool
 none_stands_still past = list_all (λ l. not (stands_still past l)) (live_links past)
 
 -- no outcome could be told
-abbrev pub none_is_untold : List RuleText → List Event → Bool
+abbrev pub none_is_untold : RuleSet → List Event → Bool
 none_is_untold rules past = list_all (λ d. not (is_to_tell rules past d)) (incoming_deliveries past)
 
 -- no producer's link is to be given more credit
-abbrev pub none_lacks_credit : List RuleText → List Event → Bool
+abbrev pub none_lacks_credit : RuleSet → List Event → Bool
 none_lacks_credit rules past = list_all (λ l. not (is_producer l && may_be_topped_up rules past l)) (live_links past)
 
 -- no session is to be given its window anew
@@ -47,22 +47,22 @@ abbrev pub none_lacks_window : List Event → Bool
 none_lacks_window past = list_all (λ s. not (lacks_window past s)) (live_sessions past)
 
 -- no consumer's link is draining while nothing waits for it, and has credit
-abbrev pub none_is_undrained : List RuleText → List Event → Bool
+abbrev pub none_is_undrained : RuleSet → List Event → Bool
 none_is_undrained rules past = list_all (λ l. not (is_consumer l && may_be_drained rules past l)) (live_links past)
 
 -- a copy that is due to a link stands behind an earlier unsent one or a delivery in progress, or the link has no window
 -- or no credit
-abbrev pub has_earlier_unsent : List RuleText → List Event → Link → Incoming → Bool
+abbrev pub has_earlier_unsent : RuleSet → List Event → Link → Incoming → Bool
 has_earlier_unsent rules past l d =
     list_any (λ before. completed_before before d past && is_unsent rules before l past) (incoming_deliveries past)
 
-abbrev pub is_held_back : List RuleText → List Event → Link → Incoming → Bool
+abbrev pub is_held_back : RuleSet → List Event → Link → Incoming → Bool
 is_held_back rules past l d =
     has_earlier_unsent rules past l d || is_some (outgoing.in_progress l past)
     || session_window l.session past == 0 || link_credit l past == 0
 
 -- each copy that is due to a live link is sent, or held back
-abbrev pub copies_are_sent : List RuleText → List Event → Bool
+abbrev pub copies_are_sent : RuleSet → List Event → Bool
 copies_are_sent rules past =
     list_all (λ l. list_all (λ d. not (is_unsent rules d l past) || is_held_back rules past l d) (incoming_deliveries past)) (live_links past)
 
@@ -71,7 +71,7 @@ abbrev pub none_is_unsettled : List Event → Bool
 none_is_unsettled past = list_all (λ j. not (is_to_settle past j)) (outgoing_deliveries past)
 
 -- nothing that can go waits
-abbrev pub is_quiet : List RuleText → List Event → Bool
+abbrev pub is_quiet : RuleSet → List Event → Bool
 is_quiet rules past =
     none_waits_in_vain rules past && none_stands_still past && none_is_untold rules past
     && none_lacks_credit rules past && none_lacks_window past && none_is_undrained rules past
