@@ -3,7 +3,7 @@ use Rattle.std.proofs.Common.{◌≡◌, refl, sym, ap, ◌∙◌, Bool, true, f
 use Rattle.std.specs.List.{list_any}
 use Rattle.pairing_cert.specs.declared.note.Why.{Why}
 use Rattle.pairing_cert.specs.declared.note.Why.TheVariants.{C, Z, S, L, N, M}
-use Rattle.capture_form.specs.Rules.{RuleText}
+use Rattle.capture_form.specs.Rules.{RuleSet}
 use Rattle.amqp_perf.specs.declared.descriptor.Outcome.TheVariants.{Released}
 use Rattle.trace_events.specs.Event.{Event, Incoming, Outgoing}
 use Rattle.trace_events.specs.Disposition.{terminal_state}
@@ -22,7 +22,7 @@ module _ (d : Incoming) (past : List Event) where
       → anycast_row d past why (pairing d past) ≡ paired_row d j past (option_map decided_view own) why
   carried-row j why own carried same = ap (anycast_row d past why) (sym carried) ∙ sym (row_decided d j past why own same)
 
-module _ (rules : List RuleText) (d : Incoming) (past : List Event) where
+module _ (rules : RuleSet) (d : Incoming) (past : List Event) where
   six-none : (f : Why → Bool) → f C ≡ false → f Z ≡ false → f S ≡ false → f L ≡ false → f N ≡ false → f M ≡ false → list_any f reasons ≡ false
   six-none f c z s l n m = rw (c, z, s, l, n, m) refl
 

@@ -1,6 +1,6 @@
 //! The law: the clauses that each record which the router has written must meet.
 
-ghost use Rattle.capture_form.specs.Rules.{RuleText};
+ghost use Rattle.capture_form.specs.Rules.{RuleSet};
 ghost use Rattle.std.specs.Prelude.{◌≡◌, IfSome, List, Some, None, if◌then◌else◌, find, length, not};
 ghost use Rattle.amqp_perf.specs.View.{disposition_fields, transfer_fields, attach_fields};
 ghost use Rattle.trace_events.specs.Words.{is_some_and};
@@ -28,7 +28,7 @@ use self::session::{answers_begin, may_end};
 use self::transfer::{carries, goes_on_with, is_alike, may_be_sent, may_begin, may_go_to};
 use crate::questions::{Carriage, Counts, Inputs, Openings, Outcomes, Questions};
 use amqp_perf::{Attach, Disposition, Performative, Role, Transfer};
-use capture_form::Rule;
+use capture_form::RuleSet;
 use pairing_cert::Note;
 use trace_clauses::Clause;
 use trace_values::{Event, Frame, Moment, Spoken};
@@ -62,7 +62,7 @@ fn first_broken(clause: Clause, is_met: bool, note: Note) -> Option<Clause>
 
 fn broken_by_transfer<'a, P: Counts + Carriage<'a>>(
     past: &P,
-    rules: &[Rule],
+    rules: &RuleSet,
     event: &Event,
     transfer: &Transfer,
     payload: &'a [u8],
@@ -101,7 +101,7 @@ fn broken_by_transfer<'a, P: Counts + Carriage<'a>>(
 
 fn broken_by_disposition<'a, P: Outcomes<'a>>(
     past: &P,
-    rules: &[Rule],
+    rules: &RuleSet,
     event: &Event,
     disposition: &Disposition,
 ) -> Option<Clause>
@@ -123,7 +123,7 @@ fn broken_by_disposition<'a, P: Outcomes<'a>>(
 /// The clause of what is neither a transfer nor a disposition, apart from its note.
 fn broken_by_other<'a, P: Inputs<'a> + Openings<'a> + Counts>(
     past: &P,
-    rules: &[Rule],
+    rules: &RuleSet,
     event: &Event,
     spoken: &Spoken,
 ) -> Option<Clause>
@@ -156,7 +156,7 @@ fn broken_by_other<'a, P: Inputs<'a> + Openings<'a> + Counts>(
 
 /// On a live session, the answer to the client's attach.
 fn answers_live<'a, P: Openings<'a>>(past: &P, event: &Event, attach: &Attach) -> bool
-    ensures { (rules : List RuleText) (history : Events) → P.stands_for past.now rules history → StandsLive (event_view event.now) history →
+    ensures { (rules : RuleSet) (history : Events) → P.stands_for past.now rules history → StandsLive (event_view event.now) history →
         (result ≡ is_some_and (event_view event.now).session (answers_attach (attach_fields attach.now) history)) }
 {
     match event.session {
@@ -168,7 +168,7 @@ fn answers_live<'a, P: Openings<'a>>(past: &P, event: &Event, attach: &Attach) -
 /// A performative: L1 speaks of each.
 fn broken_by_spoken<'a, 'm: 'a, P: Questions<'a>>(
     past: &P,
-    rules: &[Rule],
+    rules: &RuleSet,
     event: &Event<'_, 'm>,
     frame: &Frame,
     spoken: &Spoken<'m>,
@@ -202,7 +202,7 @@ fn broken_by_spoken<'a, 'm: 'a, P: Questions<'a>>(
 /// breaks L1.
 pub fn broken_clause<'a, 'm: 'a, P: Questions<'a>>(
     past: &P,
-    rules: &[Rule],
+    rules: &RuleSet,
     event: &Event<'_, 'm>,
 ) -> Option<Clause>
     requires few { P.is_short past.now }

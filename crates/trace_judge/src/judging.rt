@@ -1,6 +1,6 @@
 //! A record in its place, by those before it.
 
-ghost use Rattle.capture_form.specs.Rules.{RuleText};
+ghost use Rattle.capture_form.specs.Rules.{RuleSet};
 ghost use Rattle.std.specs.Prelude.{List, IfSome, ◌≡◌, option_map, length};
 ghost use Rattle.trace_events.specs.History.{session_of, named_link, link_of};
 ghost use Rattle.trace_events.specs.Session.{IsLiveOn, StandsLive};
@@ -17,7 +17,7 @@ use self::fault::body_fault;
 use self::heard::is_heard_body;
 use crate::questions::{Carriage, Inputs, Openings, Outcomes};
 use amqp_perf::{Disposition, Performative, Role};
-use capture_form::{Record, Rule};
+use capture_form::{Record, RuleSet};
 use pairing_cert::Note;
 use trace_events::{Fault, Session};
 use trace_values::{
@@ -28,14 +28,14 @@ use trace_values::{
 
 /// The live session of a frame's channel.
 fn session_of<'a, P: Inputs<'a>>(past: &P, connection: u32, moment: &Moment) -> Option<Session>
-    ensures { (rules : List RuleText) (history : Events) → P.stands_for past.now rules history → (result ≡ session_of connection (moment_view moment.now) history) }
+    ensures { (rules : RuleSet) (history : Events) → P.stands_for past.now rules history → (result ≡ session_of connection (moment_view moment.now) history) }
 {
     past.live_session(connection, moment.spoken()?.channel)
 }
 
 /// The live link of the handle that a flow, transfer or detach names.
 fn named_link<'a, P: Inputs<'a>>(past: &P, session: Session, spoken: &Spoken) -> Option<Link<'a>>
-    ensures { (rules : List RuleText) (history : Events) → P.stands_for past.now rules history → IsLiveOn session history →
+    ensures { (rules : RuleSet) (history : Events) → P.stands_for past.now rules history → IsLiveOn session history →
         (option_map link_view result ≡ named_link session (spoken_view spoken.now).meaning history) }
 {
     past.session_link(session, handle_in(&spoken.performative)?)
@@ -46,7 +46,7 @@ fn link_of<'a, P: Inputs<'a>>(
     moment: &Moment,
     session: Option<Session>,
 ) -> Option<Link<'a>>
-    ensures { (rules : List RuleText) (history : Events) → P.stands_for past.now rules history → IfSome session (λ s. IsLiveOn s history) →
+    ensures { (rules : RuleSet) (history : Events) → P.stands_for past.now rules history → IfSome session (λ s. IsLiveOn s history) →
         (option_map link_view result ≡ link_of (moment_view moment.now) history session) }
 {
     named_link(past, session?, moment.spoken()?)
@@ -60,7 +60,7 @@ fn incoming_part<'a, P: Inputs<'a>>(
     event: &Event<'a, '_>,
     spoken: &Spoken,
 ) -> Option<Incoming<'a>>
-    ensures { (rules : List RuleText) (history : Events) → P.stands_for past.now rules history → NamesLive (event_view event.now) history →
+    ensures { (rules : RuleSet) (history : Events) → P.stands_for past.now rules history → NamesLive (event_view event.now) history →
         (option_map incoming_view result ≡ law.incoming_part (event_view event.now) (spoken_view spoken.now).meaning history) }
 {
     let Performative::Transfer(transfer) = &spoken.performative else {
@@ -78,7 +78,7 @@ fn incoming_part<'a, P: Inputs<'a>>(
 
 /// The delivery of a transfer that is heard and without fault.
 fn incoming_by<'a, P: Inputs<'a>>(past: &P, event: &Event<'a, '_>) -> Option<Incoming<'a>>
-    ensures { (rules : List RuleText) (history : Events) → P.stands_for past.now rules history → NamesLive (event_view event.now) history →
+    ensures { (rules : RuleSet) (history : Events) → P.stands_for past.now rules history → NamesLive (event_view event.now) history →
         (option_map incoming_view result ≡ law.incoming_by (event_view event.now) (event_view event.now).moment history) }
 {
     match &event.moment {
@@ -95,7 +95,7 @@ fn outgoing_part<'a, P: Carriage<'a>>(
     event: &Event<'a, '_>,
     spoken: &Spoken,
 ) -> Option<Outgoing<'a>>
-    ensures { (rules : List RuleText) (history : Events) → P.stands_for past.now rules history → NamesLive (event_view event.now) history →
+    ensures { (rules : RuleSet) (history : Events) → P.stands_for past.now rules history → NamesLive (event_view event.now) history →
         (option_map outgoing_view result ≡ law.outgoing_part (event_view event.now) (spoken_view spoken.now).meaning history) }
 {
     let Performative::Transfer(transfer) = &spoken.performative else {
@@ -112,7 +112,7 @@ fn outgoing_part<'a, P: Carriage<'a>>(
 }
 
 fn outgoing_by<'a, P: Carriage<'a>>(past: &P, event: &Event<'a, '_>) -> Option<Outgoing<'a>>
-    ensures { (rules : List RuleText) (history : Events) → P.stands_for past.now rules history → NamesLive (event_view event.now) history →
+    ensures { (rules : RuleSet) (history : Events) → P.stands_for past.now rules history → NamesLive (event_view event.now) history →
         (option_map outgoing_view result ≡ law.outgoing_by (event_view event.now) (event_view event.now).moment history) }
 {
     match &event.moment {
@@ -124,7 +124,7 @@ fn outgoing_by<'a, P: Carriage<'a>>(past: &P, event: &Event<'a, '_>) -> Option<O
 /// The incoming delivery whose outcome a disposition tells, by its first id.
 fn told_by_role<'a, P: Outcomes<'a>>(
     past: &P,
-    rules: &[Rule],
+    rules: &RuleSet,
     session: Session,
     disposition: &Disposition,
 ) -> Option<u64>
@@ -143,7 +143,7 @@ fn settled_by_role<'a, P: Outcomes<'a>>(
     session: Session,
     disposition: &Disposition,
 ) -> Option<u64>
-    ensures { (rules : List RuleText) (history : Events) → P.stands_for past.now rules history → IsLiveOn session history →
+    ensures { (rules : RuleSet) (history : Events) → P.stands_for past.now rules history → IsLiveOn session history →
         (result ≡ law.settled_by_role session (disposition_fields disposition.now).first (disposition_fields disposition.now).role history) }
 {
     match disposition.role {
@@ -152,7 +152,7 @@ fn settled_by_role<'a, P: Outcomes<'a>>(
     }
 }
 
-fn told_by<'a, P: Outcomes<'a>>(past: &P, rules: &[Rule], event: &Event) -> Option<u64>
+fn told_by<'a, P: Outcomes<'a>>(past: &P, rules: &RuleSet, event: &Event) -> Option<u64>
     ensures { (history : Events) → P.stands_for past.now rules.now history → StandsLive (event_view event.now) history →
         (result ≡ law.told_by rules.now (event_view event.now) (event_view event.now).moment history) }
 {
@@ -168,7 +168,7 @@ fn told_by<'a, P: Outcomes<'a>>(past: &P, rules: &[Rule], event: &Event) -> Opti
 }
 
 fn settled_by<'a, P: Outcomes<'a>>(past: &P, event: &Event) -> Option<u64>
-    ensures { (rules : List RuleText) (history : Events) → P.stands_for past.now rules history → StandsLive (event_view event.now) history →
+    ensures { (rules : RuleSet) (history : Events) → P.stands_for past.now rules history → StandsLive (event_view event.now) history →
         (result ≡ law.settled_by (event_view event.now) (event_view event.now).moment history) }
 {
     match &event.out_spoken()?.performative {
@@ -185,7 +185,7 @@ fn settled_by<'a, P: Outcomes<'a>>(past: &P, event: &Event) -> Option<u64>
 
 /// The session that an Out begin begins.
 fn opened_session<'a, P: Openings<'a>>(past: &P, event: &Event) -> Option<Session>
-    ensures { (rules : List RuleText) (history : Events) → P.stands_for past.now rules history →
+    ensures { (rules : RuleSet) (history : Events) → P.stands_for past.now rules history →
         OpensKnown (λ c channel. P.knows_begin past.now c channel history) (λ s handle. P.knows_attach past.now s handle history) (event_view event.now) → (result ≡ law.opened_session (event_view event.now) history) }
 {
     let spoken = event.out_spoken()?;
@@ -204,7 +204,7 @@ fn opened_session<'a, P: Openings<'a>>(past: &P, event: &Event) -> Option<Sessio
 
 /// The link that an Out attach with source and target opens on a live session.
 fn opened_link<'a, 'm: 'a, P: Openings<'a>>(past: &P, event: &Event<'a, 'm>) -> Option<Link<'a>>
-    ensures { (rules : List RuleText) (history : Events) → P.stands_for past.now rules history → StandsLive (event_view event.now) history →
+    ensures { (rules : RuleSet) (history : Events) → P.stands_for past.now rules history → StandsLive (event_view event.now) history →
         OpensKnown (λ c channel. P.knows_begin past.now c channel history) (λ s handle. P.knows_attach past.now s handle history) (event_view event.now) →
         (option_map link_view result ≡ law.opened_link (event_view event.now) history) }
 {
@@ -227,7 +227,7 @@ fn placed<'a, 'm, P: Inputs<'a>>(
     moment: &Moment<'m>,
     note: Note,
 ) -> Event<'a, 'm>
-    ensures { (rules : List RuleText) (history : Events) → P.stands_for past.now rules history → number ≡ length history →
+    ensures { (rules : RuleSet) (history : Events) → P.stands_for past.now rules history → number ≡ length history →
         (event_view result ≡ law.placed history connection (moment_view moment.now) note) }
 {
     let session = session_of(past, connection, moment);
@@ -248,7 +248,7 @@ fn placed<'a, 'm, P: Inputs<'a>>(
 }
 
 fn heard_by<'a, P: Inputs<'a>>(past: &P, event: &Event) -> bool
-    ensures { (rules : List RuleText) (history : Events) → P.stands_for past.now rules history → StandsLive (event_view event.now) history →
+    ensures { (rules : RuleSet) (history : Events) → P.stands_for past.now rules history → StandsLive (event_view event.now) history →
         (result ≡ law.heard_by (event_view event.now) (event_view event.now).moment history) }
 {
     match &event.moment {
@@ -258,13 +258,13 @@ fn heard_by<'a, P: Inputs<'a>>(past: &P, event: &Event) -> bool
 }
 
 fn hear<'a, P: Inputs<'a>>(past: &P, event: &mut Event<'a, '_>)
-    ensures { (rules : List RuleText) (history : Events) → P.stands_for past.now rules history → StandsLive (event_view event.old) history →
+    ensures { (rules : RuleSet) (history : Events) → P.stands_for past.now rules history → StandsLive (event_view event.old) history →
         (event_view event.new ≡ law.heard history (event_view event.old)) }
 {
     event.is_heard = heard_by(past, event);
 }
 
-fn fault_by<'a, P: Inputs<'a>>(past: &P, rules: &[Rule], event: &Event) -> Option<Fault>
+fn fault_by<'a, P: Inputs<'a>>(past: &P, rules: &RuleSet, event: &Event) -> Option<Fault>
     ensures { (history : Events) → P.stands_for past.now rules.now history → StandsLive (event_view event.now) history → NamesLive (event_view event.now) history →
         (result ≡ law.fault_by rules.now (event_view event.now) (event_view event.now).moment history) }
 {
@@ -274,7 +274,7 @@ fn fault_by<'a, P: Inputs<'a>>(past: &P, rules: &[Rule], event: &Event) -> Optio
     }
 }
 
-fn find_fault<'a, P: Inputs<'a>>(past: &P, rules: &[Rule], event: &mut Event<'a, '_>)
+fn find_fault<'a, P: Inputs<'a>>(past: &P, rules: &RuleSet, event: &mut Event<'a, '_>)
     ensures { (history : Events) → P.stands_for past.now rules.now history → StandsLive (event_view event.old) history → NamesLive (event_view event.old) history →
         (event_view event.new ≡ law.faulted rules.now history (event_view event.old)) }
 {
@@ -283,7 +283,7 @@ fn find_fault<'a, P: Inputs<'a>>(past: &P, rules: &[Rule], event: &mut Event<'a,
 
 fn find_deliveries<'a, P: Inputs<'a> + Outcomes<'a> + Carriage<'a>>(
     past: &P,
-    rules: &[Rule],
+    rules: &RuleSet,
     event: &mut Event<'a, '_>,
 )
     ensures { (history : Events) → P.stands_for past.now rules.now history → StandsLive (event_view event.old) history → NamesLive (event_view event.old) history →
@@ -302,7 +302,7 @@ fn find_deliveries<'a, P: Inputs<'a> + Outcomes<'a> + Carriage<'a>>(
 /// Fills in what the event opens: an Out begin stands on its own session, and an Out attach names its own link; any other
 /// event stays as it was.
 pub fn open<'a, 'm: 'a, P: Openings<'a>>(past: &P, event: &mut Event<'a, 'm>)
-    ensures { (rules : List RuleText) (history : Events) → P.stands_for past.now rules history → StandsLive (event_view event.old) history →
+    ensures { (rules : RuleSet) (history : Events) → P.stands_for past.now rules history → StandsLive (event_view event.old) history →
         OpensKnown (λ c channel. P.knows_begin past.now c channel history) (λ s handle. P.knows_attach past.now s handle history) (event_view event.old) →
         (event_view event.new ≡ law.opened history (event_view event.old)) }
 {
@@ -321,7 +321,7 @@ pub fn open<'a, 'm: 'a, P: Openings<'a>>(past: &P, event: &mut Event<'a, 'm>)
 /// A record, with its note, as the event of this number, but for what it opens: the law can be asked here.
 pub fn judge_unopened<'a, 'm, P: Inputs<'a> + Outcomes<'a> + Carriage<'a>>(
     past: &P,
-    rules: &[Rule],
+    rules: &RuleSet,
     number: u64,
     entry: &'m Record,
 ) -> Event<'a, 'm>
@@ -335,7 +335,7 @@ pub fn judge_unopened<'a, 'm, P: Inputs<'a> + Outcomes<'a> + Carriage<'a>>(
 /// The same where the octets of the frame are read already.
 pub fn judge_unopened_read<'a, 'm, P: Inputs<'a> + Outcomes<'a> + Carriage<'a>>(
     past: &P,
-    rules: &[Rule],
+    rules: &RuleSet,
     number: u64,
     entry: &ReadRecord<'m>,
 ) -> Event<'a, 'm>
@@ -351,7 +351,7 @@ pub fn judge_unopened_read<'a, 'm, P: Inputs<'a> + Outcomes<'a> + Carriage<'a>>(
 /// What happened on a connection, with its note, as the event of this number, but for what it opens.
 fn judge_unopened_moment<'a, 'm, P: Inputs<'a> + Outcomes<'a> + Carriage<'a>>(
     past: &P,
-    rules: &[Rule],
+    rules: &RuleSet,
     number: u64,
     connection: u32,
     moment: &Moment<'m>,
@@ -370,7 +370,7 @@ fn judge_unopened_moment<'a, 'm, P: Inputs<'a> + Outcomes<'a> + Carriage<'a>>(
 /// The record of this number in its place.
 pub fn judge<'a, 'm: 'a, P: Inputs<'a> + Outcomes<'a> + Openings<'a> + Carriage<'a>>(
     past: &P,
-    rules: &[Rule],
+    rules: &RuleSet,
     number: u64,
     entry: &'m Record,
 ) -> Event<'a, 'm>

@@ -1,7 +1,7 @@
 //! What is told of an incoming delivery, and why (states: part 3 of the standard, section 3.4; the rows are a choice of
 //! this router).
 
-ghost use Rattle.capture_form.specs.Rules.{RuleText};
+ghost use Rattle.capture_form.specs.Rules.{RuleSet};
 ghost use Rattle.std.specs.Prelude.{List, ◌≡◌, ◌≤◌, ◌^◌, true, false, None, Some, IfSome, is_some, option_map};
 ghost use Rattle.std.specs.List.{list_any};
 ghost use Rattle.trace_clauses.specs.Outcome.{outcome_octets, bare_outcome};
@@ -17,7 +17,7 @@ ghost use Rattle.trace_clauses.specs.Outcome as rows;
 
 use crate::questions::Outcomes;
 use amqp_perf::{Outcome, State};
-use capture_form::Rule;
+use capture_form::RuleSet;
 use pairing_cert::Why;
 use trace_values::{Decision, Incoming, Outgoing, is_of_multicast};
 
@@ -115,7 +115,7 @@ impl<'a> Told<'a> {
 /// The producer takes the frame that tells this state.
 #[tactic(auto, using(crate::proofs::OutcomeSizes::outcome_long))]
 fn fits_producer<'a, P: Outcomes<'a>>(past: &P, delivery: &Incoming, state: Option<&[u8]>) -> bool
-    ensures { (rules : List RuleText) (history : Events) → P.stands_for past.now rules history →
+    ensures { (rules : RuleSet) (history : Events) → P.stands_for past.now rules history →
         (result ≡ rows.fits_producer (incoming_view delivery.now) (option_copied state.entry) history) }
 {
     let limit = u64::from(past.frame_limit(delivery.link.session.connection));
@@ -128,7 +128,7 @@ fn fits_producer<'a, P: Outcomes<'a>>(past: &P, delivery: &Incoming, state: Opti
 
 /// The producer takes the frame that tells the decision's outcome.
 fn takes_decided<'a, P: Outcomes<'a>>(past: &P, delivery: &Incoming, decision: &Decision) -> bool
-    ensures { (rules : List RuleText) (history : Events) → P.stands_for past.now rules history →
+    ensures { (rules : RuleSet) (history : Events) → P.stands_for past.now rules history →
         (result ≡ rows.fits_producer (incoming_view delivery.now) (rows.outcome_octets (decided_view decision.now)) history) }
 {
     match *decision {
@@ -139,7 +139,7 @@ fn takes_decided<'a, P: Outcomes<'a>>(past: &P, delivery: &Incoming, decision: &
 
 /// The last transfer to a pre-settled link is written.
 fn is_sent_settled<'a, P: Outcomes<'a>>(past: &P, outgoing: &Outgoing) -> bool
-    ensures { (rules : List RuleText) (history : Events) → P.stands_for past.now rules history → P.knows_outgoing past.now (outgoing_view outgoing.now) history →
+    ensures { (rules : RuleSet) (history : Events) → P.stands_for past.now rules history → P.knows_outgoing past.now (outgoing_view outgoing.now) history →
         (result ≡ rows.is_sent_settled (outgoing_view outgoing.now) history) }
 {
     outgoing.link.is_pre_settled && past.is_sent(outgoing)
@@ -153,7 +153,7 @@ fn paired_row<'a, P: Outcomes<'a>>(
     decision: &Option<Decision<'a>>,
     why: Why,
 ) -> Option<Told<'a>>
-    ensures { (rules : List RuleText) (history : Events) → P.stands_for past.now rules history → P.knows_outgoing past.now (outgoing_view outgoing.now) history → (option_map told_view result
+    ensures { (rules : RuleSet) (history : Events) → P.stands_for past.now rules history → P.knows_outgoing past.now (outgoing_view outgoing.now) history → (option_map told_view result
         ≡ rows.paired_row (incoming_view delivery.now) (outgoing_view outgoing.now) history (option_map decided_view decision.now) why) }
 {
     match (decision, why) {
@@ -169,7 +169,7 @@ fn paired_row<'a, P: Outcomes<'a>>(
 
 #[tactic(auto, using(crate::proofs::DecidedRows::row_decided))]
 fn anycast_row<'a, P: Outcomes<'a>>(past: &P, delivery: &Incoming, why: Why) -> Option<Told<'a>>
-    ensures { (rules : List RuleText) (history : Events) → P.stands_for past.now rules history → P.knows_incoming past.now (incoming_view delivery.now) history → (option_map told_view result
+    ensures { (rules : RuleSet) (history : Events) → P.stands_for past.now rules history → P.knows_incoming past.now (incoming_view delivery.now) history → (option_map told_view result
         ≡ rows.anycast_row (incoming_view delivery.now) history why (pairing (incoming_view delivery.now) history)) }
 {
     let outgoing = past.pairing(delivery)?;
@@ -190,7 +190,7 @@ fn verdict_told(outcome: Outcome) -> Told<'static>
 /// What tells the verdict of a multicast delivery, where each copy that is due has its own.
 fn whole_told<'a, P: Outcomes<'a>>(
     past: &P,
-    rules: &[Rule],
+    rules: &RuleSet,
     delivery: &Incoming,
 ) -> Option<Told<'a>>
     requires few { P.is_short past.now }
@@ -206,7 +206,7 @@ fn whole_told<'a, P: Outcomes<'a>>(
 /// What row `why` tells of a delivery, where it applies.
 pub fn row<'a, P: Outcomes<'a>>(
     past: &P,
-    rules: &[Rule],
+    rules: &RuleSet,
     delivery: &Incoming,
     why: Why,
 ) -> Option<Told<'a>>
@@ -231,7 +231,7 @@ fn decided_row<'a, P: Outcomes<'a>>(
     delivery: &Incoming,
     own: &Decision<'a>,
 ) -> (Why, Told<'a>)
-    ensures tells { (rules : List RuleText) (history : Events) (j : law_events.Outgoing) → P.stands_for past.now rules history →
+    ensures tells { (rules : RuleSet) (history : Events) (j : law_events.Outgoing) → P.stands_for past.now rules history →
         rows.paired_row (incoming_view delivery.now) j history (Some (decided_view own.now)) result.0 ≡ Some (told_view result.1) }
     ensures paired { asks_pairing result.0 ≡ true }
 {
@@ -244,10 +244,10 @@ fn decided_row<'a, P: Outcomes<'a>>(
 
 /// The first of the rows that apply without a decision, and what it tells.
 fn undecided_row<'a, P: Outcomes<'a>>(past: &P, outgoing: &Outgoing) -> Option<(Why, Told<'a>)>
-    ensures tells { (rules : List RuleText) (history : Events) (d : law_events.Incoming) → P.stands_for past.now rules history → P.knows_outgoing past.now (outgoing_view outgoing.now) history →
+    ensures tells { (rules : RuleSet) (history : Events) (d : law_events.Incoming) → P.stands_for past.now rules history → P.knows_outgoing past.now (outgoing_view outgoing.now) history →
         IfSome result (λ x. rows.paired_row d (outgoing_view outgoing.now) history None x.0 ≡ Some (told_view x.1)) }
     ensures paired { IfSome result (λ x. asks_pairing x.0 ≡ true) }
-    ensures none { (rules : List RuleText) (history : Events) (d : law_events.Incoming) → P.stands_for past.now rules history → P.knows_outgoing past.now (outgoing_view outgoing.now) history →
+    ensures none { (rules : RuleSet) (history : Events) (d : law_events.Incoming) → P.stands_for past.now rules history → P.knows_outgoing past.now (outgoing_view outgoing.now) history →
         result ≡ None → (why : Why) → rows.paired_row d (outgoing_view outgoing.now) history None why ≡ None }
 {
     if is_sent_settled(past, outgoing) {
@@ -261,10 +261,10 @@ fn undecided_row<'a, P: Outcomes<'a>>(past: &P, outgoing: &Outgoing) -> Option<(
 
 /// The first of the rows that ask what carried an anycast delivery to its consumer, and what it tells.
 fn first_paired_row<'a, P: Outcomes<'a>>(past: &P, delivery: &Incoming) -> Option<(Why, Told<'a>)>
-    ensures tells { (rules : List RuleText) (history : Events) → P.stands_for past.now rules history → P.knows_incoming past.now (incoming_view delivery.now) history →
+    ensures tells { (rules : RuleSet) (history : Events) → P.stands_for past.now rules history → P.knows_incoming past.now (incoming_view delivery.now) history →
         IfSome result (λ x. rows.anycast_row (incoming_view delivery.now) history x.0 (pairing (incoming_view delivery.now) history) ≡ Some (told_view x.1)) }
     ensures paired { IfSome result (λ x. asks_pairing x.0 ≡ true) }
-    ensures none { (rules : List RuleText) (history : Events) → P.stands_for past.now rules history → P.knows_incoming past.now (incoming_view delivery.now) history →
+    ensures none { (rules : RuleSet) (history : Events) → P.stands_for past.now rules history → P.knows_incoming past.now (incoming_view delivery.now) history →
         result ≡ None → (why : Why) → rows.anycast_row (incoming_view delivery.now) history why (pairing (incoming_view delivery.now) history) ≡ None }
 {
     let outgoing = past.pairing(delivery)?;
@@ -280,10 +280,10 @@ fn first_anycast_row<'a, P: Outcomes<'a>>(
     is_multicast: bool,
     delivery: &Incoming,
 ) -> Option<(Why, Told<'a>)>
-    ensures tells { (history : Events) (rules : List RuleText) → P.stands_for past.now rules history → P.knows_incoming past.now (incoming_view delivery.now) history →
+    ensures tells { (history : Events) (rules : RuleSet) → P.stands_for past.now rules history → P.knows_incoming past.now (incoming_view delivery.now) history →
         is_multicast ≡ waiting.is_of_multicast rules (incoming_view delivery.now) →
         IfSome result (λ x. rows.row rules (incoming_view delivery.now) history x.0 ≡ Some (told_view x.1)) }
-    ensures none { (history : Events) (rules : List RuleText) → P.stands_for past.now rules history → P.knows_incoming past.now (incoming_view delivery.now) history →
+    ensures none { (history : Events) (rules : RuleSet) → P.stands_for past.now rules history → P.knows_incoming past.now (incoming_view delivery.now) history →
         is_multicast ≡ waiting.is_of_multicast rules (incoming_view delivery.now) →
         result ≡ None → (why : Why) → asks_pairing why ≡ true → rows.row rules (incoming_view delivery.now) history why ≡ None }
 {
@@ -297,7 +297,7 @@ fn first_anycast_row<'a, P: Outcomes<'a>>(
 /// A row that applies to a delivery, and what it tells; none where no row does. The decision is asked for once.
 pub fn first_row<'a, P: Outcomes<'a>>(
     past: &P,
-    rules: &[Rule],
+    rules: &RuleSet,
     delivery: &Incoming,
 ) -> Option<(Why, Told<'a>)>
     requires few { P.is_short past.now }
@@ -317,7 +317,7 @@ pub fn first_row<'a, P: Outcomes<'a>>(
 
 /// It may be told: complete, of a live link, neither settled nor told.
 pub fn may_be_told<'a, P: Outcomes<'a>>(past: &P, delivery: &Incoming) -> bool
-    ensures { (rules : List RuleText) (history : Events) → P.stands_for past.now rules history → P.knows_incoming past.now (incoming_view delivery.now) history →
+    ensures { (rules : RuleSet) (history : Events) → P.stands_for past.now rules history → P.knows_incoming past.now (incoming_view delivery.now) history →
         (result ≡ rows.may_be_told (incoming_view delivery.now) history) }
 {
     past.is_complete(delivery) && !past.is_closed(delivery)

@@ -25,13 +25,13 @@ pub use self::outcomes::Outcomes;
 /// (`knows_number` and the others), and it is asked of nothing else.
 pub trait History {
     ghost use Rattle.std.specs.Prelude.{ℕ, List};
-    ghost use Rattle.capture_form.specs.Rules.{RuleText};
+    ghost use Rattle.capture_form.specs.Rules.{RuleSet};
     ghost use Rattle.trace_events.specs.Event.{Incoming, Outgoing};
     ghost use Rattle.trace_events.specs.declared.session.Session.{Session};
     ghost use Rattle.trace_values.specs.View.{Events};
 
     /// These are the events, judged by these rules of addresses.
-    ghost stands_for: { Self → List RuleText → Events → Type 0 };
+    ghost stands_for: { Self → RuleSet → Events → Type 0 };
 
     /// It can tell of the client's delivery that begins in the record of this number.
     ghost knows_number: { Self → ℕ → Events → Type 0 };

@@ -1,6 +1,6 @@
 //! L1: a frame that the router writes, on its connection.
 
-ghost use Rattle.capture_form.specs.Rules.{RuleText};
+ghost use Rattle.capture_form.specs.Rules.{RuleSet};
 ghost use Rattle.std.specs.Prelude.{List, ◌≡◌};
 ghost use Rattle.trace_values.specs.View.{spoken_view, frame_view, Events};
 ghost use Rattle.trace_clauses.specs.ConnectionClause as law;
@@ -11,7 +11,7 @@ use trace_values::{Frame, Spoken, is_of_connection};
 
 /// The first frame that is written is an open, and no other is (part 2 of the standard, section 2.4.1).
 fn is_open_in_place<'a, P: Openings<'a>>(past: &P, connection: u32, spoken: &Spoken) -> bool
-    ensures { (rules : List RuleText) (history : Events) → P.stands_for past.now rules history →
+    ensures { (rules : RuleSet) (history : Events) → P.stands_for past.now rules history →
         (result ≡ law.is_open_in_place connection (spoken_view spoken.now).meaning history) }
 {
     matches!(spoken.performative, Performative::Open(_)) != past.has_out_frame(connection)
@@ -24,7 +24,7 @@ pub(crate) fn may_be_written<'a, P: Openings<'a>>(
     connection: u32,
     spoken: &Spoken,
 ) -> bool
-    ensures { (rules : List RuleText) (history : Events) → P.stands_for past.now rules history →
+    ensures { (rules : RuleSet) (history : Events) → P.stands_for past.now rules history →
         (result ≡ law.may_be_written connection (spoken_view spoken.now).meaning history) }
 {
     past.was_opened(connection)
@@ -35,7 +35,7 @@ pub(crate) fn may_be_written<'a, P: Openings<'a>>(
 
 /// Within the longest frame that may be written.
 pub(crate) fn fits_limit<'a, P: Outcomes<'a>>(past: &P, connection: u32, frame: &Frame) -> bool
-    ensures { (rules : List RuleText) (history : Events) → P.stands_for past.now rules history → (result ≡ law.fits_limit connection (frame_view frame.now) history) }
+    ensures { (rules : RuleSet) (history : Events) → P.stands_for past.now rules history → (result ≡ law.fits_limit connection (frame_view frame.now) history) }
 {
     frame.octets.len() <= past.frame_limit(connection) as usize
 }

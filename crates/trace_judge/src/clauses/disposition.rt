@@ -8,7 +8,7 @@ ghost use Rattle.trace_clauses.specs.DispositionClause as law;
 use crate::outcome::{may_be_told, row};
 use crate::questions::Outcomes;
 use amqp_perf::Disposition;
-use capture_form::Rule;
+use capture_form::RuleSet;
 use pairing_cert::Note;
 use trace_values::{Event, Incoming};
 
@@ -22,7 +22,7 @@ pub(crate) fn settles_one(disposition: &Disposition) -> bool
 /// The row of the note applies to the delivery, with the state that is told.
 fn tells_by<'a, P: Outcomes<'a>>(
     past: &P,
-    rules: &[Rule],
+    rules: &RuleSet,
     delivery: &Incoming,
     note: Note,
     disposition: &Disposition,
@@ -44,7 +44,7 @@ fn tells_by<'a, P: Outcomes<'a>>(
 /// L11: an outcome, of a delivery that may be told one.
 pub(crate) fn is_outcome<'a, P: Outcomes<'a>>(
     past: &P,
-    rules: &[Rule],
+    rules: &RuleSet,
     event: &Event,
     disposition: &Disposition,
 ) -> bool

@@ -1,6 +1,6 @@
 //! Flows that the router writes (part 2 of the standard, sections 2.5.6, 2.6.7 and 2.7.4).
 
-ghost use Rattle.capture_form.specs.Rules.{RuleText};
+ghost use Rattle.capture_form.specs.Rules.{RuleSet};
 ghost use Rattle.std.specs.Prelude.{List, ◌≡◌};
 ghost use Rattle.trace_events.specs.Session.{IsLiveOn, StandsLive};
 ghost use Rattle.trace_events.specs.Link.{IsLiveLink, NamesLive};
@@ -9,14 +9,14 @@ ghost use Rattle.trace_clauses.specs.FlowClause as law;
 
 use crate::questions::{Counts, Inputs};
 use amqp_perf::Flow;
-use capture_form::Rule;
+use capture_form::RuleSet;
 use flow_counts::{CAPACITY, INCOMING_WINDOW, LOW_MARK, OUTGOING_WINDOW};
 use trace_events::Session;
 use trace_values::{Event, Link, has_multicast};
 
 /// The flow has the session's ids and windows.
 fn has_session_numbers<P: Counts>(past: &P, flow: &Flow, session: Session) -> bool
-    ensures { (rules : List RuleText) (history : Events) → P.stands_for past.now rules history → IsLiveOn session history →
+    ensures { (rules : RuleSet) (history : Events) → P.stands_for past.now rules history → IsLiveOn session history →
         (result ≡ law.has_session_numbers flow.now history session) }
 {
     flow.incoming_window == INCOMING_WINDOW
@@ -27,7 +27,7 @@ fn has_session_numbers<P: Counts>(past: &P, flow: &Flow, session: Session) -> bo
 
 /// A producer's link may be given more credit: its given credit and its undecided deliveries together have come down to the
 /// low mark, and its address is multicast or has a consumer.
-pub fn may_be_topped_up<'a, P: Inputs<'a> + Counts>(past: &P, rules: &[Rule], link: &Link) -> bool
+pub fn may_be_topped_up<'a, P: Inputs<'a> + Counts>(past: &P, rules: &RuleSet, link: &Link) -> bool
     requires few { P.is_short past.now }
     ensures { (history : Events) → P.stands_for past.now rules.now history → IsLiveLink (link_view link.now) history →
         (result ≡ law.may_be_topped_up rules.now history (link_view link.now)) }
@@ -38,7 +38,7 @@ pub fn may_be_topped_up<'a, P: Inputs<'a> + Counts>(past: &P, rules: &[Rule], li
 }
 
 /// The credit that fills a producer's live link up.
-pub fn full_credit<P: Counts>(past: &P, rules: &[Rule], link: &Link) -> u32
+pub fn full_credit<P: Counts>(past: &P, rules: &RuleSet, link: &Link) -> u32
     requires few { P.is_short past.now }
     ensures { (history : Events) → P.stands_for past.now rules.now history → IsLiveLink (link_view link.now) history →
         (result ≡ law.full_credit rules.now history (link_view link.now)) }
@@ -52,7 +52,7 @@ pub fn full_credit<P: Counts>(past: &P, rules: &[Rule], link: &Link) -> u32
 /// The flow has the numbers of a producer's link, or gives it more credit.
 fn has_producer_numbers<'a, P: Inputs<'a> + Counts>(
     past: &P,
-    rules: &[Rule],
+    rules: &RuleSet,
     flow: &Flow,
     link: &Link,
 ) -> bool
@@ -68,7 +68,7 @@ fn has_producer_numbers<'a, P: Inputs<'a> + Counts>(
 }
 
 /// Nothing waits for a consumer's link: no delivery at its address, and no copy that is due to it.
-fn nothing_waits<P: Counts>(past: &P, rules: &[Rule], link: &Link) -> bool
+fn nothing_waits<P: Counts>(past: &P, rules: &RuleSet, link: &Link) -> bool
     requires few { P.is_short past.now }
     ensures { (history : Events) → P.stands_for past.now rules.now history → IsLiveLink (link_view link.now) history →
         (result ≡ law.nothing_waits rules.now history (link_view link.now)) }
@@ -77,7 +77,7 @@ fn nothing_waits<P: Counts>(past: &P, rules: &[Rule], link: &Link) -> bool
 }
 
 /// The credit of a consumer's link may be used up: nothing waits, and the client asks for it.
-fn may_be_drained<P: Counts>(past: &P, rules: &[Rule], link: &Link) -> bool
+fn may_be_drained<P: Counts>(past: &P, rules: &RuleSet, link: &Link) -> bool
     requires few { P.is_short past.now }
     ensures { (history : Events) → P.stands_for past.now rules.now history → IsLiveLink (link_view link.now) history →
         (result ≡ law.may_be_drained rules.now history (link_view link.now)) }
@@ -87,7 +87,7 @@ fn may_be_drained<P: Counts>(past: &P, rules: &[Rule], link: &Link) -> bool
 
 /// The delivery-count to which the credit left would take it.
 fn drained_count<P: Counts>(past: &P, link: &Link) -> u32
-    ensures { (rules : List RuleText) (history : Events) → P.stands_for past.now rules history → IsLiveLink (link_view link.now) history →
+    ensures { (rules : RuleSet) (history : Events) → P.stands_for past.now rules history → IsLiveLink (link_view link.now) history →
         (result ≡ law.drained_count history (link_view link.now)) }
 {
     past.delivery_count(link)
@@ -95,7 +95,7 @@ fn drained_count<P: Counts>(past: &P, link: &Link) -> u32
 }
 
 /// A drain answer of a consumer's link: the flow says that all credit is used up, by the count, where it may be.
-fn is_drain_answer<P: Counts>(past: &P, rules: &[Rule], flow: &Flow, link: &Link) -> bool
+fn is_drain_answer<P: Counts>(past: &P, rules: &RuleSet, flow: &Flow, link: &Link) -> bool
     requires few { P.is_short past.now }
     ensures { (history : Events) → P.stands_for past.now rules.now history → IsLiveLink (link_view link.now) history →
         (result ≡ law.is_drain_answer rules.now flow.now history (link_view link.now)) }
@@ -106,7 +106,7 @@ fn is_drain_answer<P: Counts>(past: &P, rules: &[Rule], flow: &Flow, link: &Link
 }
 
 /// The flow has the numbers of a consumer's link, or says that all its credit is used up.
-fn has_consumer_numbers<P: Counts>(past: &P, rules: &[Rule], flow: &Flow, link: &Link) -> bool
+fn has_consumer_numbers<P: Counts>(past: &P, rules: &RuleSet, flow: &Flow, link: &Link) -> bool
     requires few { P.is_short past.now }
     ensures { (history : Events) → P.stands_for past.now rules.now history → IsLiveLink (link_view link.now) history →
         (result ≡ law.has_consumer_numbers rules.now flow.now history (link_view link.now)) }
@@ -120,7 +120,7 @@ fn has_consumer_numbers<P: Counts>(past: &P, rules: &[Rule], flow: &Flow, link: 
 /// The flow has the numbers of the link.
 fn has_link_numbers<'a, P: Inputs<'a> + Counts>(
     past: &P,
-    rules: &[Rule],
+    rules: &RuleSet,
     flow: &Flow,
     link: &Link,
 ) -> bool
@@ -139,7 +139,7 @@ fn has_link_numbers<'a, P: Inputs<'a> + Counts>(
 /// without one, no drain.
 pub(crate) fn tells_counts<'a, P: Inputs<'a> + Counts>(
     past: &P,
-    rules: &[Rule],
+    rules: &RuleSet,
     event: &Event,
     flow: &Flow,
 ) -> bool

@@ -1,6 +1,6 @@
 //! L3 and L13: attaches and detaches that the router writes.
 
-ghost use Rattle.capture_form.specs.Rules.{RuleText};
+ghost use Rattle.capture_form.specs.Rules.{RuleSet};
 ghost use Rattle.std.specs.Prelude.{List, ◌≡◌};
 ghost use Rattle.amqp_perf.specs.View.{attach_fields, detach_fields};
 ghost use Rattle.trace_events.specs.Session.{IsLiveOn, StandsLive};
@@ -14,7 +14,7 @@ use trace_values::Event;
 
 /// L3: it answers the client's last attach of the handle.
 pub(crate) fn answers_attach<'a, P: Openings<'a>>(past: &P, ours: &Attach, session: Session) -> bool
-    ensures { (rules : List RuleText) (history : Events) → P.stands_for past.now rules history → IsLiveOn session history →
+    ensures { (rules : RuleSet) (history : Events) → P.stands_for past.now rules history → IsLiveOn session history →
         (result ≡ law.answers_attach (attach_fields ours.now) history session) }
 {
     match past.asking(session, ours.handle) {
@@ -25,7 +25,7 @@ pub(crate) fn answers_attach<'a, P: Openings<'a>>(past: &P, ours: &Attach, sessi
 
 /// L13: the link lives, or the client's detach of it, or a refused attach, is to be answered.
 pub(crate) fn may_detach<'a, P: Openings<'a>>(past: &P, event: &Event, detach: &Detach) -> bool
-    ensures { (rules : List RuleText) (history : Events) → P.stands_for past.now rules history → StandsLive (event_view event.now) history →
+    ensures { (rules : RuleSet) (history : Events) → P.stands_for past.now rules history → StandsLive (event_view event.now) history →
         (result ≡ law.may_detach (event_view event.now) (detach_fields detach.now) history) }
 {
     match event.session {

@@ -1,7 +1,7 @@
 //! What each transfer that the router writes keeps to, L4 to L9.
 
 ghost use Rattle.std.specs.Prelude.{◌≡◌, ◌&&◌, ◌||◌, true, List, Some, IfSome, length};
-ghost use Rattle.capture_form.specs.Rules.{RuleText};
+ghost use Rattle.capture_form.specs.Rules.{RuleSet};
 ghost use Rattle.trace_events.specs.Credit.{begins_outgoing};
 ghost use Rattle.amqp_perf.specs.View.{transfer_fields};
 ghost use Rattle.trace_events.specs.Session.{StandsLive};
@@ -12,7 +12,7 @@ ghost use Rattle.trace_events.specs.Words.{is_some_and};
 
 use crate::questions::{Carriage, Counts};
 use amqp_perf::Transfer;
-use capture_form::Rule;
+use capture_form::RuleSet;
 use pairing_cert::Note;
 use trace_values::{Event, Incoming, Link, Outgoing, is_of_multicast};
 
@@ -62,7 +62,7 @@ pub(crate) fn is_alike(event: &Event, link: &Link, fields: &Transfer, delivery: 
 
 /// L4: on a consumer's live link, within the session's window (part 2, section 2.5.6).
 pub(crate) fn may_be_sent<P: Counts>(past: &P, event: &Event, fields: &Transfer) -> bool
-    ensures { (rules : List RuleText) (history : Events) → P.stands_for past.now rules history → StandsLive (event_view event.now) history →
+    ensures { (rules : RuleSet) (history : Events) → P.stands_for past.now rules history → StandsLive (event_view event.now) history →
         (result ≡ law.may_be_sent (event_view event.now) (transfer_fields fields.now) history) }
 {
     match (&event.link, event.session) {
@@ -78,7 +78,7 @@ pub(crate) fn may_be_sent<P: Counts>(past: &P, event: &Event, fields: &Transfer)
 
 /// L5: a delivery that begins has credit (part 2, section 2.6.7) and the next delivery-id.
 pub(crate) fn may_begin<P: Counts>(past: &P, link: &Link, fields: &Transfer) -> bool
-    ensures { (rules : List RuleText) (history : Events) → P.stands_for past.now rules history → IsLiveLink (link_view link.now) history →
+    ensures { (rules : RuleSet) (history : Events) → P.stands_for past.now rules history → IsLiveLink (link_view link.now) history →
         (result ≡ law.may_begin (link_view link.now) (transfer_fields fields.now) history) }
 {
     fields.delivery_id.is_some()
@@ -94,7 +94,7 @@ pub(crate) fn carries<'a, P: Carriage<'a>>(
     octets: &'a [u8],
     delivery: &Incoming,
 ) -> bool
-    ensures { (rules : List RuleText) (history : Events) → P.stands_for past.now rules history → P.knows_incoming past.now (incoming_view delivery.now) history →
+    ensures { (rules : RuleSet) (history : Events) → P.stands_for past.now rules history → P.knows_incoming past.now (incoming_view delivery.now) history →
         IfSome (event_view event.now).outgoing (λ j. P.knows_outgoing past.now j history) → (event_view event.now).number ≡ length history →
         Some (incoming_view delivery.now) ≡ law.to_carry rules event.now.note history →
         (begins_outgoing (event_view event.now)
@@ -109,7 +109,7 @@ pub(crate) fn carries<'a, P: Carriage<'a>>(
 
 fn is_first_to<'a, P: Carriage<'a>>(
     past: &P,
-    rules: &[Rule],
+    rules: &RuleSet,
     link: &Link,
     delivery: &Incoming,
 ) -> bool
@@ -125,7 +125,7 @@ fn is_first_to<'a, P: Carriage<'a>>(
 }
 
 fn is_in_order<'a, P: Carriage<'a>>(past: &P, link: &Link, delivery: &Incoming) -> bool
-    ensures { (rules : List RuleText) (history : Events) → P.stands_for past.now rules history → IsLiveLink (link_view link.now) history → P.knows_incoming past.now (incoming_view delivery.now) history →
+    ensures { (rules : RuleSet) (history : Events) → P.stands_for past.now rules history → IsLiveLink (link_view link.now) history → P.knows_incoming past.now (incoming_view delivery.now) history →
         (result ≡ law.is_in_order (link_view link.now) history (incoming_view delivery.now)) }
 {
     match past.carried_before(link) {
@@ -138,7 +138,7 @@ fn is_in_order<'a, P: Carriage<'a>>(past: &P, link: &Link, delivery: &Incoming) 
 /// order of completion.
 pub(crate) fn may_go_to<'a, P: Carriage<'a>>(
     past: &P,
-    rules: &[Rule],
+    rules: &RuleSet,
     link: &Link,
     delivery: &Incoming,
 ) -> bool

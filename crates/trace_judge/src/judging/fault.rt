@@ -1,7 +1,7 @@
 //! The faults of a client's frames, in the order in which they are tested: the first that fits counts. The names of the
 //! conditions are the standard's (part 2, sections 2.8.15 to 2.8.18); which fault gets which is a choice of this router.
 
-ghost use Rattle.capture_form.specs.Rules.{RuleText};
+ghost use Rattle.capture_form.specs.Rules.{RuleSet};
 ghost use Rattle.std.specs.Prelude.{List, ◌≡◌, option_map, not, ◌&&◌, if◌then◌else◌};
 ghost use Rattle.amqp_perf.specs.declared.condition.ErrorCondition.TheVariants.{MessageSizeExceeded};
 ghost use Rattle.trace_events.specs.declared.fault.Fault.TheVariants.{Detach};
@@ -18,7 +18,7 @@ use crate::questions::Inputs;
 use amqp_perf::{
     Address, Attach, Begin, ErrorCondition, Open, Performative, Role, Target, Terminus, Transfer,
 };
-use capture_form::Rule;
+use capture_form::RuleSet;
 use flow_counts::{
     CHANNEL_MAX, HANDLE_MAX, MAX_ADDRESS, MAX_DELIVERY_TAG, MAX_LINK_NAME, MAX_MESSAGE_SIZE,
     MIN_MAX_FRAME_SIZE,
@@ -144,14 +144,14 @@ fn open_fault(fields: &Open) -> Option<Fault>
 }
 
 fn is_handle_in_use<'a, P: Inputs<'a>>(past: &P, session: Session, handle: u32) -> bool
-    ensures { (rules : List RuleText) (history : Events) → P.stands_for past.now rules history → IsLiveOn session history →
+    ensures { (rules : RuleSet) (history : Events) → P.stands_for past.now rules history → IsLiveOn session history →
         (result ≡ law.is_handle_in_use session handle history) }
 {
     past.session_link(session, handle).is_some() || past.awaits_detach(session, handle)
 }
 
 fn attach_fault<'a, P: Inputs<'a>>(past: &P, session: Session, attach: &Attach) -> Option<Fault>
-    ensures { (rules : List RuleText) (history : Events) → P.stands_for past.now rules history → IsLiveOn session history →
+    ensures { (rules : RuleSet) (history : Events) → P.stands_for past.now rules history → IsLiveOn session history →
         (result ≡ law.attach_fault session (attach_fields attach.now) history) }
 {
     if attach.handle > HANDLE_MAX {
@@ -169,7 +169,7 @@ fn attach_fault<'a, P: Inputs<'a>>(past: &P, session: Session, attach: &Attach) 
 /// Of the first transfer of a delivery: it has an id that no undecided one has, and the link has credit for it.
 fn first_part_fault<'a, P: Inputs<'a>>(
     past: &P,
-    rules: &[Rule],
+    rules: &RuleSet,
     link: &Link,
     fields: &Transfer,
 ) -> Option<Fault>
@@ -191,7 +191,7 @@ fn first_part_fault<'a, P: Inputs<'a>>(
 /// Of a transfer that goes on with the link's delivery in progress, or begins one.
 fn part_fault<'a, P: Inputs<'a>>(
     past: &P,
-    rules: &[Rule],
+    rules: &RuleSet,
     link: &Link,
     fields: &Transfer,
     octets: &[u8],
@@ -214,7 +214,7 @@ fn part_fault<'a, P: Inputs<'a>>(
 
 fn link_transfer_fault<'a, P: Inputs<'a>>(
     past: &P,
-    rules: &[Rule],
+    rules: &RuleSet,
     link: &Link,
     fields: &Transfer,
     octets: &[u8],
@@ -238,7 +238,7 @@ fn link_transfer_fault<'a, P: Inputs<'a>>(
 
 fn transfer_fault<'a, P: Inputs<'a>>(
     past: &P,
-    rules: &[Rule],
+    rules: &RuleSet,
     session: Session,
     event: &Event,
     fields: &Transfer,
@@ -259,7 +259,7 @@ fn transfer_fault<'a, P: Inputs<'a>>(
 /// Of what stands on a session.
 fn session_fault<'a, P: Inputs<'a>>(
     past: &P,
-    rules: &[Rule],
+    rules: &RuleSet,
     session: Session,
     event: &Event,
     spoken: &Spoken,
@@ -286,7 +286,7 @@ fn session_fault<'a, P: Inputs<'a>>(
 /// Of what stands on a channel: a begin, or what wants a session.
 fn channel_fault<'a, P: Inputs<'a>>(
     past: &P,
-    rules: &[Rule],
+    rules: &RuleSet,
     event: &Event,
     spoken: &Spoken,
 ) -> Option<Fault>
@@ -303,7 +303,7 @@ fn channel_fault<'a, P: Inputs<'a>>(
 /// Of what wants an open connection.
 fn opened_fault<'a, P: Inputs<'a>>(
     past: &P,
-    rules: &[Rule],
+    rules: &RuleSet,
     event: &Event,
     spoken: &Spoken,
 ) -> Option<Fault>
@@ -321,7 +321,7 @@ fn opened_fault<'a, P: Inputs<'a>>(
 
 fn spoken_fault<'a, P: Inputs<'a>>(
     past: &P,
-    rules: &[Rule],
+    rules: &RuleSet,
     event: &Event,
     spoken: &Spoken,
 ) -> Option<Fault>
@@ -341,7 +341,7 @@ fn spoken_fault<'a, P: Inputs<'a>>(
 /// The fault of a client's frame.
 pub(crate) fn body_fault<'a, P: Inputs<'a>>(
     past: &P,
-    rules: &[Rule],
+    rules: &RuleSet,
     event: &Event,
     body: &Body,
 ) -> Option<Fault>

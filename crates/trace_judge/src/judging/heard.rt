@@ -1,6 +1,6 @@
 //! Which frames of a client are heard, and which are passed over.
 
-ghost use Rattle.capture_form.specs.Rules.{RuleText};
+ghost use Rattle.capture_form.specs.Rules.{RuleSet};
 ghost use Rattle.std.specs.Prelude.{List, ◌≡◌};
 ghost use Rattle.amqp_perf.specs.View.{view};
 ghost use Rattle.trace_events.specs.Session.{StandsLive};
@@ -13,7 +13,7 @@ use trace_values::{Body, Event, handle_in, is_of_connection};
 
 /// It stands on a handle that awaits the client's detach.
 fn is_on_detached<'a, P: Inputs<'a>>(past: &P, event: &Event, performative: &Performative) -> bool
-    ensures { (rules : List RuleText) (history : Events) → P.stands_for past.now rules history → StandsLive (event_view event.now) history →
+    ensures { (rules : RuleSet) (history : Events) → P.stands_for past.now rules history → StandsLive (event_view event.now) history →
         (result ≡ law.is_on_detached (event_view event.now) (view performative.now) history) }
 {
     match (event.session, handle_in(performative)) {
@@ -25,7 +25,7 @@ fn is_on_detached<'a, P: Inputs<'a>>(past: &P, event: &Event, performative: &Per
 /// Passed over are an empty body, all but opens and closes on a channel that awaits the client's end, and what
 /// stands on a handle that awaits its detach.
 fn is_passed_over<'a, P: Inputs<'a>>(past: &P, event: &Event, body: &Body) -> bool
-    ensures { (rules : List RuleText) (history : Events) → P.stands_for past.now rules history → StandsLive (event_view event.now) history →
+    ensures { (rules : RuleSet) (history : Events) → P.stands_for past.now rules history → StandsLive (event_view event.now) history →
         (result ≡ law.is_passed_over (event_view event.now) (body_view body.now) history) }
 {
     match body {
@@ -42,7 +42,7 @@ fn is_passed_over<'a, P: Inputs<'a>>(past: &P, event: &Event, body: &Body) -> bo
 
 /// The frame counts: its connection isn't over, and it isn't passed over.
 pub(crate) fn is_heard_body<'a, P: Inputs<'a>>(past: &P, event: &Event, body: &Body) -> bool
-    ensures { (rules : List RuleText) (history : Events) → P.stands_for past.now rules history → StandsLive (event_view event.now) history →
+    ensures { (rules : RuleSet) (history : Events) → P.stands_for past.now rules history → StandsLive (event_view event.now) history →
         (result ≡ law.is_heard_body (event_view event.now) (body_view body.now) history) }
 {
     !past.is_over(event.connection) && !is_passed_over(past, event, body)

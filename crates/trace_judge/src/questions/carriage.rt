@@ -1,7 +1,7 @@
 //! What is asked of the past when a transfer carries an incoming delivery to a consumer.
 
 use crate::questions::History;
-use capture_form::Rule;
+use capture_form::RuleSet;
 use pairing_cert::Note;
 use trace_values::{Incoming, Link, Outgoing};
 
@@ -9,7 +9,7 @@ use trace_values::{Incoming, Link, Outgoing};
 ///
 /// What takes a link is asked of a live one alone, and what takes a delivery of one that is known.
 pub trait Carriage<'a>: History {
-    ghost use Rattle.capture_form.specs.Rules.{RuleText};
+    ghost use Rattle.capture_form.specs.Rules.{RuleSet};
     ghost use Rattle.std.specs.Prelude.{List, ◌≡◌, ◌++◌, IfSome, option_map};
     ghost use Rattle.trace_events.specs.Due as due;
     ghost use Rattle.trace_events.specs.Incoming as received;
@@ -21,11 +21,11 @@ pub trait Carriage<'a>: History {
 
     /// The delivery of a consumer's link whose last part isn't written yet.
     fn outgoing_in_progress(&self, link: &Link) -> Option<Outgoing<'a>>
-        ensures { (rules : List RuleText) (history : Events) → Self.stands_for self.now rules history → IsLiveLink (link_view link.now) history →
+        ensures { (rules : RuleSet) (history : Events) → Self.stands_for self.now rules history → IsLiveLink (link_view link.now) history →
             (option_map outgoing_view result ≡ sent.in_progress (link_view link.now) history) };
 
     /// The incoming delivery that a note names, where it may go to consumers: it is complete, and not gone.
-    fn to_carry(&self, rules: &[Rule], note: Note) -> Option<Incoming<'a>>
+    fn to_carry(&self, rules: &RuleSet, note: Note) -> Option<Incoming<'a>>
         ensures value { (history : Events) → Self.stands_for self.now rules.now history →
             (option_map incoming_view result ≡ transfers.to_carry rules.now note history) }
         ensures known { (history : Events) → Self.stands_for self.now rules.now history →
@@ -33,14 +33,14 @@ pub trait Carriage<'a>: History {
 
     /// The incoming delivery that the last one begun on the link carries.
     fn carried_before(&self, link: &Link) -> Option<Incoming<'a>>
-        ensures value { (rules : List RuleText) (history : Events) → Self.stands_for self.now rules history → IsLiveLink (link_view link.now) history →
+        ensures value { (rules : RuleSet) (history : Events) → Self.stands_for self.now rules history → IsLiveLink (link_view link.now) history →
             (option_map incoming_view result ≡ transfers.carried_before (link_view link.now) history) }
-        ensures known { (rules : List RuleText) (history : Events) → Self.stands_for self.now rules history → IsLiveLink (link_view link.now) history →
+        ensures known { (rules : RuleSet) (history : Events) → Self.stands_for self.now rules history → IsLiveLink (link_view link.now) history →
             IfSome (option_map incoming_view result) (λ d. Self.knows_incoming self.now d history) };
 
     /// The one was completed before the other.
     fn completed_before(&self, a: &Incoming, b: &Incoming) -> bool
-        ensures { (rules : List RuleText) (history : Events) → Self.stands_for self.now rules history → Self.knows_incoming self.now (incoming_view a.now) history →
+        ensures { (rules : RuleSet) (history : Events) → Self.stands_for self.now rules history → Self.knows_incoming self.now (incoming_view a.now) history →
             Self.knows_incoming self.now (incoming_view b.now) history → (result ≡ received.completed_before (incoming_view a.now) (incoming_view b.now) history) };
 
     /// The payload of the outgoing delivery with these octets behind it are the first octets of the incoming one's, and all
@@ -52,18 +52,18 @@ pub trait Carriage<'a>: History {
         outgoing: &Outgoing,
         octets: &'a [u8],
     ) -> bool
-        ensures { (rules : List RuleText) (history : Events) → Self.stands_for self.now rules history → Self.knows_incoming self.now (incoming_view delivery.now) history →
+        ensures { (rules : RuleSet) (history : Events) → Self.stands_for self.now rules history → Self.knows_incoming self.now (incoming_view delivery.now) history →
             Self.knows_outgoing self.now (outgoing_view outgoing.now) history → IsCarriedBy (incoming_view delivery.now) history (outgoing_view outgoing.now) →
             (result ≡ transfers.is_payload_so_far more (received.payload (incoming_view delivery.now) history)
             (sent.payload (outgoing_view outgoing.now) history ++ octets.now)) };
 
     /// It went to a consumer, or began to.
     fn is_paired(&self, delivery: &Incoming) -> bool
-        ensures { (rules : List RuleText) (history : Events) → Self.stands_for self.now rules history → Self.knows_incoming self.now (incoming_view delivery.now) history →
+        ensures { (rules : RuleSet) (history : Events) → Self.stands_for self.now rules history → Self.knows_incoming self.now (incoming_view delivery.now) history →
             (result ≡ sent.is_paired (incoming_view delivery.now) history) };
 
     /// A copy of it is due to the link, and no transfer there names it.
-    fn is_unsent(&self, rules: &[Rule], delivery: &Incoming, link: &Link) -> bool
+    fn is_unsent(&self, rules: &RuleSet, delivery: &Incoming, link: &Link) -> bool
         requires few { Self.is_short self.now }
         ensures { (history : Events) → Self.stands_for self.now rules.now history → IsLiveLink (link_view link.now) history →
             Self.knows_incoming self.now (incoming_view delivery.now) history → (result ≡ due.is_unsent rules.now (incoming_view delivery.now) (link_view link.now) history) };
