@@ -2,7 +2,7 @@
 use Rattle.std.specs.Prelude.{ℕ, Bool, List, [], ◌∷◌, take, drop, Option, Some, None, Result, Ok, Err, option_map, option_and_then, ◌&&◌, if◌then◌else◌}
 use Rattle.amqp_perf.specs.declared.descriptor.Outcome.{Outcome}
 use Rattle.capture_form.specs.declared.records.Record.{Record}
-use Rattle.capture_form.specs.Rules.{RuleText}
+use Rattle.capture_form.specs.Rules.{RuleSet}
 use Rattle.capture_form.specs.Text.{Trace}
 use Rattle.trace_clauses.specs.declared.clause.Clause.{Clause}
 use Rattle.trace_events.specs.Words.{is_some_and, where_passes}
@@ -24,7 +24,7 @@ events_below i capture = history capture.rules (take i capture.records)
 -- ---- the law
 
 -- the first clause that the first of some records breaks
-abbrev pub broken_by_first : List RuleText → List Event → List Record → Option Clause
+abbrev pub broken_by_first : RuleSet → List Event → List Record → Option Clause
 broken_by_first rules past [] = None
 broken_by_first rules past (r ∷ rs) = broken_clause rules (judge rules past r) past
 
@@ -48,14 +48,14 @@ abbrev pub credit_on : ℕ → ℕ → ℕ → List Event → Option ℕ
 credit_on c channel handle past = option_map (λ l. link_credit l past) (where_passes is_consumer (live_link c channel handle past))
 
 -- the delivery that begins in the record of this number waits
-abbrev pub waits : List RuleText → ℕ → List Event → Bool
+abbrev pub waits : RuleSet → ℕ → List Event → Bool
 waits rules n past = is_some_and (incoming_at n past) (λ d. is_waiting rules d past)
 
 -- what the producer of a multicast delivery is told: once it is complete and each copy has its verdict, the best
-abbrev pub told_of : List RuleText → List Event → Incoming → Option Outcome
+abbrev pub told_of : RuleSet → List Event → Incoming → Option Outcome
 told_of rules past d =
     if is_of_multicast rules d && is_complete d past then whole_verdict rules d past else None
 
 -- of the delivery that begins in the record of this number
-abbrev pub best_at : List RuleText → ℕ → List Event → Option Outcome
+abbrev pub best_at : RuleSet → ℕ → List Event → Option Outcome
 best_at rules n past = option_and_then (told_of rules past) (incoming_at n past)

@@ -2,7 +2,7 @@
 
 use crate::past::Past;
 use amqp_perf::{Begin, Outcome};
-use capture_form::{Record, Rule};
+use capture_form::{Record, RuleSet};
 use pairing_cert::Note;
 use trace_clauses::Clause;
 use trace_events::Session;
@@ -74,13 +74,13 @@ impl<'p, 'a> Inputs<'a> for Past<'p, 'a> {
         self.is_longer(limit, delivery, octets)
     }
 
-    fn is_id_in_use(&self, rules: &[Rule], session: Session, id: u32) -> bool {
+    fn is_id_in_use(&self, rules: &RuleSet, session: Session, id: u32) -> bool {
         self.is_id_in_use(rules, session, id)
     }
 }
 
 impl<'p, 'a> Outcomes<'a> for Past<'p, 'a> {
-    fn to_tell(&self, rules: &[Rule], session: Session, id: u32) -> Option<Incoming<'a>> {
+    fn to_tell(&self, rules: &RuleSet, session: Session, id: u32) -> Option<Incoming<'a>> {
         self.to_tell(rules, session, id)
     }
 
@@ -100,7 +100,7 @@ impl<'p, 'a> Outcomes<'a> for Past<'p, 'a> {
         self.is_closed(delivery)
     }
 
-    fn is_gone(&self, rules: &[Rule], delivery: &Incoming) -> bool {
+    fn is_gone(&self, rules: &RuleSet, delivery: &Incoming) -> bool {
         self.is_gone(rules, delivery)
     }
 
@@ -120,7 +120,7 @@ impl<'p, 'a> Outcomes<'a> for Past<'p, 'a> {
         self.is_sent(delivery)
     }
 
-    fn whole_verdict(&self, rules: &[Rule], delivery: &Incoming) -> Option<Outcome> {
+    fn whole_verdict(&self, rules: &RuleSet, delivery: &Incoming) -> Option<Outcome> {
         self.whole_verdict(rules, delivery)
     }
 
@@ -204,7 +204,7 @@ impl<'p, 'a> Counts for Past<'p, 'a> {
         self.received_count(link)
     }
 
-    fn undecided_count(&self, rules: &[Rule], link: &Link) -> u64 {
+    fn undecided_count(&self, rules: &RuleSet, link: &Link) -> u64 {
         self.undecided_count(rules, link)
     }
 
@@ -212,11 +212,11 @@ impl<'p, 'a> Counts for Past<'p, 'a> {
         self.has_consumer(address)
     }
 
-    fn has_waiting(&self, rules: &[Rule], address: &[u8]) -> bool {
+    fn has_waiting(&self, rules: &RuleSet, address: &[u8]) -> bool {
         self.has_waiting(rules, address)
     }
 
-    fn has_unsent(&self, rules: &[Rule], link: &Link) -> bool {
+    fn has_unsent(&self, rules: &RuleSet, link: &Link) -> bool {
         self.has_unsent(rules, link)
     }
 }
@@ -226,7 +226,7 @@ impl<'p, 'a> Carriage<'a> for Past<'p, 'a> {
         self.outgoing_in_progress(link)
     }
 
-    fn to_carry(&self, rules: &[Rule], note: Note) -> Option<Incoming<'a>> {
+    fn to_carry(&self, rules: &RuleSet, note: Note) -> Option<Incoming<'a>> {
         self.to_carry(rules, note)
     }
 
@@ -252,7 +252,7 @@ impl<'p, 'a> Carriage<'a> for Past<'p, 'a> {
         self.is_paired(delivery)
     }
 
-    fn is_unsent(&self, rules: &[Rule], delivery: &Incoming, link: &Link) -> bool {
+    fn is_unsent(&self, rules: &RuleSet, delivery: &Incoming, link: &Link) -> bool {
         self.is_unsent(rules, delivery, link)
     }
 }
@@ -267,7 +267,7 @@ impl<'p, 'a> Past<'p, 'a> {
 
     /// The record of this number in its place.
     #[tactic(auto, using(crate::proofs::KnownAll::opens_all))]
-    pub(crate) fn judge(&self, rules: &[Rule], number: u64, entry: &'a Record) -> Event<'a, 'a>
+    pub(crate) fn judge(&self, rules: &RuleSet, number: u64, entry: &'a Record) -> Event<'a, 'a>
         requires numbered { number ≡ length (events self.now) }
         ensures { event_view result ≡ judge rules.now (events self.now) entry.now }
     {
@@ -275,7 +275,12 @@ impl<'p, 'a> Past<'p, 'a> {
     }
 
     /// The first clause that the record of this number breaks.
-    pub(crate) fn broken_by(&self, rules: &[Rule], number: u64, entry: &'a Record) -> Option<Clause>
+    pub(crate) fn broken_by(
+        &self,
+        rules: &RuleSet,
+        number: u64,
+        entry: &'a Record,
+    ) -> Option<Clause>
         requires numbered { number ≡ length (events self.now) }
         ensures { result ≡ broken_clause rules.now (judge rules.now (events self.now) entry.now) (events self.now) }
     {

@@ -7,7 +7,7 @@ ghost use Rattle.trace_law.specs.Check as checked;
 use crate::ask::walk::{Asked, walk};
 use crate::past::Past;
 use amqp_perf::Outcome;
-use capture_form::{Capture, Record, Rule};
+use capture_form::{Capture, Record, RuleSet};
 use trace_clauses::Clause;
 
 /// How many transfers may still be sent on the live session of a channel.
@@ -27,7 +27,7 @@ impl Asked for WindowOn {
 
     fn answer<'a>(
         &self,
-        rules: &[Rule],
+        rules: &RuleSet,
         past: &Past<'_, 'a>,
         number: u64,
         rest: &'a [Record],
@@ -55,7 +55,7 @@ impl Asked for CreditOn {
 
     fn answer<'a>(
         &self,
-        rules: &[Rule],
+        rules: &RuleSet,
         past: &Past<'_, 'a>,
         number: u64,
         rest: &'a [Record],
@@ -85,7 +85,7 @@ impl Asked for Waits {
 
     fn answer<'a>(
         &self,
-        rules: &[Rule],
+        rules: &RuleSet,
         past: &Past<'_, 'a>,
         number: u64,
         rest: &'a [Record],
@@ -113,7 +113,7 @@ impl Asked for BestVerdict {
 
     fn answer<'a>(
         &self,
-        rules: &[Rule],
+        rules: &RuleSet,
         past: &Past<'_, 'a>,
         number: u64,
         rest: &'a [Record],
@@ -136,7 +136,7 @@ impl Asked for BrokenByNext {
 
     fn answer<'a>(
         &self,
-        rules: &[Rule],
+        rules: &RuleSet,
         past: &Past<'_, 'a>,
         number: u64,
         rest: &'a [Record],

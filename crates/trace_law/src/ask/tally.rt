@@ -6,7 +6,7 @@ ghost use Rattle.trace_events.specs.History.{history};
 
 use crate::ask::walk::{Asked, walk};
 use crate::past::Past;
-use capture_form::{Capture, Record, Rule};
+use capture_form::{Capture, Record, RuleSet};
 use trace_clauses::Tally;
 
 impl<'p, 'a> Past<'p, 'a> {
@@ -74,7 +74,7 @@ impl Asked for Tallied {
 
     fn answer<'a>(
         &self,
-        rules: &[Rule],
+        rules: &RuleSet,
         past: &Past<'_, 'a>,
         number: u64,
         rest: &'a [Record],

@@ -7,25 +7,25 @@ ghost use Rattle.trace_events.specs.History.{continued};
 ghost use Rattle.trace_law.specs.OnStack.{events};
 
 use crate::past::Past;
-use capture_form::{Record, Rule};
+use capture_form::{Record, RuleSet};
 
 /// What is asked of the events of a capture's first records.
 pub(crate) trait Asked {
     ghost use Rattle.std.specs.Prelude.{◌≡◌, List, length};
     ghost use Rattle.capture_form.specs.declared.records.Record.{Record};
-    ghost use Rattle.capture_form.specs.Rules.{RuleText};
+    ghost use Rattle.capture_form.specs.Rules.{RuleSet};
     ghost use Rattle.trace_law.specs.OnStack.{events};
     ghost use Rattle.trace_values.specs.View.{Events};
 
     type Answer;
 
     /// It is the answer by these rules, events and records behind them.
-    ghost is_answer: { Self → List RuleText → Events → List Record → Self.Answer → Type 0 };
+    ghost is_answer: { Self → RuleSet → Events → List Record → Self.Answer → Type 0 };
 
     /// The answer by the events so far, so many of them.
     fn answer<'a>(
         &self,
-        rules: &[Rule],
+        rules: &RuleSet,
         past: &Past<'_, 'a>,
         number: u64,
         rest: &'a [Record],
@@ -37,7 +37,7 @@ pub(crate) trait Asked {
 /// The answer once the records from `from` to `end` have followed the past.
 pub(crate) fn walk<'p, 'a, Q: Asked>(
     asked: &Q,
-    rules: &[Rule],
+    rules: &RuleSet,
     records: &'a [Record],
     from: usize,
     end: usize,

@@ -1,7 +1,7 @@
 //! The copies of a multicast delivery: to whose links one is due, and which of them are sent.
 
 use crate::past::Past;
-use capture_form::Rule;
+use capture_form::RuleSet;
 use trace_values::{Event, Incoming, Link, has_multicast};
 
 impl<'p, 'a> Past<'p, 'a> {
@@ -11,7 +11,7 @@ impl<'p, 'a> Past<'p, 'a> {
     ghost use Rattle.trace_values.specs.View.{event_view, link_view, incoming_view};
 
     /// The multicast delivery that this event completes is for the link: a live one of a consumer of its address.
-    fn is_copied_to(&self, rules: &[Rule], link: &Link, event: &Event) -> bool
+    fn is_copied_to(&self, rules: &RuleSet, link: &Link, event: &Event) -> bool
         ensures { result ≡ law.is_copied_to rules.now (link_view link.now) (event_view event.now) (events self.now) }
     {
         match event.completed_by() {
@@ -25,7 +25,7 @@ impl<'p, 'a> Past<'p, 'a> {
 
     /// A copy of that delivery is due: the link's credit exceeds the copies that are still to be sent, of `due` that
     /// were due before.
-    fn makes_due(&self, rules: &[Rule], link: &Link, event: &Event, due: u64) -> bool
+    fn makes_due(&self, rules: &RuleSet, link: &Link, event: &Event, due: u64) -> bool
         requires few { length (events self.now) < 2 ^ 64 }
         ensures { result ≡ law.makes_due rules.now (link_view link.now) (event_view event.now) (events self.now) due }
     {
@@ -35,7 +35,7 @@ impl<'p, 'a> Past<'p, 'a> {
 
     /// How many copies were due to the link.
     #[tactic(auto, using(crate::proofs::Copies::few_due))]
-    fn due_count(&self, rules: &[Rule], link: &Link) -> u64
+    fn due_count(&self, rules: &RuleSet, link: &Link) -> u64
         requires few { length (events self.now) < 2 ^ 64 }
         ensures { result ≡ law.due_count rules.now (link_view link.now) (events self.now) }
     {
@@ -53,7 +53,7 @@ impl<'p, 'a> Past<'p, 'a> {
     }
 
     /// A copy of the delivery is due to the link.
-    pub(crate) fn is_due(&self, rules: &[Rule], delivery: &Incoming, link: &Link) -> bool
+    pub(crate) fn is_due(&self, rules: &RuleSet, delivery: &Incoming, link: &Link) -> bool
         requires few { length (events self.now) < 2 ^ 64 }
         ensures { result ≡ law.is_due rules.now (incoming_view delivery.now) (link_view link.now) (events self.now) }
     {
@@ -69,7 +69,7 @@ impl<'p, 'a> Past<'p, 'a> {
     }
 
     /// And no transfer on the link has named the delivery.
-    pub(crate) fn is_unsent(&self, rules: &[Rule], delivery: &Incoming, link: &Link) -> bool
+    pub(crate) fn is_unsent(&self, rules: &RuleSet, delivery: &Incoming, link: &Link) -> bool
         requires few { length (events self.now) < 2 ^ 64 }
         ensures { result ≡ law.is_unsent rules.now (incoming_view delivery.now) (link_view link.now) (events self.now) }
     {
@@ -77,7 +77,7 @@ impl<'p, 'a> Past<'p, 'a> {
     }
 
     /// A copy is still to be sent on the link.
-    pub(crate) fn has_unsent(&self, rules: &[Rule], link: &Link) -> bool
+    pub(crate) fn has_unsent(&self, rules: &RuleSet, link: &Link) -> bool
         requires few { length (events self.now) < 2 ^ 64 }
         ensures { result ≡ law.has_unsent rules.now (link_view link.now) (events self.now) }
     {

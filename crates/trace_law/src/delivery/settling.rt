@@ -2,7 +2,7 @@
 //! section 2.6.12; own rules).
 
 use crate::past::Past;
-use capture_form::Rule;
+use capture_form::RuleSet;
 use trace_events::Session;
 use trace_values::{Incoming, Outgoing};
 
@@ -66,7 +66,7 @@ impl<'p, 'a> Past<'p, 'a> {
     }
 
     /// The undecided delivery of the id on the session, whose outcome may be told.
-    pub(crate) fn to_tell(&self, rules: &[Rule], session: Session, id: u32) -> Option<Incoming<'a>>
+    pub(crate) fn to_tell(&self, rules: &RuleSet, session: Session, id: u32) -> Option<Incoming<'a>>
         ensures { option_map incoming_view result ≡ law.to_tell rules.now session id (events self.now) }
     {
         let mut rest = self;

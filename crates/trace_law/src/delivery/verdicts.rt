@@ -8,7 +8,7 @@ ghost use Rattle.trace_clauses.specs.CopyVerdict as copies;
 
 use crate::past::Past;
 use amqp_perf::{Disposition, Outcome};
-use capture_form::Rule;
+use capture_form::RuleSet;
 use trace_values::{Decision, Incoming, Link, Outgoing, is_of_multicast, names};
 
 impl<'p, 'a> Past<'p, 'a> {
@@ -67,7 +67,7 @@ impl<'p, 'a> Past<'p, 'a> {
     }
 
     /// A copy is due to the link, and has no verdict yet.
-    fn awaits_verdict(&self, rules: &[Rule], delivery: &Incoming, link: &Link) -> bool
+    fn awaits_verdict(&self, rules: &RuleSet, delivery: &Incoming, link: &Link) -> bool
         requires few { length (events self.now) < 2 ^ 64 }
         ensures { result ≡ copies.awaits_verdict rules.now (incoming_view delivery.now) (events self.now) (link_view link.now) }
     {
@@ -83,7 +83,7 @@ impl<'p, 'a> Past<'p, 'a> {
     ghost use Rattle.trace_values.specs.View.{incoming_view, link_view};
 
     /// A copy of the delivery is due to some link.
-    fn is_due_to_some(&self, rules: &[Rule], delivery: &Incoming) -> bool
+    fn is_due_to_some(&self, rules: &RuleSet, delivery: &Incoming) -> bool
         requires few { length (events self.now) < 2 ^ 64 }
         ensures { result ≡ best.is_due_to_some rules.now (incoming_view delivery.now) (events self.now) }
     {
@@ -100,7 +100,7 @@ impl<'p, 'a> Past<'p, 'a> {
     }
 
     /// Every copy that is due has its verdict.
-    fn has_all_verdicts(&self, rules: &[Rule], delivery: &Incoming) -> bool
+    fn has_all_verdicts(&self, rules: &RuleSet, delivery: &Incoming) -> bool
         requires few { length (events self.now) < 2 ^ 64 }
         ensures { result ≡ best.has_all_verdicts rules.now (incoming_view delivery.now) (events self.now) }
     {
@@ -117,7 +117,13 @@ impl<'p, 'a> Past<'p, 'a> {
     }
 
     /// A copy is due to the link, and this is its verdict.
-    fn is_verdict(&self, rules: &[Rule], delivery: &Incoming, outcome: Outcome, link: &Link) -> bool
+    fn is_verdict(
+        &self,
+        rules: &RuleSet,
+        delivery: &Incoming,
+        outcome: Outcome,
+        link: &Link,
+    ) -> bool
         requires few { length (events self.now) < 2 ^ 64 }
         ensures { result ≡ best.is_verdict rules.now (incoming_view delivery.now) (events self.now) outcome (link_view link.now) }
     {
@@ -130,7 +136,7 @@ impl<'p, 'a> Past<'p, 'a> {
     }
 
     /// Some copy has this verdict.
-    fn has_verdict(&self, rules: &[Rule], delivery: &Incoming, outcome: Outcome) -> bool
+    fn has_verdict(&self, rules: &RuleSet, delivery: &Incoming, outcome: Outcome) -> bool
         requires few { length (events self.now) < 2 ^ 64 }
         ensures { result ≡ best.has_verdict rules.now (incoming_view delivery.now) (events self.now) outcome }
     {
@@ -147,7 +153,7 @@ impl<'p, 'a> Past<'p, 'a> {
     }
 
     /// The best of the verdicts: accepted before modified, rejected and released; accepted too where no copy is due.
-    fn best_verdict(&self, rules: &[Rule], delivery: &Incoming) -> Outcome
+    fn best_verdict(&self, rules: &RuleSet, delivery: &Incoming) -> Outcome
         requires few { length (events self.now) < 2 ^ 64 }
         ensures { result ≡ best.best_verdict rules.now (incoming_view delivery.now) (events self.now) }
     {
@@ -165,7 +171,7 @@ impl<'p, 'a> Past<'p, 'a> {
     }
 
     /// The verdict of the whole delivery: the best one, where every copy that is due has its own.
-    pub(crate) fn whole_verdict(&self, rules: &[Rule], delivery: &Incoming) -> Option<Outcome>
+    pub(crate) fn whole_verdict(&self, rules: &RuleSet, delivery: &Incoming) -> Option<Outcome>
         requires few { length (events self.now) < 2 ^ 64 }
         ensures { result ≡ best.whole_verdict rules.now (incoming_view delivery.now) (events self.now) }
     {
@@ -177,7 +183,7 @@ impl<'p, 'a> Past<'p, 'a> {
     }
 
     /// What the producer of a multicast delivery is told: once it is complete and each copy has its verdict, the best.
-    pub(crate) fn told_of(&self, rules: &[Rule], delivery: &Incoming) -> Option<Outcome>
+    pub(crate) fn told_of(&self, rules: &RuleSet, delivery: &Incoming) -> Option<Outcome>
         requires few { length (events self.now) < 2 ^ 64 }
         ensures { result ≡ told_of rules.now (events self.now) (incoming_view delivery.now) }
     {

@@ -1,7 +1,7 @@
 //! What becomes of a delivery from a client: whether it waits for a consumer, is gone, or is decided (own rules).
 
 use crate::past::Past;
-use capture_form::Rule;
+use capture_form::RuleSet;
 use pairing_cert::Note;
 use trace_events::Session;
 use trace_values::{Incoming, Link, is_of_multicast};
@@ -33,28 +33,28 @@ impl<'p, 'a> Past<'p, 'a> {
     }
 
     /// An anycast delivery that is complete, and that went to no consumer.
-    fn is_unpaired(&self, rules: &[Rule], delivery: &Incoming) -> bool
+    fn is_unpaired(&self, rules: &RuleSet, delivery: &Incoming) -> bool
         ensures { result ≡ law.is_unpaired rules.now (incoming_view delivery.now) (events self.now) }
     {
         !is_of_multicast(rules, delivery) && !self.is_paired(delivery) && self.is_complete(delivery)
     }
 
     /// It waits for a consumer that may be sent it.
-    pub(crate) fn is_waiting(&self, rules: &[Rule], delivery: &Incoming) -> bool
+    pub(crate) fn is_waiting(&self, rules: &RuleSet, delivery: &Incoming) -> bool
         ensures { result ≡ law.is_waiting rules.now (incoming_view delivery.now) (events self.now) }
     {
         self.is_unpaired(rules, delivery) && self.always_had_consumer(delivery)
     }
 
     /// It found no consumer, or lost the last one, and goes to none any more.
-    pub(crate) fn is_gone(&self, rules: &[Rule], delivery: &Incoming) -> bool
+    pub(crate) fn is_gone(&self, rules: &RuleSet, delivery: &Incoming) -> bool
         ensures { result ≡ law.is_gone rules.now (incoming_view delivery.now) (events self.now) }
     {
         self.is_unpaired(rules, delivery) && !self.always_had_consumer(delivery)
     }
 
     /// The delivery that a note names, where it may go to consumers: it is complete, and not gone.
-    pub(crate) fn to_carry(&self, rules: &[Rule], note: Note) -> Option<Incoming<'a>>
+    pub(crate) fn to_carry(&self, rules: &RuleSet, note: Note) -> Option<Incoming<'a>>
         ensures { option_map incoming_view result ≡ to_carry rules.now note (events self.now) }
     {
         let delivery = self.noted(note)?;
@@ -66,7 +66,7 @@ impl<'p, 'a> Past<'p, 'a> {
     }
 
     /// Of a live link: it isn't complete, it waits, or it is neither settled nor told; an aborted one is decided.
-    pub(crate) fn is_undecided(&self, rules: &[Rule], delivery: &Incoming) -> bool
+    pub(crate) fn is_undecided(&self, rules: &RuleSet, delivery: &Incoming) -> bool
         ensures { result ≡ law.is_undecided rules.now (incoming_view delivery.now) (events self.now) }
     {
         if self.is_aborted(delivery) || !self.is_live(&delivery.link) {
@@ -79,7 +79,7 @@ impl<'p, 'a> Past<'p, 'a> {
     }
 
     /// How many undecided deliveries the link has.
-    pub(crate) fn undecided_count(&self, rules: &[Rule], link: &Link) -> u64
+    pub(crate) fn undecided_count(&self, rules: &RuleSet, link: &Link) -> u64
         requires few { length (events self.now) < 2 ^ 64 }
         ensures { result ≡ law.undecided_count rules.now (link_view link.now) (events self.now) }
     {
@@ -99,7 +99,7 @@ impl<'p, 'a> Past<'p, 'a> {
     /// It is the undecided delivery of this id on the session.
     pub(crate) fn is_undecided_of(
         &self,
-        rules: &[Rule],
+        rules: &RuleSet,
         session: Session,
         id: u32,
         delivery: &Incoming,
@@ -112,7 +112,7 @@ impl<'p, 'a> Past<'p, 'a> {
     }
 
     /// The delivery waits, and at this address.
-    fn is_waiting_at(&self, rules: &[Rule], address: &[u8], delivery: &Incoming) -> bool
+    fn is_waiting_at(&self, rules: &RuleSet, address: &[u8], delivery: &Incoming) -> bool
         ensures { result ≡ (bytes_eq (address_of (incoming_view delivery.now)) address.now
             && law.is_waiting rules.now (incoming_view delivery.now) (events self.now)) }
     {
@@ -120,7 +120,7 @@ impl<'p, 'a> Past<'p, 'a> {
     }
 
     /// A delivery waits at the address.
-    pub(crate) fn has_waiting(&self, rules: &[Rule], address: &[u8]) -> bool
+    pub(crate) fn has_waiting(&self, rules: &RuleSet, address: &[u8]) -> bool
         ensures { result ≡ law.has_waiting rules.now address.now (events self.now) }
     {
         let mut rest = self;
@@ -136,7 +136,7 @@ impl<'p, 'a> Past<'p, 'a> {
     }
 
     /// A delivery of this id on the session isn't decided yet.
-    pub(crate) fn is_id_in_use(&self, rules: &[Rule], session: Session, id: u32) -> bool
+    pub(crate) fn is_id_in_use(&self, rules: &RuleSet, session: Session, id: u32) -> bool
         ensures { result ≡ is_id_in_use rules.now session id (events self.now) }
     {
         let mut rest = self;
