@@ -4,7 +4,7 @@ use Rattle.std.proofs.lemmas.Bool.{eq-eqb}
 use Rattle.std.specs.List.{Contains}
 use Rattle.indexmap.specs.IndexMap.{get}
 use Rattle.amqp_perf.specs.Meaning.{AttachFields, DetachFields}
-use Rattle.capture_form.specs.Rules.{RuleText}
+use Rattle.capture_form.specs.Rules.{RuleSet}
 use Rattle.trace_events.specs.Words.{is_number, is_some_and, or_else}
 use Rattle.trace_events.specs.Event.{Event, Link, channel_of}
 use Rattle.trace_events.specs.declared.session.Session.{Session}
@@ -70,7 +70,7 @@ quiet_handle None None (Some z) p q r false is = by (r z)
 quiet_handle None (Some y) attached p q r link is = absurd cc
 quiet_handle (Some x) leaving attached p q r link is = absurd cc
 
-module _ (rules : List RuleText) (e : Event) (past : List Event) (are : AreJudged rules (e ∷ past)) where
+module _ (rules : RuleSet) (e : Event) (past : List Event) (are : AreJudged rules (e ∷ past)) where
   known : (l : Link) → IsLiveLink l past → IsKnown past l
   known l live =
       let s = l.session in

@@ -3,7 +3,7 @@ use Rattle.std.proofs.Common.{◌≡◌, refl, sym, ap, ◌∙◌, ℕ, ◌≤�
 use Rattle.std.proofs.lemmas.Bool.{eq-eqb}
 use Rattle.amqp_perf.specs.declared.begin.Begin.{Begin}
 use Rattle.amqp_perf.specs.Meaning.{Meaning, ABegin, AttachFields}
-use Rattle.capture_form.specs.Rules.{RuleText}
+use Rattle.capture_form.specs.Rules.{RuleSet}
 use Rattle.trace_events.specs.Words.{is_number, is_some_and, or_else}
 use Rattle.trace_events.specs.Event.{Event, Link, is_on_link, is_on_session}
 use Rattle.trace_events.specs.declared.session.Session.{Session}
@@ -51,7 +51,7 @@ and_none false b is = refl
 abbrev paired : Link → LinkCounts → Counted
 paired l x = record { link = l; counts = x }
 
-module _ (rules : List RuleText) (e : Event) (past : List Event) (are : AreJudged rules (e ∷ past)) (s : Session) (known : sessions.IsKnown past s) (handle : ℕ) where
+module _ (rules : RuleSet) (e : Event) (past : List Event) (are : AreJudged rules (e ∷ past)) (s : Session) (known : sessions.IsKnown past s) (handle : ℕ) where
   abbrev earlier : Option Link
   earlier = session_link s handle past
 
@@ -202,7 +202,7 @@ module _ (rules : List RuleText) (e : Event) (past : List Event) (are : AreJudge
 
 -- ---- nothing stands on a session before its record
 
-pub nothing-before : (rules : List RuleText) (past : List Event) (s : Session) (handle : ℕ) → AreJudged rules past → length past ≤ s.number → standing s handle past ≡ nothing
+pub nothing-before : (rules : RuleSet) (past : List Event) (s : Session) (handle : ℕ) → AreJudged rules past → length past ≤ s.number → standing s handle past ≡ nothing
 nothing-before rules [] s handle are after = refl
 nothing-before rules (e ∷ past) s handle are after =
     let off : is_on_session s e ≡ false =
@@ -242,7 +242,7 @@ module _ (s : Session) (handle : ℕ) (e : Event) (past : List Event) (begin : B
       (steps.awaits_detach-same s handle e past no_aout no_din no_dout ∙ ap (λ (x : Standing). x.awaits_detach) before)
       (steps.is_undetached-same s handle e past no_aout no_din ∙ ap (λ (x : Standing). x.is_undetached) before)
 
-module _ (rules : List RuleText) (e : Event) (past : List Event) (are : AreJudged rules (e ∷ past)) where
+module _ (rules : RuleSet) (e : Event) (past : List Event) (are : AreJudged rules (e ∷ past)) where
   pub nothing-begun : (s : Session) (handle : ℕ) → is_some (out_begin e) ≡ true → e.session ≡ Some s → standing s handle (e ∷ past) ≡ nothing
   nothing-begun s handle begins on =
       let opens : own_session e ≡ Some s = ap (λ b. if b then e.session else None) begins ∙ on in

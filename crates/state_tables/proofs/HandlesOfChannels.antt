@@ -2,7 +2,7 @@
 use Rattle.std.proofs.Common.{◌≡◌, refl, sym, ap, ◌∙◌, ℕ, Bool, true, false, ◌&&◌, ◌||◌, List, ◌∷◌, Option, Some, None, is_some, option_map, unwrap_or, if◌then◌else◌, ◌==◌, eqb-true}
 use Rattle.std.proofs.lemmas.Bool.{eq-eqb}
 use Rattle.amqp_perf.specs.declared.begin.Begin.{Begin}
-use Rattle.capture_form.specs.Rules.{RuleText}
+use Rattle.capture_form.specs.Rules.{RuleSet}
 use Rattle.trace_events.specs.Words.{is_some_and, is_number}
 use Rattle.trace_events.specs.Frame.{Spoken}
 use Rattle.trace_events.specs.Event.{Event, channel_of, spoken_of, is_on_channel, is_on_session}
@@ -27,7 +27,7 @@ and_none : (a b : Bool) → b ≡ false → a && b ≡ false
 and_none true b is = is
 and_none false b is = refl
 
-module _ (rules : List RuleText) (e : Event) (past : List Event) (are : AreJudged rules (e ∷ past)) where
+module _ (rules : RuleSet) (e : Event) (past : List Event) (are : AreJudged rules (e ∷ past)) where
   abbrev c : ℕ
   c = e.connection
 

@@ -1,7 +1,7 @@
 -- An event that was taken stands in the tables.
 use Rattle.std.proofs.Common.{◌≡◌, refl, sym, ap, ◌∙◌, ℕ, Bool, true, false, ◌&&◌, List, ◌∷◌, Option, Some, None, if◌then◌else◌, ◌==◌, eqb-true}
 use Rattle.std.proofs.lemmas.Bool.{eq-eqb}
-use Rattle.capture_form.specs.Rules.{RuleText}
+use Rattle.capture_form.specs.Rules.{RuleSet}
 use Rattle.trace_events.specs.Words.{is_number}
 use Rattle.trace_events.specs.Event.{Event, channel_of, is_on_channel}
 use Rattle.trace_clauses.specs.Clauses.{first_broken}
@@ -28,7 +28,7 @@ is_some_number : (o : Option ℕ) (n : ℕ) → is_number o n ≡ true → o ≡
 is_some_number None n is = absurd cc
 is_some_number (Some m) n is = ap Some (eqb-true m n is)
 
-module _ (rules : List RuleText) (e : Event) (past : List Event) (are : AreJudged rules (e ∷ past)) (lawful : first_broken rules (e ∷ past) ≡ None)
+module _ (rules : RuleSet) (e : Event) (past : List Event) (are : AreJudged rules (e ∷ past)) (lawful : first_broken rules (e ∷ past) ≡ None)
     (old new : Connections) (takes : TakesOne e old new) (kept : AreKept old past) where
   sessions : (c channel : ℕ) → session_in new c channel ≡ session_at c channel (e ∷ past)
   sessions c channel = takes.sessions c channel ∙ by (e.connection == c) refl

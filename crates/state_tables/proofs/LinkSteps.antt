@@ -3,7 +3,7 @@ use Rattle.std.proofs.Common.{◌≡◌, refl, sym, ap, subst, ◌∙◌, ℕ, B
 use Rattle.std.proofs.lemmas.Bool.{eq-eqb, ne_eqb}
 use Rattle.amqp_perf.specs.Meaning.{Meaning, AnAttach, AttachFields}
 use Rattle.capture_form.specs.declared.records.Record.{Record}
-use Rattle.capture_form.specs.Rules.{RuleText}
+use Rattle.capture_form.specs.Rules.{RuleSet}
 use Rattle.flow_counts.specs.Credit.{LinkEvent, TheirFlow, OurFlow, Begun, is_drain_answer}
 use Rattle.flow_counts.specs.Serial.{serial_add}
 use Rattle.trace_events.specs.Words.{is_some_and, or_else, where_passes}
@@ -94,7 +94,7 @@ module _ (l : Link) (e : Event) (past : List Event) where
 same_some : {A : Type 0} (a b : A) → Some a ≡ Some b → a ≡ b
 same_some a b is = cc
 
-module _ (rules : List RuleText) (past : List Event) (are : AreJudged rules past) (l : Link) (known : IsKnown past l) where
+module _ (rules : RuleSet) (past : List Event) (are : AreJudged rules past) (l : Link) (known : IsKnown past l) where
   named_here : (e : Event) → AreJudged rules (e ∷ past) → (m : Link) → e.link ≡ Some m → m.number ≡ l.number → e.session ≡ Some l.session
   named_here e judged m is same =
       let r = judged.0.0 in
@@ -112,7 +112,7 @@ module _ (rules : List RuleText) (past : List Event) (are : AreJudged rules past
       ]
 
 -- one that isn't on the session isn't on the link
-pub off-session : (rules : List RuleText) (e : Event) (past : List Event) → AreJudged rules (e ∷ past) → (l : Link) → IsKnown past l → is_on_session l.session e ≡ false → is_on_link l e ≡ false
+pub off-session : (rules : RuleSet) (e : Event) (past : List Event) → AreJudged rules (e ∷ past) → (l : Link) → IsKnown past l → is_on_session l.session e ≡ false → is_on_link l e ≡ false
 off-session rules e past are l known off = by (is_on_link l e) refl
   where
     by : (b : Bool) → is_on_link l e ≡ b → b ≡ false
@@ -129,7 +129,7 @@ off-session rules e past are l known off = by (is_on_link l e) refl
 
 -- ---- the link that an attach opens
 
-pub judged-unused : (rules : List RuleText) (past : List Event) → AreJudged rules past → AreUnused past
+pub judged-unused : (rules : RuleSet) (past : List Event) → AreJudged rules past → AreUnused past
 judged-unused rules [] are l after = refl
 judged-unused rules (e ∷ past) are l after =
     subst (λ (x : Event). link_events l (x ∷ past) ≡ []) (sym are.0.1)
@@ -145,7 +145,7 @@ some_of : {A : Type 0} (o : Option A) (test : A → Bool) → is_some_and o test
 some_of None test is = absurd cc
 some_of (Some x) test is = refl
 
-module _ (rules : List RuleText) (past : List Event) (r : Record) (s : Session) (handle : ℕ) where
+module _ (rules : RuleSet) (past : List Event) (r : Record) (s : Session) (handle : ℕ) where
   abbrev here : Event
   here = judge rules past r
 
@@ -160,7 +160,7 @@ module _ (rules : List RuleText) (past : List Event) (r : Record) (s : Session) 
       ∙ (ap (λ o. opened_by (length past) (attach_in m) o past) stands
       ∙ opened-by (length past) s handle (attach_in m) past attaches))
 
-module _ (rules : List RuleText) (e : Event) (past : List Event) (are : AreJudged rules (e ∷ past)) where
+module _ (rules : RuleSet) (e : Event) (past : List Event) (are : AreJudged rules (e ∷ past)) where
   pub opened-here : (s : Session) (handle : ℕ) → is_some_and (out_attach e) (λ (fields : AttachFields). fields.handle == handle) ≡ true → e.session ≡ Some s → e.link ≡ link_opened s handle e past
   opened-here s handle =
       subst (λ (x : Event). is_some_and (out_attach x) (λ (fields : AttachFields). fields.handle == handle) ≡ true → x.session ≡ Some s → x.link ≡ link_opened s handle x past) (sym are.0.1)
@@ -200,7 +200,7 @@ attach_in_unnamed Opened is = absurd cc
 attach_in_unnamed Lost is = absurd cc
 attach_in_unnamed Broken is = absurd cc
 
-module _ (rules : List RuleText) (e : Event) (past : List Event) (are : AreJudged rules (e ∷ past)) where
+module _ (rules : RuleSet) (e : Event) (past : List Event) (are : AreJudged rules (e ∷ past)) where
   pub attach-unnamed : is_some (out_attach e) ≡ true → named_handle e ≡ None
   attach-unnamed is = attach_in_unnamed e.moment is
 

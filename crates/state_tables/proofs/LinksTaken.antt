@@ -1,6 +1,6 @@
 -- An event that was taken stands in the tables of links.
 use Rattle.std.proofs.Common.{◌≡◌, refl, sym, ap, ◌∙◌, Bool, true, false, List, ◌∷◌, if◌then◌else◌, ◌==◌, eqb-true}
-use Rattle.capture_form.specs.Rules.{RuleText}
+use Rattle.capture_form.specs.Rules.{RuleSet}
 use Rattle.trace_events.specs.Event.{Event}
 use Rattle.trace_events.proofs.Judged.{AreJudged}
 use Rattle.state_tables.specs.Links.{standing_at, standing_behind}
@@ -8,7 +8,7 @@ use Rattle.state_tables.specs.LinkTables.{AreLinked, LinksMoved, standing_in}
 use Rattle.state_tables.specs.declared.links.Links.{Links}
 use Rattle.state_tables.proofs.HandlesOfChannels.{standing-behind, standing-other}
 
-pub taken-linked : (rules : List RuleText) (e : Event) (past : List Event) → AreJudged rules (e ∷ past) → (old new : Links) → LinksMoved e old new → AreLinked old past → AreLinked new (e ∷ past)
+pub taken-linked : (rules : RuleSet) (e : Event) (past : List Event) → AreJudged rules (e ∷ past) → (old new : Links) → LinksMoved e old new → AreLinked old past → AreLinked new (e ∷ past)
 taken-linked rules e past are old new moved linked c channel handle = moved c channel handle ∙ by (e.connection == c) refl
   where
     by : (b : Bool) → (e.connection == c) ≡ b

@@ -2,7 +2,7 @@
 use Rattle.std.proofs.Common.{◌≡◌, refl, ap, ◌∙◌, Bool, true, List, ◌∷◌, Option, Some, None, IfSome, is_some, option_and_then, option_map}
 use Rattle.amqp_perf.specs.declared.begin.Begin.{Begin}
 use Rattle.amqp_perf.specs.Meaning.{Meaning, AnOpen, ABegin, AnAttach, AFlow, ATransfer, ADisposition, ADetach, AnEnd, AClose, AttachFields}
-use Rattle.capture_form.specs.Rules.{RuleText}
+use Rattle.capture_form.specs.Rules.{RuleSet}
 use Rattle.trace_clauses.specs.declared.clause.Clause.TheVariants.{L2, L3}
 use Rattle.trace_clauses.specs.Clauses.{first_broken, broken_clause, meaning_meets}
 use Rattle.trace_clauses.specs.LinkClause.{asking, answers_attach, answers_one}
@@ -24,7 +24,7 @@ passing : {A : Type 0} (P : A → Type 0) (test : A → Bool) (o : Option A) →
 passing P test None each is = tt
 passing P test (Some x) each is = each x is
 
-module _ (rules : List RuleText) (e : Event) (past : List Event) (lawful : first_broken rules past ≡ None) (unbroken : broken_clause rules e past ≡ None) where
+module _ (rules : RuleSet) (e : Event) (past : List Event) (lawful : first_broken rules past ≡ None) (unbroken : broken_clause rules e past ≡ None) where
   whole : first_broken rules (e ∷ past) ≡ None
   whole = ap (λ o. or_else o (option_map (λ clause. (e.number, clause)) (broken_clause rules e past))) lawful ∙ ap (λ o. option_map (λ clause. (e.number, clause)) o) unbroken
 

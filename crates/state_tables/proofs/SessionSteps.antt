@@ -3,7 +3,7 @@ use Rattle.std.proofs.Common.{◌≡◌, refl, sym, ap, ◌∙◌, ℕ, ◌≤�
 use Rattle.std.proofs.lemmas.Bool.{eq-eqb}
 use Rattle.amqp_perf.specs.declared.begin.Begin.{Begin}
 use Rattle.amqp_perf.specs.Meaning.{Meaning, ABegin}
-use Rattle.capture_form.specs.Rules.{RuleText}
+use Rattle.capture_form.specs.Rules.{RuleSet}
 use Rattle.flow_counts.specs.declared.events.WindowEvent.{WindowEvent}
 use Rattle.flow_counts.specs.declared.events.WindowEvent.TheVariants.{TheirFlow, Sent, OurFlow, Received}
 use Rattle.trace_events.specs.Words.{is_number, is_some_and, where_passes}
@@ -123,7 +123,7 @@ counted_next e past x is on = ap (moved_by e) is ∙ sym (counted-next e past x.
 
 -- ---- nothing stands on a session before its record
 
-pub judged-unused : (rules : List RuleText) (past : List Event) (s : Session) → AreJudged rules past → length past ≤ s.number → window_events s past ≡ []
+pub judged-unused : (rules : RuleSet) (past : List Event) (s : Session) → AreJudged rules past → length past ≤ s.number → window_events s past ≡ []
 judged-unused rules [] s are after = refl
 judged-unused rules (e ∷ past) s are after =
     let off : is_on_session s e ≡ false =
@@ -132,7 +132,7 @@ judged-unused rules (e ∷ past) s are after =
 
 -- ---- deliveries begin on the session of their event
 
-module _ (rules : List RuleText) (e : Event) (past : List Event) (are : AreJudged rules (e ∷ past)) (lawful : first_broken rules (e ∷ past) ≡ None) (s : Session) where
+module _ (rules : RuleSet) (e : Event) (past : List Event) (are : AreJudged rules (e ∷ past)) (lawful : first_broken rules (e ∷ past) ≡ None) (s : Session) where
   abbrev named : ℕ → Bool
   named n = is_some_and e.session (λ (t : Session). t.number == n)
 
@@ -158,7 +158,7 @@ module _ (rules : List RuleText) (e : Event) (past : List Event) (are : AreJudge
       by None none = next_delivery_id-same e past s none
       by (Some j) begun = at j begun (j.link.session.number == s.number) refl
 
-id-unused : (rules : List RuleText) (past : List Event) (s : Session) → AreJudged rules past → first_broken rules past ≡ None → length past ≤ s.number → next_delivery_id s past ≡ 0
+id-unused : (rules : RuleSet) (past : List Event) (s : Session) → AreJudged rules past → first_broken rules past ≡ None → length past ≤ s.number → next_delivery_id s past ≡ 0
 id-unused rules [] s are lawful after = refl
 id-unused rules (e ∷ past) s are lawful after =
     id-elsewhere rules e past are lawful s (not_on s e.session (λ t is. omega (arith, after, (judged-event_session rules e past t are is).before)))
@@ -188,7 +188,7 @@ last_live c channel past s is = by (is_over c past) is
     by true is = absurd cc
     by false is = is
 
-module _ (rules : List RuleText) (e : Event) (past : List Event) (are : AreJudged rules (e ∷ past)) (lawful : first_broken rules (e ∷ past) ≡ None) where
+module _ (rules : RuleSet) (e : Event) (past : List Event) (are : AreJudged rules (e ∷ past)) (lawful : first_broken rules (e ∷ past) ≡ None) where
   unnamed : (c channel : ℕ) → (e.connection == c) ≡ false → (s : Session) → live_session c channel past ≡ Some s → (o : Option Session) → e.session ≡ o → is_some_and o (λ t. t.number == s.number) ≡ false
   unnamed c channel other s live None on = refl
   unnamed c channel other s live (Some t) on = by (t.number == s.number) refl
@@ -211,7 +211,7 @@ module _ (rules : List RuleText) (e : Event) (past : List Event) (are : AreJudge
 
 -- ---- one of the connection
 
-module _ (rules : List RuleText) (e : Event) (past : List Event) (are : AreJudged rules (e ∷ past)) where
+module _ (rules : RuleSet) (e : Event) (past : List Event) (are : AreJudged rules (e ∷ past)) where
   abbrev c : ℕ
   c = e.connection
 

@@ -1,7 +1,7 @@
 -- What an event does to what is still to be answered on a channel.
 use Rattle.std.proofs.Common.{◌≡◌, refl, sym, ap, ◌∙◌, ℕ, Bool, true, false, not, ◌&&◌, ◌||◌, List, [], ◌∷◌, Option, Some, None, is_some, is_none, if◌then◌else◌, ◌==◌}
 use Rattle.amqp_perf.specs.declared.begin.Begin.{Begin}
-use Rattle.capture_form.specs.Rules.{RuleText}
+use Rattle.capture_form.specs.Rules.{RuleSet}
 use Rattle.trace_events.specs.Said.{in_begin, out_begin, is_in_end, is_out_end}
 use Rattle.trace_events.specs.Event.{Event, channel_of, is_on_channel}
 use Rattle.trace_events.specs.Session.{begins_in, begins_out, ends_in, ends_out, last_in_begin, has_unanswered_begin, owes_end, awaits_end, is_unended}
@@ -112,7 +112,7 @@ awaits_by false true ended_out earlier unended met same = refl
 awaits_by false false true earlier unended met same = same refl
 awaits_by false false false earlier unended met same = refl
 
-module _ (rules : List RuleText) (e : Event) (past : List Event) (are : AreJudged rules (e ∷ past)) (lawful : first_broken rules (e ∷ past) ≡ None)
+module _ (rules : RuleSet) (e : Event) (past : List Event) (are : AreJudged rules (e ∷ past)) (lawful : first_broken rules (e ∷ past) ≡ None)
     (channel : ℕ) (on : channel_of e.moment ≡ Some channel) (own : (e.connection == e.connection) ≡ true) (same : (channel == channel) ≡ true) where
   abbrev c : ℕ
   c = e.connection

@@ -3,7 +3,7 @@ use Rattle.std.specs.Prelude.{◌≡◌, ℕ, true, false, ◌||◌, ◌⊎◌, 
 use Rattle.indexmap.specs.IndexMap.{get, spare}
 use Rattle.flow_counts.specs.declared.profile.TheConstants.{MIN_MAX_FRAME_SIZE}
 use Rattle.capture_form.specs.declared.records.Record.{Record}
-use Rattle.capture_form.specs.Rules.{RuleText}
+use Rattle.capture_form.specs.Rules.{RuleSet}
 use Rattle.trace_clauses.specs.Clauses.{first_broken}
 use Rattle.trace_events.specs.History.{judge, history}
 use Rattle.trace_events.specs.Words.{is_number}
@@ -115,7 +115,7 @@ pub record AreKept (table : Connections) (past : List Event) : Type 0 where
   pub unanswered : (c channel : ℕ) → unanswered_in table c channel ≡ unanswered_at c channel past
 
 -- the event is that of the next record of a capture that is lawful with it
-abbrev pub IsLawfulNext : List RuleText → List Record → Record → Event → Type 0
+abbrev pub IsLawfulNext : RuleSet → List Record → Record → Event → Type 0
 IsLawfulNext rules records r e =
     (e ≡ judge rules (history rules records) r) × (first_broken rules (e ∷ history rules records) ≡ None)
 

@@ -2,7 +2,7 @@
 
 ghost use Rattle.std.specs.Prelude.{◌≡◌, List, [], ◌∷◌, None, OnOk, OnErr, ℕ, nat_eq};
 ghost use Rattle.indexmap.specs.IndexMap.{get};
-ghost use Rattle.capture_form.specs.Rules.{RuleText};
+ghost use Rattle.capture_form.specs.Rules.{RuleSet};
 ghost use Rattle.capture_form.specs.declared.records.Record.{Record};
 ghost use Rattle.trace_events.specs.History.{history};
 ghost use Rattle.state_tables.specs.Connections.{AreKept, AreSame, AreSeen, HasNoRoom, IsLawfulNext, TakesOne, connection_at, seen_in, session_in, unanswered_in};
@@ -96,7 +96,7 @@ impl Connections {
     /// then all stays as it was.
     pub fn take(&mut self, event: &Event) -> Result<(), AllocError>
         ensures seen { OnOk result ((history : Events) → AreSeen self.old history → AreSeen self.new (event_view event.now ∷ history)) }
-        ensures kept { OnOk result ((rules : List RuleText) (records : List Record) (r : Record) → IsLawfulNext rules records r (event_view event.now) →
+        ensures kept { OnOk result ((rules : RuleSet) (records : List Record) (r : Record) → IsLawfulNext rules records r (event_view event.now) →
             AreKept self.old (history rules records) → AreKept self.new (event_view event.now ∷ history rules records)) }
         ensures unchanged { OnErr result (AreSame self.old self.new) }
         ensures full { OnErr result (HasNoRoom self.old (event_view event.now)) }

@@ -3,7 +3,7 @@
 ghost use Rattle.std.specs.Prelude.{◌≡◌, ◌++◌, ◌↔◌, ◌⊎◌, ℕ, List, [], ◌∷◌, IfOk, OnOk, Some, is_some, nat_eq, option_map, true, false};
 ghost use Rattle.std.specs.List.{Contains};
 ghost use Rattle.indexmap.specs.IndexMap.{IsUnique, values};
-ghost use Rattle.capture_form.specs.Rules.{RuleText};
+ghost use Rattle.capture_form.specs.Rules.{RuleSet};
 ghost use Rattle.capture_form.specs.declared.records.Record.{Record};
 ghost use Rattle.trace_events.specs.Event as law;
 ghost use Rattle.trace_events.specs.History.{history, judge};
@@ -69,7 +69,7 @@ impl Links {
     /// Memory was refused.
     #[inline(always)]
     pub fn ended(&self, alloc: Global, event: &Event) -> Result<Vec<Link<'_>>, AllocError>
-        ensures { IfOk result (λ links. (rules : List RuleText) (records : List Record) (r : Record) → event_view event.now ≡ judge rules (history rules records) r →
+        ensures { IfOk result (λ links. (rules : RuleSet) (records : List Record) (r : Record) → event_view event.now ≡ judge rules (history rules records) r →
             AreLinked self.now (history rules records) → AreEnded (event_view event.now) (history rules records) (views links.items)) }
     {
         if ends_nothing(event) {
@@ -85,7 +85,7 @@ impl Links {
     /// Memory was refused.
     #[inline(never)]
     fn ended_by(&self, alloc: Global, event: &Event) -> Result<Vec<Link<'_>>, AllocError>
-        ensures { IfOk result (λ links. (rules : List RuleText) (records : List Record) (r : Record) → event_view event.now ≡ judge rules (history rules records) r →
+        ensures { IfOk result (λ links. (rules : RuleSet) (records : List Record) (r : Record) → event_view event.now ≡ judge rules (history rules records) r →
             AreLinked self.now (history rules records) → AreEnded (event_view event.now) (history rules records) (views links.items)) }
     {
         if !may_end(event) {

@@ -3,7 +3,7 @@
 ghost use Rattle.std.specs.Prelude.{◌≡◌, ℕ, List, [], ◌∷◌, None, OnOk, OnErr, nat_eq, true, unwrap_or};
 ghost use Rattle.std.specs.Option.{option_copied};
 ghost use Rattle.indexmap.specs.IndexMap.{get};
-ghost use Rattle.capture_form.specs.Rules.{RuleText};
+ghost use Rattle.capture_form.specs.Rules.{RuleSet};
 ghost use Rattle.capture_form.specs.declared.records.Record.{Record};
 ghost use Rattle.trace_events.specs.History.{history, judge};
 ghost use Rattle.state_tables.specs.Entries.{capped, entries_of_links};
@@ -69,7 +69,7 @@ impl Links {
     ///
     /// Memory was refused, for an event that says something of a handle; then all stays as it was.
     pub fn take(&mut self, event: &Event) -> Result<(), AllocError>
-        ensures kept { OnOk result ((rules : List RuleText) (records : List Record) (r : Record) → event_view event.now ≡ judge rules (history rules records) r →
+        ensures kept { OnOk result ((rules : RuleSet) (records : List Record) (r : Record) → event_view event.now ≡ judge rules (history rules records) r →
             AreLinked self.old (history rules records) → AreLinked self.new (event_view event.now ∷ history rules records)) }
         ensures unchanged { OnErr result (LinksSame self.old self.new) }
         ensures said { OnErr result (says_of_handle (event_view event.now) ≡ true) }
