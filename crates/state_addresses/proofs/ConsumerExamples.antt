@@ -8,6 +8,7 @@ use Rattle.amqp_perf.specs.declared.attach.Role.TheVariants.{Sender}
 use Rattle.amqp_perf.specs.declared.attach.SenderSettleMode.TheVariants.{Mixed}
 use Rattle.amqp_perf.specs.declared.attach.ReceiverSettleMode.TheVariants.{First}
 use Rattle.capture_form.specs.declared.records.Record.{Record}
+use Rattle.capture_form.specs.Rules.{no_rules}
 use Rattle.trace_events.specs.Words.{is_some_and}
 use Rattle.trace_events.specs.Frame.{frame_read}
 use Rattle.trace_events.specs.Event.{Event, Link}
@@ -26,7 +27,7 @@ other = codes "other"
 
 unfoldable consumes : List Record → List ℕ → ℕ → Bool
 unfolding frame_read whole_frame frame_at sized_frame headed_frame read digits spoken_octets frame_octets written
-consumes records address n = let past = history [] records in is_some_and (link_at n past) (is_consumer_of address past)
+consumes records address n = let past = history no_rules records in is_some_and (link_at n past) (is_consumer_of address past)
 
 a_consumer : consumes pair q 13 ≡ true
 unfolding consumes
@@ -52,7 +53,7 @@ that_left = refl
 
 unfoldable opens : (Event → Bool) → List Record → Record → Bool
 unfolding frame_read whole_frame frame_at sized_frame headed_frame read digits spoken_octets frame_octets written
-opens test records r = test (judge [] (history [] records) r)
+opens test records r = test (judge no_rules (history no_rules records) r)
 
 -- before the router's attach
 abbrev asked_by_consumer : List Record
@@ -134,7 +135,7 @@ has_none = refl
 
 unfoldable finds : List Record → ℕ → Bool
 unfolding frame_read whole_frame frame_at sized_frame headed_frame read digits spoken_octets frame_octets written
-finds records n = is_some_and (consumer_at n (history [] records)) (λ l. bytes_eq l.address q)
+finds records n = is_some_and (consumer_at n (history no_rules records)) (λ l. bytes_eq l.address q)
 
 finds_consumer : finds pair 13 ≡ true
 unfolding finds

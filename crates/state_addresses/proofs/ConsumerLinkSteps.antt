@@ -2,7 +2,7 @@
 use Rattle.std.proofs.Common.{◌≡◌, refl, sym, ap, subst, ◌∙◌, ◌↔◌, ℕ, Bool, true, false, ◌&&◌, not, List, ◌∷◌, Option, Some, None, find, if◌then◌else◌, ◌==◌, arith, eqb-true}
 use Rattle.std.specs.List.{Contains, cons_option}
 use Rattle.std.proofs.lemmas.Bool.{eq-eqb}
-use Rattle.capture_form.specs.Rules.{RuleText}
+use Rattle.capture_form.specs.Rules.{RuleSet}
 use Rattle.trace_events.specs.Words.{or_else, where_passes}
 use Rattle.trace_events.specs.Event.{Event, Link}
 use Rattle.trace_events.specs.Ends.{ends_link}
@@ -17,12 +17,12 @@ use Rattle.state_addresses.specs.ConsumerLinks.{consumer_at, has_number, is_live
 use Rattle.state_addresses.proofs.ConsumerSteps.{any-from, any-gives, known, same_some}
 
 -- a consumer's link that is found by its number is a live one
-pub consumer-lives : (rules : List RuleText) (past : List Event) → AreJudged rules past → (n : ℕ) (l : Link) → consumer_at n past ≡ Some l → IsLiveLink l past
+pub consumer-lives : (rules : RuleSet) (past : List Event) → AreJudged rules past → (n : ℕ) (l : Link) → consumer_at n past ≡ Some l → IsLiveLink l past
 consumer-lives rules past are n l is =
     let found = passes-some (is_live_consumer past) (link_at n past) l is in
     lives-live rules past are l (ap (λ m. link_at m past) (judged-found rules past are n l found.0).0 ∙ found.0) (and_last (is_consumer l) (is_live past l) found.1)
 
-module _ (rules : List RuleText) (e : Event) (past : List Event) (are : AreJudged rules (e ∷ past)) (ended : List Link)
+module _ (rules : RuleSet) (e : Event) (past : List Event) (are : AreJudged rules (e ∷ past)) (ended : List Link)
     (all : (l : Link) → Contains ended l ↔ IsLiveLink l past × (ends_link l e ≡ true)) where
   -- of these the one of a number is a live link, and ends
   ended-found : (n : ℕ) → has_number ended n ≡ true → (m : Link) × ((m.number ≡ n) × IsLiveLink m past × (ends_link m e ≡ true))

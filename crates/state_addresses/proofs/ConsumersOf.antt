@@ -5,7 +5,7 @@ use Rattle.std.proofs.lemmas.Bool.{eq-eqb, ne_eqb}
 use Rattle.std.proofs.lemmas.Cmp.{nat_eq_equiv}
 use Rattle.std.proofs.lemmas.List.{length-map, length-reverse}
 use Rattle.std.proofs.lemmas.Map.Made.{length-le_from_is_member}
-use Rattle.capture_form.specs.Rules.{RuleText}
+use Rattle.capture_form.specs.Rules.{RuleSet}
 use Rattle.number_groups.specs.Numbers.{is_among}
 use Rattle.number_groups.specs.OctetGroups.{numbers}
 use Rattle.trace_events.specs.Words.{is_some_and}
@@ -41,7 +41,7 @@ not_true : (b : Bool) → (b ≡ true → ⊥) → b ≡ false
 not_true true never = absurd (never refl)
 not_true false never = refl
 
-module _ (rules : List RuleText) (past : List Event) (are : AreJudged rules past) (address : List ℕ) (member : ℕ → Bool)
+module _ (rules : RuleSet) (past : List Event) (are : AreJudged rules past) (address : List ℕ) (member : ℕ → Bool)
     (of : (n : ℕ) → member n ≡ is_some_and (link_at n past) (is_consumer_of address past)) where
   abbrev test : Link → Bool
   test = is_consumer_of address past
@@ -67,7 +67,7 @@ some-among [] empty is = ap not (is.1 (λ n. refl))
 some-among (m ∷ ms) empty is = ap not (not_true empty (λ yes. let never : true ≡ false = sym (first-among m ms) ∙ is.0 yes m in absurd cc))
 
 -- the table tells of each address whether it has a consumer behind these events
-pub are-served : (rules : List RuleText) (past : List Event) → AreJudged rules past → (table : Consumers) → AreConsumers table past → (address : List ℕ) → is_served table address ≡ has_consumer address past
+pub are-served : (rules : RuleSet) (past : List Event) → AreJudged rules past → (table : Consumers) → AreConsumers table past → (address : List ℕ) → is_served table address ≡ has_consumer address past
 are-served rules past are table of address = by (numbers table.groups address) (of address)
   where
     by : (ns : List ℕ) → ((n : ℕ) → is_among ns n ≡ is_some_and (link_at n past) (is_consumer_of address past)) → has_some ns ≡ has_consumer address past
@@ -101,7 +101,7 @@ among-map : (n : ℕ) (ls : List Link) → list_any (nat_eq n) (map (λ (l : Lin
 among-map n [] = refl
 among-map n (l ∷ ls) = ap (λ b. (n == l.number) || b) (among-map n ls)
 
-module _ (rules : List RuleText) (past : List Event) (are : AreJudged rules past) (address : List ℕ) (numbers : List ℕ) (distinct : IsDistinct nat_eq numbers)
+module _ (rules : RuleSet) (past : List Event) (are : AreJudged rules past) (address : List ℕ) (numbers : List ℕ) (distinct : IsDistinct nat_eq numbers)
     (of : (n : ℕ) → list_any (nat_eq n) numbers ≡ is_some_and (link_at n past) (is_consumer_of address past)) where
   abbrev passing : List Link
   passing = filter (is_consumer_of address past) (links past)

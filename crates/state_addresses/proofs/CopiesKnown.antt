@@ -1,6 +1,6 @@
 -- What the numbers of a live link answer of the copies that are to be sent on it.
 use Rattle.std.proofs.Common.{◌≡◌, refl, sym, ap, ◌∙◌, ◌↔◌, ℕ, Bool, true, false, ◌||◌, not, IsTrue, List, [], ◌∷◌, length, Option, Some, None, if◌then◌else◌, ◌==◌, eq-eqb, ne_eqb, arith}
-use Rattle.capture_form.specs.Rules.{RuleText}
+use Rattle.capture_form.specs.Rules.{RuleSet}
 use Rattle.trace_events.specs.Words.{is_some_and, where_passes}
 use Rattle.trace_events.specs.Event.{Event, Link, Incoming}
 use Rattle.trace_events.specs.declared.session.Session.{Session}
@@ -41,7 +41,7 @@ empty-is ds false says = by (length ds == 0) refl
     by false is = refl
     by true is = let never : false ≡ true = says.1 (empty-none ds is) in never
 
-module _ (rules : List RuleText) (past : List Event) (are : AreJudged rules past) (l : Link) (live : IsLiveLink l past) where
+module _ (rules : RuleSet) (past : List Event) (are : AreJudged rules past) (l : Link) (live : IsLiveLink l past) where
   found : link_at l.number past ≡ Some l
   found =
       let s = l.session in

@@ -2,7 +2,7 @@
 use Rattle.std.proofs.Common.{◌≡◌, refl, sym, ap, subst, ◌∙◌, ◌↔◌, ℕ, suc, ◌-◌, ◌≤◌, Bool, true, false, ◌&&◌, ◌||◌, not, List, [], ◌∷◌, length, filter, reverse, find, nat_eq, Option, Some, None, IfSome, is_some, inl, inr, bytes_eq, if◌then◌else◌, ◌==◌, arith, eqb-true, eq-eqb}
 use Rattle.std.specs.Prelude.{Contains, nat_lt}
 use Rattle.std.specs.List.{IsDistinct, cons_option, list_any}
-use Rattle.capture_form.specs.Rules.{RuleText}
+use Rattle.capture_form.specs.Rules.{RuleSet}
 use Rattle.trace_events.specs.Words.{is_some_and, where_passes}
 use Rattle.trace_events.specs.Event.{Event, Link, Incoming, is_on_link}
 use Rattle.trace_events.specs.declared.session.Session.{Session}
@@ -128,7 +128,7 @@ last_of : (over : Bool) (last : Option Session) (s : Session) → (if over then 
 last_of true last s is = absurd cc
 last_of false last s is = is
 
-module _ (rules : List RuleText) (past : List Event) (are : AreJudged rules past) (l : Link) (later : length past ≤ l.number) where
+module _ (rules : RuleSet) (past : List Event) (are : AreJudged rules past) (l : Link) (later : length past ≤ l.number) where
   unborn_by : (b : Bool) → is_live past l ≡ b → b ≡ false
   unborn_by false is = refl
   unborn_by true is =
@@ -142,7 +142,7 @@ module _ (rules : List RuleText) (past : List Event) (are : AreJudged rules past
   unborn : is_live past l ≡ false
   unborn = unborn_by (is_live past l) refl
 
-none-due : (rules : List RuleText) (past : List Event) → AreJudged rules past → (l : Link) → length past ≤ suc l.number → (d : Incoming) → is_due rules d l past ≡ false
+none-due : (rules : RuleSet) (past : List Event) → AreJudged rules past → (l : Link) → length past ≤ suc l.number → (d : Incoming) → is_due rules d l past ≡ false
 none-due rules [] are l later d = refl
 none-due rules (e ∷ past) are l later d =
     ap (λ b. if completes d e then b else is_due rules d l past) (off (completed_by e))
@@ -167,13 +167,13 @@ filter-nothing p [] off = refl
 filter-nothing p (x ∷ xs) off = ap (λ b. if b then x ∷ filter p xs else filter p xs) (off x) ∙ filter-nothing p xs off
 
 -- nothing is to be sent on a link that the last event opened
-none-unsent : (rules : List RuleText) (past : List Event) → AreJudged rules past → (l : Link) → length past ≤ suc l.number → unsent_copies rules l past ≡ []
+none-unsent : (rules : RuleSet) (past : List Event) → AreJudged rules past → (l : Link) → length past ≤ suc l.number → unsent_copies rules l past ≡ []
 none-unsent rules past are l later =
     ap reverse (filter-nothing (λ d. is_unsent rules d l past) (completed_deliveries past) (λ d. ap (λ b. b && not (is_named_on d l past)) (none-due rules past are l later d)))
 
 -- ---- as many numbers as copies
 
-pub copies-counted : (rules : List RuleText) (past : List Event) → AreJudged rules past → (link : ℕ) (ns : List ℕ) → IsDistinct nat_eq ns → ((n : ℕ) → is_among ns n ≡ has_number n (copies_at rules link past))
+pub copies-counted : (rules : RuleSet) (past : List Event) → AreJudged rules past → (link : ℕ) (ns : List ℕ) → IsDistinct nat_eq ns → ((n : ℕ) → is_among ns n ≡ has_number n (copies_at rules link past))
     → length ns ≡ length (copies_at rules link past)
 copies-counted rules past are link ns each same = numbers-counted (copies_at rules link past) (apart (where_passes (is_live past) (link_at link past))) ns each same
   where
@@ -183,7 +183,7 @@ copies-counted rules past are link ns each same = numbers-counted (copies_at rul
 
 -- ---- a step
 
-module _ (rules : List RuleText) (e : Event) (past : List Event) (are : AreJudged rules (e ∷ past)) (lawful : first_broken rules (e ∷ past) ≡ None) where
+module _ (rules : RuleSet) (e : Event) (past : List Event) (are : AreJudged rules (e ∷ past)) (lawful : first_broken rules (e ∷ past) ≡ None) where
   -- the link that the event names, where it is one that was known, is one of the event's connection
   on_link-is : (l : Link) → link_at l.number past ≡ Some l → is_on_link l e ≡ is_some_and e.link (λ m. m.number == l.number)
   on_link-is l at = by e.link refl

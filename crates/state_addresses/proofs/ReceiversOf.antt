@@ -5,7 +5,7 @@ use Rattle.std.proofs.Math.Seq.{take-suc}
 use Rattle.std.proofs.lemmas.List.{append-nil}
 use Rattle.std.proofs.lemmas.List.Elements.{filter_map-append}
 use Rattle.std.proofs.lemmas.Option.{slice_get-get_or}
-use Rattle.capture_form.specs.Rules.{RuleText}
+use Rattle.capture_form.specs.Rules.{RuleSet}
 use Rattle.trace_events.specs.Words.{is_some_and, where_passes}
 use Rattle.trace_events.specs.Event.{Event, Link}
 use Rattle.trace_events.specs.Address.{is_consumer_of}
@@ -43,7 +43,7 @@ any-and link c (n ∷ ns) = ap (λ b. (n == link) && c || b) (any-and link c ns)
     bits true false false = refl
     bits false b c = refl
 
-module _ (rules : List RuleText) (past : List Event) (are : AreJudged rules past) (address : List ℕ) (numbers : List ℕ)
+module _ (rules : RuleSet) (past : List Event) (are : AreJudged rules past) (address : List ℕ) (numbers : List ℕ)
     (of : (n : ℕ) → list_any (nat_eq n) numbers ≡ is_some_and (link_at n past) (is_consumer_of address past)) where
   module _ (link credit : ℕ) where
     abbrev is_it : Receiver → Bool

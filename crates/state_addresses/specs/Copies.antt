@@ -2,7 +2,7 @@
 -- that of the delivery.
 use Rattle.std.specs.Prelude.{◌≡◌, ℕ, Bool, ◌&&◌, List, [], Option, Some, None, IfSome, is_some, length, nat_eq, nat_lt, ◌==◌}
 use Rattle.std.specs.List.{IsDistinct, list_any}
-use Rattle.capture_form.specs.Rules.{RuleText}
+use Rattle.capture_form.specs.Rules.{RuleSet}
 use Rattle.number_groups.specs.Groups.{is_member}
 use Rattle.number_groups.specs.Numbers.{is_among}
 use Rattle.trace_events.specs.Words.{is_some_and, where_passes}
@@ -25,19 +25,19 @@ abbrev pub stands : Copies → ℕ → ℕ → Bool
 stands table link n = is_member nat_eq table.unsent link n
 
 -- of a link the copies that are to be sent there
-abbrev pub copies_on : List RuleText → List Event → Option Link → List Incoming
+abbrev pub copies_on : RuleSet → List Event → Option Link → List Incoming
 copies_on rules past None = []
 copies_on rules past (Some l) = unsent_copies rules l past
 
 -- those of the link of this number, while it lives
-abbrev pub copies_at : List RuleText → ℕ → List Event → List Incoming
+abbrev pub copies_at : RuleSet → ℕ → List Event → List Incoming
 copies_at rules link past = copies_on rules past (where_passes (is_live past) (link_at link past))
 
 abbrev pub has_number : ℕ → List Incoming → Bool
 has_number n ds = list_any (λ d. n == d.number) ds
 
 -- just these stand in the table
-abbrev pub AreCopies : List RuleText → Copies → List Event → Type 0
+abbrev pub AreCopies : RuleSet → Copies → List Event → Type 0
 AreCopies rules table past = (link n : ℕ) → stands table link n ≡ has_number n (copies_at rules link past)
 
 -- on each link as many stand as this says
@@ -47,7 +47,7 @@ AreCounted table counts = (link : ℕ) (ns : List ℕ) → IsDistinct nat_eq ns 
 -- ---- what an event does to it
 
 -- the delivery of multicast that the event completes
-abbrev pub copied_by : List RuleText → Event → Option Incoming
+abbrev pub copied_by : RuleSet → Event → Option Incoming
 copied_by rules e = where_passes (is_of_multicast rules) (completed_by e)
 
 -- just the live links of the address's consumers, with their credit
@@ -56,7 +56,7 @@ AreReceiversOf address past receivers = (link credit : ℕ) →
     list_any (λ x. x.link == link && (x.credit == credit)) receivers ≡ is_some_and (link_at link past) (λ l. is_consumer_of address past l && (link_credit l past == credit))
 
 -- where the event completes a delivery of multicast, those of its address
-abbrev pub AreReceivers : List RuleText → Event → List Event → List Receiver → Type 0
+abbrev pub AreReceivers : RuleSet → Event → List Event → List Receiver → Type 0
 AreReceivers rules e past receivers = IfSome (copied_by rules e) (λ d. AreReceiversOf (address_of d) past receivers)
 
 -- one of them has this link, and more credit than so many copies
@@ -64,11 +64,11 @@ abbrev pub has_room : List Receiver → ℕ → ℕ → Bool
 has_room receivers link count = list_any (λ x. x.link == link && nat_lt count x.credit) receivers
 
 -- a copy of the delivery of this number comes due to the link, of which so many are to be sent
-abbrev pub comes_to : List RuleText → Event → List Receiver → ℕ → ℕ → ℕ → Bool
+abbrev pub comes_to : RuleSet → Event → List Receiver → ℕ → ℕ → ℕ → Bool
 comes_to rules e receivers count link n = is_some_and (copied_by rules e) (λ d. n == d.number && has_room receivers link count)
 
 -- just to these links a copy of what the event completes comes due
-abbrev pub AreDue : List RuleText → Event → List Event → List ℕ → Type 0
+abbrev pub AreDue : RuleSet → Event → List Event → List ℕ → Type 0
 AreDue rules e past due = (link : ℕ) → list_any (λ m. m == link) due ≡ is_some_and (link_at link past) (λ l. comes_due rules l e past)
 
 -- a transfer to the client names the delivery of this number on the link of this number

@@ -1,7 +1,7 @@
 //! The live links of consumers, by their numbers.
 
 ghost use Rattle.std.specs.Prelude.{◌≡◌, ◌∷◌, ℕ, List, [], OnOk, OnErr, option_map, true};
-ghost use Rattle.capture_form.specs.Rules.{RuleText};
+ghost use Rattle.capture_form.specs.Rules.{RuleSet};
 ghost use Rattle.capture_form.specs.declared.records.Record.{Record};
 ghost use Rattle.trace_events.specs.History.{history, judge};
 ghost use Rattle.state_tables.specs.EndedLinks.{AreEnded, views};
@@ -48,7 +48,7 @@ impl ConsumerLinks {
     ///
     /// Memory was refused, for an attach that opens a consumer's link; then all stays as it was.
     pub fn take(&mut self, event: &Event, ended: &[Link]) -> Result<(), AllocError>
-        ensures kept { OnOk result ((rules : List RuleText) (records : List Record) (r : Record) → event_view event.now ≡ judge rules (history rules records) r →
+        ensures kept { OnOk result ((rules : RuleSet) (records : List Record) (r : Record) → event_view event.now ≡ judge rules (history rules records) r →
             AreEnded (event_view event.now) (history rules records) (views ended.now) → AreConsumerLinks self.old (history rules records) →
             AreConsumerLinks self.new (event_view event.now ∷ history rules records)) }
         ensures unchanged { OnErr result (AreSameLinks self.old self.new) }

@@ -1,7 +1,7 @@
 //! The live links of each address's consumers.
 
 ghost use Rattle.std.specs.Prelude.{◌≡◌, ◌||◌, ◌&&◌, ◌==◌, ℕ, List, [], ◌∷◌, OnOk, OnErr, length, not, option_map, slice_get, true};
-ghost use Rattle.capture_form.specs.Rules.{RuleText};
+ghost use Rattle.capture_form.specs.Rules.{RuleSet};
 ghost use Rattle.capture_form.specs.declared.records.Record.{Record};
 ghost use Rattle.trace_events.specs.Address as law;
 ghost use Rattle.trace_events.specs.History.{history, judge};
@@ -55,7 +55,7 @@ impl Consumers {
     ///
     /// Memory was refused, for an attach that opens a consumer's link; then all stays as it was.
     pub fn take(&mut self, event: &Event, ended: &[Link]) -> Result<(), AllocError>
-        ensures kept { OnOk result ((rules : List RuleText) (records : List Record) (r : Record) → event_view event.now ≡ judge rules (history rules records) r →
+        ensures kept { OnOk result ((rules : RuleSet) (records : List Record) (r : Record) → event_view event.now ≡ judge rules (history rules records) r →
             AreEnded (event_view event.now) (history rules records) (views ended.now) → AreConsumers self.old (history rules records) →
             AreConsumers self.new (event_view event.now ∷ history rules records)) }
         ensures unchanged { OnErr result (AreSame self.old self.new) }
@@ -90,7 +90,7 @@ impl Consumers {
     /// The address has a consumer: a live link.
     pub fn has_consumer(&self, address: &[u8]) -> bool
         ensures stored { result ≡ is_served self.now address.now }
-        ensures known { (rules : List RuleText) (records : List Record) → AreConsumers self.now (history rules records) →
+        ensures known { (rules : RuleSet) (records : List Record) → AreConsumers self.now (history rules records) →
             result ≡ law.has_consumer address.now (history rules records) }
     {
         !self.groups.is_empty(address)
@@ -99,7 +99,7 @@ impl Consumers {
     /// How many consumers' links live at the address.
     pub fn count(&self, address: &[u8]) -> usize
         ensures stored { result ≡ length (numbers_at self.now address.now) }
-        ensures known { (rules : List RuleText) (records : List Record) → AreConsumers self.now (history rules records) →
+        ensures known { (rules : RuleSet) (records : List Record) → AreConsumers self.now (history rules records) →
             result ≡ length (law.consumers address.now (history rules records)) }
     {
         self.groups.count(address)

@@ -2,7 +2,7 @@
 
 ghost use Rattle.std.specs.Prelude.{◌≡◌, ◌≤◌, ◌-◌, ◌||◌, ◌&&◌, ◌==◌, ℕ, List, [], ◌∷◌, Some, true, false, IfOk, OnOk, OnErr, is_some, length, map, nat_eq, nat_lt, not, option_map};
 ghost use Rattle.std.specs.List.{IsDistinct, list_any};
-ghost use Rattle.capture_form.specs.Rules.{RuleText};
+ghost use Rattle.capture_form.specs.Rules.{RuleSet};
 ghost use Rattle.capture_form.specs.declared.records.Record.{Record};
 ghost use Rattle.number_groups.specs.Groups.{numbers};
 ghost use Rattle.number_groups.specs.Numbers.{is_among};
@@ -17,7 +17,7 @@ ghost use Rattle.state_tables.specs.Connections.{IsLawfulNext};
 ghost use Rattle.state_tables.specs.EndedLinks.{AreEnded, views};
 ghost use Rattle.state_addresses.specs.Copies.{AreCopies, AreCounted, AreDue, AreReceivers, comes_to, copied_by, has_room, is_ended, names_at, stands};
 
-use capture_form::Rule;
+use capture_form::RuleSet;
 use number_groups::Groups;
 use pairing_cert::Note;
 use std::alloc::{AllocError, Global};
@@ -46,7 +46,7 @@ impl Drop for Copies {
 }
 
 /// The delivery of multicast that the event completes.
-pub(crate) fn copied<'a>(rules: &[Rule], event: &Event<'a, '_>) -> Option<Incoming<'a>>
+pub(crate) fn copied<'a>(rules: &RuleSet, event: &Event<'a, '_>) -> Option<Incoming<'a>>
     ensures { option_map incoming_view result ≡ copied_by rules.now (event_view event.now) }
 {
     match event.completed_by() {
@@ -71,7 +71,7 @@ fn named(event: &Event) -> Option<(u64, u64)>
 impl Copies {
     /// No records.
     pub fn new(alloc: Global) -> Copies
-        ensures { (rules : List RuleText) → AreCopies rules result [] }
+        ensures { (rules : RuleSet) → AreCopies rules result [] }
     {
         Copies {
             unsent: Groups::new(alloc),
@@ -87,7 +87,7 @@ impl Copies {
     /// more.
     pub fn take(
         &mut self,
-        rules: &[Rule],
+        rules: &RuleSet,
         event: &Event,
         ended: &[Link],
         receivers: &[Receiver],
@@ -114,7 +114,7 @@ impl Copies {
     pub fn due_to(
         &self,
         alloc: Global,
-        rules: &[Rule],
+        rules: &RuleSet,
         event: &Event,
         receivers: &[Receiver],
     ) -> Result<Vec<u64>, AllocError>
@@ -147,7 +147,7 @@ impl Copies {
     /// Copies of what the event completes come due to these receivers.
     fn come(
         &mut self,
-        rules: &[Rule],
+        rules: &RuleSet,
         event: &Event,
         receivers: &[Receiver],
     ) -> Result<(), AllocError>
@@ -224,7 +224,7 @@ impl Copies {
 
     /// A copy of a multicast delivery is due to the live link, and not sent.
     pub fn has_unsent(&self, link: &Link) -> bool
-        ensures { (rules : List RuleText) (records : List Record) → AreCopies rules self.now (history rules records) →
+        ensures { (rules : RuleSet) (records : List Record) → AreCopies rules self.now (history rules records) →
             IsLiveLink (link_view link.now) (history rules records) →
             result ≡ due.has_unsent rules (link_view link.now) (history rules records) }
     {
@@ -233,7 +233,7 @@ impl Copies {
 
     /// A copy of the delivery, which is one of the capture, is due to the live link, and not sent.
     pub fn is_unsent(&self, delivery: &Incoming, link: &Link) -> bool
-        ensures { (rules : List RuleText) (records : List Record) → AreCopies rules self.now (history rules records) →
+        ensures { (rules : RuleSet) (records : List Record) → AreCopies rules self.now (history rules records) →
             IsLiveLink (link_view link.now) (history rules records) →
             incoming_at (incoming_view delivery.now).number (history rules records) ≡ Some (incoming_view delivery.now) →
             result ≡ due.is_unsent rules (incoming_view delivery.now) (link_view link.now) (history rules records) }

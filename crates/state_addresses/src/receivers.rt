@@ -1,7 +1,7 @@
 //! To whose links a delivery of multicast is to be copied, as the tables know them.
 
 ghost use Rattle.std.specs.Prelude.{◌≡◌, List, [], None, IfOk, OnErr, filter_map, is_some, option_and_then, slice_get, true};
-ghost use Rattle.capture_form.specs.Rules.{RuleText};
+ghost use Rattle.capture_form.specs.Rules.{RuleSet};
 ghost use Rattle.capture_form.specs.declared.records.Record.{Record};
 ghost use Rattle.trace_events.specs.History.{history};
 ghost use Rattle.trace_values.specs.View.{event_view};
@@ -13,7 +13,7 @@ ghost use Rattle.state_addresses.specs.Receivers.{receiver_at};
 
 use crate::copies::{Receiver, copied};
 use crate::{ConsumerLinks, Consumers};
-use capture_form::Rule;
+use capture_form::RuleSet;
 use state_tables::Links;
 use std::alloc::{AllocError, Global};
 use trace_values::Event;
@@ -26,7 +26,7 @@ use trace_values::Event;
 /// Memory was refused, for an event that completes a delivery of multicast.
 pub fn receivers_of(
     alloc: Global,
-    rules: &[Rule],
+    rules: &RuleSet,
     event: &Event,
     consumers: &Consumers,
     consumer_links: &ConsumerLinks,
@@ -55,7 +55,7 @@ fn address_receivers(
     consumer_links: &ConsumerLinks,
     links: &Links,
 ) -> Result<Vec<Receiver>, AllocError>
-    ensures { IfOk result (λ receivers. (rules : List RuleText) (records : List Record) →
+    ensures { IfOk result (λ receivers. (rules : RuleSet) (records : List Record) →
         AreConsumerLinks consumer_links.now (history rules records) → AreLinked links.now (history rules records) →
         receivers.items ≡ filter_map (λ n. receiver_at n (history rules records)) (numbers_at consumers.now address.now)) }
 {
@@ -76,7 +76,7 @@ fn numbered_receiver(
     consumer_links: &ConsumerLinks,
     links: &Links,
 ) -> Option<Receiver>
-    ensures { (rules : List RuleText) (records : List Record) → AreConsumerLinks consumer_links.now (history rules records) →
+    ensures { (rules : RuleSet) (records : List Record) → AreConsumerLinks consumer_links.now (history rules records) →
         AreLinked links.now (history rules records) →
         result ≡ option_and_then (λ n. receiver_at n (history rules records)) number }
 {
