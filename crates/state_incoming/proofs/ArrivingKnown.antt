@@ -2,7 +2,7 @@
 use Rattle.std.proofs.Common.{◌≡◌, refl, sym, ap, ◌∙◌, ◌⊎◌, inl, inr, ℕ, Bool, true, false, ◌&&◌, ◌||◌, not, List, [], ◌∷◌, Option, Some, None, option_map, option_and_then, nat_eq, if◌then◌else◌, ◌==◌, eqb-true, eq-eqb}
 use Rattle.std.specs.List.{list_any, slice_get}
 use Rattle.amqp_perf.specs.Meaning.{TransferFields, flag}
-use Rattle.capture_form.specs.Rules.{RuleText}
+use Rattle.capture_form.specs.Rules.{RuleSet}
 use Rattle.trace_events.specs.Words.{is_some_and, where_passes}
 use Rattle.trace_events.specs.Connection.{is_over}
 use Rattle.trace_events.specs.Session.{last_session}
@@ -89,7 +89,7 @@ going o own d is fields says last up =
         ∙ (ap (λ p. is_some_and p (λ (x : Incoming). x.number == d.number)) is ∙ eq-eqb d.number d.number refl))) ∙ last in
         absurd cc
 
-module _ (rules : List RuleText) (e : Event) (past : List Event) (are : AreJudged rules (e ∷ past)) (d : Incoming) (incomplete : is_complete d (e ∷ past) ≡ false) (whole : is_aborted d (e ∷ past) ≡ false) where
+module _ (rules : RuleSet) (e : Event) (past : List Event) (are : AreJudged rules (e ∷ past)) (d : Incoming) (incomplete : is_complete d (e ∷ past) ≡ false) (whole : is_aborted d (e ∷ past) ≡ false) where
   abbrev on_link : Bool
   on_link = is_some_and e.incoming (λ (x : Incoming). x.link.number == d.link.number)
 
@@ -150,7 +150,7 @@ module _ (rules : List RuleText) (e : Event) (past : List Event) (are : AreJudge
         by (Some x) begun = named x begun (x.number == d.number) refl
 
 -- one that arrives on a live link is in progress there
-pub arriving-progress : (rules : List RuleText) (past : List Event) → AreJudged rules past → (d : Incoming) → is_complete d past ≡ false → is_aborted d past ≡ false → incoming_at d.number past ≡ Some d
+pub arriving-progress : (rules : RuleSet) (past : List Event) → AreJudged rules past → (d : Incoming) → is_complete d past ≡ false → is_aborted d past ≡ false → incoming_at d.number past ≡ Some d
     → is_live past d.link ≡ true → in_progress d.link past ≡ Some d
 arriving-progress rules [] are d incomplete whole at live = absurd cc
 arriving-progress rules (e ∷ past) are d incomplete whole at live =
@@ -160,7 +160,7 @@ arriving-progress rules (e ∷ past) are d incomplete whole at live =
 
 -- ---- by the group of those that arrive
 
-module _ (rules : List RuleText) (past : List Event) (are : AreJudged rules past) (kept : ℕ → Option Held) (were : (n : ℕ) → kept n ≡ held_at rules n past)
+module _ (rules : RuleSet) (past : List Event) (are : AreJudged rules past) (kept : ℕ → Option Held) (were : (n : ℕ) → kept n ≡ held_at rules n past)
     (l : Link) (on : IsLiveLink l past) (ns : List ℕ) (grouped : (n : ℕ) → list_any (nat_eq n) ns ≡ is_some_and (kept n) (λ x. is_of_link l.number x.delivery && says_arriving x.fate)) where
   known : link_at l.number past ≡ Some l
   known =

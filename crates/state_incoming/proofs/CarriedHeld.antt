@@ -1,7 +1,7 @@
 -- In a lawful capture what a delivery to a client carries is kept: so the table can tell of it.
 use Rattle.std.proofs.Common.{◌≡◌, refl, sym, ap, subst, ◌∙◌, ℕ, Bool, true, false, not, ◌&&◌, List, Option, Some, None, IfSome, is_some, find, option_and_then, option_map, if◌then◌else◌, eq-eqb}
 use Rattle.pairing_cert.specs.declared.note.Note.TheVariants as notes
-use Rattle.capture_form.specs.Rules.{RuleText}
+use Rattle.capture_form.specs.Rules.{RuleSet}
 use Rattle.trace_events.specs.Words.{where_passes}
 use Rattle.trace_events.specs.Event.{Event, Link, Incoming, Outgoing}
 use Rattle.trace_events.specs.Incoming.{incoming_at, is_complete}
@@ -22,7 +22,7 @@ use Rattle.trace_clauses.proofs.IdsApart.{found_any}
 use Rattle.state_incoming.proofs.GroupAnswers.{find-some}
 
 -- a delivery from a client, with that it is kept
-pub record IsCarried (rules : List RuleText) (past : List Event) (j : Outgoing) : Type 0 where
+pub record IsCarried (rules : RuleSet) (past : List Event) (j : Outgoing) : Type 0 where
   pub delivery : Incoming
   pub named : j.note ≡ notes.Pair delivery.number
   pub at : incoming_at delivery.number past ≡ Some delivery
@@ -37,7 +37,7 @@ held-bits false gone closed other is none = absurd cc
 same_some : {A : Type 0} (a b : A) → Some a ≡ Some b → a ≡ b
 same_some a b is = cc
 
-module _ (rules : List RuleText) (past : List Event) (are : AreJudged rules past) (lawful : first_broken rules past ≡ None) where
+module _ (rules : RuleSet) (past : List Event) (are : AreJudged rules past) (lawful : first_broken rules past ≡ None) where
   paired-by : (test : Outgoing → Bool) (j : Outgoing) (d : Incoming) → find test (outgoing_deliveries past) ≡ Some j → j.note ≡ notes.Pair d.number → is_paired d past ≡ true
   paired-by test j d found named =
       let names_it : names d.number j.note ≡ true = ap (names d.number) named ∙ eq-eqb d.number d.number refl in

@@ -2,7 +2,7 @@
 use Rattle.std.proofs.Common.{subst, ◌≡◌, refl, sym, ap, ◌∙◌, ◌<◌, ℕ, Bool, true, false, ◌&&◌, ◌||◌, not, List, [], ◌∷◌, length, Option, Some, None, IfSome, bytes_eq, inl, inr, eq-eqb, ◌==◌}
 use Rattle.std.specs.Prelude.{Contains}
 use Rattle.std.specs.List.{AllByRecursion, cons_option, list_any}
-use Rattle.capture_form.specs.Rules.{RuleText}
+use Rattle.capture_form.specs.Rules.{RuleSet}
 use Rattle.trace_events.specs.Event.{Event, Link, Incoming}
 use Rattle.trace_events.specs.Address.{is_consumer_of, has_consumer}
 use Rattle.trace_events.specs.Ends.{ends_link}
@@ -70,7 +70,7 @@ had-now : (d : Incoming) (past : List Event) → always_had_consumer d past ≡ 
 had-now d [] is = absurd cc
 had-now d (e ∷ past) is = (and_both (has_consumer (address_of d) (e ∷ past)) _ is).0
 
-module _ (rules : List RuleText) (e : Event) (past : List Event) (are : AreJudged rules (e ∷ past)) (has : List ℕ → Bool) (same : (address : List ℕ) → has address ≡ has_consumer address (e ∷ past))
+module _ (rules : RuleSet) (e : Event) (past : List Event) (are : AreJudged rules (e ∷ past)) (has : List ℕ → Bool) (same : (address : List ℕ) → has address ≡ has_consumer address (e ∷ past))
     (ended : List Link) (ends : EndWith past e ended) where
   -- a link that lives before the event, and of which it is said by its number
   ended-link : (l : Link) → link_at l.number past ≡ Some l → is_live past l ≡ true → ends_link l e ≡ true → Contains ended l
@@ -115,7 +115,7 @@ module _ (rules : List RuleText) (e : Event) (past : List Event) (are : AreJudge
       by P (Some x) each = each x refl
 
 -- of a table that has what the law keeps
-pub ended-of : (rules : List RuleText) (e : Event) (past : List Event) (has : List ℕ → Bool) (ended : List Link) (kept : ℕ → Option Held) → ((n : ℕ) → kept n ≡ held_at rules n past)
+pub ended-of : (rules : RuleSet) (e : Event) (past : List Event) (has : List ℕ → Bool) (ended : List Link) (kept : ℕ → Option Held) → ((n : ℕ) → kept n ≡ held_at rules n past)
     → AreEnded e has ended (λ n. held_at rules n past) → AreEnded e has ended kept
 ended-of rules e past has ended kept were are = record {
   producers = λ n. subst (λ (o : Option Held). IfSome o (λ (x : Held). x.is_undecided && ends_link x.delivery.link e ≡ true → list_any (λ (l : Link). l.number == x.delivery.link.number) ended ≡ true)) (sym (were n)) (are.producers n);

@@ -1,6 +1,6 @@
 -- What has become of a delivery from a client: what it says of the law's questions, and how one event moves it.
 use Rattle.std.proofs.Common.{◌≡◌, refl, sym, ap, ◌∙◌, Bool, true, false, not, ◌&&◌, ◌||◌, List, ◌∷◌, if◌then◌else◌}
-use Rattle.capture_form.specs.Rules.{RuleText}
+use Rattle.capture_form.specs.Rules.{RuleSet}
 use Rattle.trace_events.specs.Event.{Event, Incoming}
 use Rattle.trace_events.specs.Address.{has_consumer}
 use Rattle.trace_events.specs.Incoming.{address_of, completes, is_complete}
@@ -56,7 +56,7 @@ paired-bits true false true a anycast done = refl
 paired-bits true false false true anycast done = refl
 paired-bits true false false false anycast done = refl
 
-module _ (rules : List RuleText) (d : Incoming) (past : List Event) where
+module _ (rules : RuleSet) (d : Incoming) (past : List Event) where
   pub complete-fate : is_complete d past ≡ not (says_arriving (fate_of rules d past))
   complete-fate = complete-bits (is_complete d past) (is_of_multicast rules d) (is_paired d past) (always_had_consumer d past)
 
@@ -83,7 +83,7 @@ next_by k m b h Gone = Gone
 next_by k m b h Paired = Paired
 next_by k m b h Copied = Copied
 
-next-is : (rules : List RuleText) (e : Event) (h : Bool) (d : Incoming) (fate : Fate) → fate_next rules e h d fate ≡ next_by (completes d e) (is_of_multicast rules d) (pairs d e) h fate
+next-is : (rules : RuleSet) (e : Event) (h : Bool) (d : Incoming) (fate : Fate) → fate_next rules e h d fate ≡ next_by (completes d e) (is_of_multicast rules d) (pairs d e) h fate
 next-is rules e h d Arriving = refl
 next-is rules e h d Waiting = refl
 next-is rules e h d Gone = refl
@@ -118,7 +118,7 @@ move-bits true false false false false true h once paired pairing whole = let ne
 move-bits true false false false false false h once paired pairing whole = gone-still h
 
 -- of one that is completed once, and paired when it is complete and not gone
-pub fate-moves : (rules : List RuleText) (d : Incoming) (e : Event) (past : List Event) → (is_complete d past ≡ true → completes d e ≡ false) → (is_paired d past ≡ true → is_complete d past ≡ true)
+pub fate-moves : (rules : RuleSet) (d : Incoming) (e : Event) (past : List Event) → (is_complete d past ≡ true → completes d e ≡ false) → (is_paired d past ≡ true → is_complete d past ≡ true)
     → (pairs d e ≡ true → is_complete d past ≡ true) → (pairs d e ≡ true → is_gone rules d past ≡ false)
     → fate_of rules d (e ∷ past) ≡ fate_next rules e (has_consumer (address_of d) (e ∷ past)) d (fate_of rules d past)
 fate-moves rules d e past once paired pairing whole =

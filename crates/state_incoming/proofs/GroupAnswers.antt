@@ -1,7 +1,7 @@
 -- What the groups answer of all the deliveries of a history.
 use Rattle.std.proofs.Common.{◌≡◌, refl, sym, ap, subst, ◌∙◌, ◌↔◌, ℕ, Bool, true, false, IsTrue, ◌&&◌, ◌||◌, not, List, [], ◌∷◌, Option, Some, None, option_map, if◌then◌else◌, ◌==◌, find, eqb-true, nat_eq, length, count_by, option_and_then, eq-eqb}
 use Rattle.std.specs.List.{list_any, slice_get, IsDistinct}
-use Rattle.capture_form.specs.Rules.{RuleText}
+use Rattle.capture_form.specs.Rules.{RuleSet}
 use Rattle.trace_events.specs.Words.{is_some_and, where_passes}
 use Rattle.trace_events.specs.Event.{Event, Incoming}
 use Rattle.trace_events.specs.declared.session.Session.{Session}
@@ -18,11 +18,11 @@ use Rattle.state_incoming.proofs.HeldAnswers.{held-of}
 use Rattle.state_incoming.proofs.IncomingNumbers.{length-counted}
 
 -- they are judged
-pub judged-of : (rules : List RuleText) (past : List Event) → IsHistory rules past → AreJudged rules past
+pub judged-of : (rules : RuleSet) (past : List Event) → IsHistory rules past → AreJudged rules past
 judged-of rules past (records, is) = subst (AreJudged rules) (sym is) (history-judged rules records)
 
 -- two undecided deliveries of one session and one id are one
-pub undecided-one : (rules : List RuleText) (past : List Event) → IsHistory rules past → (s : Session) (id m n : ℕ) (a b : Incoming) → incoming_at m past ≡ Some a → incoming_at n past ≡ Some b
+pub undecided-one : (rules : RuleSet) (past : List Event) → IsHistory rules past → (s : Session) (id m n : ℕ) (a b : Incoming) → incoming_at m past ≡ Some a → incoming_at n past ≡ Some b
     → is_undecided_of rules s id past a ≡ true → is_undecided_of rules s id past b ≡ true → a ≡ b
 undecided-one rules past (records, is) s id =
     subst (λ (xs : List Event). (m n : ℕ) (a b : Incoming) → incoming_at m xs ≡ Some a → incoming_at n xs ≡ Some b
@@ -77,7 +77,7 @@ one-of {A = A} P test (x ∷ xs) all is = by (test x) refl is (one-of P test xs 
     by false here is later = later is
 
 -- the tests of one group: of a delivery's key, of what the law says of it, and of what its entry says
-module _ (rules : List RuleText) (past : List Event) (are : AreJudged rules past) (kept : ℕ → Option Held) (were : (n : ℕ) → kept n ≡ held_at rules n past)
+module _ (rules : RuleSet) (past : List Event) (are : AreJudged rules past) (kept : ℕ → Option Held) (were : (n : ℕ) → kept n ≡ held_at rules n past)
     (key law : Incoming → Bool) (mark : Held → Bool) (same : (d : Incoming) → law d ≡ mark (held rules past d)) (holds : (d : Incoming) → law d ≡ true → is_held rules past d ≡ true)
     (member : ℕ → Bool) (grouped : (n : ℕ) → member n ≡ is_some_and (kept n) (λ x. key x.delivery && mark x)) where
   abbrev test : Incoming → Bool

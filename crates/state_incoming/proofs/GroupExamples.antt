@@ -8,6 +8,7 @@ use Rattle.amqp_perf.specs.declared.attach.Role.TheVariants.{Sender, Receiver}
 use Rattle.amqp_perf.specs.Meaning.{AFlow, ATransfer, ADisposition}
 use Rattle.pairing_cert.specs.declared.note.Why.TheVariants.{N}
 use Rattle.capture_form.specs.declared.records.Record.{Record}
+use Rattle.capture_form.specs.Rules.{no_rules}
 use Rattle.trace_events.specs.Frame.{frame_read}
 use Rattle.trace_events.specs.Event.{Event, Incoming}
 use Rattle.trace_events.specs.History.{history, judge}
@@ -92,7 +93,7 @@ is_decided = refl
 
 unfoldable names : (Event → Option ℕ) → List Record → Record → Option ℕ
 unfolding frame_read whole_frame frame_at sized_frame headed_frame read digits spoken_octets frame_octets written
-names number records r = number (judge [] (history [] records) r)
+names number records r = number (judge no_rules (history no_rules records) r)
 
 -- delivery 15 is incomplete
 abbrev begun : List Record

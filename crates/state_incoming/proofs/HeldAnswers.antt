@@ -2,7 +2,7 @@
 use Rattle.std.proofs.Common.{◌≡◌, refl, sym, ap, ◌∙◌, ℕ, Bool, true, false, not, ◌&&◌, ◌||◌, List, Option, Some, None, option_map, if◌then◌else◌}
 use Rattle.std.specs.Prelude.{nat_lt}
 use Rattle.pairing_cert.specs.declared.note.Note.TheVariants as notes
-use Rattle.capture_form.specs.Rules.{RuleText}
+use Rattle.capture_form.specs.Rules.{RuleSet}
 use Rattle.trace_events.specs.Words.{is_some_and, where_passes}
 use Rattle.trace_events.specs.Event.{Event, Incoming}
 use Rattle.trace_events.specs.Link.{is_live}
@@ -20,12 +20,12 @@ use Rattle.state_incoming.proofs.HeldSteps.{paired-complete}
 
 -- ---- one that is kept
 
-pub record IsHeldOf (rules : List RuleText) (n : ℕ) (past : List Event) (x : Held) : Type 0 where
+pub record IsHeldOf (rules : RuleSet) (n : ℕ) (past : List Event) (x : Held) : Type 0 where
   pub at : incoming_at n past ≡ Some x.delivery
   pub is : held rules past x.delivery ≡ x
   pub kept : is_held rules past x.delivery ≡ true
 
-pub held-of : (rules : List RuleText) (n : ℕ) (past : List Event) (x : Held) → held_at rules n past ≡ Some x → IsHeldOf rules n past x
+pub held-of : (rules : RuleSet) (n : ℕ) (past : List Event) (x : Held) → held_at rules n past ≡ Some x → IsHeldOf rules n past x
 held-of rules n past x found = by (incoming_at n past) refl found
   where
     same_some : (a b : Held) → Some a ≡ Some b → a ≡ b
@@ -42,7 +42,7 @@ held-of rules n past x found = by (incoming_at n past) refl found
     by None at found = absurd cc
     by (Some d) at found = kept d at (is_held rules past d) refl found
 
-module _ (rules : List RuleText) (n : ℕ) (past : List Event) (x : Held) (h : IsHeldOf rules n past x) where
+module _ (rules : RuleSet) (n : ℕ) (past : List Event) (x : Held) (h : IsHeldOf rules n past x) where
   pub held-payload : payload x.delivery past ≡ x.payload
   held-payload = ap (λ (y : Held). y.payload) h.is
 
@@ -70,7 +70,7 @@ module _ (rules : List RuleText) (n : ℕ) (past : List Event) (x : Held) (h : I
       paired-fate rules x.delivery past anycast (paired-complete rules past are lawful x.delivery) ∙ ap (λ (y : Held). says_paired y.fate) h.is
 
 -- of two that are kept
-pub held-before : (rules : List RuleText) (n m : ℕ) (past : List Event) (x y : Held) → IsHeldOf rules n past x → IsHeldOf rules m past y
+pub held-before : (rules : RuleSet) (n m : ℕ) (past : List Event) (x y : Held) → IsHeldOf rules n past x → IsHeldOf rules m past y
     → completed_before x.delivery y.delivery past ≡ comes_before x y
 held-before rules n m past x y hx hy =
     ap (λ (o : Option ℕ). is_some_and o (λ a. is_some_and (completion y.delivery past) (λ b. nat_lt a b))) (held-completion rules n past x hx)
@@ -79,7 +79,7 @@ held-before rules n m past x y hx hy =
 -- ---- which of all are kept
 
 -- a test of the law that passes none but what is kept is a test on what is kept
-test-kept : (rules : List RuleText) (past : List Event) (law : Incoming → Bool) (test : Held → Bool) → ((d : Incoming) → law d ≡ is_held rules past d && test (held rules past d)) → (o : Option Incoming)
+test-kept : (rules : RuleSet) (past : List Event) (law : Incoming → Bool) (test : Held → Bool) → ((d : Incoming) → law d ≡ is_held rules past d && test (held rules past d)) → (o : Option Incoming)
     → where_passes law o ≡ option_map (λ (x : Held). x.delivery) (where_passes test (option_map (held rules past) (where_passes (is_held rules past) o)))
 test-kept rules past law test same None = refl
 test-kept rules past law test same (Some d) = ap (λ b. if b then Some d else None) (same d) ∙ by (is_held rules past d) (test (held rules past d)) refl
@@ -101,7 +101,7 @@ carry-bits true false false false true aborted live = refl
 carry-bits true false false false false aborted live = refl
 
 -- what may go to consumers is kept, complete and not gone
-pub to_carry-held : (rules : List RuleText) (n : ℕ) (past : List Event)
+pub to_carry-held : (rules : RuleSet) (n : ℕ) (past : List Event)
     → to_carry rules (notes.Pair n) past ≡ option_map (λ (x : Held). x.delivery) (where_passes may_go (held_at rules n past))
 to_carry-held rules n past =
     test-kept rules past (λ d. is_complete d past && not (is_gone rules d past)) may_go
@@ -137,7 +137,7 @@ told-bits true false false true false false true aborted = refl
 told-bits true false false false false false true aborted = refl
 
 -- what may be told is kept, complete and not closed
-pub may_be_told-held : (rules : List RuleText) (n : ℕ) (past : List Event)
+pub may_be_told-held : (rules : RuleSet) (n : ℕ) (past : List Event)
     → where_passes (λ d. may_be_told d past) (incoming_at n past) ≡ option_map (λ (x : Held). x.delivery) (where_passes may_tell (held_at rules n past))
 may_be_told-held rules n past =
     test-kept rules past (λ d. may_be_told d past) may_tell
@@ -162,7 +162,7 @@ open-bits true false false false false true true false = refl
 open-bits true false false false false false true false = refl
 
 -- what is undecided is kept
-pub is_undecided-held : (rules : List RuleText) (n : ℕ) (past : List Event)
+pub is_undecided-held : (rules : RuleSet) (n : ℕ) (past : List Event)
     → where_passes (λ d. is_undecided rules d past) (incoming_at n past) ≡ option_map (λ (x : Held). x.delivery) (where_passes (λ (x : Held). x.is_undecided) (held_at rules n past))
 is_undecided-held rules n past =
     test-kept rules past (λ d. is_undecided rules d past) (λ (x : Held). x.is_undecided)
@@ -185,7 +185,7 @@ complete-only : (c k other : Bool) → (if c then k else false) ≡ true → (if
 complete-only true k other is = is
 complete-only false k other is = absurd cc
 
-module _ (rules : List RuleText) (past : List Event) (d : Incoming) where
+module _ (rules : RuleSet) (past : List Event) (d : Incoming) where
   pub undecided-kept : is_undecided rules d past ≡ true → is_held rules past d ≡ true
   undecided-kept =
       implied (is_undecided rules d past) (is_held rules past d)

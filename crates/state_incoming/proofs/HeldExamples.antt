@@ -9,14 +9,14 @@ use Rattle.amqp_frames.specs.Reading.{whole_frame, frame_at, sized_frame, headed
 use Rattle.pairing_cert.specs.declared.note.Why.TheVariants.{C, N}
 use Rattle.capture_form.specs.declared.records.Record.{Record}
 use Rattle.capture_form.specs.declared.rules.Distribution.TheVariants.{Multicast}
-use Rattle.capture_form.specs.Rules.{RuleText}
+use Rattle.capture_form.specs.Rules.{RuleText, no_rules}
 use Rattle.trace_events.specs.Frame.{frame_read}
 use Rattle.trace_events.specs.Words.{is_some_and}
 use Rattle.trace_events.specs.Address.{has_consumer}
 use Rattle.trace_events.specs.Incoming.{incoming_at}
 use Rattle.trace_events.specs.History.{history, judge}
 use Rattle.trace_clauses.specs.Written.{spoken_octets}
-use Rattle.trace_clauses.proofs.Captures.{rule}
+use Rattle.trace_clauses.proofs.Captures.{rule, unmarked}
 use Rattle.trace_clauses.proofs.Made.{from, from_with, carry, tell, gives, first, next, with_more, as_settled, disposes, accepted, released, detach_of, q, hi, pair, sent}
 use Rattle.state_incoming.specs.Held.{Held, held_at, gives_up, held_next, held_begun, begins_number, held_behind, stands_open, may_go, may_tell, comes_before}
 use Rattle.state_incoming.specs.HeldTouched.{is_touched, is_kept}
@@ -32,31 +32,31 @@ shown x = (x.payload, x.completion, x.is_closed, x.is_undecided, x.fate)
 
 unfoldable held_in : List RuleText → List Record → ℕ → Option Shown
 unfolding frame_read whole_frame frame_at sized_frame headed_frame read digits spoken_octets frame_octets written
-held_in rules records n = option_map shown (held_at rules n (history rules records))
+held_in rules records n = option_map shown (held_at (unmarked rules) n (history (unmarked rules) records))
 
 -- what one more record makes of it, where its address has a consumer or has none behind it
 unfoldable next_in : List RuleText → List Record → Record → Bool → ℕ → Option Shown
 unfolding frame_read whole_frame frame_at sized_frame headed_frame read digits spoken_octets frame_octets written
-next_in rules records r has n = let past = history rules records in option_map shown (option_and_then (held_next rules (judge rules past r) has) (held_at rules n past))
+next_in rules records r has n = let past = history (unmarked rules) records in option_map shown (option_and_then (held_next (unmarked rules) (judge (unmarked rules) past r) has) (held_at (unmarked rules) n past))
 
 unfoldable begun_in : List RuleText → List Record → Record → Bool → Option Shown
 unfolding frame_read whole_frame frame_at sized_frame headed_frame read digits spoken_octets frame_octets written
-begun_in rules records r has = option_map shown (held_begun rules (judge rules (history rules records) r) has)
+begun_in rules records r has = option_map shown (held_begun (unmarked rules) (judge (unmarked rules) (history (unmarked rules) records) r) has)
 
 unfoldable behind_in : List RuleText → List Record → Record → ℕ → Option Shown
 unfolding frame_read whole_frame frame_at sized_frame headed_frame read digits spoken_octets frame_octets written
 behind_in rules records r n =
-    let past = history rules records in
-    let e = judge rules past r in
-    option_map shown (held_behind rules e (λ address. has_consumer address (e ∷ past)) n (held_at rules n past))
+    let past = history (unmarked rules) records in
+    let e = judge (unmarked rules) past r in
+    option_map shown (held_behind (unmarked rules) e (λ address. has_consumer address (e ∷ past)) n (held_at (unmarked rules) n past))
 
 unfoldable gives_up_in : List RuleText → List Record → Record → ℕ → Bool
 unfolding frame_read whole_frame frame_at sized_frame headed_frame read digits spoken_octets frame_octets written
-gives_up_in rules records r n = let past = history rules records in is_some_and (incoming_at n past) (λ d. gives_up d (judge rules past r))
+gives_up_in rules records r n = let past = history (unmarked rules) records in is_some_and (incoming_at n past) (λ d. gives_up d (judge (unmarked rules) past r))
 
 unfoldable begins_in : List RuleText → List Record → Record → ℕ → Bool
 unfolding frame_read whole_frame frame_at sized_frame headed_frame read digits spoken_octets frame_octets written
-begins_in rules records r n = begins_number (judge rules (history rules records) r) n
+begins_in rules records r n = begins_number (judge (unmarked rules) (history (unmarked rules) records) r) n
 
 -- ---- captures: delivery 15 is incomplete; delivery 16 waits, is sent to the consumer, or is gone
 
@@ -300,11 +300,11 @@ behind_none = refl
 
 unfoldable asks : (Held → Bool) → List RuleText → List Record → ℕ → Bool
 unfolding frame_read whole_frame frame_at sized_frame headed_frame read digits spoken_octets frame_octets written
-asks test rules records n = is_some_and (held_at rules n (history rules records)) test
+asks test rules records n = is_some_and (held_at (unmarked rules) n (history (unmarked rules) records)) test
 
 unfoldable asks_both : List Record → ℕ → ℕ → Bool
 unfolding frame_read whole_frame frame_at sized_frame headed_frame read digits spoken_octets frame_octets written
-asks_both records n m = let past = history [] records in is_some_and (held_at [] n past) (λ x. is_some_and (held_at [] m past) (comes_before x))
+asks_both records n m = let past = history no_rules records in is_some_and (held_at no_rules n past) (λ x. is_some_and (held_at no_rules m past) (comes_before x))
 
 -- its producer has settled it
 abbrev settled : Record
@@ -411,7 +411,7 @@ shut_while_gone = refl
 
 unfoldable touches_in : List RuleText → List Record → Record → Bool → ℕ → Bool
 unfolding frame_read whole_frame frame_at sized_frame headed_frame read digits spoken_octets frame_octets written
-touches_in rules records r has n = let past = history rules records in is_some_and (held_at rules n past) (is_touched (judge rules past r) has)
+touches_in rules records r has n = let past = history (unmarked rules) records in is_some_and (held_at (unmarked rules) n past) (is_touched (judge (unmarked rules) past r) has)
 
 touched_by_part : touches_in [] begun (from 0 (ATransfer (next true))) true 15 ≡ true
 unfolding touches_in

@@ -1,6 +1,6 @@
 -- The entry of a delivery from a client, followed through a lawful capture.
 use Rattle.std.proofs.Common.{◌≡◌, refl, sym, ap, subst, ◌∙◌, ◌<◌, Bool, ◌==◌, List, ◌∷◌, length, Option, Some, None, IfSome, option_map, option_and_then, if◌then◌else◌, arith, not, ◌&&◌, ℕ, true, false}
-use Rattle.capture_form.specs.Rules.{RuleText}
+use Rattle.capture_form.specs.Rules.{RuleSet}
 use Rattle.trace_events.specs.Words.{is_some_and, where_passes}
 use Rattle.trace_events.specs.Event.{Event, Incoming}
 use Rattle.trace_events.specs.Address.{has_consumer}
@@ -25,7 +25,7 @@ use Rattle.state_incoming.specs.declared.held.Fate.{Fate}
 use Rattle.state_incoming.proofs.HeldSteps.{on, older, held-behind}
 use Rattle.state_incoming.proofs.HeldAnswers.{IsHeldOf, held-of, held-payload, held-completion, held-closed, held-undecided, held-complete, held-waiting, held-gone, held-paired, held-before, may_be_told-held, to_carry-held}
 
-module _ (rules : List RuleText) (e : Event) (past : List Event) (are : AreJudged rules (e ∷ past)) (lawful : first_broken rules (e ∷ past) ≡ None) where
+module _ (rules : RuleSet) (e : Event) (past : List Event) (are : AreJudged rules (e ∷ past)) (lawful : first_broken rules (e ∷ past) ≡ None) where
   -- one that began before
   pub held-on : (x : Held) → held_at rules x.delivery.number past ≡ Some x
       → held_at rules x.delivery.number (e ∷ past) ≡ held_next rules e (has_consumer (address_of x.delivery) (e ∷ past)) x
@@ -61,11 +61,11 @@ module _ (rules : List RuleText) (e : Event) (past : List Event) (are : AreJudge
           ∙ (ap (λ b. if b then new (Some d) else option_and_then (on rules e past are lawful e.number) (held_at rules e.number past)) (passing (λ (x : Incoming). x.number == e.number) e.incoming d begun).1
           ∙ sym (ap new begun))
 
-pub follows : (rules : List RuleText) (e : Event) (has : Bool) (earlier : Held) (later : Option Held) → later ≡ held_next rules e has earlier → Follows rules e has earlier later
+pub follows : (rules : RuleSet) (e : Event) (has : Bool) (earlier : Held) (later : Option Held) → later ≡ held_next rules e has earlier → Follows rules e has earlier later
 follows rules e has earlier later is = λ records r next entry same.
     held-on rules e (history rules records) ((r, next.0), history-judged rules records) next.1 earlier entry ∙ (ap (λ b. held_next rules e b earlier) (sym same) ∙ sym is)
 
-pub begins : (rules : List RuleText) (e : Event) (has : Bool) (later : Option Held) → later ≡ held_begun rules e has → Begins rules e has later
+pub begins : (rules : RuleSet) (e : Event) (has : Bool) (later : Option Held) → later ≡ held_begun rules e has → Begins rules e has later
 begins rules e has later is = λ records r next same.
     held-first rules e (history rules records) ((r, next.0), history-judged rules records) next.1 ∙ (ap (held_begun rules e) (sym same) ∙ sym is)
 
@@ -81,7 +81,7 @@ some-same x false false is = refl
 some-same x true false is = absurd cc
 some-same x false true is = absurd cc
 
-module _ (rules : List RuleText) (past : List Event) (d : Incoming) (p : List ℕ) (c : Option ℕ) (o u : Bool) (f : Fate) (entry : held_at rules d.number past ≡ Some (made d p c o u f)) where
+module _ (rules : RuleSet) (past : List Event) (d : Incoming) (p : List ℕ) (c : Option ℕ) (o u : Bool) (f : Fate) (entry : held_at rules d.number past ≡ Some (made d p c o u f)) where
   abbrev x : Held
   x = made d p c o u f
 
@@ -126,7 +126,7 @@ module _ (rules : List RuleText) (past : List Event) (d : Incoming) (p : List �
       out false = refl
 
 -- in a lawful one, of anycast
-pub entry_paired : (rules : List RuleText) (records : List Record) (d : Incoming) (p : List ℕ) (c : Option ℕ) (o u : Bool) (f : Fate) → held_at rules d.number (history rules records) ≡ Some (made d p c o u f)
+pub entry_paired : (rules : RuleSet) (records : List Record) (d : Incoming) (p : List ℕ) (c : Option ℕ) (o u : Bool) (f : Fate) → held_at rules d.number (history rules records) ≡ Some (made d p c o u f)
     → first_broken rules (history rules records) ≡ None → is_of_multicast rules d ≡ false → says_paired f ≡ is_paired d (history rules records)
 entry_paired rules records d p c o u f entry lawful anycast =
     let past = history rules records in
@@ -135,7 +135,7 @@ entry_paired rules records d p c o u f entry lawful anycast =
 
 -- ---- the same, of an entry as a whole
 
-module _ (rules : List RuleText) (past : List Event) (x : Held) (entry : IsEntry rules past x) where
+module _ (rules : RuleSet) (past : List Event) (x : Held) (entry : IsEntry rules past x) where
   pub known_waiting : says_waiting x.fate ≡ is_waiting rules x.delivery past
   known_waiting = sym (held-waiting rules x.delivery.number past x (held-of rules x.delivery.number past x entry))
 
@@ -145,11 +145,11 @@ module _ (rules : List RuleText) (past : List Event) (x : Held) (entry : IsEntry
   pub known_may_tell : may_tell x ≡ may_be_told x.delivery past
   known_may_tell = entry_may_tell rules past x.delivery x.payload x.completion x.is_closed x.is_undecided x.fate entry
 
-module _ (rules : List RuleText) (records : List Record) (x : Held) (entry : IsEntry rules (history rules records) x) where
+module _ (rules : RuleSet) (records : List Record) (x : Held) (entry : IsEntry rules (history rules records) x) where
   pub known_paired : first_broken rules (history rules records) ≡ None → is_of_multicast rules x.delivery ≡ false → says_paired x.fate ≡ is_paired x.delivery (history rules records)
   known_paired = entry_paired rules records x.delivery x.payload x.completion x.is_closed x.is_undecided x.fate entry
 
 -- of two
-pub known_before : (rules : List RuleText) (past : List Event) (x y : Held) → IsEntry rules past x → IsEntry rules past y → comes_before x y ≡ completed_before x.delivery y.delivery past
+pub known_before : (rules : RuleSet) (past : List Event) (x y : Held) → IsEntry rules past x → IsEntry rules past y → comes_before x y ≡ completed_before x.delivery y.delivery past
 known_before rules past x y first second =
     sym (held-before rules x.delivery.number y.delivery.number past x y (held-of rules x.delivery.number past x first) (held-of rules y.delivery.number past y second))

@@ -1,6 +1,6 @@
 -- A table of deliveries in which an event moved those that it touches has what the law keeps behind the event.
 use Rattle.std.proofs.Common.{◌≡◌, refl, sym, ap, subst, ◌∙◌, ◌⊎◌, ℕ, Bool, true, false, ◌&&◌, ◌||◌, not, List, ◌∷◌, Option, Some, None, IfSome, inl, inr, option_and_then, if◌then◌else◌}
-use Rattle.capture_form.specs.Rules.{RuleText}
+use Rattle.capture_form.specs.Rules.{RuleSet}
 use Rattle.trace_events.specs.Words.{is_some_and}
 use Rattle.trace_events.specs.Event.{Event}
 use Rattle.trace_events.specs.Address.{has_consumer}
@@ -61,7 +61,7 @@ kept_by true false false false false true false false whole is = absurd cc
 kept_by true false false false false false true false whole is = refl
 kept_by true false false false false false false false whole is = absurd cc
 
-entry-kept : (rules : List RuleText) (past : List Event) → AreJudged rules past → (n : ℕ) (x : Held) → held_at rules n past ≡ Some x → is_kept x ≡ true
+entry-kept : (rules : RuleSet) (past : List Event) → AreJudged rules past → (n : ℕ) (x : Held) → held_at rules n past ≡ Some x → is_kept x ≡ true
 entry-kept rules past are n x entry =
     let of = held-of rules n past x entry in
     let d = x.delivery in
@@ -69,7 +69,7 @@ entry-kept rules past are n x entry =
     ∙ kept_by (is_complete d past) (is_of_multicast rules d) (is_paired d past) (always_had_consumer d past) (is_settled d past) (is_told d past) (is_live past d.link) (is_aborted d past)
     (complete-whole rules past are d) of.kept
 
-module _ (rules : List RuleText) (e : Event) (past : List Event) (are : AreJudged rules (e ∷ past)) (lawful : first_broken rules (e ∷ past) ≡ None) where
+module _ (rules : RuleSet) (e : Event) (past : List Event) (are : AreJudged rules (e ∷ past)) (lawful : first_broken rules (e ∷ past) ≡ None) where
   abbrev has : List ℕ → Bool
   has address = has_consumer address (e ∷ past)
 

@@ -1,7 +1,7 @@
 -- What an event makes of a delivery from a client that is kept, in a lawful capture.
 use Rattle.std.proofs.Common.{◌≡◌, refl, sym, ap, subst, ◌∙◌, ℕ, Bool, true, false, not, ◌&&◌, ◌||◌, ◌==◌, List, [], ◌∷◌, length, Option, Some, None, IfSome, option_map, option_and_then, is_some, if◌then◌else◌, find, arith, eqb-true, eq-eqb}
 use Rattle.std.specs.List.{list_any}
-use Rattle.capture_form.specs.Rules.{RuleText}
+use Rattle.capture_form.specs.Rules.{RuleSet}
 use Rattle.trace_events.specs.Words.{is_some_and, where_passes}
 use Rattle.trace_events.specs.Event.{Event, Incoming, Outgoing}
 use Rattle.trace_events.specs.Said.{in_transfer}
@@ -41,7 +41,7 @@ use Rattle.state_incoming.proofs.UndecidedSteps.{undecided-moves}
 
 -- of one delivery: its link lives on unless the event ends it; only while it is incomplete, whole and of a live link a part
 -- of it comes; and what carries it begins when it is complete and not gone
-pub record Steps (rules : List RuleText) (e : Event) (past : List Event) (d : Incoming) : Type 0 where
+pub record Steps (rules : RuleSet) (e : Event) (past : List Event) (d : Incoming) : Type 0 where
   pub live : is_live (e ∷ past) d.link ≡ is_live past d.link && not (ends_link d.link e)
   pub once : is_complete d past ≡ true → completes d e ≡ false
   pub part : completes d e ≡ true → MayGoOn past d
@@ -58,7 +58,7 @@ made d payload completion closed undecided fate =
 made-same : (d : Incoming) (p p' : List ℕ) (c c' : Option ℕ) (o o' u u' : Bool) (f f' : Fate) → p ≡ p' → c ≡ c' → o ≡ o' → u ≡ u' → f ≡ f' → made d p c o u f ≡ made d p' c' o' u' f'
 made-same d p p' c c' o o' u u' f f' q r v w x = rw (q, r, v, w, x) refl
 
-module _ (rules : List RuleText) (e : Event) (past : List Event) (d : Incoming) (step : Steps rules e past d) where
+module _ (rules : RuleSet) (e : Event) (past : List Event) (d : Incoming) (step : Steps rules e past d) where
   abbrev has : Bool
   has = has_consumer (address_of d) (e ∷ past)
 
@@ -145,7 +145,7 @@ forget-bits false true false false false false p' a' closed' up aborted live end
 forget-bits false true false false false true p' a' closed' up aborted live ended once part gone stays was =
     let still = gone refl refl in rw (still.0, still.1, stays refl) refl
 
-module _ (rules : List RuleText) (e : Event) (past : List Event) (d : Incoming) (step : Steps rules e past d) where
+module _ (rules : RuleSet) (e : Event) (past : List Event) (d : Incoming) (step : Steps rules e past d) where
   -- what is kept is kept on or not
   pub held-stays : is_held rules past d ≡ true → is_held rules (e ∷ past) d ≡ stays e (held rules (e ∷ past) d)
   held-stays was =
@@ -229,7 +229,7 @@ by-number : (past : List Event) (c d : Incoming) → c.number ≡ d.number → i
 by-number past c d same done = ap (λ (n : ℕ). list_any (λ (y : Event). is_some_and (completed_by y) (λ other. other.number == n)) past) (sym same) ∙ done
 
 -- what is paired is complete
-pub paired-complete : (rules : List RuleText) (past : List Event) → AreJudged rules past → first_broken rules past ≡ None → (d : Incoming) → is_paired d past ≡ true → is_complete d past ≡ true
+pub paired-complete : (rules : RuleSet) (past : List Event) → AreJudged rules past → first_broken rules past ≡ None → (d : Incoming) → is_paired d past ≡ true → is_complete d past ≡ true
 paired-complete rules past are lawful d is =
     let carries = λ (x : Outgoing). names d.number x.note in
     let j = found_some (find carries (outgoing_deliveries past)) is in
@@ -237,7 +237,7 @@ paired-complete rules past are lawful d is =
     let named : (b.delivery.number == d.number) ≡ true = sym (ap (names d.number) b.named) ∙ found-passes carries (outgoing_deliveries past) j.0 j.1 in
     by-number past b.delivery d (eqb-true b.delivery.number d.number named) b.complete
 
-module _ (rules : List RuleText) (e : Event) (past : List Event) (are : AreJudged rules (e ∷ past)) (lawful : first_broken rules (e ∷ past) ≡ None) (d : Incoming) where
+module _ (rules : RuleSet) (e : Event) (past : List Event) (are : AreJudged rules (e ∷ past)) (lawful : first_broken rules (e ∷ past) ≡ None) (d : Incoming) where
   -- one of a number is this delivery, as far as those before the event go, and what is a part with the event
   module _ (at : link_at d.link.number past ≡ Some d.link) (one : (c : Incoming) → IsKept past c → c.number ≡ d.number → c ≡ d) (own : (c : Incoming) → e.incoming ≡ Some c → c.number ≡ d.number → c ≡ d) where
     part_goes : completes d e ≡ true → MayGoOn past d
@@ -339,7 +339,7 @@ module _ (rules : List RuleText) (e : Event) (past : List Event) (are : AreJudge
 
 -- ---- of any number
 
-module _ (rules : List RuleText) (e : Event) (past : List Event) (are : AreJudged rules (e ∷ past)) (lawful : first_broken rules (e ∷ past) ≡ None) (n : ℕ) where
+module _ (rules : RuleSet) (e : Event) (past : List Event) (are : AreJudged rules (e ∷ past)) (lawful : first_broken rules (e ∷ past) ≡ None) (n : ℕ) where
   abbrev pub on : Held → Option Held
   on x = held_next rules e (has_consumer (address_of x.delivery) (e ∷ past)) x
 

@@ -1,7 +1,7 @@
 -- A delivery that an event doesn't touch stays as it was.
 use Rattle.std.proofs.Common.{◌≡◌, refl, ap, ◌∙◌, ℕ, Bool, true, false, ◌&&◌, ◌||◌, not, List, ◌++◌, Option, Some, None, if◌then◌else◌, ◌==◌}
 use Rattle.amqp_perf.specs.Meaning.{TransferFields, flag}
-use Rattle.capture_form.specs.Rules.{RuleText}
+use Rattle.capture_form.specs.Rules.{RuleSet}
 use Rattle.trace_events.specs.Words.{is_number, is_some_and}
 use Rattle.trace_events.specs.Event.{Event, Incoming}
 use Rattle.trace_events.specs.Said.{in_spoken, in_transfer}
@@ -57,7 +57,7 @@ apart e d u w is =
       a.1,
     )
 
-fate_same : (rules : List RuleText) (e : Event) (has : Bool) (d : Incoming) (u : Bool) (f : Fate) → Apart e d u → says_waiting f && not has ≡ false → fate_next rules e has d f ≡ f
+fate_same : (rules : RuleSet) (e : Event) (has : Bool) (d : Incoming) (u : Bool) (f : Fate) → Apart e d u → says_waiting f && not has ≡ false → fate_next rules e has d f ≡ f
 fate_same rules e has d u Arriving is w = ap (λ b. if b then fate_completed rules d has else Arriving) is.completes_it
 fate_same rules e true d u Waiting is w = ap (λ b. if b then Paired else Waiting) is.pairs_it
 fate_same rules e false d u Waiting is w = absurd cc
@@ -106,7 +106,7 @@ and_both : (a b : Bool) → a && b ≡ true → (a ≡ true) × (b ≡ true)
 and_both true b is = (refl, is)
 and_both false b is = absurd cc
 
-pub untouched : (rules : List RuleText) (e : Event) (has : Bool) (x : Held) → is_touched e has x ≡ false → is_kept x ≡ true → held_next rules e has x ≡ Some x
+pub untouched : (rules : RuleSet) (e : Event) (has : Bool) (x : Held) → is_touched e has x ≡ false → is_kept x ≡ true → held_next rules e has x ≡ Some x
 untouched rules e has x off kept =
     let is = apart e x.delivery x.is_undecided (says_waiting x.fate && not has) off in
     let k = and_both (not (says_gone x.fate && x.is_closed) && (x.is_undecided || not (says_arriving x.fate) && x.is_closed)) (not x.is_undecided || stands_open x.fate x.is_closed) kept in

@@ -5,7 +5,7 @@ use Rattle.std.specs.List.{list_any, cons_option, AllByRecursion, IsDistinct}
 use Rattle.std.specs.Cmp.{IsEquivalence}
 use Rattle.std.proofs.lemmas.List.Sums.{length-filter}
 use Rattle.std.proofs.lemmas.Map.Made.{length-from_same_keys}
-use Rattle.capture_form.specs.Rules.{RuleText}
+use Rattle.capture_form.specs.Rules.{RuleSet}
 use Rattle.trace_events.specs.Words.{is_some_and}
 use Rattle.trace_events.specs.Event.{Event, Incoming}
 use Rattle.trace_events.specs.Incoming.{incoming_begun, incoming_at, incoming_deliveries}
@@ -31,10 +31,10 @@ falling-more : (n m : ℕ) (o : Option Incoming) (ds : List Incoming) → n < m 
 falling-more n m None ds lt own h = falling-weaker n m ds (omega (arith, lt)) h
 falling-more n m (Some d) ds lt own h = (omega (arith, lt, own d refl), falling-weaker n d.number ds (omega (arith, own d refl)) h)
 
-begun-number : (rules : List RuleText) (e : Event) (past : List Event) (d : Incoming) → AreJudged rules (e ∷ past) → incoming_begun e ≡ Some d → d.number ≡ length past
+begun-number : (rules : RuleSet) (e : Event) (past : List Event) (d : Incoming) → AreJudged rules (e ∷ past) → incoming_begun e ≡ Some d → d.number ≡ length past
 begun-number rules e past d are begun = eqb-true d.number e.number (passing (λ (x : Incoming). x.number == e.number) e.incoming d begun).1 ∙ judged-number rules e past are
 
-are-falling : (rules : List RuleText) (past : List Event) → AreJudged rules past → AreFalling (length past) (incoming_deliveries past)
+are-falling : (rules : RuleSet) (past : List Event) → AreJudged rules past → AreFalling (length past) (incoming_deliveries past)
 are-falling rules [] are = tt
 are-falling rules (e ∷ past) are =
     falling-more (length past) (length (e ∷ past)) (incoming_begun e) (incoming_deliveries past) (omega arith) (λ d is. begun-number rules e past d are is) (are-falling rules past are.1)
@@ -92,7 +92,7 @@ nat_eq-laws = record {
 }
 
 -- a list of the numbers of all that pass
-pub length-counted : (rules : List RuleText) (past : List Event) → AreJudged rules past → (test : Incoming → Bool) (ns : List ℕ) → IsDistinct nat_eq ns
+pub length-counted : (rules : RuleSet) (past : List Event) → AreJudged rules past → (test : Incoming → Bool) (ns : List ℕ) → IsDistinct nat_eq ns
     → ((n : ℕ) → list_any (nat_eq n) ns ≡ is_some_and (incoming_at n past) test) → length ns ≡ count_by test (incoming_deliveries past)
 length-counted rules past are test ns each same =
     let falling = are-falling rules past are in

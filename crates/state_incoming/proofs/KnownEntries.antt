@@ -2,7 +2,7 @@
 use Rattle.std.proofs.Common.{◌≡◌, refl, sym, ap, ◌∙◌, ℕ, if◌then◌else◌, Bool, true, false, List, Option, Some, None, IfSome, is_some, option_map, option_and_then, eqb-true, ◌==◌}
 use Rattle.pairing_cert.specs.declared.note.Note.{Note}
 use Rattle.pairing_cert.specs.declared.note.Note.TheVariants as notes
-use Rattle.capture_form.specs.Rules.{RuleText}
+use Rattle.capture_form.specs.Rules.{RuleSet}
 use Rattle.trace_events.specs.Event.{Event, Incoming}
 use Rattle.trace_events.specs.Incoming.{payload, completed_before, is_complete, incoming_at, incoming_deliveries}
 use Rattle.trace_events.specs.Settling.{is_closed}
@@ -16,13 +16,13 @@ use Rattle.state_incoming.proofs.HeldAnswers.{IsHeldOf, held-of, held-payload, h
 use Rattle.state_incoming.proofs.GroupAnswers.{found-passes}
 
 -- the entry of a delivery that the table can tell of
-pub record IsKnownAs (rules : List RuleText) (past : List Event) (table : Deliveries) (d : Incoming) : Type 0 where
+pub record IsKnownAs (rules : RuleSet) (past : List Event) (table : Deliveries) (d : Incoming) : Type 0 where
   pub entry : Held
   pub is : held_in table d.number ≡ Some entry
   pub same : entry.delivery ≡ d
   pub of : IsHeldOf rules d.number past entry
 
-module _ (rules : List RuleText) (past : List Event) (table : Deliveries) (are : AreHeld rules table past) where
+module _ (rules : RuleSet) (past : List Event) (table : Deliveries) (are : AreHeld rules table past) where
   pub known-as : (d : Incoming) → Knows table d → IsKnownAs rules past table d
   known-as d knows = by (held_in table d.number) refl knows
     where

@@ -7,7 +7,7 @@ use Rattle.number_groups.specs.OctetGroups as octets
 use Rattle.trace_events.specs.Words.{is_number, is_some_and}
 use Rattle.trace_events.specs.Event.{Event, Link, Incoming}
 use Rattle.trace_events.specs.Incoming.{incoming_begun}
-use Rattle.capture_form.specs.Rules.{RuleText}
+use Rattle.capture_form.specs.Rules.{RuleSet}
 use Rattle.state_incoming.specs.Held.{Held, held_begun, held_next, unbegun}
 use Rattle.state_incoming.specs.Touched.{part_number, carried_number, settled_session, is_left, may_touch}
 use Rattle.state_incoming.specs.declared.groups.HeldGroups.{HeldGroups}
@@ -76,7 +76,7 @@ module _ (groups : HeldGroups) (has : List ℕ → Bool) (ended : List Link) (e 
       (n, ap (λ b. before || b) is ∙ or_true before)
 
 -- what an event begins is a delivery of its own
-pub begins-some : (rules : List RuleText) (e : Event) (has : Bool) (x : Held) → held_begun rules e has ≡ Some x → is_some (incoming_begun e) ≡ true
+pub begins-some : (rules : RuleSet) (e : Event) (has : Bool) (x : Held) → held_begun rules e has ≡ Some x → is_some (incoming_begun e) ≡ true
 begins-some rules e has x is = by (incoming_begun e) is
   where
     by : (o : Option Incoming) → option_and_then (λ d. held_next rules e has (unbegun d)) o ≡ Some x → is_some o ≡ true

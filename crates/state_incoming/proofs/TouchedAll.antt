@@ -2,7 +2,7 @@
 use Rattle.std.proofs.Common.{◌≡◌, refl, sym, ap, ◌∙◌, ◌⊎◌, inl, inr, ℕ, Bool, true, false, ◌&&◌, ◌||◌, ◌<◌, not, List, [], ◌∷◌, ◌++◌, length, arith, Option, Some, None, IfSome, cond, nat_eq, option_and_then, if◌then◌else◌, ◌==◌, eqb-true, eq-eqb}
 use Rattle.std.specs.List.{list_any}
 use Rattle.std.proofs.lemmas.List.Folds.{list_any-append}
-use Rattle.capture_form.specs.Rules.{RuleText}
+use Rattle.capture_form.specs.Rules.{RuleSet}
 use Rattle.trace_events.specs.Words.{is_some_and, or_else}
 use Rattle.trace_events.specs.Event.{Event, Incoming}
 use Rattle.trace_events.specs.Incoming.{address_of, incoming_begun}
@@ -17,7 +17,7 @@ use Rattle.state_incoming.proofs.HeldSparse.{moved-held}
 
 -- ---- one after the other
 
-module _ (rules : List RuleText) (e : Event) (has : List ℕ → Bool) where
+module _ (rules : RuleSet) (e : Event) (has : List ℕ → Bool) where
   abbrev pub on : Option Held → Option Held
   on o = option_and_then (λ x. held_next rules e (has (address_of x.delivery)) x) o
 
@@ -62,7 +62,7 @@ or_else-none : (o : Option Held) → or_else o None ≡ o
 or_else-none None = refl
 or_else-none (Some x) = refl
 
-module _ (rules : List RuleText) (e : Event) (past : List Event) (are : AreJudged rules (e ∷ past)) (lawful : first_broken rules (e ∷ past) ≡ None) (has : List ℕ → Bool)
+module _ (rules : RuleSet) (e : Event) (past : List Event) (are : AreJudged rules (e ∷ past)) (lawful : first_broken rules (e ∷ past) ≡ None) (has : List ℕ → Bool)
     (same : (address : List ℕ) → has address ≡ has_consumer address (e ∷ past)) where
   abbrev law : List ℕ → Bool
   law address = has_consumer address (e ∷ past)
@@ -149,7 +149,7 @@ module _ (rules : List RuleText) (e : Event) (past : List Event) (are : AreJudge
 
 -- ---- before the first and behind the last
 
-module _ (rules : List RuleText) (e : Event) (has : List ℕ → Bool) (o : Option Held) where
+module _ (rules : RuleSet) (e : Event) (has : List ℕ → Bool) (o : Option Held) where
   pub nothing-moved : (b : Bool) → o ≡ (if b && not b then on rules e has o else o)
   nothing-moved true = refl
   nothing-moved false = refl
@@ -171,7 +171,7 @@ none-left [] n empty = refl
 none-left (k ∷ keys) n empty = let never : false ≡ true = empty (omega arith) in absurd cc
 
 -- what an event begins has its number
-pub begun-number : (rules : List RuleText) (e : Event) (has : Bool) (x : Held) → held_begun rules e has ≡ Some x → x.delivery.number ≡ e.number
+pub begun-number : (rules : RuleSet) (e : Event) (has : Bool) (x : Held) → held_begun rules e has ≡ Some x → x.delivery.number ≡ e.number
 begun-number rules e has x is = by (incoming_begun e) refl is
   where
     same_some : (a b : Held) → Some a ≡ Some b → a ≡ b

@@ -1,6 +1,6 @@
 -- Whether a delivery from a client is undecided behind one event.
 use Rattle.std.proofs.Common.{◌≡◌, refl, sym, ap, ◌∙◌, Bool, true, false, not, ◌&&◌, ◌||◌, List, ◌∷◌}
-use Rattle.capture_form.specs.Rules.{RuleText}
+use Rattle.capture_form.specs.Rules.{RuleSet}
 use Rattle.trace_events.specs.Words.{is_number}
 use Rattle.trace_events.specs.Event.{Event, Incoming}
 use Rattle.trace_events.specs.Ends.{ends_link}
@@ -27,7 +27,7 @@ waits-bits true false false false false false true once is = absurd cc
 waits-bits true false false false false true true once is = refl
 
 -- one that waits behind the event was incomplete before it, or waited
-waited : (rules : List RuleText) (e : Event) (past : List Event) (d : Incoming) → (is_complete d past ≡ true → completes d e ≡ false) → is_waiting rules d (e ∷ past) ≡ true
+waited : (rules : RuleSet) (e : Event) (past : List Event) (d : Incoming) → (is_complete d past ≡ true → completes d e ≡ false) → is_waiting rules d (e ∷ past) ≡ true
     → not (is_complete d past) || is_waiting rules d past ≡ true
 waited rules e past d once is =
     waits-bits (is_complete d past) (completes d e) (is_of_multicast rules d) (is_paired d past) (pairs d e) (always_had_consumer d past) (has_consumer (address_of d) (e ∷ past)) once
@@ -79,7 +79,7 @@ undecided-bits true false false true c k w v s t settles tells once waits = refl
 undecided-bits true false false false c k w v s t settles tells once waits = open-bits c k w v s t settles tells once waits
 
 -- of one that is completed once, whose link lives on unless the event ends it
-pub undecided-moves : (rules : List RuleText) (e : Event) (past : List Event) (d : Incoming) → is_live (e ∷ past) d.link ≡ is_live past d.link && not (ends_link d.link e)
+pub undecided-moves : (rules : RuleSet) (e : Event) (past : List Event) (d : Incoming) → is_live (e ∷ past) d.link ≡ is_live past d.link && not (ends_link d.link e)
     → (is_complete d past ≡ true → completes d e ≡ false)
     → is_undecided rules d (e ∷ past) ≡ undecided_next e d (fate_of rules d (e ∷ past)) (is_closed (e ∷ past) d) (is_undecided rules d past)
 undecided-moves rules e past d live once =

@@ -1,7 +1,7 @@
 -- What the entry of a delivery from a client stands for, and what one event makes of it (own rules).
 use Rattle.std.specs.Prelude.{◌≡◌, ◌∷◌, ℕ, Bool, true, false, ◌&&◌, ◌||◌, not, List, [], ◌++◌, Option, Some, None, option_map, option_and_then, nat_lt, if◌then◌else◌, ◌==◌}
 use Rattle.amqp_perf.specs.Meaning.{flag}
-use Rattle.capture_form.specs.Rules.{RuleText}
+use Rattle.capture_form.specs.Rules.{RuleSet}
 use Rattle.capture_form.specs.declared.records.Record.{Record}
 use Rattle.trace_events.specs.Words.{is_some_and, where_passes}
 use Rattle.trace_events.specs.Event.{Event, Incoming}
@@ -22,7 +22,7 @@ use Rattle.state_incoming.specs.declared.held.Fate.{Fate}
 use Rattle.state_incoming.specs.declared.held.Fate.TheVariants.{Arriving, Waiting, Gone, Paired, Copied}
 
 -- what has become of a delivery
-abbrev pub fate_of : List RuleText → Incoming → List Event → Fate
+abbrev pub fate_of : RuleSet → Incoming → List Event → Fate
 fate_of rules d past =
     if not (is_complete d past) then Arriving
     else if is_of_multicast rules d then Copied
@@ -56,7 +56,7 @@ pub record Held : Type 0 where
   pub is_undecided : Bool
   pub fate : Fate
 
-abbrev pub held : List RuleText → List Event → Incoming → Held
+abbrev pub held : RuleSet → List Event → Incoming → Held
 held rules past d = record {
   delivery = d;
   payload = incoming.payload d past;
@@ -68,12 +68,12 @@ held rules past d = record {
 
 -- It is kept while more of it may come, and from its completion on, but not once it is gone and nothing more is to be told
 -- of it. One that its producer gave up, or whose link is over before its last part, is not.
-abbrev pub is_held : List RuleText → List Event → Incoming → Bool
+abbrev pub is_held : RuleSet → List Event → Incoming → Bool
 is_held rules past d =
     if is_complete d past then not (is_gone rules d past && is_closed past d) else not (is_aborted d past) && is_live past d.link
 
 -- the delivery that began in this record, if it is kept
-abbrev pub held_at : List RuleText → ℕ → List Event → Option Held
+abbrev pub held_at : RuleSet → ℕ → List Event → Option Held
 held_at rules n past = option_map (held rules past) (where_passes (is_held rules past) (incoming_at n past))
 
 -- ---- what one event makes of it; whether its address has a consumer behind the event is given
@@ -83,10 +83,10 @@ abbrev pub gives_up : Incoming → Event → Bool
 gives_up d e = is_part d e && is_some_and (in_transfer e) (λ fields. flag fields.aborted)
 
 -- one of multicast is copied; one of anycast waits where there is a consumer, and is gone where there is none
-abbrev pub fate_completed : List RuleText → Incoming → Bool → Fate
+abbrev pub fate_completed : RuleSet → Incoming → Bool → Fate
 fate_completed rules d has = if is_of_multicast rules d then Copied else if has then Waiting else Gone
 
-abbrev pub fate_next : List RuleText → Event → Bool → Incoming → Fate → Fate
+abbrev pub fate_next : RuleSet → Event → Bool → Incoming → Fate → Fate
 fate_next rules e has d Arriving = if completes d e then fate_completed rules d has else Arriving
 fate_next rules e has d Waiting = if pairs d e then Paired else if has then Waiting else Gone
 fate_next rules e has d Gone = Gone
@@ -111,7 +111,7 @@ abbrev pub undecided_next : Event → Incoming → Fate → Bool → Bool → Bo
 undecided_next e d fate closed undecided =
     not (ends_link d.link e) && not (gives_up d e) && undecided && stands_open fate closed
 
-abbrev pub moved : List RuleText → Event → Bool → Held → Held
+abbrev pub moved : RuleSet → Event → Bool → Held → Held
 moved rules e has x =
     let fate = fate_next rules e has x.delivery x.fate in
     let closed = closed_next e x.delivery x.is_closed in
@@ -139,7 +139,7 @@ abbrev pub joined : Event → Held → Held
 joined e x = record x { payload = payload_next e x.delivery x.payload }
 
 -- what is left of it, if it is kept
-abbrev pub held_next : List RuleText → Event → Bool → Held → Option Held
+abbrev pub held_next : RuleSet → Event → Bool → Held → Option Held
 held_next rules e has x = where_passes (stays e) (Some (moved rules e has x))
 
 -- before its first part
@@ -147,7 +147,7 @@ abbrev pub unbegun : Incoming → Held
 unbegun d = record { delivery = d; payload = []; completion = None; is_closed = false; is_undecided = true; fate = Arriving }
 
 -- the delivery that the event begins
-abbrev pub held_begun : List RuleText → Event → Bool → Option Held
+abbrev pub held_begun : RuleSet → Event → Bool → Option Held
 held_begun rules e has = option_and_then (λ d. held_next rules e has (unbegun d)) (incoming_begun e)
 
 -- the event begins the delivery of this number
@@ -155,7 +155,7 @@ abbrev pub begins_number : Event → ℕ → Bool
 begins_number e n = is_some_and (incoming_begun e) (λ d. d.number == n)
 
 -- what the event makes of the delivery of this number, where these addresses have a consumer behind it
-abbrev pub held_behind : List RuleText → Event → (List ℕ → Bool) → ℕ → Option Held → Option Held
+abbrev pub held_behind : RuleSet → Event → (List ℕ → Bool) → ℕ → Option Held → Option Held
 held_behind rules e has n earlier =
     if begins_number e n then held_begun rules e (is_some_and (incoming_begun e) (λ d. has (address_of d)))
     else option_and_then (λ x. held_next rules e (has (address_of x.delivery)) x) earlier
@@ -177,18 +177,18 @@ comes_before x y = is_some_and x.completion (λ m. is_some_and y.completion (λ 
 -- ---- in a capture that is lawful with the event
 
 -- it is what the events say of its number
-abbrev pub IsEntry : List RuleText → List Event → Held → Type 0
+abbrev pub IsEntry : RuleSet → List Event → Held → Type 0
 IsEntry rules past x = held_at rules x.delivery.number past ≡ Some x
 
 -- what was the entry before the event is this behind it
-abbrev pub Follows : List RuleText → Event → Bool → Held → Option Held → Type 0
+abbrev pub Follows : RuleSet → Event → Bool → Held → Option Held → Type 0
 Follows rules e has earlier later =
     (records : List Record) (r : Record) → IsLawfulNext rules records r e → IsEntry rules (history rules records) earlier
     → has ≡ has_consumer (address_of earlier.delivery) (e ∷ history rules records)
     → held_at rules earlier.delivery.number (e ∷ history rules records) ≡ later
 
 -- this is the entry of the event's own number behind it
-abbrev pub Begins : List RuleText → Event → Bool → Option Held → Type 0
+abbrev pub Begins : RuleSet → Event → Bool → Option Held → Type 0
 Begins rules e has later =
     (records : List Record) (r : Record) → IsLawfulNext rules records r e
     → has ≡ is_some_and (incoming_begun e) (λ d. has_consumer (address_of d) (e ∷ history rules records))

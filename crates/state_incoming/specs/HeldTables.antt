@@ -1,7 +1,7 @@
 -- What the table of deliveries from clients stands for.
 use Rattle.std.specs.Prelude.{◌≡◌, ◌⊎◌, ℕ, Bool, true, List, length, Option, option_and_then, option_map, is_some, nat_eq, if◌then◌else◌, ◌==◌}
 use Rattle.indexmap.specs.IndexMap.{get}
-use Rattle.capture_form.specs.Rules.{RuleText}
+use Rattle.capture_form.specs.Rules.{RuleSet}
 use Rattle.capture_form.specs.declared.records.Record.{Record}
 use Rattle.trace_events.specs.Event.{Event, Link}
 use Rattle.trace_events.specs.Incoming.{address_of, incoming_begun}
@@ -13,7 +13,7 @@ use Rattle.state_incoming.specs.Touched.{may_touch}
 use Rattle.state_incoming.specs.declared.deliveries.Deliveries.{Deliveries}
 
 -- the events are those of some records
-abbrev pub IsHistory : List RuleText → List Event → Type 0
+abbrev pub IsHistory : RuleSet → List Event → Type 0
 IsHistory rules past = (records : List Record) × (past ≡ history rules records)
 
 -- what the table has of the delivery of this number
@@ -25,11 +25,11 @@ abbrev pub count_of : Deliveries → ℕ
 count_of table = length table.entries.entries
 
 -- the table has what the law keeps of these events
-abbrev pub AreHeld : List RuleText → Deliveries → List Event → Type 0
+abbrev pub AreHeld : RuleSet → Deliveries → List Event → Type 0
 AreHeld rules table past = (n : ℕ) → held_in table n ≡ held_at rules n past
 
 -- and its groups have just these
-abbrev pub IsTable : List RuleText → Deliveries → List Event → Type 0
+abbrev pub IsTable : RuleSet → Deliveries → List Event → Type 0
 IsTable rules table past = AreHeld rules table past × AreGrouped table.groups (held_in table)
 
 -- the event begins a delivery, or may touch one that is kept
@@ -41,6 +41,6 @@ abbrev pub MovesAt : ℕ → (Option Held → Option Held) → Deliveries → De
 MovesAt n step earlier later = (m : ℕ) → held_in later m ≡ (if n == m then step (held_in earlier m) else held_in earlier m)
 
 -- of the numbers that pass, the event moves the deliveries, and no other
-abbrev pub AreMovedBy : (ℕ → Bool) → List RuleText → Event → (List ℕ → Bool) → Deliveries → Deliveries → Type 0
+abbrev pub AreMovedBy : (ℕ → Bool) → RuleSet → Event → (List ℕ → Bool) → Deliveries → Deliveries → Type 0
 AreMovedBy passes rules e has earlier later = (n : ℕ) → held_in later n
     ≡ (if passes n then option_and_then (λ x. held_next rules e (has (address_of x.delivery)) x) (held_in earlier n) else held_in earlier n)

@@ -3,7 +3,7 @@
 ghost use Rattle.std.specs.Prelude.{◌≡◌, ◌∷◌, ℕ, List, [], None, OnOk, OnErr, is_some, true, map, nat_eq, option_and_then, option_map};
 ghost use Rattle.number_groups.specs.Numbers.{is_among};
 ghost use Rattle.std.specs.Option.{option_copied};
-ghost use Rattle.capture_form.specs.Rules.{RuleText};
+ghost use Rattle.capture_form.specs.Rules.{RuleSet};
 ghost use Rattle.capture_form.specs.declared.records.Record.{Record};
 ghost use Rattle.trace_events.specs.Address.{has_consumer};
 ghost use Rattle.trace_events.specs.History.{history};
@@ -19,7 +19,7 @@ ghost use Rattle.trace_values.specs.View.{event_view, link_view};
 
 use crate::groups::{HeldGroups, Marks};
 use crate::held::HeldDelivery;
-use capture_form::Rule;
+use capture_form::RuleSet;
 use number_groups::NumberSet;
 use number_map::NumberMap;
 use state_addresses::Addresses;
@@ -47,7 +47,7 @@ impl Drop for Deliveries {
 impl Deliveries {
     /// No records.
     pub fn new(alloc: Global) -> Deliveries
-        ensures { (rules : List RuleText) → IsTable rules result [] }
+        ensures { (rules : RuleSet) → IsTable rules result [] }
     {
         Deliveries {
             alloc,
@@ -78,7 +78,7 @@ impl Deliveries {
     /// no records any more.
     pub fn take<A: Addresses>(
         &mut self,
-        rules: &[Rule],
+        rules: &RuleSet,
         event: &Event,
         ended: &[Link],
         addresses: &A,
@@ -102,7 +102,12 @@ impl Deliveries {
     /// # Errors
     ///
     /// Memory was refused; then the groups may not fit the deliveries any more.
-    fn begin(&mut self, rules: &[Rule], event: &Event, has_consumer: bool) -> Result<(), AllocError>
+    fn begin(
+        &mut self,
+        rules: &RuleSet,
+        event: &Event,
+        has_consumer: bool,
+    ) -> Result<(), AllocError>
         ensures begun { OnOk result (MovesAt (event_view event.now).number
             (or_else (held_begun rules.now (event_view event.now) has_consumer)) self.old self.new) }
         ensures grouped { OnOk result (AreGrouped self.old.groups (held_in self.old) → held_in self.old (event_view event.now).number ≡ None →
@@ -126,7 +131,7 @@ impl Deliveries {
     fn touch(
         &mut self,
         number: u64,
-        rules: &[Rule],
+        rules: &RuleSet,
         event: &Event,
         has_consumer: bool,
     ) -> Result<(), AllocError>
@@ -151,7 +156,7 @@ impl Deliveries {
     fn touch_all<A: Addresses>(
         &mut self,
         mut touched: NumberSet,
-        rules: &[Rule],
+        rules: &RuleSet,
         event: &Event,
         addresses: &A,
     ) -> Result<(), AllocError>

@@ -1,7 +1,7 @@
 //! What the entries of the table answer, each of its delivery.
 
 ghost use Rattle.std.specs.Prelude.{◌≡◌, ◌+◌, List, true, IfSome, length, nat_lt, option_map};
-ghost use Rattle.capture_form.specs.Rules.{RuleText};
+ghost use Rattle.capture_form.specs.Rules.{RuleSet};
 ghost use Rattle.trace_clauses.specs.TransferClause as transfers;
 ghost use Rattle.trace_events.specs.Incoming as received;
 ghost use Rattle.trace_events.specs.Settling as settling;
@@ -18,9 +18,9 @@ use trace_values::Incoming;
 impl Deliveries {
     /// The delivery of a client that begins in the record of this number, where the table can tell of it.
     pub fn incoming_at(&self, number: u64) -> Option<Incoming<'_>>
-        ensures value { (rules : List RuleText) (history : Events) → AreHeld rules self.now history → has_number self.now number ≡ true →
+        ensures value { (rules : RuleSet) (history : Events) → AreHeld rules self.now history → has_number self.now number ≡ true →
             option_map incoming_view result ≡ received.incoming_at number history }
-        ensures known { (rules : List RuleText) (history : Events) → AreHeld rules self.now history →
+        ensures known { (rules : RuleSet) (history : Events) → AreHeld rules self.now history →
             IfSome (option_map incoming_view result) (Knows self.now) }
     {
         self.delivery(number)
@@ -28,7 +28,7 @@ impl Deliveries {
 
     /// Its last part has come.
     pub fn is_complete(&self, delivery: &Incoming) -> bool
-        ensures { (rules : List RuleText) (history : Events) → AreHeld rules self.now history → Knows self.now (incoming_view delivery.now) →
+        ensures { (rules : RuleSet) (history : Events) → AreHeld rules self.now history → Knows self.now (incoming_view delivery.now) →
             result ≡ received.is_complete (incoming_view delivery.now) history }
     {
         self.says_complete(delivery.number)
@@ -36,7 +36,7 @@ impl Deliveries {
 
     /// Nothing more is to be told of it: it is told, settled by its producer, or of a link that is over.
     pub fn is_closed(&self, delivery: &Incoming) -> bool
-        ensures { (rules : List RuleText) (history : Events) → AreHeld rules self.now history → Knows self.now (incoming_view delivery.now) →
+        ensures { (rules : RuleSet) (history : Events) → AreHeld rules self.now history → Knows self.now (incoming_view delivery.now) →
             result ≡ settling.is_closed history (incoming_view delivery.now) }
     {
         self.says_closed(delivery.number)
@@ -44,7 +44,7 @@ impl Deliveries {
 
     /// It found no consumer, or lost the last one, and goes to none any more.
     pub fn is_gone(&self, delivery: &Incoming) -> bool
-        ensures { (rules : List RuleText) (history : Events) → AreHeld rules self.now history → Knows self.now (incoming_view delivery.now) →
+        ensures { (rules : RuleSet) (history : Events) → AreHeld rules self.now history → Knows self.now (incoming_view delivery.now) →
             result ≡ waiting.is_gone rules (incoming_view delivery.now) history }
     {
         self.has_gone(delivery.number)
@@ -52,7 +52,7 @@ impl Deliveries {
 
     /// What has come of its payload.
     pub fn payload(&self, delivery: &Incoming) -> &[u8]
-        ensures { (rules : List RuleText) (history : Events) → AreHeld rules self.now history → Knows self.now (incoming_view delivery.now) →
+        ensures { (rules : RuleSet) (history : Events) → AreHeld rules self.now history → Knows self.now (incoming_view delivery.now) →
             result.now ≡ received.payload (incoming_view delivery.now) history }
     {
         self.octets(delivery.number)
@@ -60,7 +60,7 @@ impl Deliveries {
 
     /// Its payload with these octets behind it is longer than the limit.
     pub fn is_longer(&self, limit: u64, delivery: &Incoming, octets: &[u8]) -> bool
-        ensures { (rules : List RuleText) (history : Events) → AreHeld rules self.now history → Knows self.now (incoming_view delivery.now) →
+        ensures { (rules : RuleSet) (history : Events) → AreHeld rules self.now history → Knows self.now (incoming_view delivery.now) →
             result ≡ nat_lt limit (length (received.payload (incoming_view delivery.now) history) + length octets.now) }
     {
         exceeds(limit, self.octets(delivery.number), octets)
@@ -68,7 +68,7 @@ impl Deliveries {
 
     /// The one was completed before the other.
     pub fn completed_before(&self, first: &Incoming, second: &Incoming) -> bool
-        ensures { (rules : List RuleText) (history : Events) → AreHeld rules self.now history → Knows self.now (incoming_view first.now) →
+        ensures { (rules : RuleSet) (history : Events) → AreHeld rules self.now history → Knows self.now (incoming_view first.now) →
             Knows self.now (incoming_view second.now) →
             result ≡ received.completed_before (incoming_view first.now) (incoming_view second.now) history }
     {
@@ -77,9 +77,9 @@ impl Deliveries {
 
     /// The delivery that a note names, where it may go to consumers: it is complete, and not gone.
     pub fn to_carry(&self, note: Note) -> Option<Incoming<'_>>
-        ensures value { (rules : List RuleText) (history : Events) → AreHeld rules self.now history →
+        ensures value { (rules : RuleSet) (history : Events) → AreHeld rules self.now history →
             option_map incoming_view result ≡ transfers.to_carry rules note history }
-        ensures known { (rules : List RuleText) (history : Events) → AreHeld rules self.now history →
+        ensures known { (rules : RuleSet) (history : Events) → AreHeld rules self.now history →
             IfSome (option_map incoming_view result) (Knows self.now) }
     {
         self.carried_by(note)

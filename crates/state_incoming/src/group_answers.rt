@@ -1,7 +1,7 @@
 //! What the groups of the table answer, of all the deliveries so far.
 
 ghost use Rattle.std.specs.Prelude.{◌≡◌, List, IfSome, option_and_then, option_map};
-ghost use Rattle.capture_form.specs.Rules.{RuleText};
+ghost use Rattle.capture_form.specs.Rules.{RuleSet};
 ghost use Rattle.trace_events.specs.Fault as faults;
 ghost use Rattle.trace_events.specs.Incoming as received;
 ghost use Rattle.trace_events.specs.Link.{IsLiveLink};
@@ -19,7 +19,7 @@ use trace_values::{Incoming, Link};
 impl Deliveries {
     /// A delivery waits at the address.
     pub fn has_waiting(&self, address: &[u8]) -> bool
-        ensures { (rules : List RuleText) (history : Events) → IsHistory rules history → IsTable rules self.now history →
+        ensures { (rules : RuleSet) (history : Events) → IsHistory rules history → IsTable rules self.now history →
             result ≡ waiting.has_waiting rules address.now history }
     {
         !self.groups.waiting.is_empty(address)
@@ -27,7 +27,7 @@ impl Deliveries {
 
     /// A delivery of this id on the session is not decided yet.
     pub fn is_id_in_use(&self, session: Session, id: u32) -> bool
-        ensures { (rules : List RuleText) (history : Events) → IsHistory rules history → IsTable rules self.now history →
+        ensures { (rules : RuleSet) (history : Events) → IsHistory rules history → IsTable rules self.now history →
             result ≡ faults.is_id_in_use rules session id history }
     {
         let at = IdOn {
@@ -39,7 +39,7 @@ impl Deliveries {
 
     /// How many deliveries of a link are not decided.
     pub fn undecided_count(&self, link: &Link) -> u64
-        ensures { (rules : List RuleText) (history : Events) → IsHistory rules history → IsTable rules self.now history →
+        ensures { (rules : RuleSet) (history : Events) → IsHistory rules history → IsTable rules self.now history →
             result ≡ waiting.undecided_count rules (link_view link.now) history }
     {
         self.groups.undecided.count(&link.number) as u64
@@ -47,9 +47,9 @@ impl Deliveries {
 
     /// The undecided delivery of the id on the session, whose outcome may be told.
     pub fn to_tell(&self, session: Session, id: u32) -> Option<Incoming<'_>>
-        ensures value { (rules : List RuleText) (history : Events) → IsHistory rules history → IsTable rules self.now history →
+        ensures value { (rules : RuleSet) (history : Events) → IsHistory rules history → IsTable rules self.now history →
             option_map incoming_view result ≡ settling.to_tell rules session id history }
-        ensures known { (rules : List RuleText) (history : Events) → AreHeld rules self.now history → IfSome (option_map incoming_view result) (Knows self.now) }
+        ensures known { (rules : RuleSet) (history : Events) → AreHeld rules self.now history → IfSome (option_map incoming_view result) (Knows self.now) }
     {
         let at = IdOn {
             session: session.number,
@@ -60,9 +60,9 @@ impl Deliveries {
 
     /// The delivery of a producer's live link whose last part hasn't come yet.
     pub fn incoming_in_progress(&self, link: &Link) -> Option<Incoming<'_>>
-        ensures value { (rules : List RuleText) (history : Events) → IsHistory rules history → IsTable rules self.now history → IsLiveLink (link_view link.now) history →
+        ensures value { (rules : RuleSet) (history : Events) → IsHistory rules history → IsTable rules self.now history → IsLiveLink (link_view link.now) history →
             option_map incoming_view result ≡ received.in_progress (link_view link.now) history }
-        ensures known { (rules : List RuleText) (history : Events) → AreHeld rules self.now history → IfSome (option_map incoming_view result) (Knows self.now) }
+        ensures known { (rules : RuleSet) (history : Events) → AreHeld rules self.now history → IfSome (option_map incoming_view result) (Knows self.now) }
     {
         self.kept(self.groups.arriving.first(&link.number))
     }

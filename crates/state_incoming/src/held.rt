@@ -2,7 +2,7 @@
 //! become of it, and what is still to be told (part 2 of the standard, sections 2.6.12 and 2.6.14).
 
 ghost use Rattle.std.specs.Prelude.{◌≡◌, false, not, ◌&&◌, List, [], Some, None, OnOk, OnErr, IfOk, is_some, true, option_map, if◌then◌else◌};
-ghost use Rattle.capture_form.specs.Rules.{RuleText};
+ghost use Rattle.capture_form.specs.Rules.{RuleSet};
 ghost use Rattle.trace_events.specs.Incoming as law;
 ghost use Rattle.trace_events.specs.Said.{in_spoken};
 ghost use Rattle.trace_events.specs.Outgoing as sent;
@@ -20,7 +20,7 @@ ghost use Rattle.state_incoming.specs.Held.{IsEntry, Follows, Begins};
 ghost use Rattle.state_incoming.specs.HeldViews.{held_view};
 ghost use Rattle.trace_values.specs.View.{Events, incoming_view, event_view};
 
-use capture_form::{Distribution, Rule, distribution_of};
+use capture_form::{Distribution, RuleSet, distribution_of};
 use state_tables::HeldLink;
 use std::alloc::{AllocError, Global};
 use trace_values::{Event, Incoming};
@@ -109,7 +109,7 @@ impl HeldDelivery {
     /// Memory was refused, for a delivery that the event begins.
     pub fn begin(
         alloc: Global,
-        rules: &[Rule],
+        rules: &RuleSet,
         event: &Event,
         has_consumer: bool,
     ) -> Result<Option<HeldDelivery>, AllocError>
@@ -124,7 +124,7 @@ impl HeldDelivery {
     /// The same, by what the event makes of it.
     fn first(
         alloc: Global,
-        rules: &[Rule],
+        rules: &RuleSet,
         event: &Event,
         has_consumer: bool,
     ) -> Result<Option<HeldDelivery>, AllocError>
@@ -158,7 +158,7 @@ impl HeldDelivery {
     #[tactic(auto, using(crate::proofs::HeldKnown::entry_payload))]
     pub fn payload(&self) -> &[u8]
         ensures stored { result.now ≡ (held_view self.now).payload }
-        ensures known { (rules : List RuleText) (history : Events) → IsEntry rules history (held_view self.now) →
+        ensures known { (rules : RuleSet) (history : Events) → IsEntry rules history (held_view self.now) →
             result.now ≡ law.payload (held_view self.now).delivery history }
     {
         &self.payload
@@ -168,7 +168,7 @@ impl HeldDelivery {
     #[tactic(auto, using(crate::proofs::HeldKnown::entry_completion))]
     pub fn completion(&self) -> Option<u64>
         ensures stored { result ≡ self.now.completion }
-        ensures known { (rules : List RuleText) (history : Events) → IsEntry rules history (held_view self.now) →
+        ensures known { (rules : RuleSet) (history : Events) → IsEntry rules history (held_view self.now) →
             result ≡ law.completion (held_view self.now).delivery history }
     {
         self.completion
@@ -178,7 +178,7 @@ impl HeldDelivery {
     #[tactic(auto, using(crate::proofs::HeldKnown::entry_complete))]
     pub fn is_complete(&self) -> bool
         ensures stored { result ≡ not (kept.says_arriving self.now.fate) }
-        ensures known { (rules : List RuleText) (history : Events) → IsEntry rules history (held_view self.now) →
+        ensures known { (rules : RuleSet) (history : Events) → IsEntry rules history (held_view self.now) →
             result ≡ law.is_complete (held_view self.now).delivery history }
     {
         !self.fate.is_arriving()
@@ -188,7 +188,7 @@ impl HeldDelivery {
     #[tactic(auto, using(crate::proofs::HeldKnown::entry_closed))]
     pub fn is_closed(&self) -> bool
         ensures stored { result ≡ self.now.is_closed }
-        ensures known { (rules : List RuleText) (history : Events) → IsEntry rules history (held_view self.now) →
+        ensures known { (rules : RuleSet) (history : Events) → IsEntry rules history (held_view self.now) →
             result ≡ is_closed history (held_view self.now).delivery }
     {
         self.is_closed
@@ -198,7 +198,7 @@ impl HeldDelivery {
     #[tactic(auto, using(crate::proofs::HeldKnown::entry_undecided))]
     pub fn is_undecided(&self) -> bool
         ensures stored { result ≡ self.now.is_undecided }
-        ensures known { (rules : List RuleText) (history : Events) → IsEntry rules history (held_view self.now) →
+        ensures known { (rules : RuleSet) (history : Events) → IsEntry rules history (held_view self.now) →
             result ≡ fates.is_undecided rules (held_view self.now).delivery history }
     {
         self.is_undecided
@@ -207,7 +207,7 @@ impl HeldDelivery {
     /// It waits for a consumer that may be sent it.
     pub fn is_waiting(&self) -> bool
         ensures stored { result ≡ kept.says_waiting self.now.fate }
-        ensures known { (rules : List RuleText) (history : Events) → IsEntry rules history (held_view self.now) →
+        ensures known { (rules : RuleSet) (history : Events) → IsEntry rules history (held_view self.now) →
             result ≡ fates.is_waiting rules (held_view self.now).delivery history }
     {
         self.fate.is_waiting()
@@ -216,7 +216,7 @@ impl HeldDelivery {
     /// It found no consumer, or lost the last one, and goes to none any more.
     pub fn is_gone(&self) -> bool
         ensures stored { result ≡ kept.says_gone self.now.fate }
-        ensures known { (rules : List RuleText) (history : Events) → IsEntry rules history (held_view self.now) →
+        ensures known { (rules : RuleSet) (history : Events) → IsEntry rules history (held_view self.now) →
             result ≡ fates.is_gone rules (held_view self.now).delivery history }
     {
         self.fate.is_gone()
@@ -225,7 +225,7 @@ impl HeldDelivery {
     /// Of anycast, it went to a consumer, or began to.
     pub fn is_paired(&self) -> bool
         ensures stored { result ≡ kept.says_paired self.now.fate }
-        ensures known { (rules : List RuleText) (records : List Record) → IsEntry rules (history rules records) (held_view self.now) →
+        ensures known { (rules : RuleSet) (records : List Record) → IsEntry rules (history rules records) (held_view self.now) →
             first_broken rules (history rules records) ≡ None → fates.is_of_multicast rules (held_view self.now).delivery ≡ false →
             result ≡ sent.is_paired (held_view self.now).delivery (history rules records) }
     {
@@ -236,7 +236,7 @@ impl HeldDelivery {
     #[tactic(auto, using(crate::proofs::HeldKnown::entry_to_carry))]
     pub fn may_go(&self) -> bool
         ensures stored { result ≡ kept.may_go (held_view self.now) }
-        ensures known { (rules : List RuleText) (history : Events) → IsEntry rules history (held_view self.now) →
+        ensures known { (rules : RuleSet) (history : Events) → IsEntry rules history (held_view self.now) →
             (if result then Some (held_view self.now).delivery else None) ≡ to_carry rules (notes.Pair (held_view self.now).delivery.number) history }
     {
         self.is_complete() && !self.is_gone()
@@ -245,7 +245,7 @@ impl HeldDelivery {
     /// An outcome may be told of it: it is complete, of a live link, neither settled nor told.
     pub fn may_be_told(&self) -> bool
         ensures stored { result ≡ kept.may_tell (held_view self.now) }
-        ensures known { (rules : List RuleText) (history : Events) → IsEntry rules history (held_view self.now) →
+        ensures known { (rules : RuleSet) (history : Events) → IsEntry rules history (held_view self.now) →
             result ≡ may_be_told (held_view self.now).delivery history }
     {
         self.may_tell()
@@ -260,7 +260,7 @@ impl HeldDelivery {
     /// It was completed before the other.
     pub fn is_completed_before(&self, other: &HeldDelivery) -> bool
         ensures stored { result ≡ kept.comes_before (held_view self.now) (held_view other.now) }
-        ensures known { (rules : List RuleText) (history : Events) → IsEntry rules history (held_view self.now) →
+        ensures known { (rules : RuleSet) (history : Events) → IsEntry rules history (held_view self.now) →
             IsEntry rules history (held_view other.now) →
             result ≡ law.completed_before (held_view self.now).delivery (held_view other.now).delivery history }
     {
@@ -284,7 +284,7 @@ impl HeldDelivery {
     /// Memory was refused, for the payload of a part of it; then all stays as it was.
     pub fn take(
         &mut self,
-        rules: &[Rule],
+        rules: &RuleSet,
         event: &Event,
         has_consumer: bool,
     ) -> Result<bool, AllocError>
@@ -303,7 +303,7 @@ impl HeldDelivery {
     /// With the event, and whether anything is left.
     fn move_on(
         &mut self,
-        rules: &[Rule],
+        rules: &RuleSet,
         event: &Event,
         has_consumer: bool,
     ) -> Result<bool, AllocError>
@@ -337,7 +337,7 @@ impl HeldDelivery {
         Ok(())
     }
 
-    fn fate_after(&self, rules: &[Rule], event: &Event, has_consumer: bool) -> Fate
+    fn fate_after(&self, rules: &RuleSet, event: &Event, has_consumer: bool) -> Fate
         ensures { result ≡ kept.fate_next rules.now (event_view event.now) has_consumer (held_view self.now).delivery self.now.fate }
     {
         match self.fate {
@@ -351,7 +351,7 @@ impl HeldDelivery {
         }
     }
 
-    fn fate_completed(&self, rules: &[Rule], has_consumer: bool) -> Fate
+    fn fate_completed(&self, rules: &RuleSet, has_consumer: bool) -> Fate
         ensures { result ≡ kept.fate_completed rules.now (held_view self.now).delivery has_consumer }
     {
         if self.is_of_multicast(rules) {
@@ -364,7 +364,7 @@ impl HeldDelivery {
     }
 
     /// Its address goes to all its consumers.
-    fn is_of_multicast(&self, rules: &[Rule]) -> bool
+    fn is_of_multicast(&self, rules: &RuleSet) -> bool
         ensures { result ≡ is_of_multicast rules.now (held_view self.now).delivery }
     {
         matches!(
