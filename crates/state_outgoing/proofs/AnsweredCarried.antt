@@ -4,7 +4,7 @@ use Rattle.std.specs.Prelude.{Contains}
 use Rattle.std.specs.List.{list_any}
 use Rattle.pairing_cert.specs.declared.note.Note.{Note}
 use Rattle.pairing_cert.specs.declared.note.Note.TheVariants as notes
-use Rattle.capture_form.specs.Rules.{RuleText}
+use Rattle.capture_form.specs.Rules.{RuleSet}
 use Rattle.number_groups.specs.Numbers.{is_among}
 use Rattle.trace_events.specs.Words.{is_some_and}
 use Rattle.trace_events.specs.Event.{Event, Outgoing}
@@ -27,7 +27,7 @@ named-number (notes.Pair m) n is = swapped n m ∙ is
 named-number notes.None n is = absurd cc
 named-number (notes.Told why) n is = absurd cc
 
-module _ (rules : List RuleText) (past : List Event) (are : AreJudged rules past) (table : SentDeliveries) (is_table : IsTable table past) (e : Event)
+module _ (rules : RuleSet) (past : List Event) (are : AreJudged rules past) (table : SentDeliveries) (is_table : IsTable table past) (e : Event)
     (small : IfSome (answered_id e) (λ at. at.id < 2 ^ 32)) (spoken : List ℕ) (among : (n : ℕ) → is_among spoken n ≡ is_spoken_of table.groups e n) where
   pub carries-answered : (j : Outgoing) → Contains (outgoing_deliveries past) j → is_left_unsettled past j ≡ true → is_some (answering j e) ≡ true → (n : ℕ) → names n j.note ≡ true
       → list_any (λ m. is_some_and (carried (sent_in table m)) (nat_eq n)) spoken ≡ true

@@ -2,7 +2,7 @@
 use Rattle.std.proofs.Common.{◌≡◌, refl, sym, ap, subst, ◌∙◌, ◌⊎◌, inl, inr, ℕ, Bool, true, false, ◌&&◌, not, List, length, Option, Some, None, IfSome, is_some, option_and_then, option_map, if◌then◌else◌, arith}
 use Rattle.pairing_cert.specs.declared.note.Note.{Note}
 use Rattle.pairing_cert.specs.declared.note.Note.TheVariants as notes
-use Rattle.capture_form.specs.Rules.{RuleText}
+use Rattle.capture_form.specs.Rules.{RuleSet}
 use Rattle.trace_events.specs.declared.session.Session.{Session}
 use Rattle.trace_events.specs.Words.{is_some_and}
 use Rattle.trace_events.specs.Event.{Event, Link, Incoming, Outgoing}
@@ -81,7 +81,7 @@ carried-noted (Some x) past = number-noted x.delivery.note past
 abbrev IsKnown : List Event → Outgoing → Option Sent → Type 0
 IsKnown past j o = (o ≡ Some (sent past j)) ⊎ ((o ≡ None) × (j.number ≡ length past))
 
-module _ (rules : List RuleText) (past : List Event) (are : AreJudged rules past) where
+module _ (rules : RuleSet) (past : List Event) (are : AreJudged rules past) where
   -- none has the next number
   none-next : outgoing_at (length past) past ≡ None
   none-next = by (outgoing_at (length past) past) refl
@@ -130,7 +130,7 @@ unsettled-bits false false o closed is = absurd cc
 bears-mark : (past : List Event) (j : Outgoing) → is_to_settle past j ≡ true → is_left_unsettled past j ≡ true
 bears-mark past j is = unsettled-bits j.link.is_pre_settled (stands_unsettled past j) (first_deciding j past) (carries_closed past j) (sym (is_to_settle-parts past j) ∙ is)
 
-module _ (rules : List RuleText) (past : List Event) (are : AreJudged rules past) (table : SentDeliveries) (is_table : IsTable table past) where
+module _ (rules : RuleSet) (past : List Event) (are : AreJudged rules past) (table : SentDeliveries) (is_table : IsTable table past) where
   pub progress-table : (l : Link) (last : Option ℕ) → last ≡ last_number l.number past → unsent (option_and_then (sent_in table) last) ≡ law.in_progress l past
   progress-table l last is = progress-entry rules past are (sent_in table) is_table.entries l.number last is l refl
 
@@ -168,6 +168,6 @@ module _ (rules : List RuleText) (past : List Event) (are : AreJudged rules past
 known : {A : Type 0} (P : A → Type 0) (o : Option A) (x : A) → o ≡ Some x → IfSome o P → P x
 known P o x is h = subst (λ (p : Option _). IfSome p P) is h
 
-pub progress-knows : (rules : List RuleText) (past : List Event) → AreJudged rules past → (table : SentDeliveries) → AreSent table past → (l : Link) (j : Outgoing) → law.in_progress l past ≡ Some j → Knows table j
+pub progress-knows : (rules : RuleSet) (past : List Event) → AreJudged rules past → (table : SentDeliveries) → AreSent table past → (l : Link) (j : Outgoing) → law.in_progress l past ≡ Some j → Knows table j
 progress-knows rules past are table were l j is =
     begun-knows table past were j (known (λ (k : Outgoing). outgoing_at k.number past ≡ Some k) (law.in_progress l past) j is (progress-known rules past are l))

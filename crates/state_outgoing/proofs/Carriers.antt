@@ -1,7 +1,7 @@
 -- The last delivery to a client that carries a delivery from a client is told by its number.
 use Rattle.std.proofs.Common.{◌≡◌, refl, sym, ap, ◌∙◌, ℕ, false, List, ◌∷◌, Option, Some, None, IfSome, is_some, option_and_then, option_map, if◌then◌else◌, ◌==◌}
 use Rattle.pairing_cert.specs.declared.note.Note.TheVariants as notes
-use Rattle.capture_form.specs.Rules.{RuleText}
+use Rattle.capture_form.specs.Rules.{RuleSet}
 use Rattle.trace_events.specs.Words.{is_some_and}
 use Rattle.trace_events.specs.Event.{Event, Incoming, Outgoing}
 use Rattle.trace_events.specs.Outgoing.{outgoing_begun, names, pairing, is_paired}
@@ -42,10 +42,10 @@ carrier-moved e past n old new was moved = moved ∙ (ap (λ o. if begins_carrie
 
 -- ---- the number says which it is, and that it is known
 
-pub pairing-known : (rules : List RuleText) (past : List Event) → AreJudged rules past → (d : Incoming) → IfSome (pairing d past) (λ j. outgoing_at j.number past ≡ Some j)
+pub pairing-known : (rules : RuleSet) (past : List Event) → AreJudged rules past → (d : Incoming) → IfSome (pairing d past) (λ j. outgoing_at j.number past ≡ Some j)
 pairing-known rules past are d = found-known rules past are (λ (j : Outgoing). names d.number j.note)
 
-pub pairing-numbered : (rules : List RuleText) (past : List Event) → AreJudged rules past → (d : Incoming) → option_and_then (λ n. outgoing_at n past) (carrier_number d.number past) ≡ pairing d past
+pub pairing-numbered : (rules : RuleSet) (past : List Event) → AreJudged rules past → (d : Incoming) → option_and_then (λ n. outgoing_at n past) (carrier_number d.number past) ≡ pairing d past
 pairing-numbered rules past are d = found-numbered rules past are (λ (j : Outgoing). names d.number j.note)
 
 some-map : {A B : Type 0} (f : A → B) (o : Option A) → is_some o ≡ is_some (option_map f o)
@@ -58,7 +58,7 @@ is_paired-numbered past d = some-map (λ (j : Outgoing). j.number) (pairing d pa
 
 -- ---- where what is known of each delivery is kept by its number, and the number of the last that carries another
 
-module _ (rules : List RuleText) (past : List Event) (are : AreJudged rules past) (kept : ℕ → Option Sent) (were : (n : ℕ) → kept n ≡ sent_at n past)
+module _ (rules : RuleSet) (past : List Event) (are : AreJudged rules past) (kept : ℕ → Option Sent) (were : (n : ℕ) → kept n ≡ sent_at n past)
     (d : Incoming) (last : Option ℕ) (is_last : last ≡ carrier_number d.number past) where
   -- what is kept of it
   pub carrier-entry : option_and_then kept last ≡ option_map (sent past) (pairing d past)

@@ -3,7 +3,7 @@ use Rattle.std.proofs.Common.{◌≡◌, refl, sym, ap, subst, ◌∙◌, ◌<�
 use Rattle.std.specs.List.{AllByRecursion}
 use Rattle.amqp_perf.specs.Meaning.{TransferFields, flag}
 use Rattle.pairing_cert.specs.declared.note.Note.{Note}
-use Rattle.capture_form.specs.Rules.{RuleText}
+use Rattle.capture_form.specs.Rules.{RuleSet}
 use Rattle.trace_events.specs.Words.{is_some_and, where_passes}
 use Rattle.trace_events.specs.Frame.{Frame, Spoken, spoken_in}
 use Rattle.trace_events.specs.Event.{Event, Link, Incoming, Outgoing, out_frame}
@@ -36,7 +36,7 @@ last-moved e past link old new was moved =
     moved ∙ (ap (λ o. if begins_on e link then Some e.number else o) was ∙ sym (last_number-step e past link))
 
 -- nothing has begun on a link that isn't opened yet
-pub last-unopened : (rules : List RuleText) (past : List Event) → AreJudged rules past → (link : ℕ) → length past ≤ link → last_number link past ≡ None
+pub last-unopened : (rules : RuleSet) (past : List Event) → AreJudged rules past → (link : ℕ) → length past ≤ link → last_number link past ≡ None
 last-unopened rules past are link le = ap (option_map (λ (j : Outgoing). j.number)) (by (outgoing_deliveries past) (deliveries-earlier past (judged-on_earlier rules past are)))
   where
     by : (js : List Outgoing) → AllByRecursion (IsOnEarlier (length past)) js → find (λ j. j.link.number == link) js ≡ None
@@ -46,7 +46,7 @@ last-unopened rules past are link le = ap (option_map (λ (j : Outgoing). j.numb
         ap (λ b. if b then Some j else find (λ k. k.link.number == link) js) (ne_eqb j.link.number link (λ same. absurd (omega (arith, lt, le, same)))) ∙ by js all.1
 
 -- the number says which it is
-pub last_on-numbered : (rules : List RuleText) (past : List Event) → AreJudged rules past → (link : ℕ) → option_and_then (λ n. outgoing_at n past) (last_number link past) ≡ last_on link past
+pub last_on-numbered : (rules : RuleSet) (past : List Event) → AreJudged rules past → (link : ℕ) → option_and_then (λ n. outgoing_at n past) (last_number link past) ≡ last_on link past
 last_on-numbered rules past are link = found-numbered rules past are (λ (j : Outgoing). j.link.number == link)
 
 -- ---- the delivery in progress is the last that began, until it is sent
@@ -89,7 +89,7 @@ not_yet-sent [] j born le = refl
 not_yet-sent (e ∷ past) j born le =
     is_sent-no_part e past j (born-apart (length past) e.note e.outgoing j.number born.0 (omega (arith, le))) ∙ not_yet-sent past j born.1 (omega (arith, le))
 
-module _ (rules : List RuleText) (e : Event) (past : List Event) (are : AreJudged rules (e ∷ past)) (earlier : (l : Link) → IsLast past l) where
+module _ (rules : RuleSet) (e : Event) (past : List Event) (are : AreJudged rules (e ∷ past)) (earlier : (l : Link) → IsLast past l) where
   number : e.number ≡ length past
   number = judged-number rules e past are
 
@@ -202,7 +202,7 @@ module _ (rules : List RuleText) (e : Event) (past : List Event) (are : AreJudge
   last-step_on : (l : Link) → IsLast (e ∷ past) l
   last-step_on l = step-by l e.outgoing refl (judged-outgoing_part rules e past are)
 
-pub progress-last : (rules : List RuleText) (past : List Event) → AreJudged rules past → (l : Link) → in_progress l past ≡ where_passes (λ j. not (is_sent j past)) (last_on l.number past)
+pub progress-last : (rules : RuleSet) (past : List Event) → AreJudged rules past → (l : Link) → in_progress l past ≡ where_passes (λ j. not (is_sent j past)) (last_on l.number past)
 progress-last rules [] are l = refl
 progress-last rules (e ∷ past) are l = last-step_on rules e past are (progress-last rules past are.1) l
 
@@ -216,12 +216,12 @@ where-some P test (Some j) is = by (test j)
     by true = is
     by false = tt
 
-pub progress-known : (rules : List RuleText) (past : List Event) → AreJudged rules past → (l : Link) → IfSome (in_progress l past) (λ j. outgoing_at j.number past ≡ Some j)
+pub progress-known : (rules : RuleSet) (past : List Event) → AreJudged rules past → (l : Link) → IfSome (in_progress l past) (λ j. outgoing_at j.number past ≡ Some j)
 progress-known rules past are l =
     subst (λ o. IfSome o (λ j. outgoing_at j.number past ≡ Some j)) (sym (progress-last rules past are l))
     (where-some (λ j. outgoing_at j.number past ≡ Some j) (λ j. not (is_sent j past)) (last_on l.number past) (found-known rules past are (λ (j : Outgoing). j.link.number == l.number)))
 
-pub carried-known : (rules : List RuleText) (past : List Event) → AreJudged rules past → (l : Link) → IfSome (carried_before l past) (λ d. incoming_at d.number past ≡ Some d)
+pub carried-known : (rules : RuleSet) (past : List Event) → AreJudged rules past → (l : Link) → IfSome (carried_before l past) (λ d. incoming_at d.number past ≡ Some d)
 carried-known rules past are l = by (carried_before l past) refl
   where
     by : (o : Option Incoming) → carried_before l past ≡ o → IfSome o (λ d. incoming_at d.number past ≡ Some d)
@@ -232,7 +232,7 @@ carried-known rules past are l = by (carried_before l past) refl
 
 -- ---- where what is known of each delivery is kept by its number, and the number of the last that began on the link
 
-module _ (rules : List RuleText) (past : List Event) (are : AreJudged rules past) (kept : ℕ → Option Sent) (were : (n : ℕ) → kept n ≡ sent_at n past)
+module _ (rules : RuleSet) (past : List Event) (are : AreJudged rules past) (kept : ℕ → Option Sent) (were : (n : ℕ) → kept n ≡ sent_at n past)
     (link : ℕ) (last : Option ℕ) (is_last : last ≡ last_number link past) where
   -- what is kept of it
   pub last-entry : option_and_then kept last ≡ option_map (sent past) (last_on link past)

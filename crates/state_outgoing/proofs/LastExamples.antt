@@ -7,6 +7,7 @@ use Rattle.amqp_perf.proofs.Opened.{read, written}
 use Rattle.amqp_frames.specs.Writing.{frame_octets}
 use Rattle.amqp_frames.specs.Reading.{whole_frame, frame_at, sized_frame, headed_frame}
 use Rattle.capture_form.specs.declared.records.Record.{Record}
+use Rattle.capture_form.specs.Rules.{no_rules}
 use Rattle.trace_events.specs.Frame.{frame_read}
 use Rattle.trace_events.specs.History.{history, judge}
 use Rattle.trace_clauses.specs.Written.{spoken_octets}
@@ -15,19 +16,19 @@ use Rattle.state_outgoing.specs.LastBegun.{last_number, begins_on, carrier_numbe
 
 unfoldable last_in : List Record → ℕ → Option ℕ
 unfolding frame_read whole_frame frame_at sized_frame headed_frame read digits spoken_octets frame_octets written
-last_in records link = last_number link (history [] records)
+last_in records link = last_number link (history no_rules records)
 
 unfoldable begins_in : List Record → Record → ℕ → Bool
 unfolding frame_read whole_frame frame_at sized_frame headed_frame read digits spoken_octets frame_octets written
-begins_in records r link = begins_on (judge [] (history [] records) r) link
+begins_in records r link = begins_on (judge no_rules (history no_rules records) r) link
 
 unfoldable carrier_in : List Record → ℕ → Option ℕ
 unfolding frame_read whole_frame frame_at sized_frame headed_frame read digits spoken_octets frame_octets written
-carrier_in records n = carrier_number n (history [] records)
+carrier_in records n = carrier_number n (history no_rules records)
 
 unfoldable carries_in : List Record → Record → ℕ → Bool
 unfolding frame_read whole_frame frame_at sized_frame headed_frame read digits spoken_octets frame_octets written
-carries_in records r n = begins_carrier (judge [] (history [] records) r) n
+carries_in records r n = begins_carrier (judge no_rules (history no_rules records) r) n
 
 -- ---- captures: delivery 16 of the producer's link 6 goes to the consumer's link 13, in two parts, and delivery 17 too
 

@@ -1,7 +1,7 @@
 -- Deliveries to clients have numbers that fall: so one that is found by any test is found by its number.
 use Rattle.std.proofs.Common.{◌≡◌, refl, sym, ap, ◌∙◌, ◌<◌, ◌≤◌, ℕ, Bool, true, false, List, [], ◌∷◌, length, Option, Some, None, IfSome, find, option_and_then, option_map, if◌then◌else◌, ◌==◌, eqb-true, eq-eqb, ne_eqb, arith}
 use Rattle.std.specs.List.{cons_option}
-use Rattle.capture_form.specs.Rules.{RuleText}
+use Rattle.capture_form.specs.Rules.{RuleSet}
 use Rattle.trace_events.specs.Words.{is_some_and}
 use Rattle.trace_events.specs.Event.{Event, Outgoing}
 use Rattle.trace_events.specs.Outgoing.{outgoing_begun, outgoing_deliveries}
@@ -28,7 +28,7 @@ falling-more n m (Some j) js lt own h = (omega (arith, lt, own j refl), falling-
 pub begun-number : (e : Event) (j : Outgoing) → outgoing_begun e ≡ Some j → j.number ≡ e.number
 begun-number e j begun = eqb-true j.number e.number (passing (λ (x : Outgoing). x.number == e.number) e.outgoing j begun).1
 
-pub judged-falling : (rules : List RuleText) (past : List Event) → AreJudged rules past → AreFalling (length past) (outgoing_deliveries past)
+pub judged-falling : (rules : RuleSet) (past : List Event) → AreJudged rules past → AreFalling (length past) (outgoing_deliveries past)
 judged-falling rules [] are = tt
 judged-falling rules (e ∷ past) are =
     falling-more (length past) (length (e ∷ past)) (outgoing_begun e) (outgoing_deliveries past) (omega arith) (λ j is. begun-number e j is ∙ judged-number rules e past are)
@@ -63,7 +63,7 @@ found-by n (k ∷ js) falls test j found = by (test k) found (found-by k.number 
         let lt = at.0 in
         (omega (arith, lt, falls.0), ap (λ b. if b then Some k else find (λ x. x.number == j.number) js) (ne_eqb k.number j.number (λ same. omega (arith, same, lt))) ∙ at.1)
 
-module _ (rules : List RuleText) (past : List Event) (are : AreJudged rules past) (test : Outgoing → Bool) where
+module _ (rules : RuleSet) (past : List Event) (are : AreJudged rules past) (test : Outgoing → Bool) where
   -- it has begun before
   pub found-earlier : (j : Outgoing) → find test (outgoing_deliveries past) ≡ Some j → j.number < length past
   found-earlier j found = (found-by (length past) (outgoing_deliveries past) (judged-falling rules past are) test j found).0

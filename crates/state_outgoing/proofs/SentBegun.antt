@@ -4,7 +4,7 @@ use Rattle.std.specs.List.{cons_option}
 use Rattle.amqp_perf.specs.declared.attach.Role.{Role}
 use Rattle.amqp_perf.specs.declared.attach.Role.TheVariants.{Sender, Receiver}
 use Rattle.amqp_perf.specs.Meaning.{Meaning, AnOpen, ABegin, AnAttach, AFlow, ATransfer, ADisposition, ADetach, AnEnd, AClose, DispositionFields}
-use Rattle.capture_form.specs.Rules.{RuleText}
+use Rattle.capture_form.specs.Rules.{RuleSet}
 use Rattle.pairing_cert.specs.declared.note.Note.{Note}
 use Rattle.trace_events.specs.declared.session.Session.{Session}
 use Rattle.trace_events.specs.Words.{is_some_and, is_number}
@@ -68,7 +68,7 @@ at-number past n j found = found-number n (outgoing_deliveries past) j found
 
 -- ---- what begins
 
-module _ (rules : List RuleText) (e : Event) (past : List Event) (are : AreJudged rules (e ∷ past)) where
+module _ (rules : RuleSet) (e : Event) (past : List Event) (are : AreJudged rules (e ∷ past)) where
   pub own-number : (k : Outgoing) → outgoing_begun e ≡ Some k → k.number ≡ length past
   own-number k begun = eqb-true k.number e.number (passing (λ (x : Outgoing). x.number == e.number) e.outgoing k begun).1 ∙ judged-number rules e past are
 
@@ -104,7 +104,7 @@ module _ (rules : List RuleText) (e : Event) (past : List Event) (are : AreJudge
 abbrev IsFound : List Event → Outgoing → Type 0
 IsFound past j = outgoing_at j.number past ≡ Some j
 
-pub all-found : (rules : List RuleText) (past : List Event) → AreJudged rules past → AllOf (IsFound past) (outgoing_deliveries past)
+pub all-found : (rules : RuleSet) (past : List Event) → AreJudged rules past → AllOf (IsFound past) (outgoing_deliveries past)
 all-found rules [] are = tt
 all-found rules (e ∷ past) are =
     by (outgoing_begun e) refl (all_such (IsFound past) (IsFound (e ∷ past)) (outgoing_deliveries past) (λ j found. found-still rules e past are j.number j found) (all-found rules past are.1))
@@ -142,7 +142,7 @@ decided-one false decided c r closed is = absurd cc
 some-and : {A : Type 0} (P : A → Type 0) (o : Option A) (x : A) → o ≡ Some x → P x → IsSomeAnd o P
 some-and P o x is h = subst (λ (p : Option _). IsSomeAnd p P) (sym is) h
 
-to_settle-decided : (rules : List RuleText) (s : Session) (id : ℕ) (past : List Event) → AreJudged rules past → (j : Outgoing) → to_settle s id past ≡ Some j → IsDecidedIn past j.number
+to_settle-decided : (rules : RuleSet) (s : Session) (id : ℕ) (past : List Event) → AreJudged rules past → (j : Outgoing) → to_settle s id past ≡ Some j → IsDecidedIn past j.number
 to_settle-decided rules s id past are j found =
     let test : Outgoing → Bool = λ x. x.link.session.number == s.number && is_number x.id id && is_to_settle past x in
     let at = all_contained (IsFound past) (outgoing_deliveries past) j (all-found rules past are) (in_reverse (outgoing_deliveries past) j (find_has test (reverse (outgoing_deliveries past)) j found)) in
@@ -150,7 +150,7 @@ to_settle-decided rules s id past are j found =
     some-and (λ k. is_some (decision k past) ≡ true) (outgoing_at j.number past) j at
     (decided-one (is_live past j.link) (is_some (decision j past)) (not (is_settled_by_consumer j past)) (not (is_settled_by_router j past)) (is_some_and (noted j.note past) (is_closed past)) is)
 
-module _ (rules : List RuleText) (past : List Event) (are : AreJudged rules past) where
+module _ (rules : RuleSet) (past : List Event) (are : AreJudged rules past) where
   role-decided : (s : Session) (id : ℕ) (role : Role) → IfSome (settled_by_role s id role past) (IsDecidedIn past)
   role-decided s id Receiver = tt
   role-decided s id Sender = by (to_settle s id past) refl
@@ -177,7 +177,7 @@ module _ (rules : List RuleText) (past : List Event) (are : AreJudged rules past
   settled-decided e Lost = tt
   settled-decided e Broken = tt
 
-pub judged-settled : (rules : List RuleText) (past : List Event) → AreJudged rules past → AreSettled past
+pub judged-settled : (rules : RuleSet) (past : List Event) → AreJudged rules past → AreSettled past
 judged-settled rules [] are = tt
 judged-settled rules (e ∷ past) ((r, is), are) = (
   subst (λ (x : Event). IfSome x.settled (IsDecidedIn past)) (sym is)
@@ -212,7 +212,7 @@ module _ (j : Outgoing) where
   sent-none (e ∷ past) are le =
       is_sent-no_part e past j (born-before (length past) e.note e.outgoing j.number are.0 (omega (arith, le))) ∙ sent-none past are.1 (omega (arith, le))
 
-  pub by_consumer-none : (rules : List RuleText) (past : List Event) → AreJudged rules past → length past ≤ j.number → is_settled_by_consumer j past ≡ false
+  pub by_consumer-none : (rules : RuleSet) (past : List Event) → AreJudged rules past → length past ≤ j.number → is_settled_by_consumer j past ≡ false
   by_consumer-none rules [] are le = refl
   by_consumer-none rules (e ∷ past) are le =
       let number = judged-number rules e past are in
@@ -223,7 +223,7 @@ module _ (j : Outgoing) where
   by_router-none_of (e ∷ past) born are le =
       is_settled_by_router-same e past j (settled-before past born.1 e.settled j.number are.0 (omega (arith, le))) ∙ by_router-none_of past born.1 are.1 (omega (arith, le))
 
-  pub by_router-none : (rules : List RuleText) (past : List Event) → AreJudged rules past → length past ≤ j.number → is_settled_by_router j past ≡ false
+  pub by_router-none : (rules : RuleSet) (past : List Event) → AreJudged rules past → length past ≤ j.number → is_settled_by_router j past ≡ false
   by_router-none rules past are le = by_router-none_of past (judged-born rules past are) (judged-settled rules past are) le
 
   none-if : (b : Bool) (o : Option DispositionFields) → o ≡ None → option_map terminal_state (if b then None else o) ≡ None
@@ -235,7 +235,7 @@ module _ (j : Outgoing) where
   unsettled-if false live c r a b d = rw (a, b, d) refl
 
   -- on a link that lives
-  pub unsent-before : (rules : List RuleText) (past : List Event) → AreJudged rules past → length past ≤ j.number → is_live past j.link ≡ true → sent past j ≡ unsent j
+  pub unsent-before : (rules : RuleSet) (past : List Event) → AreJudged rules past → length past ≤ j.number → is_live past j.link ≡ true → sent past j ≡ unsent j
   unsent-before rules past are le live =
       made-same j _ _ _ _ _ _ _ _ (ap (λ (xs : List ℕ). length xs % 2 ^ 64) (payload-none past (judged-born rules past are) le)) (sent-none past (judged-born rules past are) le)
       (none-if j.link.is_pre_settled (first_deciding j past) (first_deciding-before rules past j are (omega (arith, le))))

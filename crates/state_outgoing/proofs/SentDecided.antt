@@ -1,7 +1,7 @@
 -- What either side has settled is decided, unless it was sent settled.
 use Rattle.std.proofs.Common.{◌≡◌, refl, sym, ap, subst, ◌∙◌, ◌⊎◌, inl, inr, ℕ, Bool, true, false, ◌&&◌, ◌||◌, List, [], ◌∷◌, length, Option, Some, None, IfSome, IsSomeAnd, is_some, if◌then◌else◌, arith, eqb-true}
 use Rattle.amqp_perf.specs.Meaning.{DispositionFields, flag}
-use Rattle.capture_form.specs.Rules.{RuleText}
+use Rattle.capture_form.specs.Rules.{RuleSet}
 use Rattle.trace_events.specs.Words.{is_some_and, is_number, or_else, where_passes}
 use Rattle.trace_events.specs.Event.{Event, Outgoing}
 use Rattle.trace_events.specs.Link.{is_live}
@@ -41,7 +41,7 @@ stays-decided e past j is = is_decided-step e past j ∙ ap (λ b. b || is_live 
 decided-in : (past : List Event) (j : Outgoing) → outgoing_at j.number past ≡ Some j → IsDecidedIn past j.number → is_some (decision j past) ≡ true
 decided-in past j found is = subst (λ (o : Option Outgoing). IsSomeAnd o (λ k. is_some (decision k past) ≡ true)) found is
 
-module _ (rules : List RuleText) (e : Event) (past : List Event) (are : AreJudged rules (e ∷ past)) (j : Outgoing) (found : outgoing_at j.number (e ∷ past) ≡ Some j) where
+module _ (rules : RuleSet) (e : Event) (past : List Event) (are : AreJudged rules (e ∷ past)) (j : Outgoing) (found : outgoing_at j.number (e ∷ past) ≡ Some j) where
   before : begins_number e j.number ≡ false → outgoing_at j.number past ≡ Some j
   before off = sym (at-step rules e past are j.number ∙ ap (λ b. if b then outgoing_begun e else outgoing_at j.number past) off) ∙ found
 
@@ -70,7 +70,7 @@ module _ (rules : List RuleText) (e : Event) (past : List Event) (are : AreJudge
       let never : true ≡ false = sym is ∙ by_router-none j rules past are.1 (omega (arith, at)) in
       absurd cc
 
-router-decides : (rules : List RuleText) (past : List Event) → AreJudged rules past → (j : Outgoing) → outgoing_at j.number past ≡ Some j → is_settled_by_router j past ≡ true
+router-decides : (rules : RuleSet) (past : List Event) → AreJudged rules past → (j : Outgoing) → outgoing_at j.number past ≡ Some j → is_settled_by_router j past ≡ true
     → is_some (decision j past) ≡ true
 router-decides rules [] are j found is = absurd cc
 router-decides rules (e ∷ past) are j found is =
@@ -82,7 +82,7 @@ either : (c r : Bool) → c || r ≡ true → (c ≡ true) ⊎ (r ≡ true)
 either true r is = inl refl
 either false r is = inr is
 
-pub judged-decided : (rules : List RuleText) (past : List Event) → AreJudged rules past → (n : ℕ) (j : Outgoing) → outgoing_at n past ≡ Some j → IsDecided past j
+pub judged-decided : (rules : RuleSet) (past : List Event) → AreJudged rules past → (n : ℕ) (j : Outgoing) → outgoing_at n past ≡ Some j → IsDecided past j
 judged-decided rules past are n j found unsettled live is =
     elim (either (is_settled_by_consumer j past) (is_settled_by_router j past) is) [
       | inl consumer ↦ ap (λ b. is_some (if b then None else first_deciding j past)) unsettled ∙ consumer-decides j past consumer

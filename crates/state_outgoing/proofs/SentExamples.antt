@@ -10,6 +10,7 @@ use Rattle.amqp_frames.specs.Writing.{frame_octets}
 use Rattle.amqp_frames.specs.Reading.{whole_frame, frame_at, sized_frame, headed_frame}
 use Rattle.pairing_cert.specs.declared.note.Why.TheVariants.{C}
 use Rattle.capture_form.specs.declared.records.Record.{Record}
+use Rattle.capture_form.specs.Rules.{no_rules}
 use Rattle.trace_events.specs.Frame.{frame_read}
 use Rattle.trace_events.specs.Words.{is_some_and}
 use Rattle.trace_events.specs.Event.{Outgoing}
@@ -34,56 +35,56 @@ shown x = (x.sent_count, x.is_sent, option_map state_octets x.decision, x.is_uns
 
 unfoldable sent_in : List Record → ℕ → Option Shown
 unfolding frame_read whole_frame frame_at sized_frame headed_frame read digits spoken_octets frame_octets written
-sent_in records n = option_map shown (sent_at n (history [] records))
+sent_in records n = option_map shown (sent_at n (history no_rules records))
 
 -- what one more record makes of it
 unfoldable next_in : List Record → Record → ℕ → Option Shown
 unfolding frame_read whole_frame frame_at sized_frame headed_frame read digits spoken_octets frame_octets written
-next_in records r n = let past = history [] records in option_map (λ x. shown (sent_next (judge [] past r) x)) (sent_at n past)
+next_in records r n = let past = history no_rules records in option_map (λ x. shown (sent_next (judge no_rules past r) x)) (sent_at n past)
 
 unfoldable begun_in : List Record → Record → Option Shown
 unfolding frame_read whole_frame frame_at sized_frame headed_frame read digits spoken_octets frame_octets written
-begun_in records r = option_map shown (sent_begun (judge [] (history [] records) r))
+begun_in records r = option_map shown (sent_begun (judge no_rules (history no_rules records) r))
 
 unfoldable behind_in : List Record → Record → ℕ → Option Shown
 unfolding frame_read whole_frame frame_at sized_frame headed_frame read digits spoken_octets frame_octets written
-behind_in records r n = let past = history [] records in option_map shown (sent_behind (judge [] past r) n (sent_at n past))
+behind_in records r n = let past = history no_rules records in option_map shown (sent_behind (judge no_rules past r) n (sent_at n past))
 
 unfoldable begins_in : List Record → Record → ℕ → Bool
 unfolding frame_read whole_frame frame_at sized_frame headed_frame read digits spoken_octets frame_octets written
-begins_in records r n = begins_number (judge [] (history [] records) r) n
+begins_in records r n = begins_number (judge no_rules (history no_rules records) r) n
 
 unfoldable ends_in : List Record → Record → ℕ → Bool
 unfolding frame_read whole_frame frame_at sized_frame headed_frame read digits spoken_octets frame_octets written
-ends_in records r n = let past = history [] records in is_some_and (sent_at n past) (λ x. ends_delivery (judge [] past r) x.delivery)
+ends_in records r n = let past = history no_rules records in is_some_and (sent_at n past) (λ x. ends_delivery (judge no_rules past r) x.delivery)
 
 unfoldable takes_in : List Record → Record → ℕ → Bool
 unfolding frame_read whole_frame frame_at sized_frame headed_frame read digits spoken_octets frame_octets written
-takes_in records r n = let past = history [] records in is_some_and (sent_at n past) (takes_state (judge [] past r))
+takes_in records r n = let past = history no_rules records in is_some_and (sent_at n past) (takes_state (judge no_rules past r))
 
 unfoldable decided_in : List Record → Record → ℕ → Option (Option (Option (List ℕ)))
 unfolding frame_read whole_frame frame_at sized_frame headed_frame read digits spoken_octets frame_octets written
-decided_in records r n = let past = history [] records in option_map (λ x. option_map state_octets (decided_with (judge [] past r) x.delivery)) (sent_at n past)
+decided_in records r n = let past = history no_rules records in option_map (λ x. option_map state_octets (decided_with (judge no_rules past r) x.delivery)) (sent_at n past)
 
 unfoldable touches_in : List Record → Record → ℕ → Bool
 unfolding frame_read whole_frame frame_at sized_frame headed_frame read digits spoken_octets frame_octets written
-touches_in records r n = let past = history [] records in is_some_and (sent_at n past) (touches (judge [] past r))
+touches_in records r n = let past = history no_rules records in is_some_and (sent_at n past) (touches (judge no_rules past r))
 
 -- what one more record is found by: the delivery that it is a part of, the id that its consumer names, whether that is on the
 -- session of a delivery, and whether more are named there
 unfoldable part_in : List Record → Record → Option ℕ
 unfolding frame_read whole_frame frame_at sized_frame headed_frame read digits spoken_octets frame_octets written
-part_in records r = part_number (judge [] (history [] records) r)
+part_in records r = part_number (judge no_rules (history no_rules records) r)
 
 unfoldable id_in : List Record → Record → ℕ → Option (ℕ × Bool)
 unfolding frame_read whole_frame frame_at sized_frame headed_frame read digits spoken_octets frame_octets written
 id_in records r n =
-    let past = history [] records in option_map (λ at. (at.id, is_some_and (sent_at n past) (λ x. is_of_session at.session x.delivery))) (answered_id (judge [] past r))
+    let past = history no_rules records in option_map (λ at. (at.id, is_some_and (sent_at n past) (λ x. is_of_session at.session x.delivery))) (answered_id (judge no_rules past r))
 
 unfoldable session_in : List Record → Record → ℕ → Option Bool
 unfolding frame_read whole_frame frame_at sized_frame headed_frame read digits spoken_octets frame_octets written
 session_in records r n =
-    let past = history [] records in option_map (λ session. is_some_and (sent_at n past) (λ x. is_of_session session x.delivery)) (answered_session (judge [] past r))
+    let past = history no_rules records in option_map (λ session. is_some_and (sent_at n past) (λ x. is_of_session session x.delivery)) (answered_session (judge no_rules past r))
 
 -- ---- captures: delivery 17 goes to the consumer, in one part or in two
 

@@ -1,7 +1,7 @@
 -- What an event makes of the delivery to a client of a number.
 use Rattle.std.proofs.Common.{◌≡◌, refl, sym, ap, ◌∙◌, ℕ, Bool, true, false, ◌||◌, List, ◌∷◌, length, Option, Some, None, find, option_map, if◌then◌else◌, ◌==◌, arith}
 use Rattle.std.specs.List.{cons_option}
-use Rattle.capture_form.specs.Rules.{RuleText}
+use Rattle.capture_form.specs.Rules.{RuleSet}
 use Rattle.trace_events.specs.Words.{is_some_and}
 use Rattle.trace_events.specs.Event.{Event, Outgoing}
 use Rattle.trace_events.specs.Outgoing.{outgoing_begun, outgoing_deliveries, is_settled_by_router}
@@ -13,7 +13,7 @@ use Rattle.state_outgoing.proofs.SentLinks.{begun-live, begun-lives, begun-numbe
 use Rattle.state_outgoing.proofs.SentBegun.{found-below, at-number, by_consumer-none, by_router-none, unsent-before}
 use Rattle.state_outgoing.proofs.SentDecided.{judged-decided}
 
-module _ (rules : List RuleText) (e : Event) (past : List Event) (are : AreJudged rules (e ∷ past)) where
+module _ (rules : RuleSet) (e : Event) (past : List Event) (are : AreJudged rules (e ∷ past)) where
   -- neither side has settled it before
   undecided : (j : Outgoing) → length past ≡ j.number → IsDecided past j
   undecided j number unsettled live is =

@@ -6,7 +6,7 @@ use Rattle.amqp_perf.specs.Meaning.{DispositionFields, last_id}
 use Rattle.flow_counts.specs.Covers.{covers}
 use Rattle.flow_counts.specs.Serial.{serial_sub}
 use Rattle.number_groups.specs.Groups.{is_member}
-use Rattle.capture_form.specs.Rules.{RuleText}
+use Rattle.capture_form.specs.Rules.{RuleSet}
 use Rattle.trace_events.specs.Words.{is_number, is_some_and, where_passes}
 use Rattle.trace_events.specs.Event.{Event, Link, Outgoing, is_on_session}
 use Rattle.trace_events.specs.declared.session.Session.{Session}
@@ -177,7 +177,7 @@ lives-by s true c r is = refl
 lives-by true false c r is = absurd cc
 lives-by false false c r is = absurd cc
 
-pub unsettled-live : (rules : List RuleText) (past : List Event) → AreJudged rules past → (n : ℕ) (x : Sent) → sent_at n past ≡ Some x → x.is_unsettled ≡ true → IsLiveLink x.delivery.link past
+pub unsettled-live : (rules : RuleSet) (past : List Event) → AreJudged rules past → (n : ℕ) (x : Sent) → sent_at n past ≡ Some x → x.is_unsettled ≡ true → IsLiveLink x.delivery.link past
 unsettled-live rules past are n x entry opens =
     let of = sent-of n past x entry in
     let j = x.delivery in
@@ -185,7 +185,7 @@ unsettled-live rules past are n x entry opens =
     (lives-by j.link.is_pre_settled (is_live past j.link) (is_settled_by_consumer j past) (is_settled_by_router j past) (ap (λ (y : Sent). y.is_unsettled) of.is ∙ opens))
 
 -- so the links that end have it, if the event ends its link
-module _ (rules : List RuleText) (past : List Event) (are : AreJudged rules past) (groups : SentGroups) (kept : ℕ → Option Sent) (grouped : AreGrouped groups kept) (were : (n : ℕ) → kept n ≡ sent_at n past) where
+module _ (rules : RuleSet) (past : List Event) (are : AreJudged rules past) (groups : SentGroups) (kept : ℕ → Option Sent) (grouped : AreGrouped groups kept) (were : (n : ℕ) → kept n ≡ sent_at n past) where
   pub ended-among : (e : Event) (ended : List Link) → ((l : Link) → IsLiveLink l past → ends_link l e ≡ true → Contains ended l) → (n : ℕ) (x : Sent) → kept n ≡ Some x → x.is_unsettled ≡ true
       → ends_link x.delivery.link e ≡ true → list_any (λ (l : Link). is_member nat_eq groups.of_link l.number n) ended ≡ true
   ended-among e ended has n x at opens ends =

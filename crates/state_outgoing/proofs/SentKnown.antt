@@ -1,6 +1,6 @@
 -- What the entry of a delivery to a client answers is what the law says of it.
 use Rattle.std.proofs.Common.{◌≡◌, refl, sym, ap, ◌∙◌, ℕ, Bool, true, false, ◌&&◌, not, List, ◌∷◌, Option, Some, None, is_some, option_map, if◌then◌else◌}
-use Rattle.capture_form.specs.Rules.{RuleText}
+use Rattle.capture_form.specs.Rules.{RuleSet}
 use Rattle.trace_events.specs.Event.{Event, Outgoing}
 use Rattle.trace_events.specs.History.{history}
 use Rattle.trace_events.specs.Disposition.{terminal_state}
@@ -68,7 +68,7 @@ module _ (past : List Event) (x : Sent) (entry : IsEntry past x) where
 
 -- ---- followed from record to record
 
-pub sent-on : (rules : List RuleText) (e : Event) (past : List Event) → AreJudged rules (e ∷ past) → (x : Sent) → IsEntry past x → sent_at x.delivery.number (e ∷ past) ≡ Some (sent_next e x)
+pub sent-on : (rules : RuleSet) (e : Event) (past : List Event) → AreJudged rules (e ∷ past) → (x : Sent) → IsEntry past x → sent_at x.delivery.number (e ∷ past) ≡ Some (sent_next e x)
 sent-on rules e past are x entry =
     let n = x.delivery.number in
     let found = sent-of n past x entry in

@@ -2,7 +2,7 @@
 use Rattle.std.proofs.Common.{◌≡◌, refl, sym, ap, subst, ◌∙◌, ℕ, suc, ◌<◌, Bool, true, false, List, [], ◌∷◌, length, Option, Some, None, IfSome, option_and_then, option_map, find, if◌then◌else◌, ◌&&◌, ◌==◌, not, inl, inr, arith, eqb-true, eq-eqb}
 use Rattle.std.specs.List.{cons_option}
 use Rattle.amqp_perf.specs.Meaning.{flag}
-use Rattle.capture_form.specs.Rules.{RuleText}
+use Rattle.capture_form.specs.Rules.{RuleSet}
 use Rattle.pairing_cert.specs.declared.note.Note.{Note}
 use Rattle.trace_events.specs.Words.{is_some_and}
 use Rattle.trace_events.specs.Frame.{Spoken}
@@ -56,7 +56,7 @@ progress-below l (e ∷ past) are =
 
 -- ---- one that begins
 
-module _ (rules : List RuleText) (e : Event) (past : List Event) (are : AreJudged rules (e ∷ past)) where
+module _ (rules : RuleSet) (e : Event) (past : List Event) (are : AreJudged rules (e ∷ past)) where
   linked_still : (l : Link) → links.IsKnown past l → links.IsKnown (e ∷ past) l
   linked_still l is = subst (λ (x : Event). links.IsKnown (x ∷ past) l) (sym are.0.1) (links.known_still rules past are.0.0 l is)
 
@@ -124,7 +124,7 @@ module _ (rules : List RuleText) (e : Event) (past : List Event) (are : AreJudge
 abbrev IsLinked : List Event → Outgoing → Type 0
 IsLinked past j = links.IsKnown past j.link
 
-pub all-linked : (rules : List RuleText) (past : List Event) → AreJudged rules past → AllOf (IsLinked past) (outgoing_deliveries past)
+pub all-linked : (rules : RuleSet) (past : List Event) → AreJudged rules past → AllOf (IsLinked past) (outgoing_deliveries past)
 all-linked rules [] are = tt
 all-linked rules (e ∷ past) are =
     by (outgoing_begun e) refl (all_such (IsLinked past) (IsLinked (e ∷ past)) (outgoing_deliveries past) (λ j is. linked_still rules e past are j.link is) (all-linked rules past are.1))
@@ -133,11 +133,11 @@ all-linked rules (e ∷ past) are =
     by None none earlier = earlier
     by (Some j) begun earlier = (linked-now rules e past are j begun, earlier)
 
-pub found-linked : (rules : List RuleText) (past : List Event) → AreJudged rules past → (n : ℕ) (j : Outgoing) → outgoing_at n past ≡ Some j → links.IsKnown past j.link
+pub found-linked : (rules : RuleSet) (past : List Event) → AreJudged rules past → (n : ℕ) (j : Outgoing) → outgoing_at n past ≡ Some j → links.IsKnown past j.link
 found-linked rules past are n j found = found_holds (IsLinked past) (λ (x : Outgoing). x.number == n) (outgoing_deliveries past) j (all-linked rules past are) found
 
 -- its link lives on unless the event ends it
-module _ (rules : List RuleText) (e : Event) (past : List Event) (are : AreJudged rules (e ∷ past)) where
+module _ (rules : RuleSet) (e : Event) (past : List Event) (are : AreJudged rules (e ∷ past)) where
   pub found-lives : (n : ℕ) (j : Outgoing) → outgoing_at n past ≡ Some j → is_live (e ∷ past) j.link ≡ is_live past j.link && not (ends_link j.link e)
   found-lives n j found = is_live-next rules e past are j.link (found-linked rules past are.1 n j found).at
 

@@ -7,7 +7,7 @@ use Rattle.std.proofs.Math.Seq.{take-append-add}
 use lib.Pointwise.{pointwise}
 use Rattle.pairing_cert.specs.declared.note.Note.{Note}
 use Rattle.capture_form.specs.declared.records.Record.{Record}
-use Rattle.capture_form.specs.Rules.{RuleText}
+use Rattle.capture_form.specs.Rules.{RuleSet}
 use Rattle.trace_clauses.specs.declared.clause.Clause.TheVariants.{L6}
 use Rattle.trace_events.specs.Words.{is_some_and}
 use Rattle.trace_events.specs.Frame.{Frame, Spoken, spoken_in}
@@ -58,7 +58,7 @@ pub record IsFirstOf (past : List Event) (j : Outgoing) : Type 0 where
   pub complete : is_complete delivery past ≡ true
   pub first : AreFirst (law.payload j past) (incoming.payload delivery past)
 
-module _ (rules : List RuleText) (e : Event) (past : List Event) (are : AreJudged rules (e ∷ past)) (lawful : first_broken rules (e ∷ past) ≡ None) where
+module _ (rules : RuleSet) (e : Event) (past : List Event) (are : AreJudged rules (e ∷ past)) (lawful : first_broken rules (e ∷ past) ≡ None) where
   number : e.number ≡ length past
   number = judged-number rules e past are
 
@@ -157,7 +157,7 @@ module _ (rules : List RuleText) (e : Event) (past : List Event) (are : AreJudge
           subst (IsFirstOf (e ∷ past)) own (part-first k (passing (λ (x : Outgoing). x.number == e.number) e.outgoing k begun).0)
       named false older = went_on j (ap (λ m. outgoing_at m past) (at-number past n j older) ∙ older) (were j older)
 
-pub judged-first : (rules : List RuleText) (past : List Event) → AreJudged rules past → first_broken rules past ≡ None → (n : ℕ) (j : Outgoing) → outgoing_at n past ≡ Some j → IsFirstOf past j
+pub judged-first : (rules : RuleSet) (past : List Event) → AreJudged rules past → first_broken rules past ≡ None → (n : ℕ) (j : Outgoing) → outgoing_at n past ≡ Some j → IsFirstOf past j
 judged-first rules [] are lawful n j found = absurd cc
 judged-first rules (e ∷ past) are lawful n j found =
     by_begun rules e past are lawful n j (judged-first rules past are.1 (lawful-past rules e past lawful) n) (outgoing_begun e) refl found
@@ -197,7 +197,7 @@ goes-on more whole first octets is lt =
     ∙ ap (λ xs. is_payload_so_far more xs (first ++ octets)) (parts whole first is))
 
 -- so of an entry
-pub entry_goes_on : (rules : List RuleText) (records : List Record) (x : Sent) (d : Incoming) (more : Bool) (payload octets : List ℕ) → IsEntry (history rules records) x
+pub entry_goes_on : (rules : RuleSet) (records : List Record) (x : Sent) (d : Incoming) (more : Bool) (payload octets : List ℕ) → IsEntry (history rules records) x
     → first_broken rules (history rules records) ≡ None → noted x.delivery.note (history rules records) ≡ Some d → payload ≡ incoming.payload d (history rules records) → length payload < 2 ^ 64
     → kept.goes_on_with more payload x.sent_count octets ≡ is_payload_so_far more (incoming.payload d (history rules records)) (law.payload x.delivery (history rules records) ++ octets)
 entry_goes_on rules records x d more payload octets entry lawful names is lt =
@@ -214,7 +214,7 @@ entry_goes_on rules records x d more payload octets entry lawful names is lt =
 
 -- ---- of a table
 
-module _ (rules : List RuleText) (records : List Record) (lawful : first_broken rules (history rules records) ≡ None) (j : Outgoing) (d : Incoming) where
+module _ (rules : RuleSet) (records : List Record) (lawful : first_broken rules (history rules records) ≡ None) (j : Outgoing) (d : Incoming) where
   abbrev past : List Event
   past = history rules records
 

@@ -1,6 +1,6 @@
 -- A table of deliveries to clients in which an event moved those that it touches has what the law says behind the event.
 use Rattle.std.proofs.Common.{◌≡◌, refl, sym, ap, ◌∙◌, ◌⊎◌, inl, inr, ℕ, false, List, ◌∷◌, Option, Some, None, IfSome, option_map, if◌then◌else◌}
-use Rattle.capture_form.specs.Rules.{RuleText}
+use Rattle.capture_form.specs.Rules.{RuleSet}
 use Rattle.trace_events.specs.Event.{Event}
 use Rattle.trace_events.proofs.Judged.{AreJudged}
 use Rattle.state_outgoing.specs.Sent.{Sent, sent_at, sent_next, sent_begun, sent_behind, begins_number}
@@ -8,7 +8,7 @@ use Rattle.state_outgoing.specs.SentTouched.{touches}
 use Rattle.state_outgoing.proofs.SentFollowed.{sent-behind}
 use Rattle.state_outgoing.proofs.SentUntouched.{untouched}
 
-module _ (rules : List RuleText) (e : Event) (past : List Event) (are : AreJudged rules (e ∷ past)) where
+module _ (rules : RuleSet) (e : Event) (past : List Event) (are : AreJudged rules (e ∷ past)) where
   -- the event neither begins the delivery of this number nor touches it
   abbrev IsApart : ℕ → Option Sent → Type 0
   IsApart n o = (begins_number e n ≡ false) × IfSome o (λ (x : Sent). touches e x ≡ false)

@@ -2,7 +2,7 @@
 use Rattle.std.proofs.Common.{◌≡◌, refl, sym, ap, ◌∙◌, ◌⊎◌, inl, inr, ℕ, Bool, true, false, ◌&&◌, ◌<◌, not, List, [], ◌∷◌, ◌++◌, length, arith, Option, Some, None, IfSome, cond, nat_eq, option_map, if◌then◌else◌, ◌==◌, eqb-true, eq-eqb, ◌||◌}
 use Rattle.std.specs.List.{list_any}
 use Rattle.std.proofs.lemmas.List.Folds.{list_any-append}
-use Rattle.capture_form.specs.Rules.{RuleText}
+use Rattle.capture_form.specs.Rules.{RuleSet}
 use Rattle.trace_events.specs.Words.{is_some_and, or_else}
 use Rattle.trace_events.specs.Event.{Event, Outgoing}
 use Rattle.trace_events.specs.Outgoing.{outgoing_begun}
@@ -111,7 +111,7 @@ begun-own e x is = by (outgoing_begun e) refl is
         let one = ap (λ (y : Sent). y.delivery) (same_some (sent_next e (unsent j)) x is) in
         sym (ap (λ (k : Outgoing). k.number) one) ∙ eqb-true j.number e.number (passing (λ (k : Outgoing). k.number == e.number) e.outgoing j begun).1
 
-module _ (rules : List RuleText) (e : Event) (past : List Event) (are : AreJudged rules (e ∷ past)) (old mid new : ℕ → Option Sent) (all : ℕ → Bool)
+module _ (rules : RuleSet) (e : Event) (past : List Event) (are : AreJudged rules (e ∷ past)) (old mid new : ℕ → Option Sent) (all : ℕ → Bool)
     (were : (n : ℕ) → old n ≡ sent_at n past) (found : (n : ℕ) (x : Sent) → old n ≡ Some x → all n ≡ false → touches e x ≡ false)
     (moved : (n : ℕ) → mid n ≡ (if all n then on e (old n) else old n)) (put : (n : ℕ) → new n ≡ (if e.number == n then or_else (sent_begun e) (mid n) else mid n)) where
   -- before the event nothing has its number

@@ -1,7 +1,7 @@
 -- The delivery to settle is that of the least number of those that a group has and that may be settled.
 use Rattle.std.proofs.Common.{◌≡◌, refl, sym, ap, subst, ◌∙◌, ◌<◌, ◌≤◌, ℕ, Bool, true, false, ◌&&◌, List, [], ◌∷◌, length, reverse, Option, Some, None, IfSome, find, option_and_then, option_map, nat_eq, if◌then◌else◌, ◌==◌, eqb-true, eq-eqb, ne_eqb, arith}
 use Rattle.std.specs.List.{list_any}
-use Rattle.capture_form.specs.Rules.{RuleText}
+use Rattle.capture_form.specs.Rules.{RuleSet}
 use Rattle.trace_events.specs.declared.session.Session.{Session}
 use Rattle.trace_events.specs.Words.{is_some_and, is_number, or_else}
 use Rattle.trace_events.specs.Event.{Event, Outgoing}
@@ -71,7 +71,7 @@ module _ (test : Outgoing → Bool) where
 -- ---- of all deliveries that have begun, by numbers
 
 -- the first that passes is known
-pub first-known : (rules : List RuleText) (past : List Event) → AreJudged rules past → (test : Outgoing → Bool) → IfSome (find test (reverse (outgoing_deliveries past))) (λ j. outgoing_at j.number past ≡ Some j)
+pub first-known : (rules : RuleSet) (past : List Event) → AreJudged rules past → (test : Outgoing → Bool) → IfSome (find test (reverse (outgoing_deliveries past))) (λ j. outgoing_at j.number past ≡ Some j)
 first-known rules past are test =
     subst (λ o. IfSome o (λ j. outgoing_at j.number past ≡ Some j)) (sym (find-reverse test (outgoing_deliveries past))) (by (earliest test (outgoing_deliveries past)) refl)
   where
@@ -79,7 +79,7 @@ first-known rules past are test =
     by None none = tt
     by (Some j) is = (first-least test (length past) (outgoing_deliveries past) (judged-falling rules past are) j is).found
 
-module _ (rules : List RuleText) (past : List Event) (are : AreJudged rules past) (test : Outgoing → Bool) (meets : ℕ → Bool) (same : (n : ℕ) → meets n ≡ is_some_and (outgoing_at n past) test) where
+module _ (rules : RuleSet) (past : List Event) (are : AreJudged rules past) (test : Outgoing → Bool) (meets : ℕ → Bool) (same : (n : ℕ) → meets n ≡ is_some_and (outgoing_at n past) test) where
   last-passes : (o : Option Outgoing) → earliest test (outgoing_deliveries past) ≡ o → find test (reverse (outgoing_deliveries past)) ≡ o
   last-passes o is = find-reverse test (outgoing_deliveries past) ∙ is
 
@@ -112,7 +112,7 @@ module _ (rules : List RuleText) (past : List Event) (are : AreJudged rules past
           last-passes (Some j) is ∙ (sym h.found ∙ ap (λ n. outgoing_at n past) number)
 
 -- where a list has them all
-pub first-of : (rules : List RuleText) (past : List Event) → AreJudged rules past → (test : Outgoing → Bool) (passes : ℕ → Bool) (ns : List ℕ)
+pub first-of : (rules : RuleSet) (past : List Event) → AreJudged rules past → (test : Outgoing → Bool) (passes : ℕ → Bool) (ns : List ℕ)
     → ((n : ℕ) → list_any (nat_eq n) ns && passes n ≡ is_some_and (outgoing_at n past) test)
     → option_and_then (λ n. outgoing_at n past) (least passes ns) ≡ find test (reverse (outgoing_deliveries past))
 first-of rules past are test passes ns same = by (least passes ns) refl
@@ -128,7 +128,7 @@ first-of rules past are test passes ns same = by (least passes ns) refl
 abbrev pub is_of : Session → ℕ → Outgoing → Bool
 is_of s id j = j.link.session.number == s.number && is_number j.id id
 
-module _ (rules : List RuleText) (past : List Event) (are : AreJudged rules past) (s : Session) (id : ℕ) where
+module _ (rules : RuleSet) (past : List Event) (are : AreJudged rules past) (s : Session) (id : ℕ) where
   abbrev pub is_asked : Outgoing → Bool
   is_asked j = is_of s id j && is_to_settle past j
 
@@ -157,7 +157,7 @@ marked-bits false mark asks bears = refl
 
 -- what is known of each delivery is kept by its number; the group has those of the id that bear the mark; and what passes is to
 -- be settled
-module _ (rules : List RuleText) (past : List Event) (are : AreJudged rules past) (kept : ℕ → Option Sent) (were : (n : ℕ) → kept n ≡ sent_at n past)
+module _ (rules : RuleSet) (past : List Event) (are : AreJudged rules past) (kept : ℕ → Option Sent) (were : (n : ℕ) → kept n ≡ sent_at n past)
     (s : Session) (id : ℕ) (mark : Sent → Bool) (bears : (j : Outgoing) → is_to_settle past j ≡ true → mark (sent past j) ≡ true)
     (ns : List ℕ) (grouped : (n : ℕ) → list_any (nat_eq n) ns ≡ is_some_and (kept n) (λ x. is_of s id x.delivery && mark x))
     (passes : ℕ → Bool) (asks : (n : ℕ) → passes n ≡ is_some_and (kept n) (λ x. is_to_settle past x.delivery)) where

@@ -3,7 +3,7 @@ use Rattle.std.proofs.Common.{◌≡◌, refl, sym, ap, ◌∙◌, inl, inr, ℕ
 use Rattle.std.specs.List.{list_any}
 use Rattle.amqp_perf.specs.declared.descriptor.Outcome.{Outcome}
 use Rattle.amqp_perf.specs.Meaning.{DispositionFields}
-use Rattle.capture_form.specs.Rules.{RuleText}
+use Rattle.capture_form.specs.Rules.{RuleSet}
 use Rattle.number_groups.specs.Numbers.{is_among}
 use Rattle.trace_events.specs.Words.{is_some_and}
 use Rattle.trace_events.specs.Event.{Event, Link, Incoming, Outgoing}
@@ -74,7 +74,7 @@ verdict-law (Some fields) settled = refl
 same-verdict : (past : List Event) (j : Outgoing) → verdict_of (sent past j) ≡ sent_verdict (decision j past) (is_sent_settled j past)
 same-verdict past j = verdict-law (decision j past) (is_sent_settled j past)
 
-module _ (rules : List RuleText) (e : Event) (past : List Event) (are : AreJudged rules (e ∷ past)) (lawful : first_broken rules (e ∷ past) ≡ None)
+module _ (rules : RuleSet) (e : Event) (past : List Event) (are : AreJudged rules (e ∷ past)) (lawful : first_broken rules (e ∷ past) ≡ None)
     (d : Incoming) (found : incoming_at d.number (e ∷ past) ≡ Some d) (l : Link) (awaits : awaits_now rules e past d l ≡ true) (outcome : Outcome) where
   abbrev Verdict : Option Outgoing → Bool
   Verdict o = is_some_and (option_and_then (λ (k : Outgoing). sent_verdict (decision k (e ∷ past)) (is_sent_settled k (e ∷ past))) o) (is_same_outcome outcome)

@@ -4,7 +4,7 @@ use Rattle.amqp_perf.specs.declared.descriptor.Outcome.{Outcome}
 use Rattle.amqp_perf.specs.declared.descriptor.Outcome.TheVariants.{Accepted}
 use Rattle.amqp_perf.specs.Nested.{StateFields}
 use Rattle.amqp_perf.specs.Meaning.{flag}
-use Rattle.capture_form.specs.Rules.{RuleText}
+use Rattle.capture_form.specs.Rules.{RuleSet}
 use Rattle.capture_form.specs.declared.records.Record.{Record}
 use Rattle.trace_events.specs.Words.{is_some_and, or_else, where_passes}
 use Rattle.trace_events.specs.Event.{Event, Outgoing}
@@ -137,11 +137,11 @@ IsKnownTo past j = (outgoing_at j.number past ≡ Some j) ⊎ (j.number ≡ leng
 -- what was the entry before the event of a next record is this behind it
 abbrev pub Follows : Event → Sent → Sent → Type 0
 Follows e earlier later =
-    (rules : List RuleText) (records : List Record) (r : Record) → e ≡ judge rules (history rules records) r
+    (rules : RuleSet) (records : List Record) (r : Record) → e ≡ judge rules (history rules records) r
     → IsEntry (history rules records) earlier → sent_at earlier.delivery.number (e ∷ history rules records) ≡ Some later
 
 -- this is the entry of the number of the event of a next record, behind it
 abbrev pub Begins : Event → Option Sent → Type 0
 Begins e later =
-    (rules : List RuleText) (records : List Record) (r : Record) → e ≡ judge rules (history rules records) r
+    (rules : RuleSet) (records : List Record) (r : Record) → e ≡ judge rules (history rules records) r
     → sent_at e.number (e ∷ history rules records) ≡ later

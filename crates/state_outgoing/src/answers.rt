@@ -2,7 +2,7 @@
 
 ghost use Rattle.std.specs.Prelude.{◌≡◌, ℕ, Bool, List, Contains, IfOk, IfSome, Some, None, is_some, nat_eq, option_and_then, option_map, true};
 ghost use Rattle.std.specs.List.{list_any};
-ghost use Rattle.capture_form.specs.Rules.{RuleText};
+ghost use Rattle.capture_form.specs.Rules.{RuleSet};
 ghost use Rattle.capture_form.specs.declared.records.Record.{Record};
 ghost use Rattle.trace_clauses.specs.TransferClause as transfers;
 ghost use Rattle.number_groups.specs.Numbers.{is_among};
@@ -32,7 +32,7 @@ use trace_values::{Decision, Event, Incoming, Link, Outgoing};
 impl SentDeliveries {
     /// The delivery of a consumer's link whose last part isn't written yet.
     pub fn outgoing_in_progress(&self, link: &Link) -> Option<Outgoing<'_>>
-        ensures { (rules : List RuleText) (records : List Record) → IsTable self.now (history rules records) →
+        ensures { (rules : RuleSet) (records : List Record) → IsTable self.now (history rules records) →
             option_map outgoing_view result ≡ law.in_progress (link_view link.now) (history rules records) }
     {
         self.unsent(self.last_begun_on(link.number))
@@ -40,7 +40,7 @@ impl SentDeliveries {
 
     /// The number of the delivery from a client that the last one begun on the link carries.
     pub fn carried_before(&self, link: &Link) -> Option<u64>
-        ensures { (rules : List RuleText) (records : List Record) → IsTable self.now (history rules records) →
+        ensures { (rules : RuleSet) (records : List Record) → IsTable self.now (history rules records) →
             option_and_then (λ n. incoming_at n (history rules records)) result ≡ transfers.carried_before (link_view link.now) (history rules records) }
     {
         self.carried_by(self.last_begun_on(link.number))
@@ -48,9 +48,9 @@ impl SentDeliveries {
 
     /// The last delivery that carries the one from a client.
     pub fn pairing(&self, delivery: &Incoming) -> Option<Outgoing<'_>>
-        ensures value { (rules : List RuleText) (records : List Record) → IsTable self.now (history rules records) →
+        ensures value { (rules : RuleSet) (records : List Record) → IsTable self.now (history rules records) →
             option_map outgoing_view result ≡ law.pairing (incoming_view delivery.now) (history rules records) }
-        ensures known { (rules : List RuleText) (records : List Record) → IsTable self.now (history rules records) →
+        ensures known { (rules : RuleSet) (records : List Record) → IsTable self.now (history rules records) →
             IfSome (option_map outgoing_view result) (Knows self.now) }
     {
         self.given(self.carrier_of(delivery.number))
@@ -58,7 +58,7 @@ impl SentDeliveries {
 
     /// The one from a client went to a consumer, or began to.
     pub fn is_paired(&self, delivery: &Incoming) -> bool
-        ensures { (rules : List RuleText) (records : List Record) → IsTable self.now (history rules records) →
+        ensures { (rules : RuleSet) (records : List Record) → IsTable self.now (history rules records) →
             result ≡ law.is_paired (incoming_view delivery.now) (history rules records) }
     {
         self.carrier_of(delivery.number).is_some()
@@ -66,7 +66,7 @@ impl SentDeliveries {
 
     /// Its last part is written.
     pub fn is_sent(&self, delivery: &Outgoing) -> bool
-        ensures { (rules : List RuleText) (records : List Record) → AreSent self.now (history rules records) →
+        ensures { (rules : RuleSet) (records : List Record) → AreSent self.now (history rules records) →
             KnowsOrBegins self.now (history rules records) (outgoing_view delivery.now) →
             result ≡ law.is_sent (outgoing_view delivery.now) (history rules records) }
     {
@@ -75,7 +75,7 @@ impl SentDeliveries {
 
     /// The consumer's decision, by the terminal state that it tells; on a pre-settled link there is none.
     pub fn decision(&self, delivery: &Outgoing) -> Option<Decision<'_>>
-        ensures { (rules : List RuleText) (records : List Record) → AreSent self.now (history rules records) →
+        ensures { (rules : RuleSet) (records : List Record) → AreSent self.now (history rules records) →
             KnowsOrBegins self.now (history rules records) (outgoing_view delivery.now) →
             option_map decision_view result ≡ option_map terminal_state (law.decision (outgoing_view delivery.now) (history rules records)) }
     {
@@ -90,7 +90,7 @@ impl SentDeliveries {
         id: u32,
         closings: &C,
     ) -> Option<Outgoing<'_>>
-        ensures { (rules : List RuleText) (records : List Record) → IsTable self.now (history rules records) →
+        ensures { (rules : RuleSet) (records : List Record) → IsTable self.now (history rules records) →
             AreClosings (C.does_close closings.now) (history rules records) →
             option_map outgoing_view result ≡ settling.to_settle session id (history rules records) }
     {
@@ -112,7 +112,7 @@ impl SentDeliveries {
     ///
     /// Memory was refused.
     pub fn answered(&self, alloc: Global, event: &Event) -> Result<Vec<u64>, AllocError>
-        ensures { IfOk result (λ numbers. (rules : List RuleText) (records : List Record) → IsTable self.now (history rules records) →
+        ensures { IfOk result (λ numbers. (rules : RuleSet) (records : List Record) → IsTable self.now (history rules records) →
             (j : events.Outgoing) → Contains (law.outgoing_deliveries (history rules records)) j → is_left_unsettled (history rules records) j ≡ true →
             is_some (law.answering j (event_view event.now)) ≡ true → (n : ℕ) → law.names n j.note ≡ true → is_among numbers.items n ≡ true) }
     {

@@ -5,7 +5,7 @@ ghost use Rattle.std.specs.List.{list_any};
 ghost use Rattle.std.specs.Option.{option_copied};
 ghost use Rattle.amqp_perf.specs.declared.descriptor.Outcome.{Outcome};
 ghost use Rattle.number_groups.specs.Numbers.{is_among};
-ghost use Rattle.capture_form.specs.Rules.{RuleText};
+ghost use Rattle.capture_form.specs.Rules.{RuleSet};
 ghost use Rattle.capture_form.specs.declared.records.Record.{Record};
 ghost use Rattle.trace_events.specs.Words.{is_some_and, or_else};
 ghost use Rattle.trace_events.specs.Event.{Incoming, Outgoing};
@@ -83,7 +83,7 @@ impl SentDeliveries {
     /// its last ones. What was sent is not compared again: in a lawful capture it is the front of what the delivery carries.
     pub fn is_payload_so_far(&self, number: u64, more: bool, payload: &[u8], octets: &[u8]) -> bool
         ensures stored { result ≡ kept.goes_on_with more payload.now (sent_count_in self.now number) octets.now }
-        ensures known { (rules : List RuleText) (records : List Record) (j : Outgoing) (d : Incoming) → AreSent self.now (history rules records) →
+        ensures known { (rules : RuleSet) (records : List Record) (j : Outgoing) (d : Incoming) → AreSent self.now (history rules records) →
             first_broken rules (history rules records) ≡ None → number ≡ j.number → IsKnownTo (history rules records) j → IsCarriedBy d (history rules records) j →
             payload.now ≡ received.payload d (history rules records) →
             result ≡ is_payload_so_far more (received.payload d (history rules records)) (law.payload j (history rules records) ++ octets.now) }
@@ -142,10 +142,10 @@ impl SentDeliveries {
     ///
     /// Memory was refused; then the table may agree with no records any more.
     pub fn take(&mut self, event: &Event, ended: &[Link]) -> Result<Vec<CopyVerdict>, AllocError>
-        ensures kept { OnOk result ((rules : List RuleText) (records : List Record) (r : Record) → event_view event.now ≡ judge rules (history rules records) r →
+        ensures kept { OnOk result ((rules : RuleSet) (records : List Record) (r : Record) → event_view event.now ≡ judge rules (history rules records) r →
             IsTable self.old (history rules records) → AreEnded (event_view event.now) (history rules records) (map link_view ended.now) →
             IsTable self.new (event_view event.now ∷ history rules records)) }
-        ensures given { IfOk result (λ given. (rules : List RuleText) (records : List Record) (r : Record) → IsLawfulNext rules records r (event_view event.now) →
+        ensures given { IfOk result (λ given. (rules : RuleSet) (records : List Record) (r : Record) → IsLawfulNext rules records r (event_view event.now) →
             IsTable self.old (history rules records) → AreEnded (event_view event.now) (history rules records) (map link_view ended.now) →
             AreGiven rules (event_view event.now) (history rules records) given.items) }
     {

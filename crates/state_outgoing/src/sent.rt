@@ -4,7 +4,7 @@
 ghost use Rattle.std.specs.Prelude.{◌≡◌, ◌++◌, ℕ, List, Some, None, OnOk, OnErr, IfOk, is_some, option_map, true};
 ghost use Rattle.amqp_perf.specs.Meaning.{flag};
 ghost use Rattle.amqp_perf.specs.declared.descriptor.Outcome.{Outcome};
-ghost use Rattle.capture_form.specs.Rules.{RuleText};
+ghost use Rattle.capture_form.specs.Rules.{RuleSet};
 ghost use Rattle.capture_form.specs.declared.records.Record.{Record};
 ghost use Rattle.trace_events.specs.Said.{out_spoken};
 ghost use Rattle.trace_events.specs.Words.{is_some_and};
@@ -199,7 +199,7 @@ impl SentDelivery {
     /// What was sent is not compared again: in a lawful capture it is the front of what the delivery carries.
     pub fn is_payload_so_far(&self, more: bool, payload: &[u8], octets: &[u8]) -> bool
         ensures stored { result ≡ kept.goes_on_with more payload.now self.now.sent_count octets.now }
-        ensures known { (rules : List RuleText) (records : List Record) (d : Incoming) → IsEntry (history rules records) (sent_view self.now) →
+        ensures known { (rules : RuleSet) (records : List Record) (d : Incoming) → IsEntry (history rules records) (sent_view self.now) →
             first_broken rules (history rules records) ≡ None → law.noted self.now.note (history rules records) ≡ Some d →
             payload.now ≡ received.payload d (history rules records) →
             result ≡ is_payload_so_far more (received.payload d (history rules records))
