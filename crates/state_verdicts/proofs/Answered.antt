@@ -3,7 +3,7 @@ use Rattle.std.proofs.Common.{◌≡◌, refl, sym, ap, ◌∙◌, ◌↔◌, �
 use Rattle.std.specs.List.{AllByRecursion, list_any}
 use Rattle.amqp_perf.specs.declared.descriptor.Outcome.{Outcome}
 use Rattle.amqp_perf.specs.declared.descriptor.Outcome.TheVariants.{Accepted, Rejected, Released, Modified}
-use Rattle.capture_form.specs.Rules.{RuleText}
+use Rattle.capture_form.specs.Rules.{RuleSet}
 use Rattle.trace_events.specs.Words.{is_some_and}
 use Rattle.trace_events.specs.Event.{Event, Link, Incoming}
 use Rattle.trace_events.specs.Due.{is_due}
@@ -27,7 +27,7 @@ each_by : (P Q : Link → Type 0) → ((l : Link) → P l → Q l) → (ls : Lis
 each_by P Q f [] all = tt
 each_by P Q f (l ∷ ls) all = (f l all.0, each_by P Q f ls all.1)
 
-module _ (rules : List RuleText) (past : List Event) (are : AreJudged rules past) (d : Incoming) (found : incoming_at d.number past ≡ Some d) where
+module _ (rules : RuleSet) (past : List Event) (are : AreJudged rules past) (d : Incoming) (found : incoming_at d.number past ≡ Some d) where
   -- ---- every copy has its verdict where no number says that one awaits it
 
   pub all-is : (empty : Bool) → IsTrue empty ↔ ((link : ℕ) → awaits_at rules past link d.number ≡ false) → empty ≡ has_all_verdicts rules d past

@@ -4,7 +4,7 @@ use Rattle.std.specs.List.{list_any}
 use Rattle.indexmap.specs.IndexMap.{get}
 use Rattle.amqp_perf.specs.declared.descriptor.Outcome.{Outcome}
 use Rattle.amqp_perf.specs.declared.descriptor.Outcome.TheVariants.{Accepted, Rejected, Released, Modified}
-use Rattle.capture_form.specs.Rules.{RuleText}
+use Rattle.capture_form.specs.Rules.{RuleSet}
 use Rattle.number_groups.specs.Groups.{is_member}
 use Rattle.trace_events.specs.Words.{is_some_and}
 use Rattle.trace_events.specs.Event.{Event, Link, Incoming}
@@ -41,17 +41,17 @@ had_in table n outcome = is_some_and (get nat_eq table.had n) (λ x. says x outc
 
 -- ---- what the law says of the numbers
 
-abbrev pub awaits_at : List RuleText → List Event → ℕ → ℕ → Bool
+abbrev pub awaits_at : RuleSet → List Event → ℕ → ℕ → Bool
 awaits_at rules past link n = is_some_and (link_at link past) (λ l. is_some_and (incoming_at n past) (λ d. awaits_verdict rules d past l))
 
-abbrev pub verdict_at : List RuleText → List Event → ℕ → Outcome → Bool
+abbrev pub verdict_at : RuleSet → List Event → ℕ → Outcome → Bool
 verdict_at rules past n outcome = is_some_and (incoming_at n past) (λ d. has_verdict rules d past outcome)
 
 -- by the link and by the delivery the table says the same
 abbrev pub AreMirrored : Verdicts → Type 0
 AreMirrored table = (link n : ℕ) → is_member nat_eq table.of_delivery n link ≡ awaits_in table link n
 
-pub record AreVerdicts (rules : List RuleText) (table : Verdicts) (past : List Event) : Type 0 where
+pub record AreVerdicts (rules : RuleSet) (table : Verdicts) (past : List Event) : Type 0 where
   pub awaits : (link n : ℕ) → awaits_in table link n ≡ awaits_at rules past link n
   pub mirrored : AreMirrored table
   pub had : (n : ℕ) (outcome : Outcome) → had_in table n outcome ≡ verdict_at rules past n outcome
@@ -83,7 +83,7 @@ is_given given link n = list_any (is_of_copy link n) given
 
 -- of each copy that awaits its verdict with the event these say the verdict that it has behind it, as one that was begun;
 -- of other copies they say anything
-abbrev pub AreGiven : List RuleText → Event → List Event → List CopyVerdict → Type 0
+abbrev pub AreGiven : RuleSet → Event → List Event → List CopyVerdict → Type 0
 AreGiven rules e past given = (link n : ℕ) (l : Link) (d : Incoming) → link_at link past ≡ Some l → incoming_at n (e ∷ past) ≡ Some d → awaits_now rules e past d l ≡ true →
     (outcome : Outcome) → list_any (λ v. v.link == link && is_verdict_of n outcome v) given ≡ is_some_and (begun_verdict d l (e ∷ past)) (is_same_outcome outcome)
 

@@ -1,7 +1,7 @@
 //! What the table answers of a delivery.
 
 ghost use Rattle.std.specs.Prelude.{◌≡◌, List, Some, None, if◌then◌else◌, true};
-ghost use Rattle.capture_form.specs.Rules.{RuleText};
+ghost use Rattle.capture_form.specs.Rules.{RuleSet};
 ghost use Rattle.capture_form.specs.declared.records.Record.{Record};
 ghost use Rattle.trace_clauses.specs.Clauses.{first_broken};
 ghost use Rattle.trace_events.specs.History.{history};
@@ -17,7 +17,7 @@ use trace_values::Incoming;
 impl Verdicts {
     /// Every copy of the delivery, which is one of the capture, has its verdict; so too where none is due.
     pub fn has_all(&self, delivery: &Incoming) -> bool
-        ensures { (rules : List RuleText) (records : List Record) → AreVerdicts rules self.now (history rules records) →
+        ensures { (rules : RuleSet) (records : List Record) → AreVerdicts rules self.now (history rules records) →
             incoming_at (incoming_view delivery.now).number (history rules records) ≡ Some (incoming_view delivery.now) →
             result ≡ has_all_verdicts rules (incoming_view delivery.now) (history rules records) }
     {
@@ -26,7 +26,7 @@ impl Verdicts {
 
     /// The best of the verdicts that the copies of the delivery have, once all have theirs; accepted where none is due.
     pub fn best(&self, delivery: &Incoming) -> Outcome
-        ensures { (rules : List RuleText) (records : List Record) → AreVerdicts rules self.now (history rules records) →
+        ensures { (rules : RuleSet) (records : List Record) → AreVerdicts rules self.now (history rules records) →
             incoming_at (incoming_view delivery.now).number (history rules records) ≡ Some (incoming_view delivery.now) →
             has_all_verdicts rules (incoming_view delivery.now) (history rules records) ≡ true →
             result ≡ best_verdict rules (incoming_view delivery.now) (history rules records) }
@@ -36,7 +36,7 @@ impl Verdicts {
 
     /// The verdict of the whole delivery, which is one of the capture: the best one of its copies, once all have theirs.
     pub fn whole_verdict(&self, delivery: &Incoming) -> Option<Outcome>
-        ensures { (rules : List RuleText) (records : List Record) → AreVerdicts rules self.now (history rules records) →
+        ensures { (rules : RuleSet) (records : List Record) → AreVerdicts rules self.now (history rules records) →
             incoming_at (incoming_view delivery.now).number (history rules records) ≡ Some (incoming_view delivery.now) →
             result ≡ whole_verdict rules (incoming_view delivery.now) (history rules records) }
     {

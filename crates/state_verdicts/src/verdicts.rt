@@ -4,7 +4,7 @@ ghost use Rattle.std.specs.Prelude.{◌≡◌, ◌≤◌, ◌<◌, ◌-◌, ◌�
 ghost use Rattle.std.specs.List.{list_any};
 ghost use Rattle.amqp_perf.specs.declared.descriptor.Outcome.{Outcome};
 ghost use Rattle.amqp_perf.specs.declared.descriptor.Outcome.TheVariants.{Modified};
-ghost use Rattle.capture_form.specs.Rules.{RuleText};
+ghost use Rattle.capture_form.specs.Rules.{RuleSet};
 ghost use Rattle.capture_form.specs.declared.records.Record.{Record};
 ghost use Rattle.number_groups.specs.Groups.{numbers};
 ghost use Rattle.trace_events.specs.History.{history};
@@ -59,7 +59,7 @@ impl Drop for Verdicts {
 impl Verdicts {
     /// No records.
     pub fn new(alloc: Global) -> Verdicts
-        ensures { (rules : List RuleText) → AreVerdicts rules result [] }
+        ensures { (rules : RuleSet) → AreVerdicts rules result [] }
     {
         Verdicts {
             on_link: Groups::new(alloc),
@@ -89,7 +89,7 @@ impl Verdicts {
         given: &[CopyVerdict],
         ended: &[Link],
     ) -> Result<(), AllocError>
-        ensures kept { OnOk result ((rules : List RuleText) (records : List Record) (r : Record) → IsLawfulNext rules records r (event_view event.now) →
+        ensures kept { OnOk result ((rules : RuleSet) (records : List Record) (r : Record) → IsLawfulNext rules records r (event_view event.now) →
             AreVerdicts rules self.old (history rules records) →
             AreDue rules (event_view event.now) (history rules records) due.now →
             AreGiven rules (event_view event.now) (history rules records) given.now →
