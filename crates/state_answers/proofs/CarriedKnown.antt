@@ -2,7 +2,7 @@
 -- client that begins, or is in progress on a live link.
 use Rattle.std.proofs.Common.{◌≡◌, ℕ, true, List, Option, Some, None, IfSome}
 use Rattle.pairing_cert.specs.declared.note.Note.{Note}
-use Rattle.capture_form.specs.Rules.{RuleText}
+use Rattle.capture_form.specs.Rules.{RuleSet}
 use Rattle.trace_events.specs.Event.{Event, Outgoing, Moment}
 use Rattle.trace_events.specs.History.{judge_unopened}
 use Rattle.trace_values.specs.Known.{CarriesKnown}
@@ -16,7 +16,7 @@ each-such : {A : Type 0} (P Q : A → Type 0) (o : Option A) → ((x : A) → P 
 each-such P Q None so h = tt
 each-such P Q (Some x) so h = so x h
 
-pub carries-known : (rules : List RuleText) (past : List Event) (table : Deliveries) (Sent : Outgoing → Type 0) → IsHistory rules past → IsTable rules table past
+pub carries-known : (rules : RuleSet) (past : List Event) (table : Deliveries) (Sent : Outgoing → Type 0) → IsHistory rules past → IsTable rules table past
     → ((j : Outgoing) → BeginsOrGoesOn past j → Sent j) → (c : ℕ) (moment : Moment) (note : Note)
     → CarriesKnown (λ n. has_number table n ≡ true) Sent (judge_unopened rules past c moment note)
 carries-known rules past table Sent are is sent c moment note = (

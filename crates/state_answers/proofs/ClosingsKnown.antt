@@ -1,6 +1,6 @@
 -- What the tables tell of what deliveries to clients carry is what the law says of it.
 use Rattle.std.proofs.Common.{◌≡◌, sym, ap, ◌∙◌, inl, List, Option, Some, None, IfSome, ◌==◌}
-use Rattle.capture_form.specs.Rules.{RuleText}
+use Rattle.capture_form.specs.Rules.{RuleSet}
 use Rattle.trace_events.specs.Words.{is_some_and}
 use Rattle.trace_events.specs.Event.{Event, Incoming, Outgoing}
 use Rattle.trace_events.specs.Outgoing.{noted}
@@ -14,7 +14,7 @@ use Rattle.state_incoming.proofs.CarriedHeld.{carried-closed, carried-of}
 use Rattle.state_outgoing.specs.SentAnswers.{AreClosings, Knows, KnowsOrBegins, closes}
 use Rattle.state_outgoing.specs.declared.deliveries.SentDeliveries.{SentDeliveries}
 
-pub closings : (rules : List RuleText) (past : List Event) → AreJudged rules past → first_broken rules past ≡ None → (table : Deliveries) → AreHeld rules table past
+pub closings : (rules : RuleSet) (past : List Event) → AreJudged rules past → first_broken rules past ≡ None → (table : Deliveries) → AreHeld rules table past
     → AreClosings (λ n. says_closed (held_in table n)) past
 closings rules past are lawful table were j at =
     let c = carried-of rules past are lawful (λ (k : Outgoing). k.number == j.number) j at in

@@ -1,6 +1,6 @@
 -- What a next record carries and opens is known to the tables of a lawful capture.
 use Rattle.std.proofs.Common.{◌≡◌, inl, inr, true, List, None, is_some}
-use Rattle.capture_form.specs.Rules.{RuleText}
+use Rattle.capture_form.specs.Rules.{RuleSet}
 use Rattle.capture_form.specs.declared.records.Record.{Record}
 use Rattle.trace_clauses.specs.Clauses.{broken_clause}
 use Rattle.trace_clauses.specs.LinkClause.{asking}
@@ -26,10 +26,10 @@ use Rattle.state_answers.proofs.CarriedKnown.{carries-known}
 use Rattle.state_answers.proofs.OutgoingKnown.{BeginsOrGoesOn}
 
 -- a record before what it opens is filled in
-abbrev unopened : List RuleText → List Event → Record → Event
+abbrev unopened : RuleSet → List Event → Record → Event
 unopened rules past r = judge_unopened rules past r.connection (moment_of r.what) r.note
 
-module _ (rules : List RuleText) (past : List Event) (connections : Connections) (links : Links) (consumers : Consumers) (deliveries : Deliveries) (consumer_links : ConsumerLinks) (copies : Copies)
+module _ (rules : RuleSet) (past : List Event) (connections : Connections) (links : Links) (consumers : Consumers) (deliveries : Deliveries) (consumer_links : ConsumerLinks) (copies : Copies)
     (sent : SentDeliveries) (verdicts : Verdicts) (are : StandFor rules connections links consumers deliveries consumer_links copies sent verdicts past) (r : Record) where
   begun-or-going : (j : Outgoing) → BeginsOrGoesOn past j → KnowsOrBegins sent past j
   begun-or-going j (inl begins) = inr begins

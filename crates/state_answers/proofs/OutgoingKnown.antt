@@ -2,7 +2,7 @@
 use Rattle.std.proofs.Common.{◌≡◌, refl, ℕ, Bool, true, false, List, length, Option, Some, None, IfSome, option_and_then, ◌⊎◌, inl, inr, if◌then◌else◌}
 use Rattle.amqp_perf.specs.Meaning.{Meaning, ATransfer, TransferFields}
 use Rattle.pairing_cert.specs.declared.note.Note.{Note}
-use Rattle.capture_form.specs.Rules.{RuleText}
+use Rattle.capture_form.specs.Rules.{RuleSet}
 use Rattle.trace_events.specs.Words.{or_else, where_passes}
 use Rattle.trace_events.specs.Frame.{Spoken, spoken_in}
 use Rattle.trace_events.specs.Event.{Event, Link, Outgoing, Moment, Out}
@@ -45,6 +45,6 @@ module _ (e : Event) (past : List Event) (number : e.number ≡ length past) whe
   by-moment live _ = tt
 
 -- of a next record, before what it opens is filled in
-pub outgoing-known : (rules : List RuleText) (past : List Event) (c : ℕ) (moment : Moment) (note : Note) → IfSome (judge_unopened rules past c moment note).outgoing (BeginsOrGoesOn past)
+pub outgoing-known : (rules : RuleSet) (past : List Event) (c : ℕ) (moment : Moment) (note : Note) → IfSome (judge_unopened rules past c moment note).outgoing (BeginsOrGoesOn past)
 outgoing-known rules past c moment note =
     by-moment (faulted rules past (heard past (placed past c moment note))) past refl (placed-names past c moment note) moment

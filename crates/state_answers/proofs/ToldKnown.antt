@@ -4,7 +4,7 @@ use Rattle.amqp_perf.specs.declared.attach.Role.{Role}
 use Rattle.amqp_perf.specs.declared.attach.Role.TheVariants.{Sender, Receiver}
 use Rattle.amqp_perf.specs.Meaning.{Meaning, ADisposition, DispositionFields}
 use Rattle.pairing_cert.specs.declared.note.Note.{Note}
-use Rattle.capture_form.specs.Rules.{RuleText}
+use Rattle.capture_form.specs.Rules.{RuleSet}
 use Rattle.trace_events.specs.Words.{where_passes}
 use Rattle.trace_events.specs.Frame.{Spoken, spoken_in}
 use Rattle.trace_events.specs.Event.{Event, Incoming, Moment, Out}
@@ -25,7 +25,7 @@ use Rattle.state_incoming.proofs.GroupAnswers.{found-passes, judged-of}
 use Rattle.state_incoming.proofs.HeldAnswers.{undecided-kept}
 
 -- whatever holds of each undecided delivery's number holds of the one whose outcome is told
-module _ (rules : List RuleText) (past : List Event) (are : AreJudged rules past) (Holds : ℕ → Type 0)
+module _ (rules : RuleSet) (past : List Event) (are : AreJudged rules past) (Holds : ℕ → Type 0)
     (undecided : (d : Incoming) → incoming_at d.number past ≡ Some d → is_undecided rules d past ≡ true → Holds d.number) where
   found-holds : (s : Session) (id : ℕ) (o : Option Incoming) → to_tell rules s id past ≡ o → IfSome (option_map (λ (d : Incoming). d.number) o) Holds
   found-holds s id None found = tt
@@ -56,7 +56,7 @@ module _ (rules : List RuleText) (past : List Event) (are : AreJudged rules past
   pub told-holds : (c : ℕ) (moment : Moment) (note : Note) → IfSome (judge_unopened rules past c moment note).told Holds
   told-holds c moment note = moment-holds (faulted rules past (heard past (placed past c moment note))) moment
 
-module _ (rules : List RuleText) (past : List Event) (table : Deliveries) (are : IsHistory rules past) (is : IsTable rules table past) where
+module _ (rules : RuleSet) (past : List Event) (table : Deliveries) (are : IsHistory rules past) (is : IsTable rules table past) where
   -- an undecided delivery is in the table
   pub undecided-has : (d : Incoming) → incoming_at d.number past ≡ Some d → is_undecided rules d past ≡ true → has_number table d.number ≡ true
   undecided-has d at undecided =

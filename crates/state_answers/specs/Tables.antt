@@ -1,6 +1,6 @@
--- What the tables of the auditor stand for, all of them.
+-- What the tables stand for, all of them.
 use Rattle.std.specs.Prelude.{◌≡◌, ℕ, ◌+◌, List, None}
-use Rattle.capture_form.specs.Rules.{RuleText}
+use Rattle.capture_form.specs.Rules.{RuleSet}
 use Rattle.trace_events.specs.Event.{Event}
 use Rattle.trace_clauses.specs.Clauses.{first_broken}
 use Rattle.state_tables.specs.Connections.{AreKept}
@@ -24,12 +24,12 @@ use Rattle.state_answers.specs.declared.tables.Tables.{Tables}
 
 -- each has what the law says of these events, which are those of some records judged by these rules, each of which meets the
 -- clauses
-abbrev pub StandFor : List RuleText → Connections → Links → Consumers → Deliveries → ConsumerLinks → Copies → SentDeliveries → Verdicts → List Event → Type 0
+abbrev pub StandFor : RuleSet → Connections → Links → Consumers → Deliveries → ConsumerLinks → Copies → SentDeliveries → Verdicts → List Event → Type 0
 StandFor rules connections links consumers deliveries consumer_links copies sent verdicts past =
     IsHistory rules past × (AreKept connections past × (AreLinked links past × (AreConsumers consumers past × (IsTable rules deliveries past
     × (AreConsumerLinks consumer_links past × (AreCopies rules copies past × ((first_broken rules past ≡ None) × (sent_tables.IsTable sent past × AreVerdicts rules verdicts past))))))))
 
-abbrev pub AreTables : List RuleText → Tables → List Event → Type 0
+abbrev pub AreTables : RuleSet → Tables → List Event → Type 0
 AreTables rules tables past =
     StandFor rules tables.connections tables.links tables.consumers tables.deliveries tables.consumer_links tables.copies tables.sent tables.verdicts past
 

@@ -1,4 +1,4 @@
-//! The tables of the auditor, as the one who answers the questions of `trace_judge`.
+//! The tables that auditor and router share, as the one who answers the questions of `trace_judge`.
 //!
 //! - `tables`: all tables, moved forward by one event after the other;
 //! - `looked`: the same, lent to be asked, with `outcomes` and `carriage`;

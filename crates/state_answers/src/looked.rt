@@ -4,7 +4,7 @@ mod carriage;
 mod outcomes;
 
 use amqp_perf::Begin;
-use capture_form::Rule;
+use capture_form::RuleSet;
 use state_addresses::{ConsumerLinks, Consumers, Copies};
 use state_incoming::Deliveries;
 use state_outgoing::SentDeliveries;
@@ -95,7 +95,7 @@ impl<'t> Inputs<'t> for Looked<'t> {
         self.deliveries.is_longer(limit, delivery, octets)
     }
 
-    fn is_id_in_use(&self, _rules: &[Rule], session: Session, id: u32) -> bool {
+    fn is_id_in_use(&self, _rules: &RuleSet, session: Session, id: u32) -> bool {
         self.deliveries.is_id_in_use(session, id)
     }
 }
@@ -175,7 +175,7 @@ impl<'t> Counts for Looked<'t> {
         self.links.received_count(link)
     }
 
-    fn undecided_count(&self, _rules: &[Rule], link: &Link) -> u64 {
+    fn undecided_count(&self, _rules: &RuleSet, link: &Link) -> u64 {
         self.deliveries.undecided_count(link)
     }
 
@@ -183,11 +183,11 @@ impl<'t> Counts for Looked<'t> {
         self.consumers.has_consumer(address)
     }
 
-    fn has_waiting(&self, _rules: &[Rule], address: &[u8]) -> bool {
+    fn has_waiting(&self, _rules: &RuleSet, address: &[u8]) -> bool {
         self.deliveries.has_waiting(address)
     }
 
-    fn has_unsent(&self, _rules: &[Rule], link: &Link) -> bool {
+    fn has_unsent(&self, _rules: &RuleSet, link: &Link) -> bool {
         self.copies.has_unsent(link)
     }
 }

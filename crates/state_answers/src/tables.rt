@@ -1,7 +1,7 @@
-//! All tables of the auditor, moved forward by one event after the other.
+//! All tables, moved forward by one event after the other.
 
 ghost use Rattle.std.specs.Prelude.{◌≡◌, ◌∷◌, List, [], OnOk};
-ghost use Rattle.capture_form.specs.Rules.{RuleText};
+ghost use Rattle.capture_form.specs.Rules.{RuleSet};
 ghost use Rattle.capture_form.specs.declared.records.Record.{Record};
 ghost use Rattle.trace_events.specs.History.{history};
 ghost use Rattle.state_tables.specs.Connections.{IsLawfulNext};
@@ -9,7 +9,7 @@ ghost use Rattle.state_answers.specs.Tables.{AreTables, StandFor, entries_of};
 ghost use Rattle.trace_values.specs.View.{Events, event_view};
 
 use crate::looked::Looked;
-use capture_form::Rule;
+use capture_form::RuleSet;
 use state_addresses::{ConsumerLinks, Consumers, Copies, receivers_of};
 use state_incoming::Deliveries;
 use state_outgoing::SentDeliveries;
@@ -51,7 +51,7 @@ impl Drop for Tables {
 impl Tables {
     /// No records.
     pub fn new(alloc: Global) -> Tables
-        ensures { (rules : List RuleText) → AreTables rules result [] }
+        ensures { (rules : RuleSet) → AreTables rules result [] }
     {
         Tables {
             alloc,
@@ -68,7 +68,7 @@ impl Tables {
 
     /// The tables, lent to be asked.
     pub fn looked(&self) -> Looked<'_>
-        ensures { (rules : List RuleText) (history : Events) → AreTables rules self.now history →
+        ensures { (rules : RuleSet) (history : Events) → AreTables rules self.now history →
             StandFor rules result.connections.now result.links.now result.consumers.now result.deliveries.now
             result.consumer_links.now result.copies.now result.sent.now result.verdicts.now history }
     {
@@ -100,7 +100,7 @@ impl Tables {
     /// # Errors
     ///
     /// Memory was refused; then the tables may agree with no records any more.
-    pub fn take(&mut self, rules: &[Rule], event: &Event) -> Result<(), AllocError>
+    pub fn take(&mut self, rules: &RuleSet, event: &Event) -> Result<(), AllocError>
         ensures { OnOk result ((records : List Record) (r : Record) → IsLawfulNext rules.now records r (event_view event.now) →
             AreTables rules.now self.old (history rules.now records) →
             AreTables rules.now self.new (event_view event.now ∷ history rules.now records)) }

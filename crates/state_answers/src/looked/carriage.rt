@@ -1,7 +1,7 @@
 //! What is asked when a transfer carries a delivery from a client to a consumer.
 
 use crate::looked::Looked;
-use capture_form::Rule;
+use capture_form::RuleSet;
 use pairing_cert::Note;
 use trace_judge::Carriage;
 use trace_values::{Incoming, Link, Outgoing};
@@ -11,7 +11,7 @@ impl<'t> Carriage<'t> for Looked<'t> {
         self.sent.outgoing_in_progress(link)
     }
 
-    fn to_carry(&self, _rules: &[Rule], note: Note) -> Option<Incoming<'t>> {
+    fn to_carry(&self, _rules: &RuleSet, note: Note) -> Option<Incoming<'t>> {
         self.deliveries.to_carry(note)
     }
 
@@ -39,7 +39,7 @@ impl<'t> Carriage<'t> for Looked<'t> {
         self.sent.is_paired(delivery)
     }
 
-    fn is_unsent(&self, _rules: &[Rule], delivery: &Incoming, link: &Link) -> bool {
+    fn is_unsent(&self, _rules: &RuleSet, delivery: &Incoming, link: &Link) -> bool {
         self.copies.is_unsent(delivery, link)
     }
 }

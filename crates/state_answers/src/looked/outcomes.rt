@@ -3,13 +3,13 @@
 use crate::closings::HeldClosings;
 use crate::looked::Looked;
 use amqp_perf::Outcome;
-use capture_form::Rule;
+use capture_form::RuleSet;
 use trace_events::Session;
 use trace_judge::Outcomes;
 use trace_values::{Decision, Incoming, Link, Outgoing};
 
 impl<'t> Outcomes<'t> for Looked<'t> {
-    fn to_tell(&self, _rules: &[Rule], session: Session, id: u32) -> Option<Incoming<'t>> {
+    fn to_tell(&self, _rules: &RuleSet, session: Session, id: u32) -> Option<Incoming<'t>> {
         self.deliveries.to_tell(session, id)
     }
 
@@ -32,7 +32,7 @@ impl<'t> Outcomes<'t> for Looked<'t> {
         self.deliveries.is_closed(delivery)
     }
 
-    fn is_gone(&self, _rules: &[Rule], delivery: &Incoming) -> bool {
+    fn is_gone(&self, _rules: &RuleSet, delivery: &Incoming) -> bool {
         self.deliveries.is_gone(delivery)
     }
 
@@ -52,7 +52,7 @@ impl<'t> Outcomes<'t> for Looked<'t> {
         self.sent.is_sent(delivery)
     }
 
-    fn whole_verdict(&self, _rules: &[Rule], delivery: &Incoming) -> Option<Outcome> {
+    fn whole_verdict(&self, _rules: &RuleSet, delivery: &Incoming) -> Option<Outcome> {
         self.verdicts.whole_verdict(delivery)
     }
 
