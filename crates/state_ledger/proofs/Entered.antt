@@ -1,7 +1,7 @@
 -- One record more, taken behind those for which the tables stand.
 use Rattle.std.proofs.Common.{◌≡◌, refl, sym, ap, subst, ◌∙◌, ◌<◌, ◌^◌, ℕ, List, [], ◌∷◌, ◌++◌, length, None}
 use Rattle.capture_form.specs.declared.records.Record.{Record}
-use Rattle.capture_form.specs.Rules.{RuleText}
+use Rattle.capture_form.specs.Rules.{RuleSet}
 use Rattle.trace_events.specs.Event.{Event}
 use Rattle.trace_events.specs.History.{judge, history}
 use Rattle.trace_clauses.specs.Clauses.{first_broken}
@@ -13,7 +13,7 @@ use Rattle.state_answers.specs.Tables.{AreTables}
 use Rattle.state_answers.specs.declared.tables.Tables.{Tables}
 use Rattle.state_ledger.specs.Ledger.{broken_behind}
 
-module _ (rules : List RuleText) (records : List Record) (r : Record) where
+module _ (rules : RuleSet) (records : List Record) (r : Record) where
   abbrev past : List Event
   past = history rules records
 

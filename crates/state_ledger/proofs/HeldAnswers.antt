@@ -1,7 +1,7 @@
 -- What is held of a next record, by the tables of those before it.
 use Rattle.std.proofs.Common.{◌≡◌, ℕ, List, length, None, Result, Ok, Err, OnOk, IfErr}
 use Rattle.capture_form.specs.declared.records.Record.{Record}
-use Rattle.capture_form.specs.Rules.{RuleText}
+use Rattle.capture_form.specs.Rules.{RuleSet}
 use Rattle.trace_events.specs.Event.{Event}
 use Rattle.trace_events.specs.History.{history}
 use Rattle.state_tables.specs.Connections.{IsLawfulNext}
@@ -13,7 +13,7 @@ use Rattle.state_ledger.specs.declared.not_entered.NotEntered.{NotEntered}
 use Rattle.state_ledger.specs.declared.not_entered.NotEntered.TheVariants.{Broken, Memory}
 use Rattle.state_ledger.proofs.Entered.{lawful-next}
 
-module _ (rules : List RuleText) (tables : Tables) (number : ℕ) (r : Record) (held : Event) where
+module _ (rules : RuleSet) (tables : Tables) (number : ℕ) (r : Record) (held : Event) where
   abbrev pub Answers : Result (Unit {0}) NotEntered → Type 0
   Answers result = (records : List Record) → AreTables rules tables (history rules records) → number ≡ length (history rules records) → IsHeldAnswer rules (history rules records) r held result
 

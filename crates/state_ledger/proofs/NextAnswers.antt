@@ -1,7 +1,7 @@
 -- What the answer to a next record says of the capture with it.
 use Rattle.std.proofs.Common.{◌≡◌, refl, ap, ◌∙◌, List, ◌∷◌, length, Some, None, Ok, Err}
 use Rattle.capture_form.specs.declared.records.Record.{Record}
-use Rattle.capture_form.specs.Rules.{RuleText}
+use Rattle.capture_form.specs.Rules.{RuleSet}
 use Rattle.trace_events.specs.Event.{Event}
 use Rattle.trace_events.specs.History.{judge, history}
 use Rattle.trace_clauses.specs.declared.clause.Clause.{Clause}
@@ -9,7 +9,7 @@ use Rattle.trace_clauses.specs.Clauses.{first_broken}
 use Rattle.state_tables.specs.Connections.{IsLawfulNext}
 use Rattle.state_ledger.specs.NextEvents.{IsAnswer}
 
-module _ (rules : List RuleText) (records : List Record) (r : Record) (lawful : first_broken rules (history rules records) ≡ None) where
+module _ (rules : RuleSet) (records : List Record) (r : Record) (lawful : first_broken rules (history rules records) ≡ None) where
   -- with its event the capture is lawful
   pub answer-lawful : (e : Event) → IsAnswer rules (history rules records) r (Ok e) → IsLawfulNext rules records r e
   answer-lawful e answer =

@@ -1,7 +1,7 @@
 -- The event of a record, before what it opens is filled in: the law is asked of it there.
 use Rattle.std.proofs.Common.{◌≡◌, sym, ap, subst, ◌∙◌, List, length}
 use Rattle.capture_form.specs.declared.records.Record.{Record}
-use Rattle.capture_form.specs.Rules.{RuleText}
+use Rattle.capture_form.specs.Rules.{RuleSet}
 use Rattle.trace_events.specs.Event.{Event}
 use Rattle.trace_events.specs.Session.{StandsLive}
 use Rattle.trace_events.specs.Link.{NamesLive}
@@ -13,10 +13,10 @@ use Rattle.trace_clauses.proofs.Unopened.{broken-unopened}
 use Rattle.state_ledger.specs.NextEvents.{unopened}
 
 -- an event like it, at the moment that was read, is it
-pub at-moment : (rules : List RuleText) (past : List Event) (r : Record) (e : Event) → e ≡ judge rules past r → (record e { moment = moment_of r.what }) ≡ judge rules past r
+pub at-moment : (rules : RuleSet) (past : List Event) (r : Record) (e : Event) → e ≡ judge rules past r → (record e { moment = moment_of r.what }) ≡ judge rules past r
 at-moment rules past r e same = ap (λ (x : Event). let y : Event = record x { moment = moment_of r.what } in y) same
 
-module _ (rules : List RuleText) (past : List Event) (r : Record) (e : Event) (is : e ≡ unopened rules past r) where
+module _ (rules : RuleSet) (past : List Event) (r : Record) (e : Event) (is : e ≡ unopened rules past r) where
   pub stands-live : StandsLive e past
   stands-live = subst (λ (x : Event). StandsLive x past) (sym is) (placed-stands past r.connection (moment_of r.what) r.note)
 

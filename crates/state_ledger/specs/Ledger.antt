@@ -1,7 +1,7 @@
--- What the tables of the auditor and its tally stand for, and why a record is not taken behind others (own rules).
+-- What the tables and the tally stand for, and why a record is not taken behind others (own rules).
 use Rattle.std.specs.Prelude.{◌≡◌, List, Option, Some, ⊤}
 use Rattle.capture_form.specs.declared.records.Record.{Record}
-use Rattle.capture_form.specs.Rules.{RuleText}
+use Rattle.capture_form.specs.Rules.{RuleSet}
 use Rattle.trace_events.specs.History.{judge, history}
 use Rattle.trace_clauses.specs.declared.clause.Clause.{Clause}
 use Rattle.trace_clauses.specs.Clauses.{broken_clause}
@@ -13,14 +13,14 @@ use Rattle.state_ledger.specs.declared.not_entered.NotEntered.TheVariants.{Broke
 
 -- the tables have what the law says of these records, judged by these rules, each of which meets the clauses; and the tally is
 -- theirs
-abbrev pub Stands : List RuleText → Ledger → List Record → Type 0
+abbrev pub Stands : RuleSet → Ledger → List Record → Type 0
 Stands rules ledger records = AreTables rules ledger.tables (history rules records) × (ledger.tally ≡ tally_of (history rules records))
 
 -- the first clause that a record breaks behind others
-abbrev pub broken_behind : List RuleText → List Record → Record → Option Clause
+abbrev pub broken_behind : RuleSet → List Record → Record → Option Clause
 broken_behind rules records entry = let past = history rules records in broken_clause rules (judge rules past entry) past
 
 -- why a record is not taken: this is the first clause that it breaks; want of memory says nothing of it
-abbrev pub IsReason : List RuleText → List Record → Record → NotEntered → Type 0
+abbrev pub IsReason : RuleSet → List Record → Record → NotEntered → Type 0
 IsReason rules records entry (Broken clause) = broken_behind rules records entry ≡ Some clause
 IsReason rules records entry Memory = ⊤

@@ -10,7 +10,7 @@ ghost use Rattle.trace_values.specs.Known.{CarriesKnown, OpensKnown};
 ghost use Rattle.trace_values.specs.View.{Events};
 
 use crate::{HeldEvent, NotEntered};
-use capture_form::Rule;
+use capture_form::RuleSet;
 use std::alloc::Global;
 use trace_judge::{Questions, broken_clause, judge_unopened_read, open};
 use trace_values::ReadRecord;
@@ -25,7 +25,7 @@ pub fn hold_next<'a, 'm: 'a, P: Questions<'a>>(
     held: &mut HeldEvent,
     alloc: Global,
     past: &P,
-    rules: &[Rule],
+    rules: &RuleSet,
     number: u64,
     entry: &ReadRecord<'m>,
 ) -> Result<(), NotEntered>

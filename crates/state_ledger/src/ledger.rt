@@ -1,7 +1,7 @@
 //! What the records of a capture have come to.
 
 ghost use Rattle.std.specs.Prelude.{◌≡◌, ◌≢◌, ◌<◌, ◌^◌, ◌∷◌, [], ◌++◌, List, None, IfErr, IfOk, OnOk, length};
-ghost use Rattle.capture_form.specs.Rules.{RuleText};
+ghost use Rattle.capture_form.specs.Rules.{RuleSet};
 ghost use Rattle.capture_form.specs.declared.records.Record.{Record};
 ghost use Rattle.trace_events.specs.History.{history, moment_of};
 ghost use Rattle.state_tables.specs.Connections.{IsLawfulNext};
@@ -12,7 +12,7 @@ ghost use Rattle.state_ledger.specs.Ledger.{IsReason, Stands, broken_behind};
 
 use crate::not_entered::NotEntered;
 use crate::{HeldEvent, counted, hold_next};
-use capture_form::{Record, Rule};
+use capture_form::{Record, RuleSet};
 use state_answers::{Looked, Tables};
 use std::alloc::{AllocError, Global};
 use trace_clauses::Tally;
@@ -42,7 +42,7 @@ impl Drop for Ledger {
 impl Ledger {
     /// No records. It takes no memory.
     pub fn new(alloc: Global) -> Ledger
-        ensures { (rules : List RuleText) → Stands rules result [] }
+        ensures { (rules : RuleSet) → Stands rules result [] }
     {
         Ledger {
             alloc,
@@ -65,7 +65,7 @@ impl Ledger {
 
     /// What can be asked of the records so far, lent.
     pub fn looked(&self) -> Looked<'_>
-        ensures { (rules : List RuleText) (records : List Record) → Stands rules self.now records →
+        ensures { (rules : RuleSet) (records : List Record) → Stands rules self.now records →
             StandFor rules result.connections.now result.links.now result.consumers.now result.deliveries.now
             result.consumer_links.now result.copies.now result.sent.now result.verdicts.now (history rules records) }
     {
@@ -85,7 +85,7 @@ impl Ledger {
     ///
     /// The first clause that it breaks; then the ledger is as it was. Or memory was refused; then it may agree with no records
     /// any more.
-    pub fn enter(&mut self, rules: &[Rule], entry: &Record) -> Result<(), NotEntered>
+    pub fn enter(&mut self, rules: &RuleSet, entry: &Record) -> Result<(), NotEntered>
         requires few { self.old.tally.records < 2 ^ 63 }
         ensures met { OnOk result ((records : List Record) → Stands rules.now self.old records → broken_behind rules.now records entry.now ≡ None) }
         ensures entered { OnOk result ((records : List Record) → Stands rules.now self.old records → Stands rules.now self.new (records ++ entry.now ∷ [])) }
@@ -107,7 +107,7 @@ impl Ledger {
     }
 
     /// The record, of which the event is held and with which the capture is lawful, follows those so far.
-    fn follow(&mut self, rules: &[Rule], entry: &ReadRecord<'_>) -> Result<(), AllocError>
+    fn follow(&mut self, rules: &RuleSet, entry: &ReadRecord<'_>) -> Result<(), AllocError>
         ensures { OnOk result (self.old.tally.records < 2 ^ 63 → (records : List Record) →
             IsLawfulNext rules.now records entry.now (held_event_view self.old.held (moment_of entry.now.what)) →
             Stands rules.now self.old records → Stands rules.now self.new (records ++ entry.now ∷ [])) }
@@ -128,7 +128,7 @@ fn hold_event<'a, 'm: 'a>(
     held: &mut HeldEvent,
     alloc: Global,
     tables: &'a Tables,
-    rules: &[Rule],
+    rules: &RuleSet,
     number: u64,
     entry: &ReadRecord<'m>,
 ) -> Result<(), NotEntered>

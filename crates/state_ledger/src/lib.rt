@@ -1,4 +1,4 @@
-//! The tables of the auditor with the tally of a capture, moved forward by one record after the other: each is judged by
+//! The tables that auditor and router share, with the tally of a capture, moved forward by one record after the other: each is judged by
 //! those before it, and taken if it meets the clauses.
 //!
 //! The event of a record borrows the addresses of its links from the tables that were asked, and these are to be moved by it: so
