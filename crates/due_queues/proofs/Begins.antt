@@ -1,7 +1,7 @@
 -- The deliveries of a consumer's link that are not decided are fewer than the records of the capture.
 use Rattle.std.proofs.Common.{◌≡◌, refl, sym, subst, ℕ, suc, ◌<◌, ◌-◌, ◌+◌, ◌^◌, Bool, true, false, ◌&&◌, List, [], ◌∷◌, ◌++◌, length, Option, Some, None, IfSome, unwrap_or, if◌then◌else◌, ◌==◌, arith}
 use Rattle.std.specs.Option.{option_map}
-use Rattle.capture_form.specs.Rules.{RuleText}
+use Rattle.capture_form.specs.Rules.{RuleSet}
 use Rattle.flow_counts.specs.Picks.{AddressEvent, Attached, Consumer, attached, begun, consumer, balanced_rank}
 use Rattle.trace_events.specs.Words.{is_some_and, where_passes}
 use Rattle.trace_events.specs.Event.{Event, Link, Outgoing}
@@ -64,7 +64,7 @@ begins-later n m None true on is = absurd cc
 begins-later n m None false on is = absurd cc
 begins-later n m (Some j) b on is = omega (arith, on)
 
-pub undecided-below : (rules : List RuleText) (past : List Event) → AreJudged rules past → (n : ℕ) → IfSome (consumer n (address_events past)) (IsBelow (length past))
+pub undecided-below : (rules : RuleSet) (past : List Event) → AreJudged rules past → (n : ℕ) → IfSome (consumer n (address_events past)) (IsBelow (length past))
 undecided-below rules [] are n = tt
 undecided-below rules (e ∷ past) are n =
     subst (λ (o : Option Consumer). IfSome o (IsBelow (suc (length past)))) (sym (consumer-step rules e past are.1 n))
@@ -74,7 +74,7 @@ undecided-below rules (e ∷ past) are n =
     (attached-below n (length past) (own_link e) (address_events past) (undecided-below rules past are.1 n)))
 
 -- so there is room for the one that begins
-module _ (rules : List RuleText) (e : Event) (past : List Event) (are : AreJudged rules (e ∷ past)) (small : e.number < 2 ^ 64) where
+module _ (rules : RuleSet) (e : Event) (past : List Event) (are : AreJudged rules (e ∷ past)) (small : e.number < 2 ^ 64) where
   rank-below : (o : Option Consumer) → 0 < length past → IfSome o (IsBelowLater (length past)) → balanced_rank o < 2 ^ 64 - 1
   rank-below None some below = omega arith
   rank-below (Some c) some below =

@@ -2,7 +2,7 @@
 use Rattle.std.proofs.Common.{◌≡◌, refl, sym, ap, subst, ◌∙◌, ◌+◌, ◌<◌, ◌^◌, ℕ, Bool, true, false, cond, ◌&&◌, List, [], ◌∷◌, ◌++◌, map, filter, Option, Some, None, IfSome, is_some, is_none, not, nat_eq, option_map, if◌then◌else◌, ◌==◌, arith, eqb-true, count_by}
 use Rattle.std.specs.List.{list_any, cons_option, filter_map, AllByRecursion, IsDistinct}
 use Rattle.std.proofs.lemmas.List.Sums.{length-filter, sum_by-cons}
-use Rattle.capture_form.specs.Rules.{RuleText}
+use Rattle.capture_form.specs.Rules.{RuleSet}
 use Rattle.flow_counts.specs.Picks.{Decided}
 use Rattle.trace_events.specs.Words.{is_some_and}
 use Rattle.trace_events.specs.Event.{Event, Outgoing}
@@ -105,7 +105,7 @@ open-parts f settled false answers None is = absurd cc
 open-parts f true true answers None is = absurd cc
 open-parts f false true answers None is = (refl, is)
 
-module _ (rules : List RuleText) (e : Event) (past : List Event) (are : AreJudged rules past) (kept : ℕ → Option Sent) (were : (n : ℕ) → kept n ≡ sent_at n past)
+module _ (rules : RuleSet) (e : Event) (past : List Event) (are : AreJudged rules past) (kept : ℕ → Option Sent) (were : (n : ℕ) → kept n ≡ sent_at n past)
     (ids : (n : ℕ) → IfSome (kept n) (λ x. IfSome x.delivery.id (λ id. id < 2 ^ 32))) (groups : Undecided) (opened : HaveOpen groups past) (ns : List ℕ) (distinct : IsDistinct nat_eq ns)
     (found : (n : ℕ) → is_found groups (answer_of e) e.session n ≡ true → list_any (nat_eq n) ns ≡ true) (small : IfSome (answer_of e) (λ fields. fields.first < 2 ^ 32)) (link : ℕ) where
   abbrev passes : Outgoing → Bool

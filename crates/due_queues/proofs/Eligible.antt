@@ -2,7 +2,7 @@
 use Rattle.std.proofs.Common.{◌≡◌, refl, sym, ap, subst, ◌∙◌, inl, inr, ℕ, Bool, true, false, ◌&&◌, List, [], ◌∷◌, filter, Option, Some, None, IfSome, option_and_then, option_map, if◌then◌else◌, ◌==◌, eq-eqb}
 use Rattle.std.specs.Prelude.{Contains}
 use Rattle.std.specs.List.{best_of}
-use Rattle.capture_form.specs.Rules.{RuleText}
+use Rattle.capture_form.specs.Rules.{RuleSet}
 use Rattle.capture_form.specs.declared.rules.Distribution.{Distribution}
 use Rattle.capture_form.specs.declared.rules.Distribution.TheVariants.{Closest, Balanced, Multicast}
 use Rattle.capture_form.specs.Addresses.{distribution}
@@ -93,12 +93,12 @@ takes-by address past (Some l) listed = by (is_consumer l && is_live past l) lis
     by true listed = refl
     by false listed = absurd cc
 
-pub pick-of : (rules : List RuleText) (past : List Event) (address : List ℕ) (by : Distribution) (text : List ℕ) → by ≡ distribution rules address → text ≡ address → (o : Option ℕ)
+pub pick-of : (rules : RuleSet) (past : List Event) (address : List ℕ) (by : Distribution) (text : List ℕ) → by ≡ distribution rules address → text ≡ address → (o : Option ℕ)
     → o ≡ pick_of by (takes_at past) text (address_events past) → o ≡ pick_of (distribution rules address) (takes_at past) address (address_events past)
 pick-of rules past address by text ruled same o is =
     is ∙ (ap (λ d. pick_of d (takes_at past) text (address_events past)) ruled ∙ ap (λ a. pick_of (distribution rules address) (takes_at past) a (address_events past)) same)
 
-module _ (rules : List RuleText) (past : List Event) (are : AreJudged rules past) where
+module _ (rules : RuleSet) (past : List Event) (are : AreJudged rules past) where
   takes-eligible : (address : List ℕ) (n : ℕ) → Contains (consumers address (address_events past)) n → takes_at past n ≡ is_eligible past n
   takes-eligible address n there =
       let listed : is_at address (consumer n (address_events past)) ≡ true =

@@ -2,7 +2,7 @@
 use Rattle.std.proofs.Common.{◌≡◌, refl, sym, ap, ◌∙◌, ◌↔◌, inl, inr, ℕ, Bool, true, false, ◌&&◌, ◌||◌, not, List, [], ◌∷◌, Option, Some, None, filter, option_and_then, if◌then◌else◌, ◌==◌, eqb-true, eq-eqb}
 use Rattle.std.specs.Prelude.{Contains}
 use Rattle.std.specs.List.{list_any}
-use Rattle.capture_form.specs.Rules.{RuleText}
+use Rattle.capture_form.specs.Rules.{RuleSet}
 use Rattle.trace_events.specs.Words.{is_some_and}
 use Rattle.trace_events.specs.Event.{Event, Link}
 use Rattle.trace_events.specs.declared.session.Session.{Session}
@@ -65,7 +65,7 @@ last_of : (over : Bool) (last : Option Session) (s : Session) → (if over then 
 last_of true last s is = absurd cc
 last_of false last s is = is
 
-module _ (rules : List RuleText) (past : List Event) (are : AreJudged rules past) (l : Link) (live : IsLiveLink l past) where
+module _ (rules : RuleSet) (past : List Event) (are : AreJudged rules past) (l : Link) (live : IsLiveLink l past) where
   pub live-known : IsKnown past l
   live-known =
       let s = l.session in
@@ -87,7 +87,7 @@ ends-by : (ends : Bool) → true && not ends ≡ false → ends ≡ true
 ends-by true is = refl
 ends-by false is = absurd cc
 
-module _ (rules : List RuleText) (e : Event) (past : List Event) (are : AreJudged rules (e ∷ past)) (ended : List Link)
+module _ (rules : RuleSet) (e : Event) (past : List Event) (are : AreJudged rules (e ∷ past)) (ended : List Link)
     (all : (l : Link) → Contains ended l ↔ IsLiveLink l past × (ends_link l e ≡ true)) where
   detached : (n : ℕ) (l : Link) → link_at n past ≡ Some l → is_consumer l ≡ true → IsLiveLink l past → ends_link l e ≡ true → is_some_and (link_at n past) (detaches_consumer e past) ≡ true
   detached n l at consumes live ends =

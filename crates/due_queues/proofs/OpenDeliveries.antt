@@ -4,7 +4,7 @@ use Rattle.std.specs.List.{AllByRecursion, cons_option}
 use Rattle.amqp_perf.specs.Meaning.{DispositionFields, last_id}
 use Rattle.flow_counts.specs.Covers.{covers}
 use Rattle.flow_counts.specs.Serial.{serial_sub}
-use Rattle.capture_form.specs.Rules.{RuleText}
+use Rattle.capture_form.specs.Rules.{RuleSet}
 use Rattle.number_groups.specs.Groups.{is_member}
 use Rattle.trace_events.specs.Words.{is_number, is_some_and, where_passes}
 use Rattle.trace_events.specs.Event.{Event, Outgoing, is_on_session}
@@ -57,7 +57,7 @@ open-bits : {A : Type 0} (a : Bool) (o : Option A) → is_some o || a ≡ false 
 open-bits a None none = (refl, none)
 open-bits a (Some x) none = absurd cc
 
-module _ (rules : List RuleText) (e : Event) (past : List Event) (are : AreJudged rules (e ∷ past)) (n : ℕ) (j : Outgoing) (at : outgoing_at n past ≡ Some j) (opens : is_open (e ∷ past) j ≡ true) where
+module _ (rules : RuleSet) (e : Event) (past : List Event) (are : AreJudged rules (e ∷ past)) (n : ℕ) (j : Outgoing) (at : outgoing_at n past ≡ Some j) (opens : is_open (e ∷ past) j ≡ true) where
   none : (is_none (decision j past) ≡ true) × (is_live past j.link && decides_now e j ≡ false)
   none =
       open-bits (is_live past j.link && decides_now e j) (decision j past)
@@ -110,7 +110,7 @@ is-of e past n j at = by (outgoing_begun e) refl at
     by None nothing at = inr at
     by (Some k) begun at = named k begun (k.number == n) refl at
 
-module _ (rules : List RuleText) (e : Event) (past : List Event) (are : AreJudged rules (e ∷ past)) (kept : ℕ → Option Sent) (were : (n : ℕ) → kept n ≡ sent_at n past)
+module _ (rules : RuleSet) (e : Event) (past : List Event) (are : AreJudged rules (e ∷ past)) (kept : ℕ → Option Sent) (were : (n : ℕ) → kept n ≡ sent_at n past)
     (first mid last : Undecided) (opened : HaveOpen first past) (spared : Spares (λ n. is_some (decided_link e past (kept n))) first mid) (put : IsPutOf (outgoing_begun e) mid last) where
   in-session : (session n : ℕ) (j : Outgoing) → outgoing_at n (e ∷ past) ≡ Some j → is_open (e ∷ past) j ≡ true → is_of_session session j ≡ true → is_member nat_eq last.of_session session n ≡ true
   in-session session n j at is stands = elim (is-of e past n j at) [

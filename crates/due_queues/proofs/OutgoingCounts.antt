@@ -4,7 +4,7 @@ use Rattle.std.specs.List.{list_any, cons_option, AllByRecursion, IsDistinct}
 use Rattle.std.specs.Cmp.{IsEquivalence}
 use Rattle.std.proofs.lemmas.List.Sums.{length-filter}
 use Rattle.std.proofs.lemmas.Map.Made.{length-from_same_keys}
-use Rattle.capture_form.specs.Rules.{RuleText}
+use Rattle.capture_form.specs.Rules.{RuleSet}
 use Rattle.trace_events.specs.Words.{is_some_and}
 use Rattle.trace_events.specs.Event.{Event, Outgoing}
 use Rattle.trace_events.specs.Outgoing.{outgoing_begun, outgoing_deliveries}
@@ -34,10 +34,10 @@ falling-more : (n m : ℕ) (o : Option Outgoing) (js : List Outgoing) → n < m 
 falling-more n m None js lt own h = falling-weaker n m js (omega (arith, lt)) h
 falling-more n m (Some j) js lt own h = (omega (arith, lt, own j refl), falling-weaker n j.number js (omega (arith, own j refl)) h)
 
-pub begun-number : (rules : List RuleText) (e : Event) (past : List Event) (j : Outgoing) → AreJudged rules (e ∷ past) → outgoing_begun e ≡ Some j → j.number ≡ length past
+pub begun-number : (rules : RuleSet) (e : Event) (past : List Event) (j : Outgoing) → AreJudged rules (e ∷ past) → outgoing_begun e ≡ Some j → j.number ≡ length past
 begun-number rules e past j are begun = eqb-true j.number e.number (passing (λ (x : Outgoing). x.number == e.number) e.outgoing j begun).1 ∙ judged-number rules e past are
 
-judged-falling : (rules : List RuleText) (past : List Event) → AreJudged rules past → AreFalling (length past) (outgoing_deliveries past)
+judged-falling : (rules : RuleSet) (past : List Event) → AreJudged rules past → AreFalling (length past) (outgoing_deliveries past)
 judged-falling rules [] are = tt
 judged-falling rules (e ∷ past) are =
     falling-more (length past) (length (e ∷ past)) (outgoing_begun e) (outgoing_deliveries past) (omega arith) (λ j is. begun-number rules e past j are is) (judged-falling rules past are.1)
@@ -91,7 +91,7 @@ nat_eq-laws = record {
   congr = λ m n k same. ap (λ i. nat_eq i k) (eqb-true m n same);
 }
 
-pub length-counted : (rules : List RuleText) (past : List Event) → AreJudged rules past → (test : Outgoing → Bool) (ns : List ℕ) → IsDistinct nat_eq ns
+pub length-counted : (rules : RuleSet) (past : List Event) → AreJudged rules past → (test : Outgoing → Bool) (ns : List ℕ) → IsDistinct nat_eq ns
     → ((n : ℕ) → list_any (nat_eq n) ns ≡ is_some_and (outgoing_at n past) test) → length ns ≡ count_by test (outgoing_deliveries past)
 length-counted rules past are test ns each same =
     let ds = outgoing_deliveries past in

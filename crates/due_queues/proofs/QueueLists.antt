@@ -4,7 +4,7 @@ use Rattle.std.specs.Prelude.{Contains, bytes_eq}
 use Rattle.std.specs.List.{cons_option}
 use Rattle.std.proofs.lemmas.List.{append_assoc, map-append, reverse-append}
 use Rattle.std.proofs.lemmas.List.Elements.{Contains-append_cases, Contains-append_left, Contains-append_right, filter-append}
-use Rattle.capture_form.specs.Rules.{RuleText}
+use Rattle.capture_form.specs.Rules.{RuleSet}
 use Rattle.trace_events.specs.Words.{is_some_and, where_passes}
 use Rattle.trace_events.specs.Event.{Event, Incoming}
 use Rattle.trace_events.specs.Incoming.{address_of, completed_by, incoming_at, incoming_deliveries, is_complete}
@@ -24,7 +24,7 @@ waits-bits true true complete paired always = refl
 waits-bits true false complete paired always = refl
 waits-bits false many complete paired always = refl
 
-pub queue-is : (rules : List RuleText) (address : List ℕ) (past : List Event) → waiting_queue rules address past ≡ filter (λ d. is_waiting rules d past) (completed_at rules address past)
+pub queue-is : (rules : RuleSet) (address : List ℕ) (past : List Event) → waiting_queue rules address past ≡ filter (λ d. is_waiting rules d past) (completed_at rules address past)
 queue-is rules address past =
     ap reverse (filter-both (waits_at rules address past) (is_of rules address) (λ d. is_waiting rules d past)
     (λ d. waits-bits (bytes_eq (address_of d) address) (is_of_multicast rules d) (is_complete d past) (is_paired d past) (always_had_consumer d past)) (completed_deliveries past))
@@ -32,7 +32,7 @@ queue-is rules address past =
 
 -- ---- one event
 
-pub completed_at-step : (rules : List RuleText) (address : List ℕ) (e : Event) (past : List Event)
+pub completed_at-step : (rules : RuleSet) (address : List ℕ) (e : Event) (past : List Event)
     → completed_at rules address (e ∷ past) ≡ completed_at rules address past ++ filter (is_of rules address) (cons_option (completed_by e) [])
 completed_at-step rules address e past =
     let test = is_of rules address in
@@ -47,11 +47,11 @@ each-in P (y ∷ ys) x each there = elim (contains_cases y ys x there) [
   | inr later ↦ each-in P ys x each.1 later
 ]
 
-listed-complete : (rules : List RuleText) (address : List ℕ) (past : List Event) (d : Incoming) → Contains (completed_at rules address past) d → Contains (completed_deliveries past) d
+listed-complete : (rules : RuleSet) (address : List ℕ) (past : List Event) (d : Incoming) → Contains (completed_at rules address past) d → Contains (completed_deliveries past) d
 listed-complete rules address past d there =
     (in_filter (is_of rules address) (completed_deliveries past) d (in_reverse (filter (is_of rules address) (completed_deliveries past)) d there)).0
 
-pub queue-step : (rules : List RuleText) (e : Event) (past : List Event) → AreJudged rules (e ∷ past) → (address numbers later : List ℕ) → IsQueue rules past address numbers
+pub queue-step : (rules : RuleSet) (e : Event) (past : List Event) → AreJudged rules (e ∷ past) → (address numbers later : List ℕ) → IsQueue rules past address numbers
     → later ≡ numbers ++ map (λ d. d.number) (filter (is_of rules address) (cons_option (completed_by e) [])) → IsQueue rules (e ∷ past) address later
 queue-step rules e past are address numbers later queue is =
     let new = filter (is_of rules address) (cons_option (completed_by e) []) in
@@ -91,7 +91,7 @@ map-has (x ∷ xs) d there = elim (contains_cases x xs d there) [
 ]
 
 -- a number that doesn't wait is of no delivery that waits
-pub shorter : (rules : List RuleText) (past : List Event) (address numbers gone later : List ℕ) → IsQueue rules past address numbers → numbers ≡ gone ++ later
+pub shorter : (rules : RuleSet) (past : List Event) (address numbers gone later : List ℕ) → IsQueue rules past address numbers → numbers ≡ gone ++ later
     → ((d : Incoming) → Contains (completed_deliveries past) d → Contains gone d.number → is_waiting rules d past ≡ false) → IsQueue rules past address later
 shorter rules past address numbers gone later queue is over =
     let parts = split queue.kept gone later (sym queue.are ∙ is) in
@@ -116,7 +116,7 @@ filter-none : {A : Type 0} (p : A → Bool) (xs : List A) → ((x : A) → Conta
 filter-none p [] none = refl
 filter-none p (x ∷ xs) none = ap (λ b. if b then x ∷ filter p xs else filter p xs) (none x (contains_first x xs)) ∙ filter-none p xs (λ y there. none y (contains_later x xs y there))
 
-pub queue-kept : (rules : List RuleText) (past : List Event) (address numbers : List ℕ) → (queue : IsQueue rules past address numbers)
+pub queue-kept : (rules : RuleSet) (past : List Event) (address numbers : List ℕ) → (queue : IsQueue rules past address numbers)
     → waiting_queue rules address past ≡ filter (λ d. is_waiting rules d past) queue.kept
 queue-kept rules past address numbers queue =
     queue-is rules address past
@@ -124,7 +124,7 @@ queue-kept rules past address numbers queue =
     ∙ (filter-append (λ d. is_waiting rules d past) queue.dropped queue.kept
     ∙ ap (λ xs. xs ++ filter (λ d. is_waiting rules d past) queue.kept) (filter-none (λ d. is_waiting rules d past) queue.dropped queue.over)))
 
-pub none-waits : (rules : List RuleText) (past : List Event) (address numbers : List ℕ) → IsQueue rules past address numbers → numbers ≡ [] → waiting_queue rules address past ≡ []
+pub none-waits : (rules : RuleSet) (past : List Event) (address numbers : List ℕ) → IsQueue rules past address numbers → numbers ≡ [] → waiting_queue rules address past ≡ []
 none-waits rules past address numbers queue none = queue-kept rules past address numbers queue ∙ by queue.kept (sym queue.are ∙ none)
   where
     by : (xs : List Incoming) → map (λ d. d.number) xs ≡ [] → filter (λ d. is_waiting rules d past) xs ≡ []
@@ -132,7 +132,7 @@ none-waits rules past address numbers queue none = queue-kept rules past address
     by (x ∷ xs) is = absurd cc
 
 -- the first of the queue, if the delivery of its first number waits
-pub record IsFirst (rules : List RuleText) (past : List Event) (address : List ℕ) (n : ℕ) : Type 0 where
+pub record IsFirst (rules : RuleSet) (past : List Event) (address : List ℕ) (n : ℕ) : Type 0 where
   pub delivery : Incoming
   pub others : List Incoming
   pub number : delivery.number ≡ n
@@ -140,7 +140,7 @@ pub record IsFirst (rules : List RuleText) (past : List Event) (address : List �
   pub here : is_of rules address delivery ≡ true
   pub queue : is_waiting rules delivery past ≡ true → waiting_queue rules address past ≡ delivery ∷ others
 
-pub first-of : (rules : List RuleText) (past : List Event) (address numbers : List ℕ) (n : ℕ) (rest : List ℕ) → IsQueue rules past address numbers → numbers ≡ n ∷ rest → IsFirst rules past address n
+pub first-of : (rules : RuleSet) (past : List Event) (address numbers : List ℕ) (n : ℕ) (rest : List ℕ) → IsQueue rules past address numbers → numbers ≡ n ∷ rest → IsFirst rules past address n
 first-of rules past address numbers n rest queue is = by queue.kept refl (sym queue.are ∙ is)
   where
     by : (xs : List Incoming) → queue.kept ≡ xs → map (λ d. d.number) xs ≡ n ∷ rest → IsFirst rules past address n

@@ -6,7 +6,7 @@ use Rattle.std.specs.declared.collections.VecDeque.{VecDeque}
 use Rattle.std.proofs.lemmas.List.{append_assoc}
 use Rattle.std.proofs.lemmas.Slice.Eq.{bytes_eq-Decides}
 use Rattle.indexmap.specs.IndexMap.{IndexMap}
-use Rattle.capture_form.specs.Rules.{RuleText}
+use Rattle.capture_form.specs.Rules.{RuleSet}
 use Rattle.number_groups.proofs.Octets.{alike, under}
 use Rattle.trace_events.specs.Words.{is_some_and, where_passes}
 use Rattle.trace_events.specs.Event.{Event, Incoming}
@@ -42,7 +42,7 @@ append-nil [] = refl
 append-nil (x ∷ xs) = ap (λ ys. x ∷ ys) (append-nil xs)
 
 -- what the event completes is of its address alone, and of none where it goes to all consumers
-pub unpushed-is : (rules : List RuleText) (at xs : List ℕ) (o : Option Incoming) → None ≡ where_passes (λ d. not (is_of_multicast rules d)) o
+pub unpushed-is : (rules : RuleSet) (at xs : List ℕ) (o : Option Incoming) → None ≡ where_passes (λ d. not (is_of_multicast rules d)) o
     → xs ≡ xs ++ map (λ d. d.number) (filter (is_of rules at) (cons_option o []))
 unpushed-is rules at xs None none = append-nil xs
 unpushed-is rules at xs (Some d) none = by (is_of_multicast rules d) (bytes_eq (address_of d) at) none
@@ -52,7 +52,7 @@ unpushed-is rules at xs (Some d) none = by (is_of_multicast rules d) (bytes_eq (
     by true false none = append-nil xs
     by false here none = absurd cc
 
-pub pushed-is : (rules : List RuleText) (at xs : List ℕ) (o : Option Incoming) (d : Incoming) → Some d ≡ where_passes (λ d. not (is_of_multicast rules d)) o
+pub pushed-is : (rules : RuleSet) (at xs : List ℕ) (o : Option Incoming) (d : Incoming) → Some d ≡ where_passes (λ d. not (is_of_multicast rules d)) o
     → (if bytes_eq (address_of d) at then xs ++ d.number ∷ [] else xs) ≡ xs ++ map (λ d. d.number) (filter (is_of rules at) (cons_option o []))
 pushed-is rules at xs None d is = absurd cc
 pushed-is rules at xs (Some k) d is = by (is_of_multicast rules k) is
@@ -66,7 +66,7 @@ pushed-is rules at xs (Some k) d is = by (is_of_multicast rules k) is
     by true is = absurd cc
     by false is = let same : d ≡ k = cc in ap (λ (x : Incoming). if bytes_eq (address_of x) at then xs ++ x.number ∷ [] else xs) same ∙ named (bytes_eq (address_of k) at)
 
-pub none-queued : (rules : List RuleText) (address numbers : List ℕ) → numbers ≡ [] → IsQueue rules [] address numbers
+pub none-queued : (rules : RuleSet) (address numbers : List ℕ) → numbers ≡ [] → IsQueue rules [] address numbers
 none-queued rules address numbers none = record { dropped = []; kept = []; all = refl; over = λ d there. contains_none d there; are = none }
 
 -- ---- numbers in front go
@@ -109,7 +109,7 @@ fate-bits true false false false = refl
 fate-bits false true paired always = refl
 fate-bits false false paired always = refl
 
-module _ (rules : List RuleText) (past : List Event) (are : AreJudged rules past) (kept : ℕ → Option Held) (were : (n : ℕ) → kept n ≡ held_at rules n past) where
+module _ (rules : RuleSet) (past : List Event) (are : AreJudged rules past) (kept : ℕ → Option Held) (were : (n : ℕ) → kept n ≡ held_at rules n past) where
   pub listed-at : (d : Incoming) → Contains (completed_deliveries past) d → incoming_at d.number past ≡ Some d
   listed-at d there = (all_contained (IsKept past) (completed_deliveries past) d (each_completed (IsKept past) past (judged-kept rules past are).each) there).at
 

@@ -3,7 +3,7 @@ use Rattle.std.proofs.Common.{◌≡◌, refl, sym, ap, subst, ◌∙◌, inl, i
 use Rattle.amqp_perf.specs.declared.attach.Role.{Role}
 use Rattle.amqp_perf.specs.declared.attach.Role.TheVariants.{Sender, Receiver}
 use Rattle.amqp_perf.specs.Meaning.{AttachFields}
-use Rattle.capture_form.specs.Rules.{RuleText}
+use Rattle.capture_form.specs.Rules.{RuleSet}
 use Rattle.capture_form.specs.declared.records.Record.{Record}
 use Rattle.trace_events.specs.Event.{Event, Link}
 use Rattle.trace_events.specs.declared.session.Session.{Session}
@@ -34,7 +34,7 @@ opened-source number (Some a) (Some s) past l opens is = by (opens_link a) opens
         let role : is_sender a.role ≡ true = ap (λ (m : Link). is_sender m.role) same ∙ is in
         ap (λ (m : Link). m.address) (sym same) ∙ sender-address a.role a role
 
-module _ (rules : List RuleText) (past : List Event) (r : Record) (are : AreJudged rules past) (l : Link) (own : own_link (judge rules past r) ≡ Some l) where
+module _ (rules : RuleSet) (past : List Event) (r : Record) (are : AreJudged rules past) (l : Link) (own : own_link (judge rules past r) ≡ Some l) where
   link : (judge rules past r).link ≡ Some l
   link = (link_opened_number (judge rules past r) l own).0
 
@@ -50,7 +50,7 @@ module _ (rules : List RuleText) (past : List Event) (r : Record) (are : AreJudg
         | inr named ↦ absurd (let lt = (named_known rules past r l (judged-stands rules past are) named.0 named.1 named.2).1 in omega (arith, lt, number))
       ]
 
-pub named-source : (rules : List RuleText) (e : Event) (past : List Event) → AreJudged rules (e ∷ past) → HasNamedSource e
+pub named-source : (rules : RuleSet) (e : Event) (past : List Event) → AreJudged rules (e ∷ past) → HasNamedSource e
 named-source rules e past ((r, is), are) = subst HasNamedSource (sym is) (by (own_link (judge rules past r)) refl)
   where
     by : (o : Option Link) → own_link (judge rules past r) ≡ o → IfSome o (λ l. (is_consumer l ≡ true) → l.address ≡ source_of (attach_in (moment_of r.what)))

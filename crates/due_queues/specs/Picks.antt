@@ -4,7 +4,7 @@ use Rattle.std.specs.List.{list_any, IsDistinct}
 use Rattle.flow_counts.specs.Picks.{AddressEvent}
 use Rattle.address_table.specs.Links.{IsCount}
 use Rattle.address_table.specs.declared.table.Table.{Table}
-use Rattle.capture_form.specs.Rules.{RuleText}
+use Rattle.capture_form.specs.Rules.{RuleSet}
 use Rattle.trace_events.specs.Event.{Event}
 use Rattle.state_outgoing.specs.Sent.{Sent}
 use Rattle.state_answers.specs.Tables.{StandFor}
@@ -16,7 +16,7 @@ use Rattle.due_queues.specs.declared.undecided.Undecided.{Undecided}
 use Rattle.due_queues.specs.declared.picks.Picks.{Picks}
 
 -- the tables, lent, are those of these events
-abbrev pub StandsFor : List RuleText → Looked → List Event → Type 0
+abbrev pub StandsFor : RuleSet → Looked → List Event → Type 0
 StandsFor rules looked past =
     StandFor rules looked.connections.now looked.links.now looked.consumers.now looked.deliveries.now
     looked.consumer_links.now looked.copies.now looked.sent.now looked.verdicts.now past

@@ -2,7 +2,7 @@
 use Rattle.std.specs.Prelude.{◌≡◌, ℕ, Bool, true, false, ◌&&◌, not, List, [], ◌∷◌, ◌++◌, Option, Some, None, Contains, filter, map, reverse, bytes_eq, if◌then◌else◌}
 use Rattle.std.specs.declared.collections.VecDeque.{VecDeque}
 use Rattle.indexmap.specs.IndexMap.{get_by}
-use Rattle.capture_form.specs.Rules.{RuleText}
+use Rattle.capture_form.specs.Rules.{RuleSet}
 use Rattle.trace_events.specs.Words.{is_some_and}
 use Rattle.trace_events.specs.Event.{Event, Incoming}
 use Rattle.trace_events.specs.Incoming.{address_of}
@@ -26,22 +26,22 @@ queue_in table address = queued (get_by (λ kept. bytes_eq address kept.items) t
 -- ---- what the law says
 
 -- a delivery of the address that goes to one consumer
-abbrev pub is_of : List RuleText → List ℕ → Incoming → Bool
+abbrev pub is_of : RuleSet → List ℕ → Incoming → Bool
 is_of rules address d = bytes_eq (address_of d) address && not (is_of_multicast rules d)
 
 -- all of them that are complete, the first completed first
-abbrev pub completed_at : List RuleText → List ℕ → List Event → List Incoming
+abbrev pub completed_at : RuleSet → List ℕ → List Event → List Incoming
 completed_at rules address past = reverse (filter (is_of rules address) (completed_deliveries past))
 
 -- these are their numbers, without some in front that wait no more
-pub record IsQueue (rules : List RuleText) (past : List Event) (address : List ℕ) (numbers : List ℕ) : Type 0 where
+pub record IsQueue (rules : RuleSet) (past : List Event) (address : List ℕ) (numbers : List ℕ) : Type 0 where
   pub dropped : List Incoming
   pub kept : List Incoming
   pub all : completed_at rules address past ≡ dropped ++ kept
   pub over : (d : Incoming) → Contains dropped d → is_waiting rules d past ≡ false
   pub are : numbers ≡ map (λ d. d.number) kept
 
-abbrev pub HaveQueues : List RuleText → Queues → List Event → Type 0
+abbrev pub HaveQueues : RuleSet → Queues → List Event → Type 0
 HaveQueues rules table past = (address : List ℕ) → IsQueue rules past address (queue_in table address)
 
 -- the table of deliveries says that the delivery of the number waits

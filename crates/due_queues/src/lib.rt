@@ -1,4 +1,4 @@
-//! From which deliveries begin to consumers.
+//! The links that deliveries go to, and the queues of addresses in which they wait.
 //!
 //! - `undecided`: the deliveries to clients that their consumers may still decide;
 //! - `picks`: the consumer's link that a delivery of an address goes to;

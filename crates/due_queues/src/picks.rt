@@ -3,7 +3,7 @@
 ghost use Rattle.std.specs.Prelude.{◌≡◌, ◌<◌, ◌^◌, ◌&&◌, ◌==◌, ◌∷◌, ◌++◌, ℕ, List, [], false, Some, IfSome, MatchOption, OnOk, is_some, option_map};
 ghost use Rattle.std.specs.Str.{is_utf8};
 ghost use Rattle.flow_counts.specs.Picks.{AddressEvent};
-ghost use Rattle.capture_form.specs.Rules.{RuleText};
+ghost use Rattle.capture_form.specs.Rules.{RuleSet};
 ghost use Rattle.capture_form.specs.declared.records.Record.{Record};
 ghost use Rattle.address_table.specs.Links.{IsCount};
 ghost use Rattle.trace_events.specs.Words.{is_some_and, where_passes};
@@ -26,7 +26,7 @@ ghost use Rattle.due_queues.specs.Undecided.{Spares, decided_link, decides};
 use crate::undecided::Undecided;
 use address_table::Table;
 use amqp_perf::{Address, Role};
-use capture_form::{Rule, distribution_of};
+use capture_form::{RuleSet, distribution_of};
 use state_answers::Looked;
 use state_outgoing::SentDelivery;
 use state_tables::Links;
@@ -93,7 +93,7 @@ fn text_of(octets: &[u8]) -> Option<&str>
 /// The consumer's live link of this number may be sent a delivery: it has credit, its session has window, and nothing is in
 /// progress.
 fn may_take(looked: &Looked<'_>, number: u64) -> bool
-    ensures { (rules : List RuleText) (records : List Record) → StandsFor rules looked.now (history rules records) →
+    ensures { (rules : RuleSet) (records : List Record) → StandsFor rules looked.now (history rules records) →
         result ≡ is_some_and (consumer_at number (history rules records)) (may_take (history rules records)) }
 {
     match looked.consumer_links.get(number) {
@@ -104,7 +104,7 @@ fn may_take(looked: &Looked<'_>, number: u64) -> bool
 
 /// The same of a live link.
 fn takes(looked: &Looked<'_>, link: &Link) -> bool
-    ensures { (rules : List RuleText) (records : List Record) → StandsFor rules looked.now (history rules records) →
+    ensures { (rules : RuleSet) (records : List Record) → StandsFor rules looked.now (history rules records) →
         IsLiveLink (link_view link.now) (history rules records) → result ≡ may_take (history rules records) (link_view link.now) }
 {
     if looked.links.link_credit(link) == 0 {
@@ -137,11 +137,11 @@ impl Picks {
     /// Memory was refused; then the picks may agree with no records any more.
     pub fn follow(
         &mut self,
-        rules: &[Rule],
+        rules: &RuleSet,
         event: &Event,
         before: &Looked<'_>,
     ) -> Result<(), AllocError>
-        ensures { OnOk result ((rules : List RuleText) (records : List Record) (r : Record) → IsLawfulNext rules records r (event_view event.now) →
+        ensures { OnOk result ((rules : RuleSet) (records : List Record) (r : Record) → IsLawfulNext rules records r (event_view event.now) →
             StandsFor rules before.now (history rules records) →
             ArePicks self.old (history rules records) → ArePicks self.new (event_view event.now ∷ history rules records)) }
     {
@@ -158,7 +158,7 @@ impl Picks {
     /// one whose last delivery began first, where one without a delivery comes before all; for a balanced address the one
     /// with the fewest deliveries that are not decided; of equal ones the one that was attached first. `None` where none
     /// may be sent one, and for a multicast address. It takes time linear in the links of the address, and no memory.
-    pub fn pick<'t>(&self, address: &[u8], rules: &[Rule], looked: &Looked<'t>) -> Option<Link<'t>>
+    pub fn pick<'t>(&self, address: &[u8], rules: &RuleSet, looked: &Looked<'t>) -> Option<Link<'t>>
         ensures picked { (records : List Record) → StandsFor rules.now looked.now (history rules.now records) → ArePicks self.now (history rules.now records) →
             option_map (λ l. (link_view l).number) result ≡ pick rules.now address.now (history rules.now records) }
         ensures known { (records : List Record) → StandsFor rules.now looked.now (history rules.now records) → ArePicks self.now (history rules.now records) →
@@ -170,7 +170,7 @@ impl Picks {
             text,
             distribution,
             |number: u64| -> bool
-                ensures { (rules : List RuleText) (records : List Record) → StandsFor rules looked.entry.now (history rules records) →
+                ensures { (rules : RuleSet) (records : List Record) → StandsFor rules looked.entry.now (history rules records) →
                     result ≡ is_some_and (consumer_at number (history rules records)) (may_take (history rules records)) }
             { may_take(looked, number) },
         )?;
@@ -178,7 +178,7 @@ impl Picks {
     }
 
     /// The link of a consumer that the event opens is attached to its address.
-    fn attach(&mut self, rules: &[Rule], event: &Event) -> Result<(), AllocError>
+    fn attach(&mut self, rules: &RuleSet, event: &Event) -> Result<(), AllocError>
         ensures counted { OnOk result (HasNamedSource (event_view event.now) → CountsMore (attached_as (own_link (event_view event.now))) self.old.table self.new.table) }
         ensures same { self.new.undecided ≡ self.old.undecided }
     {

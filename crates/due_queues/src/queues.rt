@@ -2,7 +2,7 @@
 
 ghost use Rattle.std.specs.Prelude.{◌≡◌, ◌∷◌, ◌++◌, List, [], None, Some, true, IfSome, OnOk, bytes_eq, not, option_map, slice_get, if◌then◌else◌};
 ghost use Rattle.indexmap.specs.IndexMap.{get_by};
-ghost use Rattle.capture_form.specs.Rules.{RuleText};
+ghost use Rattle.capture_form.specs.Rules.{RuleSet};
 ghost use Rattle.capture_form.specs.declared.records.Record.{Record};
 ghost use Rattle.trace_events.specs.Words.{where_passes};
 ghost use Rattle.trace_events.specs.Incoming as received;
@@ -16,7 +16,7 @@ ghost use Rattle.state_tables.specs.Connections.{IsLawfulNext};
 ghost use Rattle.due_queues.specs.Picks.{StandsFor};
 ghost use Rattle.due_queues.specs.Queues.{HaveQueues, IsPushed, IsShorter, queued, waits_in};
 
-use capture_form::Rule;
+use capture_form::RuleSet;
 use indexmap::IndexMap;
 use state_answers::Looked;
 use state_incoming::Deliveries;
@@ -33,7 +33,7 @@ pub struct Queues {
 }
 
 /// The delivery that the event completes, if it goes to one consumer.
-fn completed<'a>(rules: &[Rule], event: &Event<'a, '_>) -> Option<Incoming<'a>>
+fn completed<'a>(rules: &RuleSet, event: &Event<'a, '_>) -> Option<Incoming<'a>>
     ensures { option_map incoming_view result ≡ where_passes (λ d. not (is_of_multicast rules.now d)) (completed_by (event_view event.now)) }
 {
     match event.completed_by() {
@@ -70,7 +70,7 @@ fn first_waiting(queue: &mut VecDeque<u64>, deliveries: &Deliveries) -> Option<u
 impl Queues {
     /// No records.
     pub fn new(alloc: Global) -> Queues
-        ensures { (rules : List RuleText) → HaveQueues rules result [] }
+        ensures { (rules : RuleSet) → HaveQueues rules result [] }
     {
         Queues {
             alloc,
@@ -83,7 +83,7 @@ impl Queues {
     /// # Errors
     ///
     /// Memory was refused; then the queues may agree with no records any more.
-    pub fn follow(&mut self, rules: &[Rule], event: &Event) -> Result<(), AllocError>
+    pub fn follow(&mut self, rules: &RuleSet, event: &Event) -> Result<(), AllocError>
         ensures { OnOk result ((records : List Record) (r : Record) → IsLawfulNext rules.now records r (event_view event.now) →
             HaveQueues rules.now self.old (history rules.now records) →
             HaveQueues rules.now self.new (event_view event.now ∷ history rules.now records)) }
@@ -120,12 +120,12 @@ impl Queues {
 
     /// The delivery that was completed first of those that wait at the address. Those in front of it, which wait no more, go.
     pub fn first<'t>(&mut self, address: &[u8], looked: &Looked<'t>) -> Option<Incoming<'t>>
-        ensures kept { (rules : List RuleText) (records : List Record) → StandsFor rules looked.now (history rules records) →
+        ensures kept { (rules : RuleSet) (records : List Record) → StandsFor rules looked.now (history rules records) →
             HaveQueues rules self.old (history rules records) → HaveQueues rules self.new (history rules records) }
-        ensures first { (rules : List RuleText) (records : List Record) → StandsFor rules looked.now (history rules records) →
+        ensures first { (rules : RuleSet) (records : List Record) → StandsFor rules looked.now (history rules records) →
             HaveQueues rules self.old (history rules records) → IfSome (option_map incoming_view result) (λ d. (received.address_of d ≡ address.now)
             × (received.incoming_at d.number (history rules records) ≡ Some d) × (is_next_waiting rules (history rules records) d ≡ true)) }
-        ensures none { (rules : List RuleText) (records : List Record) → StandsFor rules looked.now (history rules records) →
+        ensures none { (rules : RuleSet) (records : List Record) → StandsFor rules looked.now (history rules records) →
             HaveQueues rules self.old (history rules records) → result ≡ None → waiting_queue rules address.now (history rules records) ≡ [] }
     {
         let Some(queue) = self.entries.get_mut(address) else {
