@@ -1,7 +1,7 @@
 -- The list of links that may be given more credit, behind one more event, and where it is empty.
 use Rattle.std.proofs.Common.{◌≡◌, refl, sym, ap, ◌∙◌, ℕ, ◌<◌, Bool, true, false, not, ◌&&◌, ◌||◌, ◌↔◌, inl, inr, List, ◌∷◌, length, Option, Some, None, option_map, if◌then◌else◌, ◌==◌, eqb-true, arith}
 use Rattle.std.specs.Prelude.{Contains}
-use Rattle.capture_form.specs.Rules.{RuleText}
+use Rattle.capture_form.specs.Rules.{RuleSet}
 use Rattle.trace_events.specs.Words.{is_some_and, where_passes}
 use Rattle.trace_events.specs.Event.{Event, Link, Incoming}
 use Rattle.trace_events.specs.declared.session.Session.{Session}
@@ -50,11 +50,11 @@ held-bits true true c u a s t is = absurd (by (not c || u && a || not (s || t)) 
     by b is = cc
 held-bits false ab c u a s t is = absurd cc
 
-pub undecided-held : (rules : List RuleText) (past : List Event) (d : Incoming) → is_undecided rules d past ≡ true → is_held rules past d ≡ true
+pub undecided-held : (rules : RuleSet) (past : List Event) (d : Incoming) → is_undecided rules d past ≡ true → is_held rules past d ≡ true
 undecided-held rules past d is =
     held-bits (is_live past d.link) (is_aborted d past) (is_complete d past) (is_unpaired rules d past) (always_had_consumer d past) (is_settled d past) (is_told d past) is
 
-pub decided-known : (rules : List RuleText) (past : List Event) → AreJudged rules past → first_broken rules past ≡ None → (table : Deliveries) → AreHeld rules table past
+pub decided-known : (rules : RuleSet) (past : List Event) → AreJudged rules past → first_broken rules past ≡ None → (table : Deliveries) → AreHeld rules table past
     → (l : Link) (o : Option ℕ) (d : IsDecidedOn rules past l o) → Knows table d.delivery
 decided-known rules past are lawful table were l o d = knows-held rules past are lawful table were d.delivery d.at (undecided-held rules past d.delivery d.undecided)
 
@@ -67,7 +67,7 @@ in-more c c' l more is = record {
   address = more.addresses l.address l.number ∙ is.address;
 }
 
-module _ (rules : List RuleText) (e : Event) (past : List Event) (are : AreJudged rules (e ∷ past)) (lawful : first_broken rules (e ∷ past) ≡ None)
+module _ (rules : RuleSet) (e : Event) (past : List Event) (are : AreJudged rules (e ∷ past)) (lawful : first_broken rules (e ∷ past) ≡ None)
     (before : Looked) (tables : AreOf rules before past) (ended : List Link) (all : (l : Link) → Contains ended l ↔ IsLiveLink l past × (ends_link l e ≡ true))
     (old without with_opened touched now : Credits) (ends : AreEndedIn ended old without) (opens : AreOpenedIn e without with_opened) (touches : AreTouchedIn e before with_opened touched)
     (wakes : AreWokenIn e before touched now) (has : HasCredits rules old past) where
@@ -141,7 +141,7 @@ module _ (rules : List RuleText) (e : Event) (past : List Event) (are : AreJudge
 -- ---- what may be given more credit
 
 -- without the candidate that may not
-pub have-dropped : (rules : List RuleText) (past : List Event) (c c' : Credits) (number : ℕ)
+pub have-dropped : (rules : RuleSet) (past : List Event) (c c' : Credits) (number : ℕ)
     → ((n : ℕ) → place_in c' n ≡ place_in c n) → ((session n : ℕ) → on_session c' session n ≡ on_session c session n) → ((address : List ℕ) (n : ℕ) → at_address c' address n ≡ at_address c address n)
     → ((n : ℕ) → waits c' n ≡ waits c n && not (number == n)) → ((l : Link) → l.number ≡ number → IsIn c l → IsToppable rules l past → ⊥) → HasCredits rules c past → HasCredits rules c' past
 have-dropped rules past c c' number places sessions addresses dropped none has l is =
@@ -163,7 +163,7 @@ have-dropped rules past c c' number places sessions addresses dropped none has l
     by there waits_it true same may = absurd (none l (sym (eqb-true number l.number same)) there (record { live = is.live; producer = is.producer; may = may }))
 
 -- no candidates
-pub none-lacking : (rules : List RuleText) (past : List Event) → AreJudged rules past → (c : Credits) → HasCredits rules c past → ((n : ℕ) → waits c n ≡ false) → none_lacks_credit rules past ≡ true
+pub none-lacking : (rules : RuleSet) (past : List Event) → AreJudged rules past → (c : Credits) → HasCredits rules c past → ((n : ℕ) → waits c n ≡ false) → none_lacks_credit rules past ≡ true
 none-lacking rules past are c has none =
     all-each (λ l. not (is_producer l && may_be_topped_up rules past l)) (live_links past)
     (λ l there. by l (live_links-live rules past are l there) (is_producer l) (may_be_topped_up rules past l) refl refl)

@@ -4,7 +4,7 @@ use Rattle.std.specs.Prelude.{Contains}
 use Rattle.std.specs.List.{cons_option}
 use Rattle.std.proofs.lemmas.Slice.Eq.{bytes_eq-Decides}
 use Rattle.amqp_perf.specs.Meaning.{Meaning, AnOpen, ABegin, AnAttach, AFlow, ATransfer, ADisposition, ADetach, AnEnd, AClose}
-use Rattle.capture_form.specs.Rules.{RuleText}
+use Rattle.capture_form.specs.Rules.{RuleSet}
 use Rattle.flow_counts.specs.Credit as counts
 use Rattle.flow_counts.specs.Credit.{LinkEvent, TheirFlow, OurFlow, Begun}
 use Rattle.trace_events.specs.Words.{is_some_and}
@@ -97,12 +97,12 @@ not-on l (Some m) below = by (m.number == l.number) refl
     by true same = absurd (omega (arith, eqb-true m.number l.number same, below m refl))
     by false other = refl
 
-pub event-link-known : (rules : List RuleText) (e : Event) (past : List Event) → AreJudged rules (e ∷ past) → (m : Link) → e.link ≡ Some m → known.IsKnown (e ∷ past) m
+pub event-link-known : (rules : RuleSet) (e : Event) (past : List Event) → AreJudged rules (e ∷ past) → (m : Link) → e.link ≡ Some m → known.IsKnown (e ∷ past) m
 event-link-known rules e past ((r, is), are) m on =
     subst (λ (x : Event). known.IsKnown (x ∷ past) m) (sym is) (known.event_known rules past r m (judged-stands rules past are) (subst (λ (x : Event). x.link ≡ Some m) is on))
 
 -- nothing stands on a link before its record
-pub link-unused : (rules : List RuleText) (past : List Event) (l : Link) → AreJudged rules past → length past ≤ l.number → link_events l past ≡ []
+pub link-unused : (rules : RuleSet) (past : List Event) (l : Link) → AreJudged rules past → length past ≤ l.number → link_events l past ≡ []
 link-unused rules [] l are after = refl
 link-unused rules (e ∷ past) l are after =
     let off : is_on_link l e ≡ false =
@@ -113,11 +113,11 @@ same_some : {A : Type 0} (a b : A) → Some a ≡ Some b → a ≡ b
 same_some a b is = cc
 
 -- the link of an event that has a live one's number is that one
-pub event-link : (rules : List RuleText) (e : Event) (past : List Event) → AreJudged rules (e ∷ past) → (l m : Link) → IsLiveLink l (e ∷ past) → e.link ≡ Some m → (m.number == l.number) ≡ true → m ≡ l
+pub event-link : (rules : RuleSet) (e : Event) (past : List Event) → AreJudged rules (e ∷ past) → (l m : Link) → IsLiveLink l (e ∷ past) → e.link ≡ Some m → (m.number == l.number) ≡ true → m ≡ l
 event-link rules e past are l m live on same =
     same_some m l (sym (event-link-known rules e past are m on).at ∙ (ap (λ n. link_at n (e ∷ past)) (eqb-true m.number l.number same) ∙ link-found rules (e ∷ past) are l live))
 
-pub on-link : (rules : List RuleText) (e : Event) (past : List Event) → AreJudged rules (e ∷ past) → (l : Link) → IsLiveLink l (e ∷ past) → is_on_link l e ≡ true → e.link ≡ Some l
+pub on-link : (rules : RuleSet) (e : Event) (past : List Event) → AreJudged rules (e ∷ past) → (l : Link) → IsLiveLink l (e ∷ past) → is_on_link l e ≡ true → e.link ≡ Some l
 on-link rules e past are l live on =
     let m = some_passes (λ (m : Link). m.number == l.number) e.link (and_first (is_some_and e.link (λ m. m.number == l.number)) (e.connection == l.session.connection) on) in
     m.1 ∙ ap Some (event-link rules e past are l m.0 live m.1 m.2)
@@ -141,7 +141,7 @@ drain-kinds first (Some (OurFlow count credit drain)) own is =
 drain-kinds first (Some (TheirFlow k None drain)) own is = inr (is, λ has. has)
 drain-kinds first (Some (TheirFlow k (Some c) drain)) own is = inl (k, (c, ap (λ b. Some (TheirFlow k (Some c) b)) is))
 
-module _ (rules : List RuleText) (e : Event) (past : List Event) (are : AreJudged rules (e ∷ past)) (l : Link) (h : IsDraining l (e ∷ past)) where
+module _ (rules : RuleSet) (e : Event) (past : List Event) (are : AreJudged rules (e ∷ past)) (l : Link) (h : IsDraining l (e ∷ past)) where
   drained : counts.is_draining (link_events l past) ≡ true → IsDraining l past
   drained was = elim (link-before rules e past are l h.live) [
     | inl own ↦
@@ -172,7 +172,7 @@ pub record IsWrittenFor (e : Event) (l : Link) : Type 0 where
   pub address : link.address ≡ l.address
   pub written : writes_part e ≡ true
 
-pub due-complete : (rules : List RuleText) (d : Incoming) (l : Link) (past : List Event) → is_due rules d l past ≡ true → is_complete d past ≡ true
+pub due-complete : (rules : RuleSet) (d : Incoming) (l : Link) (past : List Event) → is_due rules d l past ≡ true → is_complete d past ≡ true
 due-complete rules d l [] is = absurd cc
 due-complete rules d l (e ∷ past) is = by (completes d e) is (due-complete rules d l past)
   where
@@ -209,7 +209,7 @@ or-right : (b c : Bool) → c ≡ true → b || c ≡ true
 or-right true c is = refl
 or-right false c is = is
 
-module _ (rules : List RuleText) (e : Event) (past : List Event) (are : AreJudged rules (e ∷ past)) (lawful : first_broken rules (e ∷ past) ≡ None) where
+module _ (rules : RuleSet) (e : Event) (past : List Event) (are : AreJudged rules (e ∷ past)) (lawful : first_broken rules (e ∷ past) ≡ None) where
   kept : (d : Incoming) → Contains (incoming_deliveries past) d → IsKept past d
   kept d there = all_contained (IsKept past) (incoming_deliveries past) d (each_delivery (IsKept past) past (judged-kept rules past are.1).each) there
 

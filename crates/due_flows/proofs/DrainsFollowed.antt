@@ -1,7 +1,7 @@
 -- The list of links that drain, behind one more event, and where it is empty.
 use Rattle.std.proofs.Common.{◌≡◌, refl, sym, ap, ◌∙◌, ℕ, Bool, true, false, not, ◌&&◌, ◌↔◌, inl, inr, List, ◌∷◌, Some, None, nat_lt, ◌==◌, eqb-true}
 use Rattle.std.specs.Prelude.{Contains}
-use Rattle.capture_form.specs.Rules.{RuleText}
+use Rattle.capture_form.specs.Rules.{RuleSet}
 use Rattle.trace_events.specs.Event.{Event, Link}
 use Rattle.trace_events.specs.Ends.{ends_link}
 use Rattle.trace_events.specs.Link.{IsLiveLink, is_consumer, live_links}
@@ -19,7 +19,7 @@ use Rattle.due_flows.proofs.PartsDue.{consumer-found}
 use Rattle.due_flows.proofs.PartsFollowed.{not-ended}
 
 -- each link that drains stands with its address, and is a candidate where its drain may be answered
-abbrev pub Have : List RuleText → (List ℕ → ℕ → Bool) → (ℕ → Bool) → List Event → Type 0
+abbrev pub Have : RuleSet → (List ℕ → ℕ → Bool) → (ℕ → Bool) → List Event → Type 0
 Have rules stand wait past = (l : Link) → IsDraining l past → (stand l.address l.number ≡ true) × (may_be_drained rules past l ≡ true → wait l.number ≡ true)
 
 pub drained-bits : (draining credit nothing : Bool) → draining && credit && nothing ≡ true → (draining ≡ true) × (credit ≡ true) × (nothing ≡ true)
@@ -37,7 +37,7 @@ drained-all true true false p q r = absurd cc
 drained-all true false nothing p q r = absurd cc
 drained-all false credit nothing p q r = absurd cc
 
-module _ (rules : List RuleText) (e : Event) (past : List Event) (are : AreJudged rules (e ∷ past)) (lawful : first_broken rules (e ∷ past) ≡ None)
+module _ (rules : RuleSet) (e : Event) (past : List Event) (are : AreJudged rules (e ∷ past)) (lawful : first_broken rules (e ∷ past) ≡ None)
     (ended : List Link) (all : (l : Link) → Contains ended l ↔ IsLiveLink l past × (ends_link l e ≡ true))
     (stood stand₁ stand₂ stand : List ℕ → ℕ → Bool) (waited wait₁ wait₂ wait : ℕ → Bool)
     (stood₁ : (address : List ℕ) (n : ℕ) → has_number ended n ≡ false → stood address n ≡ true → stand₁ address n ≡ true)
@@ -77,7 +77,7 @@ module _ (rules : List RuleText) (e : Event) (past : List Event) (are : AreJudge
 
 -- ---- what may be answered
 
-pub drainable-draining : (rules : List RuleText) (l : Link) (past : List Event) → IsDrainable rules l past → IsDraining l past
+pub drainable-draining : (rules : RuleSet) (l : Link) (past : List Event) → IsDrainable rules l past → IsDraining l past
 drainable-draining rules l past h = record {
   live = h.live;
   consumer = h.consumer;
@@ -85,7 +85,7 @@ drainable-draining rules l past h = record {
 }
 
 -- without the candidate whose drain may not be answered
-pub have-dropped : (rules : List RuleText) (past : List Event) (stand stand' : List ℕ → ℕ → Bool) (wait wait' : ℕ → Bool) (number : ℕ) → ((address : List ℕ) (n : ℕ) → stand' address n ≡ stand address n)
+pub have-dropped : (rules : RuleSet) (past : List Event) (stand stand' : List ℕ → ℕ → Bool) (wait wait' : ℕ → Bool) (number : ℕ) → ((address : List ℕ) (n : ℕ) → stand' address n ≡ stand address n)
     → ((n : ℕ) → wait' n ≡ wait n && not (number == n)) → ((l : Link) → l.number ≡ number → IsDrainable rules l past → ⊥) → Have rules stand wait past → Have rules stand' wait' past
 have-dropped rules past stand stand' wait wait' number same dropped none has l draining =
     let h = has l draining in
@@ -100,7 +100,7 @@ have-dropped rules past stand stand' wait wait' number same dropped none has l d
     by waits true same may = absurd (none l (sym (eqb-true number l.number same)) (record { live = draining.live; consumer = draining.consumer; may = may }))
 
 -- no candidates
-pub none-draining : (rules : List RuleText) (past : List Event) → AreJudged rules past → (stand : List ℕ → ℕ → Bool) (wait : ℕ → Bool) → Have rules stand wait past → ((n : ℕ) → wait n ≡ false)
+pub none-draining : (rules : RuleSet) (past : List Event) → AreJudged rules past → (stand : List ℕ → ℕ → Bool) (wait : ℕ → Bool) → Have rules stand wait past → ((n : ℕ) → wait n ≡ false)
     → none_is_undrained rules past ≡ true
 none-draining rules past are stand wait has none =
     all-each (λ l. not (is_consumer l && may_be_drained rules past l)) (live_links past)
@@ -115,7 +115,7 @@ none-draining rules past are stand wait has none =
         cc
 
 -- the link of the number is found
-module _ (rules : List RuleText) (past : List Event) (are : AreJudged rules past) (n : ℕ) (l : Link) (own : l.number ≡ n) (h : IsDrainable rules l past) where
+module _ (rules : RuleSet) (past : List Event) (are : AreJudged rules past) (n : ℕ) (l : Link) (own : l.number ≡ n) (h : IsDrainable rules l past) where
   pub drainable-found : consumer_at n past ≡ Some l
   drainable-found = ap (λ m. consumer_at m past) (sym own) ∙ consumer-found rules past are l h.live h.consumer
 

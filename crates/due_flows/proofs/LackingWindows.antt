@@ -1,7 +1,7 @@
 -- The sessions that lack window behind one more event.
 use Rattle.std.proofs.Common.{◌≡◌, refl, sym, ap, ◌∙◌, ◌+◌, ◌≤◌, Bool, true, false, ◌&&◌, ◌⊎◌, inl, inr, List, [], ◌∷◌, length, Option, Some, None, nat_le, if◌then◌else◌, ◌==◌, leb-true, le-leb, arith}
 use Rattle.std.specs.List.{cons_option}
-use Rattle.capture_form.specs.Rules.{RuleText}
+use Rattle.capture_form.specs.Rules.{RuleSet}
 use Rattle.flow_counts.specs.declared.events.WindowEvent.{WindowEvent}
 use Rattle.flow_counts.specs.declared.events.WindowEvent.TheVariants.{TheirFlow, Sent, OurFlow, Received}
 use Rattle.flow_counts.specs.declared.profile.TheConstants.{RENEWAL_MARK}
@@ -40,7 +40,7 @@ first-has (Some OurFlow) is = absurd cc
 first-has (Some (TheirFlow expected window)) is = absurd cc
 
 -- nothing stands on a session before its record
-pub session-unused : (rules : List RuleText) (past : List Event) (s : Session) → AreJudged rules past → length past ≤ s.number → window_events s past ≡ []
+pub session-unused : (rules : RuleSet) (past : List Event) (s : Session) → AreJudged rules past → length past ≤ s.number → window_events s past ≡ []
 session-unused rules [] s are after = refl
 session-unused rules (e ∷ past) s are after =
     let off : is_on_session s e ≡ false =
@@ -53,7 +53,7 @@ session-unused rules (e ∷ past) s are after =
 abbrev pub IsLowered : Event → List Event → Session → Type 0
 IsLowered e past s = (e.session ≡ Some s) × (IsLiveOn s past × (runs_low past s ≡ true))
 
-module _ (rules : List RuleText) (e : Event) (past : List Event) (are : AreJudged rules (e ∷ past)) (s : Session) (lacking : IsLacking s (e ∷ past)) where
+module _ (rules : RuleSet) (e : Event) (past : List Event) (are : AreJudged rules (e ∷ past)) (s : Session) (lacking : IsLacking s (e ∷ past)) where
   fresh : {A : Type 0} → length past ≤ s.number → A
   fresh after =
       first-has (if is_on_session s e then window_event e.moment else None)

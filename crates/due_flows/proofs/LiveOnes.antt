@@ -2,7 +2,7 @@
 use Rattle.std.proofs.Common.{◌≡◌, refl, sym, ap, subst, ◌∙◌, ℕ, ◌<◌, Bool, true, false, not, ◌⊎◌, inl, inr, List, [], ◌∷◌, length, Option, Some, None, option_and_then, filter, find, if◌then◌else◌, ◌==◌, eqb-true, eq-eqb}
 use Rattle.std.specs.Prelude.{Contains, filter_map}
 use Rattle.std.specs.List.{AllByRecursion, cons_option}
-use Rattle.capture_form.specs.Rules.{RuleText}
+use Rattle.capture_form.specs.Rules.{RuleSet}
 use Rattle.trace_events.specs.Event.{Event, Link}
 use Rattle.trace_events.specs.declared.session.Session.{Session}
 use Rattle.trace_events.specs.Connection.{is_over}
@@ -48,7 +48,7 @@ last_of false last s is = is
 same_some : {A : Type 0} (a b : A) → Some a ≡ Some b → a ≡ b
 same_some a b is = cc
 
-module _ (rules : List RuleText) (past : List Event) (are : AreJudged rules past) where
+module _ (rules : RuleSet) (past : List Event) (are : AreJudged rules past) where
   -- ---- sessions
 
   pub live-known : (c channel : ℕ) (s : Session) → live_session c channel past ≡ Some s → IsKnown past s
@@ -107,7 +107,7 @@ at_link (Some m) n past l is = by (m.number == n) is
     by true is = inl is
     by false is = inr is
 
-module _ (rules : List RuleText) (e : Event) (past : List Event) (are : AreJudged rules (e ∷ past)) where
+module _ (rules : RuleSet) (e : Event) (past : List Event) (are : AreJudged rules (e ∷ past)) where
   -- a session that lives is the one that the event begins, or lived before
   pub session-before : (s : Session) → IsLiveOn s (e ∷ past) → (own_session e ≡ Some s) ⊎ IsLiveOn s past
   session-before s live = elim (at_session (own_session e) s.number past s (live-known rules (e ∷ past) are s.connection s.channel s live).at) [

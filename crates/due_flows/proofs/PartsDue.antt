@@ -1,7 +1,7 @@
 -- The part that is due on a link, by the tables.
 use Rattle.std.proofs.Common.{◌≡◌, refl, sym, ap, ◌∙◌, ℕ, ◌<◌, ◌≤◌, ◌%◌, ◌^◌, Bool, true, false, not, ◌&&◌, List, length, Option, Some, None, is_some, option_map, unwrap_or, if◌then◌else◌, arith}
 use Rattle.std.proofs.lemmas.List.{length-take}
-use Rattle.capture_form.specs.Rules.{RuleText}
+use Rattle.capture_form.specs.Rules.{RuleSet}
 use Rattle.trace_events.specs.Words.{where_passes}
 use Rattle.trace_events.specs.Event.{Event, Link, Incoming, Outgoing}
 use Rattle.trace_events.specs.Link.{IsLiveLink, is_consumer, is_live, link_at}
@@ -25,7 +25,7 @@ use Rattle.due_flows.specs.Standing.{IsStill, has_window}
 use Rattle.due_flows.proofs.LiveOnes.{link-found, link-lives}
 use Rattle.due_flows.proofs.PartsFollowed.{still-parts}
 
-module _ (rules : List RuleText) (past : List Event) (are : AreJudged rules past) where
+module _ (rules : RuleSet) (past : List Event) (are : AreJudged rules past) where
   -- a consumer's live link is found by its number
   pub consumer-found : (l : Link) → IsLiveLink l past → is_consumer l ≡ true → consumer_at l.number past ≡ Some l
   consumer-found l live consumer =
@@ -78,7 +78,7 @@ module _ (rules : List RuleText) (past : List Event) (are : AreJudged rules past
 
 -- ---- on a link that stands still, everything is found
 
-module _ (rules : List RuleText) (past : List Event) (are : AreJudged rules past) (n : ℕ) (l : Link) (own : l.number ≡ n) (h : IsStill l past) where
+module _ (rules : RuleSet) (past : List Event) (are : AreJudged rules past) (n : ℕ) (l : Link) (own : l.number ≡ n) (h : IsStill l past) where
   pub still-found : consumer_at n past ≡ Some l
   still-found = ap (λ m. consumer_at m past) (sym own) ∙ consumer-found rules past are l h.live (still-parts l past h).0.consumer
 

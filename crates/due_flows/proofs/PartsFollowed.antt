@@ -1,7 +1,7 @@
 -- The list of deliveries that may go on, behind one more event, and where it is empty.
 use Rattle.std.proofs.Common.{◌≡◌, refl, sym, ap, ◌∙◌, ℕ, Bool, true, false, not, ◌&&◌, ◌||◌, ◌↔◌, inl, inr, List, [], ◌∷◌, Some, None, is_some, ◌==◌, eqb-true}
 use Rattle.std.specs.Prelude.{Contains}
-use Rattle.capture_form.specs.Rules.{RuleText}
+use Rattle.capture_form.specs.Rules.{RuleSet}
 use Rattle.trace_events.specs.Words.{is_some_and}
 use Rattle.trace_events.specs.Event.{Event, Link, Outgoing}
 use Rattle.trace_events.specs.declared.session.Session.{Session}
@@ -42,7 +42,7 @@ never-both was true is ends = absurd (by was is)
     by false is = cc
 never-both was false is ends = cc
 
-module _ (rules : List RuleText) (e : Event) (past : List Event) (are : AreJudged rules (e ∷ past)) (ended : List Link)
+module _ (rules : RuleSet) (e : Event) (past : List Event) (are : AreJudged rules (e ∷ past)) (ended : List Link)
     (all : (l : Link) → Contains ended l ↔ IsLiveLink l past × (ends_link l e ≡ true)) where
   -- one that lived and lives on is none of them
   pub not-ended : (l : Link) → IsLiveLink l past → IsLiveLink l (e ∷ past) → has_number ended l.number ≡ false
@@ -63,7 +63,7 @@ module _ (rules : List RuleText) (e : Event) (past : List Event) (are : AreJudge
 abbrev pub Have : (ℕ → ℕ → Bool) → (ℕ → Bool) → List Event → Type 0
 Have stand wait past = (l : Link) → IsGoing l past → (stand l.session.number l.number ≡ true) × (has_window l.session past ≡ true → wait l.number ≡ true)
 
-module _ (rules : List RuleText) (e : Event) (past : List Event) (are : AreJudged rules (e ∷ past)) (lawful : first_broken rules (e ∷ past) ≡ None)
+module _ (rules : RuleSet) (e : Event) (past : List Event) (are : AreJudged rules (e ∷ past)) (lawful : first_broken rules (e ∷ past) ≡ None)
     (ended : List Link) (all : (l : Link) → Contains ended l ↔ IsLiveLink l past × (ends_link l e ≡ true))
     (stood stand₁ stand₂ stand : ℕ → ℕ → Bool) (waited wait₁ wait₂ wait : ℕ → Bool)
     (stood₁ : (session n : ℕ) → has_number ended n ≡ false → stood session n ≡ true → stand₁ session n ≡ true)
@@ -133,7 +133,7 @@ have-dropped past stand stand' wait wait' number same dropped none has l going =
         (record { live = going.live; still = ap (λ b. b && is_some (in_progress l past) && has_window l.session past) going.consumer ∙ (ap (λ b. b && has_window l.session past) going.going ∙ window) }))
 
 -- no candidates
-pub none-still : (rules : List RuleText) (past : List Event) → AreJudged rules past → (stand : ℕ → ℕ → Bool) (wait : ℕ → Bool) → Have stand wait past → ((n : ℕ) → wait n ≡ false) → none_stands_still past ≡ true
+pub none-still : (rules : RuleSet) (past : List Event) → AreJudged rules past → (stand : ℕ → ℕ → Bool) (wait : ℕ → Bool) → Have stand wait past → ((n : ℕ) → wait n ≡ false) → none_stands_still past ≡ true
 none-still rules past are stand wait has none =
     all-each (λ l. not (stands_still past l)) (live_links past) (λ l there. by l (live_links-live rules past are l there) (stands_still past l) refl)
   where

@@ -1,7 +1,7 @@
 -- The deliveries in progress behind one more event, and the window of their sessions.
 use Rattle.std.proofs.Common.{◌≡◌, refl, ap, ◌∙◌, ℕ, Bool, true, false, ◌⊎◌, inl, inr, List, ◌∷◌, Option, Some, None, is_some, nat_lt, if◌then◌else◌, ◌==◌, ltb-true, lt-ltb, arith}
 use Rattle.std.specs.List.{cons_option}
-use Rattle.capture_form.specs.Rules.{RuleText}
+use Rattle.capture_form.specs.Rules.{RuleSet}
 use Rattle.flow_counts.specs.declared.events.WindowEvent.{WindowEvent}
 use Rattle.flow_counts.specs.declared.events.WindowEvent.TheVariants.{TheirFlow, Sent, OurFlow, Received}
 use Rattle.flow_counts.specs.Window as counts
@@ -34,7 +34,7 @@ gains first begun (Some Sent) own has =
     let lt = ltb-true 0 (counts.window first begun (Sent ∷ own)) has in
     inr (lt-ltb 0 (counts.window first begun own) (omega (arith, lt)))
 
-module _ (rules : List RuleText) (e : Event) (past : List Event) (are : AreJudged rules (e ∷ past)) (s : Session) (live : IsLiveOn s (e ∷ past)) where
+module _ (rules : RuleSet) (e : Event) (past : List Event) (are : AreJudged rules (e ∷ past)) (s : Session) (live : IsLiveOn s (e ∷ past)) where
   on : (o : Option Session) → e.session ≡ o → is_some_and o (λ t. t.number == s.number) ≡ true → e.session ≡ Some s
   on None is same = absurd cc
   on (Some t) is same = is ∙ ap Some (event-session rules e past are s t live is same)
@@ -68,7 +68,7 @@ some-is : {A : Type 0} (o : Option A) → is_some o ≡ true → (x : A) × (o �
 some-is None is = absurd cc
 some-is (Some x) is = (x, refl)
 
-module _ (rules : List RuleText) (e : Event) (past : List Event) (are : AreJudged rules (e ∷ past)) (lawful : first_broken rules (e ∷ past) ≡ None)
+module _ (rules : RuleSet) (e : Event) (past : List Event) (are : AreJudged rules (e ∷ past)) (lawful : first_broken rules (e ∷ past) ≡ None)
     (l : Link) (h : IsGoing l (e ∷ past)) where
   -- the event begins the delivery or goes on with it
   part : (j : Outgoing) → in_progress l (e ∷ past) ≡ Some j → e.outgoing ≡ Some j → goes_on e ≡ true → IsPartOn e l

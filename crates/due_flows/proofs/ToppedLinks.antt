@@ -8,7 +8,7 @@ use Rattle.amqp_perf.specs.Meaning.{TransferFields, DispositionFields, flag}
 use Rattle.flow_counts.specs.declared.profile.TheConstants.{LOW_MARK}
 use Rattle.pairing_cert.specs.declared.note.Note.{Note}
 use Rattle.pairing_cert.specs.declared.note.Note.TheVariants as notes
-use Rattle.capture_form.specs.Rules.{RuleText}
+use Rattle.capture_form.specs.Rules.{RuleSet}
 use Rattle.trace_events.specs.Words.{is_number, is_some_and, where_passes}
 use Rattle.trace_events.specs.Event.{Event, Link, Incoming, Outgoing, is_on_link, is_on_session}
 use Rattle.trace_events.specs.declared.session.Session.{Session}
@@ -75,7 +75,7 @@ module _ {A : Type 0} where
 
 -- the event names the link, or opens it; tells or carries a delivery of it; is a producer's disposition on its session; or
 -- opens the first consumer's link of its address
-pub data Touches (rules : List RuleText) (e : Event) (past : List Event) (l : Link) : Type 0 where
+pub data Touches (rules : RuleSet) (e : Event) (past : List Event) (l : Link) : Type 0 where
   Names : e.link ≡ Some l → Touches rules e past l
   Tells : IsDecidedOn rules past l e.told → Touches rules e past l
   Carries : IsDecidedOn rules past l (carried_number e) → Touches rules e past l
@@ -138,7 +138,7 @@ or-other : (b c : Bool) → b ≡ false → b || c ≡ true → c ≡ true
 or-other true c none is = absurd cc
 or-other false c none is = is
 
-module _ (rules : List RuleText) (e : Event) (past : List Event) (are : AreJudged rules (e ∷ past)) (lawful : first_broken rules (e ∷ past) ≡ None)
+module _ (rules : RuleSet) (e : Event) (past : List Event) (are : AreJudged rules (e ∷ past)) (lawful : first_broken rules (e ∷ past) ≡ None)
     (l : Link) (now : IsLiveLink l (e ∷ past)) (was : IsLiveLink l past) where
   number : e.number ≡ length past
   number = judged-number rules e past are

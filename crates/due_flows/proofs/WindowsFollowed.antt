@@ -1,6 +1,6 @@
 -- The list of sessions that lack window, behind one more event, and where it is empty.
 use Rattle.std.proofs.Common.{◌≡◌, refl, sym, ap, ◌∙◌, ℕ, Bool, true, false, not, inl, inr, List, ◌∷◌, Option, Some, None, Result, Ok, Err, OnOk, if◌then◌else◌, ◌==◌, eq-eqb}
-use Rattle.capture_form.specs.Rules.{RuleText}
+use Rattle.capture_form.specs.Rules.{RuleSet}
 use Rattle.trace_events.specs.Event.{Event}
 use Rattle.trace_events.specs.declared.session.Session.{Session}
 use Rattle.trace_events.specs.Session.{IsLiveOn, live_sessions}
@@ -18,7 +18,7 @@ on_ok (Err e) f p = tt
 abbrev pub Have : (ℕ → Option Session) → List Event → Type 0
 Have at past = (s : Session) → IsLacking s past → at s.number ≡ Some s
 
-module _ (rules : List RuleText) (e : Event) (past : List Event) (are : AreJudged rules (e ∷ past)) (old new : ℕ → Option Session) (t : Session)
+module _ (rules : RuleSet) (e : Event) (past : List Event) (are : AreJudged rules (e ∷ past)) (old new : ℕ → Option Session) (t : Session)
     (stands : e.session ≡ Some t) (put : (n : ℕ) → new n ≡ (if t.number == n then Some t else old n)) where
   pub have-lowered : HasLowered (Some t) e past → Have old past → Have new (e ∷ past)
   have-lowered lowered has s lacking = put s.number ∙ elim (lowered s lacking) [
@@ -31,7 +31,7 @@ module _ (rules : List RuleText) (e : Event) (past : List Event) (are : AreJudge
       by false other was = was
 
 -- nothing under any number
-pub none-lacking : (rules : List RuleText) (past : List Event) → AreJudged rules past → (at : ℕ → Option Session) → Have at past → ((n : ℕ) → at n ≡ None) → none_lacks_window past ≡ true
+pub none-lacking : (rules : RuleSet) (past : List Event) → AreJudged rules past → (at : ℕ → Option Session) → Have at past → ((n : ℕ) → at n ≡ None) → none_lacks_window past ≡ true
 none-lacking rules past are at has none =
     all-each (λ s. not (lacks_window past s)) (live_sessions past) (λ s there. by s (live_sessions-live rules past are s there) (lacks_window past s) refl)
   where

@@ -2,7 +2,7 @@
 use Rattle.std.specs.Prelude.{◌≡◌, ℕ, Bool, true, false, List, Option, Some, option_map, nat_eq, ◌==◌}
 use Rattle.number_groups.specs.Groups.{is_member}
 use Rattle.number_groups.specs.OctetGroups as octets
-use Rattle.capture_form.specs.Rules.{RuleText}
+use Rattle.capture_form.specs.Rules.{RuleSet}
 use Rattle.trace_events.specs.declared.session.Session.{Session}
 use Rattle.trace_events.specs.Words.{is_some_and, where_passes}
 use Rattle.trace_events.specs.Event.{Event, Link, Incoming}
@@ -44,7 +44,7 @@ pub record IsIn (credits : Credits) (l : Link) : Type 0 where
   pub address : at_address credits l.address l.number ≡ true
 
 -- each producer's live link is, and is a candidate where it may be given more credit
-abbrev pub HasCredits : List RuleText → Credits → List Event → Type 0
+abbrev pub HasCredits : RuleSet → Credits → List Event → Type 0
 HasCredits rules credits past = (l : Link) → IsProducing l past → IsIn credits l × (may_be_topped_up rules past l ≡ true → waits credits l.number ≡ true)
 
 -- ---- what an event makes of it
@@ -75,12 +75,12 @@ pub record HasMore (earlier later : Credits) : Type 0 where
 pub record AreTouchedIn (e : Event) (before : Looked) (earlier later : Credits) : Type 0 where
   pub more : HasMore earlier later
   pub names : (l : Link) → e.link ≡ Some l → is_producer l ≡ true → waits later l.number ≡ true
-  pub tells : (rules : List RuleText) (past : List Event) → AreOf rules before past → (d : Incoming) → e.told ≡ Some d.number → Knows before.deliveries.now d → waits later d.link.number ≡ true
-  pub carries : (rules : List RuleText) (past : List Event) → AreOf rules before past → (d : Incoming) → carried_number e ≡ Some d.number → Knows before.deliveries.now d → waits later d.link.number ≡ true
+  pub tells : (rules : RuleSet) (past : List Event) → AreOf rules before past → (d : Incoming) → e.told ≡ Some d.number → Knows before.deliveries.now d → waits later d.link.number ≡ true
+  pub carries : (rules : RuleSet) (past : List Event) → AreOf rules before past → (d : Incoming) → carried_number e ≡ Some d.number → Knows before.deliveries.now d → waits later d.link.number ≡ true
 
 -- so are those of the session on which a producer's disposition stands, and of the address that has its first consumer
 pub record AreWokenIn (e : Event) (before : Looked) (earlier later : Credits) : Type 0 where
   pub more : HasMore earlier later
   pub settled : (session : ℕ) → settles e ≡ true → option_map (λ (s : Session). s.number) e.session ≡ Some session → (n : ℕ) → on_session earlier session n ≡ true → waits later n ≡ true
-  pub served : (rules : List RuleText) (past : List Event) → AreOf rules before past → (l : Link) → consumer_opened e ≡ Some l → has_consumer l.address past ≡ false
+  pub served : (rules : RuleSet) (past : List Event) → AreOf rules before past → (l : Link) → consumer_opened e ≡ Some l → has_consumer l.address past ≡ false
       → (n : ℕ) → at_address earlier l.address n ≡ true → waits later n ≡ true

@@ -1,7 +1,7 @@
 -- The links of consumers that drain (part 2 of the standard, section 2.6.7), and those whose drain may be answered.
 use Rattle.std.specs.Prelude.{◌≡◌, Bool, true, false, List, is_some}
 use Rattle.amqp_perf.specs.Meaning.{Meaning, AFlow, flag}
-use Rattle.capture_form.specs.Rules.{RuleText}
+use Rattle.capture_form.specs.Rules.{RuleSet}
 use Rattle.trace_events.specs.Words.{is_some_and}
 use Rattle.trace_events.specs.Event.{Event, Link}
 use Rattle.trace_events.specs.Said.{in_meaning, out_transfer}
@@ -16,7 +16,7 @@ pub record IsDraining (l : Link) (past : List Event) : Type 0 where
   pub draining : is_draining l past ≡ true
 
 -- a consumer's live link whose drain may be answered
-pub record IsDrainable (rules : List RuleText) (l : Link) (past : List Event) : Type 0 where
+pub record IsDrainable (rules : RuleSet) (l : Link) (past : List Event) : Type 0 where
   pub live : IsLiveLink l past
   pub consumer : is_consumer l ≡ true
   pub may : may_be_drained rules past l ≡ true

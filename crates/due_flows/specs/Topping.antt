@@ -1,7 +1,7 @@
 -- The links of producers that may be given more credit (part 2 of the standard, section 2.6.7; when: own rule), and the events
 -- that may bring one there.
 use Rattle.std.specs.Prelude.{◌≡◌, ℕ, Bool, true, false, List, Option, Some, None, option_and_then}
-use Rattle.capture_form.specs.Rules.{RuleText}
+use Rattle.capture_form.specs.Rules.{RuleSet}
 use Rattle.pairing_cert.specs.declared.note.Note.{Note}
 use Rattle.pairing_cert.specs.declared.note.Note.TheVariants as notes
 use Rattle.trace_events.specs.Words.{is_some_and, where_passes}
@@ -19,7 +19,7 @@ pub record IsProducing (l : Link) (past : List Event) : Type 0 where
   pub producer : is_producer l ≡ true
 
 -- which is to be given more credit
-pub record IsToppable (rules : List RuleText) (l : Link) (past : List Event) : Type 0 where
+pub record IsToppable (rules : RuleSet) (l : Link) (past : List Event) : Type 0 where
   pub live : IsLiveLink l past
   pub producer : is_producer l ≡ true
   pub may : may_be_topped_up rules past l ≡ true
@@ -42,7 +42,7 @@ abbrev pub consumer_opened : Event → Option Link
 consumer_opened e = where_passes is_consumer (own_link e)
 
 -- the event tells of, or carries, this undecided delivery of the link
-pub record IsDecidedOn (rules : List RuleText) (past : List Event) (l : Link) (number : Option ℕ) : Type 0 where
+pub record IsDecidedOn (rules : RuleSet) (past : List Event) (l : Link) (number : Option ℕ) : Type 0 where
   pub delivery : Incoming
   pub is : number ≡ Some delivery.number
   pub at : incoming_at delivery.number past ≡ Some delivery

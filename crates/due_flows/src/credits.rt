@@ -1,7 +1,7 @@
 //! The links of producers that may be given more credit (part 2 of the standard, section 2.6.7).
 
 ghost use Rattle.std.specs.Prelude.{◌≡◌, ◌∷◌, ℕ, List, [], Some, None, IfSome, OnOk, false, is_some, nat_eq, option_map, true};
-ghost use Rattle.capture_form.specs.Rules.{RuleText};
+ghost use Rattle.capture_form.specs.Rules.{RuleSet};
 ghost use Rattle.capture_form.specs.declared.records.Record.{Record};
 ghost use Rattle.number_groups.specs.Groups.{is_member};
 ghost use Rattle.number_groups.specs.OctetGroups as octets;
@@ -23,7 +23,7 @@ ghost use Rattle.trace_values.specs.View.{Events, event_view, link_view};
 use crate::candidates::Candidates;
 use crate::numbers::Numbers;
 use amqp_perf::Role;
-use capture_form::Rule;
+use capture_form::RuleSet;
 use number_groups::{Groups, OctetGroups};
 use pairing_cert::Note;
 use state_answers::Looked;
@@ -55,7 +55,7 @@ pub struct Credits {
 impl Credits {
     /// No records.
     pub fn new(alloc: Global) -> Credits
-        ensures { (rules : List RuleText) → HasCredits rules result [] }
+        ensures { (rules : RuleSet) → HasCredits rules result [] }
     {
         Credits {
             alloc,
@@ -72,7 +72,7 @@ impl Credits {
     ///
     /// Memory was refused; then a link that may be given more credit may not be found.
     pub fn follow(&mut self, event: &Event, before: &Looked<'_>) -> Result<(), AllocError>
-        ensures { OnOk result ((rules : List RuleText) (records : List Record) (r : Record) → IsLawfulNext rules records r (event_view event.now) →
+        ensures { OnOk result ((rules : RuleSet) (records : List Record) (r : Record) → IsLawfulNext rules records r (event_view event.now) →
             AreOf rules before.now (history rules records) → HasCredits rules self.old (history rules records) →
             HasCredits rules self.new (event_view event.now ∷ history rules records)) }
     {
@@ -133,7 +133,7 @@ impl Credits {
     }
 
     /// The live link with the lowest number that may be given more credit. Links below it are candidates no more.
-    pub fn first_due<'t>(&mut self, rules: &[Rule], looked: &Looked<'t>) -> Option<Link<'t>>
+    pub fn first_due<'t>(&mut self, rules: &RuleSet, looked: &Looked<'t>) -> Option<Link<'t>>
         ensures due { IfSome result (λ link. (past : Events) → AreOf rules.now looked.now past → IsToppable rules.now (link_view link) past) }
         ensures kept { (past : Events) → AreOf rules.now looked.now past → HasCredits rules.now self.old past → HasCredits rules.now self.new past }
         ensures quiet { (past : Events) → AreOf rules.now looked.now past → HasCredits rules.now self.old past → result ≡ None →
@@ -191,7 +191,7 @@ fn carried(event: &Event) -> Option<u64>
 
 /// The number of the link of the delivery of this number, where the tables have it.
 fn producer_of(number: Option<u64>, before: &Looked<'_>) -> Option<u64>
-    ensures { (rules : List RuleText) (past : Events) → AreOf rules before.now past → (d : law.Incoming) → number ≡ Some d.number →
+    ensures { (rules : RuleSet) (past : Events) → AreOf rules before.now past → (d : law.Incoming) → number ≡ Some d.number →
         Knows before.now.deliveries.now d → result ≡ Some d.link.number }
 {
     Some(before.deliveries.incoming_at(number?)?.link.number)
@@ -209,7 +209,7 @@ fn settled_session(event: &Event) -> Option<u64>
 
 /// The address of the consumer's link that the event opens, where it has none yet.
 fn served<'a>(event: &Event<'a, '_>, before: &Looked<'_>) -> Option<&'a [u8]>
-    ensures { (rules : List RuleText) (past : Events) → AreOf rules before.now past → (l : law.Link) → consumer_opened (event_view event.now) ≡ Some l →
+    ensures { (rules : RuleSet) (past : Events) → AreOf rules before.now past → (l : law.Link) → consumer_opened (event_view event.now) ≡ Some l →
         addresses.has_consumer l.address past ≡ false → option_map (λ octets. octets.now) result ≡ Some l.address }
 {
     match event.link {
@@ -229,7 +229,7 @@ fn served<'a>(event: &Event<'a, '_>, before: &Looked<'_>) -> Option<&'a [u8]>
 fn credit_due<'t>(
     number: u64,
     place: Option<Place>,
-    rules: &[Rule],
+    rules: &RuleSet,
     looked: &Looked<'t>,
 ) -> Option<Link<'t>>
     ensures due { IfSome result (λ link. (past : Events) → AreOf rules.now looked.now past → IsToppable rules.now (link_view link) past) }

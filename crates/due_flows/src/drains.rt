@@ -1,7 +1,7 @@
 //! The links of consumers whose drain may be answered (part 2 of the standard, section 2.6.7).
 
 ghost use Rattle.std.specs.Prelude.{◌≡◌, ◌∷◌, ℕ, List, [], Some, None, IfSome, OnOk, false, is_some, option_map, true};
-ghost use Rattle.capture_form.specs.Rules.{RuleText};
+ghost use Rattle.capture_form.specs.Rules.{RuleSet};
 ghost use Rattle.capture_form.specs.declared.records.Record.{Record};
 ghost use Rattle.trace_events.specs.Event as law;
 ghost use Rattle.trace_events.specs.History.{history};
@@ -18,7 +18,7 @@ ghost use Rattle.trace_values.specs.View.{Events, event_view, link_view};
 
 use crate::numbers::Numbers;
 use amqp_perf::Performative;
-use capture_form::Rule;
+use capture_form::RuleSet;
 use number_groups::OctetGroups;
 use state_answers::Looked;
 use std::alloc::{AllocError, Global};
@@ -38,7 +38,7 @@ pub struct Drains {
 impl Drains {
     /// No records.
     pub fn new(alloc: Global) -> Drains
-        ensures { (rules : List RuleText) → HasDrains rules result [] }
+        ensures { (rules : RuleSet) → HasDrains rules result [] }
     {
         Drains {
             alloc,
@@ -53,7 +53,7 @@ impl Drains {
     ///
     /// Memory was refused; then a drain that may be answered may not be found.
     pub fn follow(&mut self, event: &Event, before: &Looked<'_>) -> Result<(), AllocError>
-        ensures { OnOk result ((rules : List RuleText) (records : List Record) (r : Record) → IsLawfulNext rules records r (event_view event.now) →
+        ensures { OnOk result ((rules : RuleSet) (records : List Record) (r : Record) → IsLawfulNext rules records r (event_view event.now) →
             AreOf rules before.now (history rules records) → HasDrains rules self.old (history rules records) →
             HasDrains rules self.new (event_view event.now ∷ history rules records)) }
     {
@@ -107,7 +107,7 @@ impl Drains {
     }
 
     /// The live link with the lowest number whose drain may be answered. Links below it are candidates no more.
-    pub fn first_due<'t>(&mut self, rules: &[Rule], looked: &Looked<'t>) -> Option<Link<'t>>
+    pub fn first_due<'t>(&mut self, rules: &RuleSet, looked: &Looked<'t>) -> Option<Link<'t>>
         ensures due { IfSome result (λ link. (past : Events) → AreOf rules.now looked.now past → IsDrainable rules.now (link_view link) past) }
         ensures kept { (past : Events) → AreOf rules.now looked.now past → HasDrains rules.now self.old past → HasDrains rules.now self.new past }
         ensures quiet { (past : Events) → AreOf rules.now looked.now past → HasDrains rules.now self.old past → result ≡ None →
@@ -138,7 +138,7 @@ fn asks_drain(event: &Event) -> bool
 
 /// The link of this number, where its drain may be answered.
 #[inline(never)]
-fn drain_due<'t>(number: u64, rules: &[Rule], looked: &Looked<'t>) -> Option<Link<'t>>
+fn drain_due<'t>(number: u64, rules: &RuleSet, looked: &Looked<'t>) -> Option<Link<'t>>
     ensures due { IfSome result (λ link. (past : Events) → AreOf rules.now looked.now past → IsDrainable rules.now (link_view link) past) }
     ensures found { (past : Events) → AreOf rules.now looked.now past → (l : law.Link) → l.number ≡ number → IsDrainable rules.now l past →
         is_some result ≡ true }
@@ -152,7 +152,7 @@ fn drain_due<'t>(number: u64, rules: &[Rule], looked: &Looked<'t>) -> Option<Lin
 }
 
 /// The credit of a live link may be used up: its client asks for it, and nothing waits.
-fn may_be_drained(rules: &[Rule], link: &Link, looked: &Looked<'_>) -> bool
+fn may_be_drained(rules: &RuleSet, link: &Link, looked: &Looked<'_>) -> bool
     ensures { (past : Events) → AreOf rules.now looked.now past → IsLiveLink (link_view link.now) past →
         result ≡ may_be_drained rules.now past (link_view link.now) }
 {

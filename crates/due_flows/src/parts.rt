@@ -3,7 +3,7 @@
 
 ghost use Rattle.std.specs.Prelude.{◌≡◌, ◌∷◌, ◌<◌, ◌^◌, ℕ, List, [], Some, None, IfSome, OnOk, drop, false, is_some, length, nat_eq, option_map, true, if◌then◌else◌, ◌==◌};
 ghost use Rattle.number_groups.specs.Groups.{is_member};
-ghost use Rattle.capture_form.specs.Rules.{RuleText};
+ghost use Rattle.capture_form.specs.Rules.{RuleSet};
 ghost use Rattle.capture_form.specs.declared.records.Record.{Record};
 ghost use Rattle.trace_events.specs.Words.{is_some_and};
 ghost use Rattle.trace_events.specs.Event as law;
@@ -63,7 +63,7 @@ impl Parts {
     ///
     /// Memory was refused; then a delivery that may go on may not be found.
     pub fn follow(&mut self, event: &Event, before: &Looked<'_>) -> Result<(), AllocError>
-        ensures { OnOk result ((rules : List RuleText) (records : List Record) (r : Record) → IsLawfulNext rules records r (event_view event.now) →
+        ensures { OnOk result ((rules : RuleSet) (records : List Record) (r : Record) → IsLawfulNext rules records r (event_view event.now) →
             AreOf rules before.now (history rules records) → HasParts self.old (history rules records) →
             HasParts self.new (event_view event.now ∷ history rules records)) }
     {
@@ -120,9 +120,9 @@ impl Parts {
 
     /// The part that is due on the live link with the lowest number. Links below it are candidates no more.
     pub fn first_due<'t>(&mut self, looked: &Looked<'t>) -> Option<DuePart<'t>>
-        ensures due { IfSome result (λ part. (rules : List RuleText) (past : Events) → AreOf rules looked.now past → IsDuePart part past) }
-        ensures kept { (rules : List RuleText) (past : Events) → AreOf rules looked.now past → HasParts self.old past → HasParts self.new past }
-        ensures quiet { (rules : List RuleText) (past : Events) → AreOf rules looked.now past → HasParts self.old past → result ≡ None →
+        ensures due { IfSome result (λ part. (rules : RuleSet) (past : Events) → AreOf rules looked.now past → IsDuePart part past) }
+        ensures kept { (rules : RuleSet) (past : Events) → AreOf rules looked.now past → HasParts self.old past → HasParts self.new past }
+        ensures quiet { (rules : RuleSet) (past : Events) → AreOf rules looked.now past → HasParts self.old past → result ≡ None →
             none_stands_still past ≡ true }
     {
         while let Some(number) = self.links.first() {
@@ -158,8 +158,8 @@ fn granted(event: &Event) -> Option<u64>
 /// The part that is due on the link of this number.
 #[inline(never)]
 fn part_due<'t>(number: u64, looked: &Looked<'t>) -> Option<DuePart<'t>>
-    ensures due { IfSome result (λ part. (rules : List RuleText) (past : Events) → AreOf rules looked.now past → IsDuePart part past) }
-    ensures found { (rules : List RuleText) (past : Events) → AreOf rules looked.now past → (l : law.Link) → l.number ≡ number → IsStill l past →
+    ensures due { IfSome result (λ part. (rules : RuleSet) (past : Events) → AreOf rules looked.now past → IsDuePart part past) }
+    ensures found { (rules : RuleSet) (past : Events) → AreOf rules looked.now past → (l : law.Link) → l.number ≡ number → IsStill l past →
         is_some result ≡ true }
 {
     let link = looked.consumer_links.get(number)?;

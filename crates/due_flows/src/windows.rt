@@ -1,7 +1,7 @@
 //! The live sessions that may be to be given their window anew (part 2 of the standard, section 2.5.6).
 
 ghost use Rattle.std.specs.Prelude.{◌≡◌, ◌∷◌, List, [], Some, None, IfSome, OnOk, true};
-ghost use Rattle.capture_form.specs.Rules.{RuleText};
+ghost use Rattle.capture_form.specs.Rules.{RuleSet};
 ghost use Rattle.capture_form.specs.declared.records.Record.{Record};
 ghost use Rattle.trace_events.specs.declared.session.Session.{Session};
 ghost use Rattle.trace_events.specs.History.{history};
@@ -42,7 +42,7 @@ impl Windows {
     ///
     /// Memory was refused; then a session that lacks window may not be found.
     pub fn follow(&mut self, event: &Event, before: &Looked<'_>) -> Result<(), AllocError>
-        ensures { OnOk result ((rules : List RuleText) (records : List Record) (r : Record) → IsLawfulNext rules records r (event_view event.now) →
+        ensures { OnOk result ((rules : RuleSet) (records : List Record) (r : Record) → IsLawfulNext rules records r (event_view event.now) →
             AreOf rules before.now (history rules records) → HasLacking self.old (history rules records) →
             HasLacking self.new (event_view event.now ∷ history rules records)) }
     {
@@ -54,9 +54,9 @@ impl Windows {
 
     /// The live session with the lowest number whose window is to be given anew. Those below it are candidates no more.
     pub fn first_due(&mut self, looked: &Looked<'_>) -> Option<Session>
-        ensures due { IfSome result (λ s. (rules : List RuleText) (past : Events) → AreOf rules looked.now past → IsLacking s past) }
-        ensures kept { (rules : List RuleText) (past : Events) → AreOf rules looked.now past → HasLacking self.old past → HasLacking self.new past }
-        ensures quiet { (rules : List RuleText) (past : Events) → AreOf rules looked.now past → HasLacking self.old past → result ≡ None →
+        ensures due { IfSome result (λ s. (rules : RuleSet) (past : Events) → AreOf rules looked.now past → IsLacking s past) }
+        ensures kept { (rules : RuleSet) (past : Events) → AreOf rules looked.now past → HasLacking self.old past → HasLacking self.new past }
+        ensures quiet { (rules : RuleSet) (past : Events) → AreOf rules looked.now past → HasLacking self.old past → result ≡ None →
             none_lacks_window past ≡ true }
     {
         while let Some((number, candidate)) = self.sessions.first() {
@@ -71,7 +71,7 @@ impl Windows {
 
 /// The session on which the event stands, where it may lack window behind it.
 fn lowered(event: &Event, before: &Looked<'_>) -> Option<Session>
-    ensures known { (rules : List RuleText) (records : List Record) (r : Record) → IsLawfulNext rules records r (event_view event.now) →
+    ensures known { (rules : RuleSet) (records : List Record) (r : Record) → IsLawfulNext rules records r (event_view event.now) →
         AreOf rules before.now (history rules records) → HasLowered result (event_view event.now) (history rules records) }
     ensures stands { (s : Session) → result ≡ Some s → (event_view event.now).session ≡ Some s }
 {
@@ -86,8 +86,8 @@ fn lowered(event: &Event, before: &Looked<'_>) -> Option<Session>
 /// The live session of the candidate's channel, where it is the candidate and lacks window.
 #[inline(never)]
 fn lacking(candidate: Session, looked: &Looked<'_>) -> Option<Session>
-    ensures due { IfSome result (λ s. (rules : List RuleText) (past : Events) → AreOf rules looked.now past → IsLacking s past) }
-    ensures found { (rules : List RuleText) (past : Events) → AreOf rules looked.now past → IsLacking candidate past → result ≡ Some candidate }
+    ensures due { IfSome result (λ s. (rules : RuleSet) (past : Events) → AreOf rules looked.now past → IsLacking s past) }
+    ensures found { (rules : RuleSet) (past : Events) → AreOf rules looked.now past → IsLacking candidate past → result ≡ Some candidate }
 {
     let session = looked.live_session(candidate.connection, candidate.channel)?;
     if session.number == candidate.number && looked.given_window(session) <= RENEWAL_MARK {
