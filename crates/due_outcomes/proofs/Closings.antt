@@ -3,7 +3,7 @@ use Rattle.std.proofs.Common.{◌≡◌, refl, ap, ◌∙◌, inl, inr, Bool, tr
 use Rattle.std.specs.Prelude.{Contains}
 use Rattle.std.specs.List.{list_any}
 use Rattle.amqp_perf.specs.Meaning.{DispositionFields, flag}
-use Rattle.capture_form.specs.Rules.{RuleText}
+use Rattle.capture_form.specs.Rules.{RuleSet}
 use Rattle.trace_events.specs.Words.{is_number, is_some_and}
 use Rattle.trace_events.specs.Event.{Event, Incoming, Link, is_on_session}
 use Rattle.trace_events.specs.Said.{in_disposition, in_transfer}
@@ -57,7 +57,7 @@ id-settles e d is =
     (and-both says e.is_heard (and-both (says && e.is_heard) (is_on_session d.link.session e) (and-both (says && e.is_heard && is_on_session d.link.session e) (nat_lt d.number e.number) is).0).0).0
 
 -- of one of which something may be told before the event
-pub closing : (rules : List RuleText) (e : Event) (past : List Event) → AreJudged rules (e ∷ past) → (d : Incoming) → IsKept past d → is_closed past d ≡ false
+pub closing : (rules : RuleSet) (e : Event) (past : List Event) → AreJudged rules (e ∷ past) → (d : Incoming) → IsKept past d → is_closed past d ≡ false
     → (ended : List Link) → AreEnded e past ended → closes_incoming e d ≡ true → may_close e ended d.number ≡ true
 closing rules e past are d kept opens ended over =
     closes-by (is_number e.told d.number) (settles_part d e) (settles_id d e) (ends_link d.link e) (may_close e ended d.number ≡ true)

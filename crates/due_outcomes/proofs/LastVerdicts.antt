@@ -6,7 +6,7 @@ use Rattle.std.specs.List.{cons_option, list_any}
 use Rattle.amqp_perf.specs.declared.descriptor.Outcome.{Outcome}
 use Rattle.amqp_perf.specs.declared.descriptor.Outcome.TheVariants.{Modified}
 use Rattle.amqp_perf.specs.Meaning.{DispositionFields, flag}
-use Rattle.capture_form.specs.Rules.{RuleText}
+use Rattle.capture_form.specs.Rules.{RuleSet}
 use Rattle.trace_events.specs.Words.{is_some_and, or_else, where_passes}
 use Rattle.trace_events.specs.Event.{Event, Link, Incoming, Outgoing}
 use Rattle.trace_events.specs.Said.{out_transfer}
@@ -65,7 +65,7 @@ pub record IsSpokenOf (e : Event) (past : List Event) (d : Incoming) : Type 0 wh
 abbrev pub Gives : Event → List Event → Incoming → Link → Type 0
 Gives e past d l = (ends_link l e ≡ true) ⊎ ((is_some_and e.outgoing (λ j. names d.number j.note) ≡ true) ⊎ IsSpokenOf e past d)
 
-pub record IsLast (rules : List RuleText) (e : Event) (past : List Event) (d : Incoming) : Type 0 where
+pub record IsLast (rules : RuleSet) (e : Event) (past : List Event) (d : Incoming) : Type 0 where
   pub link : Link
   pub at : link_at link.number past ≡ Some link
   pub lives : IsLiveLink link past
@@ -92,7 +92,7 @@ off-now : (awaits gets : Bool) → awaits ≡ true → false ≡ awaits && gets 
 off-now true gets is off = sym off
 off-now false gets is off = absurd cc
 
-module _ (rules : List RuleText) (e : Event) (past : List Event) (are : AreJudged rules (e ∷ past)) (lawful : first_broken rules (e ∷ past) ≡ None) (d : Incoming) (kept : IsKept past d) where
+module _ (rules : RuleSet) (e : Event) (past : List Event) (are : AreJudged rules (e ∷ past)) (lawful : first_broken rules (e ∷ past) ≡ None) (d : Incoming) (kept : IsKept past d) where
   before : first_broken rules past ≡ None
   before = lawful-past rules e past lawful
 

@@ -2,7 +2,7 @@
 use Rattle.std.proofs.Common.{◌≡◌, refl, sym, ap, ◌∙◌, ◌<◌, ℕ, Bool, true, false, ◌&&◌, ◌||◌, not, List, [], ◌∷◌, length, Option, Some, None, bytes_eq}
 use Rattle.std.specs.List.{AllByRecursion, cons_option, list_any}
 use Rattle.std.proofs.lemmas.Slice.Eq.{bytes_eq-Decides}
-use Rattle.capture_form.specs.Rules.{RuleText}
+use Rattle.capture_form.specs.Rules.{RuleSet}
 use Rattle.trace_events.specs.Event.{Event, Link}
 use Rattle.trace_events.specs.Address.{is_consumer_of, has_consumer}
 use Rattle.trace_events.specs.Ends.{ends_link}
@@ -45,7 +45,7 @@ pub record IsLost (e : Event) (past : List Event) (address : List ℕ) : Type 0 
   pub lives : IsLiveLink link past
   pub ends : ends_link link e ≡ true
 
-pub lost-link : (rules : List RuleText) (e : Event) (past : List Event) → AreJudged rules (e ∷ past) → (address : List ℕ) → has_consumer address past ≡ true → has_consumer address (e ∷ past) ≡ false → IsLost e past address
+pub lost-link : (rules : RuleSet) (e : Event) (past : List Event) → AreJudged rules (e ∷ past) → (address : List ℕ) → has_consumer address past ≡ true → has_consumer address (e ∷ past) ≡ false → IsLost e past address
 lost-link rules e past are address had lost =
     let gone : list_any (is_consumer_of address (e ∷ past)) (links past) ≡ false = cons-none (is_consumer_of address (e ∷ past)) (own_link e) (links past) lost in
     let one = one-of (λ (l : Link). (link_at l.number past ≡ Some l) × (l.number < length past)) (is_consumer_of address past) (is_consumer_of address (e ∷ past)) (links past) (links-found rules past are.1) had gone in

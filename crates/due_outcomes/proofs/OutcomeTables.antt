@@ -2,7 +2,7 @@
 use Rattle.std.proofs.Common.{◌≡◌, refl, Bool, true, false, not, ◌&&◌, ◌||◌, List, Option, Some, None, is_some, option_map, if◌then◌else◌}
 use Rattle.std.specs.Prelude.{Contains}
 use Rattle.std.specs.List.{list_any}
-use Rattle.capture_form.specs.Rules.{RuleText}
+use Rattle.capture_form.specs.Rules.{RuleSet}
 use Rattle.trace_events.specs.Event.{Event, Incoming}
 use Rattle.trace_events.specs.Link.{is_live}
 use Rattle.trace_events.specs.Incoming.{incoming_at, incoming_deliveries, is_complete, is_settled, is_told}
@@ -38,7 +38,7 @@ knows-has table d knows = by (held_in table d.number) knows
     by None is = absurd cc
     by (Some x) is = refl
 
-module _ (rules : List RuleText) (past : List Event) (looked : Looked) (stands : AreLooked rules looked past) where
+module _ (rules : RuleSet) (past : List Event) (looked : Looked) (stands : AreLooked rules looked past) where
   are : AreJudged rules past
   are = judged-of rules past stands.0
 

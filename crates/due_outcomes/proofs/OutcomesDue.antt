@@ -1,7 +1,7 @@
 -- What the list of outcomes forgets is none of those that are to be told, and where it is empty none is left.
 use Rattle.std.proofs.Common.{◌≡◌, refl, sym, ap, subst, ◌∙◌, ℕ, Bool, true, false, not, ◌&&◌, List, Some, None, ◌==◌, eqb-true, if◌then◌else◌}
 use Rattle.std.specs.Prelude.{Contains}
-use Rattle.capture_form.specs.Rules.{RuleText}
+use Rattle.capture_form.specs.Rules.{RuleSet}
 use Rattle.trace_events.specs.Words.{is_some_and}
 use Rattle.trace_events.specs.Event.{Event, Incoming, Outgoing}
 use Rattle.trace_events.specs.Incoming.{address_of, incoming_deliveries, is_complete}
@@ -49,7 +49,7 @@ fate-bits false true true had is = absurd cc
 fate-bits false true false true is = refl
 fate-bits false true false false is = absurd cc
 
-module _ (rules : List RuleText) (past : List Event) (looked : Looked) (stands : AreLooked rules looked past) where
+module _ (rules : RuleSet) (past : List Event) (looked : Looked) (stands : AreLooked rules looked past) where
   are : AreJudged rules past
   are = judged-of rules past stands.0
 
@@ -123,7 +123,7 @@ module _ (rules : List RuleText) (past : List Event) (looked : Looked) (stands :
     }
 
 -- where it has no candidates, nothing is left
-pub none-left : (rules : List RuleText) (past : List Event) (untold : Untold) → HasUntold rules untold past → ((n : ℕ) → has untold.candidates n ≡ false) → none_is_untold rules past ≡ true
+pub none-left : (rules : RuleSet) (past : List Event) (untold : Untold) → HasUntold rules untold past → ((n : ℕ) → has untold.candidates n ≡ false) → none_is_untold rules past ≡ true
 none-left rules past untold kept none = all-each (λ d. not (is_to_tell rules past d)) (incoming_deliveries past) (λ d there. by d there (is_to_tell rules past d) refl)
   where
     by : (d : Incoming) → Contains (incoming_deliveries past) d → (b : Bool) → is_to_tell rules past d ≡ b → not b ≡ true

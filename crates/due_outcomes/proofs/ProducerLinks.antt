@@ -1,7 +1,7 @@
 -- Each delivery from a client is of a producer's link.
 use Rattle.std.proofs.Common.{◌≡◌, refl, sym, ap, subst, ◌∙◌, inl, inr, Bool, true, false, ◌∷◌, List, [], Option, Some, None, find, if◌then◌else◌, ◌==◌}
 use Rattle.std.specs.List.{cons_option}
-use Rattle.capture_form.specs.Rules.{RuleText}
+use Rattle.capture_form.specs.Rules.{RuleSet}
 use Rattle.capture_form.specs.declared.records.Record.{Record}
 use Rattle.trace_events.specs.Event.{Event, Incoming, Link}
 use Rattle.trace_events.specs.History.{judge, judge_unopened, moment_of}
@@ -22,17 +22,17 @@ same_some a b is = cc
 abbrev ComesFrom : Event → Type 0
 ComesFrom e = (l : Link) × (e.link ≡ Some l) × (is_producer l ≡ true)
 
-part-from : (rules : List RuleText) (past : List Event) (r : Record) (d : Incoming) → (judge rules past r).incoming ≡ Some d → ComesFrom (judge rules past r)
+part-from : (rules : RuleSet) (past : List Event) (r : Record) (d : Incoming) → (judge rules past r).incoming ≡ Some d → ComesFrom (judge rules past r)
 part-from rules past r d is =
     let from = comes_from (standing rules past r) (moment_of r.what) past d is in
     let unopened : (judge rules past r).link ≡ (standing rules past r).link =
     opened-link (judge_unopened rules past r.connection (moment_of r.what) r.note) past (comes_in (standing rules past r) (moment_of r.what) past d is) in
     (from.0, unopened ∙ from.1, from.2)
 
-judged-from : (rules : List RuleText) (e : Event) (past : List Event) → AreJudged rules (e ∷ past) → (d : Incoming) → e.incoming ≡ Some d → ComesFrom e
+judged-from : (rules : RuleSet) (e : Event) (past : List Event) → AreJudged rules (e ∷ past) → (d : Incoming) → e.incoming ≡ Some d → ComesFrom e
 judged-from rules e past ((r, is), are) d here = subst ComesFrom (sym is) (part-from rules past r d (sym (ap (λ (x : Event). x.incoming) is) ∙ here))
 
-pub judged-producer : (rules : List RuleText) (past : List Event) → AreJudged rules past → (d : Incoming) → incoming_at d.number past ≡ Some d → is_producer d.link ≡ true
+pub judged-producer : (rules : RuleSet) (past : List Event) → AreJudged rules past → (d : Incoming) → incoming_at d.number past ≡ Some d → is_producer d.link ≡ true
 judged-producer rules [] are d at = absurd cc
 judged-producer rules (e ∷ past) are d at = by (incoming_begun e) refl at (judged-producer rules past are.1)
   where

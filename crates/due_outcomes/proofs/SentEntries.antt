@@ -2,7 +2,7 @@
 use Rattle.std.proofs.Common.{◌≡◌, refl, ap, subst, ◌∙◌, inl, inr, ◌<◌, ◌≤◌, ℕ, List, [], ◌∷◌, length, Option, Some, None, find, option_map, if◌then◌else◌, ◌==◌, eqb-true, eq-eqb, ne_eqb, arith}
 use Rattle.std.specs.Prelude.{Contains}
 use Rattle.std.specs.List.{cons_option}
-use Rattle.capture_form.specs.Rules.{RuleText}
+use Rattle.capture_form.specs.Rules.{RuleSet}
 use Rattle.trace_events.specs.Event.{Event, Outgoing}
 use Rattle.trace_events.specs.Outgoing.{outgoing_begun, outgoing_deliveries}
 use Rattle.trace_events.proofs.Judged.{AreJudged, judged-number}
@@ -28,7 +28,7 @@ falling-more n m (Some j) js lt own h = (omega (arith, lt, own j refl), falling-
 begun-number : (e : Event) (j : Outgoing) → outgoing_begun e ≡ Some j → j.number ≡ e.number
 begun-number e j begun = eqb-true j.number e.number (passing (λ (x : Outgoing). x.number == e.number) e.outgoing j begun).1
 
-judged-falling : (rules : List RuleText) (past : List Event) → AreJudged rules past → AreFalling (length past) (outgoing_deliveries past)
+judged-falling : (rules : RuleSet) (past : List Event) → AreJudged rules past → AreFalling (length past) (outgoing_deliveries past)
 judged-falling rules [] are = tt
 judged-falling rules (e ∷ past) are =
     falling-more (length past) (length (e ∷ past)) (outgoing_begun e) (outgoing_deliveries past) (omega arith) (λ j is. begun-number e j is ∙ judged-number rules e past are)
@@ -52,10 +52,10 @@ contained-by n (k ∷ js) falls j there = elim (contains_cases k js j there) [
 ]
 
 -- each that has begun is found by its number
-pub contained-at : (rules : List RuleText) (past : List Event) → AreJudged rules past → (j : Outgoing) → Contains (outgoing_deliveries past) j → outgoing_at j.number past ≡ Some j
+pub contained-at : (rules : RuleSet) (past : List Event) → AreJudged rules past → (j : Outgoing) → Contains (outgoing_deliveries past) j → outgoing_at j.number past ≡ Some j
 contained-at rules past are j there = (contained-by (length past) (outgoing_deliveries past) (judged-falling rules past are) j there).1
 
 -- and so is what the table has of it
-pub contained-entry : (rules : List RuleText) (past : List Event) → AreJudged rules past → (table : SentDeliveries) → AreSent table past
+pub contained-entry : (rules : RuleSet) (past : List Event) → AreJudged rules past → (table : SentDeliveries) → AreSent table past
     → (j : Outgoing) → Contains (outgoing_deliveries past) j → sent_in table j.number ≡ Some (sent past j)
 contained-entry rules past are table were j there = were j.number ∙ ap (option_map (sent past)) (contained-at rules past are j there)

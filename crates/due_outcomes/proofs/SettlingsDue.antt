@@ -1,7 +1,7 @@
 -- What the tables say of deliveries to settle is what the law says, and what is forgotten is none of them.
 use Rattle.std.proofs.Common.{◌≡◌, refl, sym, ap, subst, ◌∙◌, ◌⊎◌, inl, inr, ℕ, Bool, true, false, not, ◌&&◌, ◌||◌, List, [], ◌∷◌, Option, Some, None, is_some, find, option_map, if◌then◌else◌, ◌==◌, eqb-true}
 use Rattle.std.specs.Prelude.{Contains}
-use Rattle.capture_form.specs.Rules.{RuleText}
+use Rattle.capture_form.specs.Rules.{RuleSet}
 use Rattle.trace_events.specs.Words.{is_some_and, where_passes}
 use Rattle.trace_events.specs.Event.{Event, Incoming, Outgoing}
 use Rattle.trace_events.specs.Disposition.{terminal_state}
@@ -81,7 +81,7 @@ settled-of past j opens decides closed = sym (settles-as past j) ∙ all (is_ope
     all : (a b c : Bool) → a ≡ true → b ≡ true → c ≡ true → a && b && c ≡ true
     all a b c is so too = rw (is, so, too) refl
 
-module _ (rules : List RuleText) (past : List Event) (looked : Looked) (stands : AreLooked rules looked past) where
+module _ (rules : RuleSet) (past : List Event) (looked : Looked) (stands : AreLooked rules looked past) where
   are : AreJudged rules past
   are = judged-of rules past stands.0
 

@@ -4,7 +4,7 @@ use Rattle.std.proofs.Common.{◌≡◌, refl, sym, ap, subst, ◌∙◌, ◌⊎
 use Rattle.std.specs.Prelude.{Contains}
 use Rattle.std.specs.List.{cons_option}
 use Rattle.amqp_perf.specs.Meaning.{DispositionFields}
-use Rattle.capture_form.specs.Rules.{RuleText}
+use Rattle.capture_form.specs.Rules.{RuleSet}
 use Rattle.trace_events.specs.Words.{is_some_and}
 use Rattle.trace_events.specs.Event.{Event, Incoming, Link, Outgoing}
 use Rattle.trace_events.specs.Link.{is_live}
@@ -59,7 +59,7 @@ pub some-of : (o : Option DispositionFields) → is_some_and o is_decisive ≡ t
 some-of None is = absurd cc
 some-of (Some fields) is = refl
 
-module _ (rules : List RuleText) (e : Event) (past : List Event) (are : AreJudged rules (e ∷ past)) (lawful : first_broken rules past ≡ None) where
+module _ (rules : RuleSet) (e : Event) (past : List Event) (are : AreJudged rules (e ∷ past)) (lawful : first_broken rules past ≡ None) where
   begun-all : (j : Outgoing) → Contains (outgoing_deliveries past) j → IsBegun past j
   begun-all j there = all_contained (IsBegun past) (outgoing_deliveries past) j (judged-begun rules past are.1 lawful) there
 

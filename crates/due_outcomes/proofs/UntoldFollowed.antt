@@ -7,7 +7,7 @@ use Rattle.number_groups.specs.Numbers.{is_among}
 use Rattle.number_groups.specs.OctetGroups as octets
 use Rattle.number_groups.specs.declared.groups.Groups.{Groups}
 use Rattle.number_groups.specs.declared.octet_groups.OctetGroups.{OctetGroups}
-use Rattle.capture_form.specs.Rules.{RuleText}
+use Rattle.capture_form.specs.Rules.{RuleSet}
 use Rattle.trace_events.specs.Words.{is_number, is_some_and}
 use Rattle.trace_events.specs.Event.{Event, Link, Incoming, Outgoing}
 use Rattle.trace_events.specs.Address.{has_multicast}
@@ -29,7 +29,7 @@ use Rattle.due_outcomes.proofs.LostConsumers.{lost-link}
 use Rattle.due_outcomes.proofs.UnderKeys.{if-such, or-first, or-last}
 use Rattle.due_outcomes.proofs.UntoldSteps.{IsFollowed}
 
-module _ (rules : List RuleText) (e : Event) (past : List Event) (are : AreJudged rules (e ∷ past)) (u0 u1 u2 u3 : Untold) (c3 c5 c6 c7 : Ascending) (spoken : List ℕ) (on_link : Groups ℕ) (ended : List Link) (carried : Option ℕ)
+module _ (rules : RuleSet) (e : Event) (past : List Event) (are : AreJudged rules (e ∷ past)) (u0 u1 u2 u3 : Untold) (c3 c5 c6 c7 : Ascending) (spoken : List ℕ) (on_link : Groups ℕ) (ended : List Link) (carried : Option ℕ)
     (completes1 : (n : ℕ) → has u1.candidates n ≡ (has u0.candidates n || is_some_and (completed_by e) (λ d. d.number == n)))
     (waits1 : IfSome (completed_by e) (λ d. is_of_multicast rules d ≡ false → waits_in u1 (address_of d) d.number ≡ true))
     (kept1 : (address : List ℕ) (n : ℕ) → waits_in u0 address n ≡ true → waits_in u1 address n ≡ true)

@@ -4,7 +4,7 @@ use Rattle.std.proofs.Common.{◌≡◌, refl, sym, ap, subst, ◌∙◌, inl, i
 use Rattle.std.specs.Prelude.{Contains}
 use Rattle.std.specs.List.{list_any}
 use Rattle.amqp_perf.specs.Meaning.{DispositionFields, flag}
-use Rattle.capture_form.specs.Rules.{RuleText}
+use Rattle.capture_form.specs.Rules.{RuleSet}
 use Rattle.pairing_cert.specs.declared.note.Note.{Note}
 use Rattle.pairing_cert.specs.declared.note.Note.TheVariants as notes
 use Rattle.trace_events.specs.Words.{is_some_and}
@@ -80,7 +80,7 @@ some-passes test None is = absurd cc
 some-passes test (Some x) is = (x, refl, is)
 
 -- what a list does where the event follows
-pub record IsFollowed (rules : List RuleText) (e : Event) (past : List Event) (earlier later : Untold) : Type 0 where
+pub record IsFollowed (rules : RuleSet) (e : Event) (past : List Event) (earlier later : Untold) : Type 0 where
   pub grown : Grows earlier.candidates later.candidates
   -- what the event completes is a candidate, and found where it waits
   pub completed : (d : Incoming) → completes d e ≡ true → has later.candidates d.number ≡ true
@@ -124,7 +124,7 @@ left-bits false true false true decided unsettled lives none so = let never : tr
 left-bits true live c r decided unsettled lives none so = absurd cc
 left-bits false false c r decided unsettled lives none so = absurd cc
 
-module _ (rules : List RuleText) (e : Event) (past : List Event) (are : AreJudged rules (e ∷ past)) (lawful : first_broken rules (e ∷ past) ≡ None)
+module _ (rules : RuleSet) (e : Event) (past : List Event) (are : AreJudged rules (e ∷ past)) (lawful : first_broken rules (e ∷ past) ≡ None)
     (earlier later : Untold) (was : HasUntold rules earlier past) (f : IsFollowed rules e past earlier later) where
   before : first_broken rules past ≡ None
   before = lawful-past rules e past lawful

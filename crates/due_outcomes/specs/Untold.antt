@@ -3,7 +3,7 @@ use Rattle.std.specs.Prelude.{◌≡◌, ℕ, Bool, true, false, List, Contains,
 use Rattle.number_groups.specs.Groups.{is_member}
 use Rattle.number_groups.specs.OctetGroups as octets
 use Rattle.number_groups.specs.declared.groups.Groups.{Groups}
-use Rattle.capture_form.specs.Rules.{RuleText}
+use Rattle.capture_form.specs.Rules.{RuleSet}
 use Rattle.trace_events.specs.Event.{Event, Incoming, Outgoing}
 use Rattle.trace_events.specs.Incoming.{address_of, incoming_deliveries}
 use Rattle.trace_events.specs.Outgoing.{noted, outgoing_deliveries}
@@ -27,7 +27,7 @@ KeepsOn earlier later = (j : Outgoing) (n : ℕ) → IsOn earlier j n → IsOn l
 
 -- Every delivery of which an outcome is to be told is a candidate. Each that waits is found by its address; and each of
 -- anycast of which something may still be told, by the links of the deliveries to clients that carry it.
-pub record HasUntold (rules : List RuleText) (untold : Untold) (past : List Event) : Type 0 where
+pub record HasUntold (rules : RuleSet) (untold : Untold) (past : List Event) : Type 0 where
   pub due : (d : Incoming) → Contains (incoming_deliveries past) d → is_to_tell rules past d ≡ true → has untold.candidates d.number ≡ true
   pub waiting : (d : Incoming) → Contains (incoming_deliveries past) d → is_waiting rules d past ≡ true → waits_in untold (address_of d) d.number ≡ true
   pub carried : (j : Outgoing) → Contains (outgoing_deliveries past) j → (d : Incoming) → noted j.note past ≡ Some d → is_of_multicast rules d ≡ false → is_closed past d ≡ false

@@ -11,7 +11,7 @@ ghost use Rattle.trace_values.specs.View.{incoming_view};
 ghost use Rattle.due_outcomes.specs.DueOutcomes.{IsDueOutcome};
 ghost use Rattle.due_outcomes.specs.LookedTables.{AreLooked};
 
-use capture_form::Rule;
+use capture_form::RuleSet;
 use pairing_cert::Why;
 use state_answers::Looked;
 use trace_judge::{Told, first_row, may_be_told};
@@ -29,7 +29,7 @@ pub struct DueOutcome<'t> {
 /// The outcome of the delivery of the number, if one is to be told.
 #[inline(never)]
 pub(crate) fn outcome_of<'t>(
-    rules: &[Rule],
+    rules: &RuleSet,
     looked: &Looked<'t>,
     number: u64,
 ) -> Option<DueOutcome<'t>>

@@ -3,7 +3,7 @@
 ghost use Rattle.std.specs.Prelude.{◌≡◌, ◌<◌, ◌∷◌, ◌&&◌, ◌==◌, ◌⊎◌, ℕ, not, List, [], true, false, None, Some, IfSome, OnOk, is_some, option_map};
 ghost use Rattle.std.specs.List.{list_any};
 ghost use Rattle.std.specs.Option.{option_copied};
-ghost use Rattle.capture_form.specs.Rules.{RuleText};
+ghost use Rattle.capture_form.specs.Rules.{RuleSet};
 ghost use Rattle.capture_form.specs.declared.records.Record.{Record};
 ghost use Rattle.trace_events.specs.History.{history};
 ghost use Rattle.trace_events.specs.Event as events;
@@ -70,7 +70,7 @@ impl Unsettled {
     ///
     /// Memory was refused; then the list may agree with no records any more.
     pub fn follow(&mut self, event: &Event, before: &Looked<'_>) -> Result<(), AllocError>
-        ensures { OnOk result ((rules : List RuleText) (records : List Record) (r : Record) → IsLawfulNext rules records r (event_view event.now) →
+        ensures { OnOk result ((rules : RuleSet) (records : List Record) (r : Record) → IsLawfulNext rules records r (event_view event.now) →
             AreLooked rules before.now (history rules records) →
             HasUnsettled self.old (history rules records) → HasUnsettled self.new (event_view event.now ∷ history rules records)) }
     {
@@ -86,11 +86,11 @@ impl Unsettled {
     /// answered stays a candidate. Decided deliveries that carry one of which more is to be told are parked, each once; where
     /// memory is refused for that, it passes over them.
     pub fn first_due<'t>(&mut self, looked: &Looked<'t>) -> Option<Outgoing<'t>>
-        ensures due { IfSome result (λ j. (rules : List RuleText) (records : List Record) → AreLooked rules looked.now (history rules records) →
+        ensures due { IfSome result (λ j. (rules : RuleSet) (records : List Record) → AreLooked rules looked.now (history rules records) →
             IsDueSettling (history rules records) (outgoing_view j)) }
-        ensures kept { (rules : List RuleText) (records : List Record) → AreLooked rules looked.now (history rules records) →
+        ensures kept { (rules : RuleSet) (records : List Record) → AreLooked rules looked.now (history rules records) →
             HasUnsettled self.old (history rules records) → HasUnsettled self.new (history rules records) }
-        ensures quiet { result ≡ None → (rules : List RuleText) (records : List Record) → AreLooked rules looked.now (history rules records) →
+        ensures quiet { result ≡ None → (rules : RuleSet) (records : List Record) → AreLooked rules looked.now (history rules records) →
             HasUnsettled self.old (history rules records) → none_is_unsettled (history rules records) ≡ true }
     {
         self.sort_lowest(looked);
@@ -143,7 +143,7 @@ impl Unsettled {
 
     /// The lowest are forgotten or parked, up to one that is to be settled.
     fn sort_lowest(&mut self, looked: &Looked<'_>)
-        ensures { (rules : List RuleText) (records : List Record) → AreLooked rules looked.now (history rules records) →
+        ensures { (rules : RuleSet) (records : List Record) → AreLooked rules looked.now (history rules records) →
             HasUnsettled self.old (history rules records) → HasUnsettled self.new (history rules records) }
     {
         while let Some(number) = self.candidates.first() {

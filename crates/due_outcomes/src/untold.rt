@@ -4,7 +4,7 @@ ghost use Rattle.std.specs.Prelude.{◌≡◌, ◌<◌, ◌∷◌, ◌||◌, ◌
 ghost use Rattle.std.specs.List.{list_any};
 ghost use Rattle.number_groups.specs.Numbers.{is_among};
 ghost use Rattle.number_groups.specs.OctetGroups as octets;
-ghost use Rattle.capture_form.specs.Rules.{RuleText};
+ghost use Rattle.capture_form.specs.Rules.{RuleSet};
 ghost use Rattle.capture_form.specs.declared.records.Record.{Record};
 ghost use Rattle.trace_duties.specs.Quiet.{none_is_untold};
 ghost use Rattle.trace_events.specs.Address.{has_multicast};
@@ -28,7 +28,7 @@ ghost use Rattle.due_outcomes.specs.Untold.{HasUntold, IsOn, KeepsOn, waits_in};
 
 use crate::outcome::{DueOutcome, outcome_of};
 use crate::sent_numbers::add_of_links;
-use capture_form::Rule;
+use capture_form::RuleSet;
 use number_groups::{Ascending, Groups, OctetGroups};
 use pairing_cert::Note;
 use state_answers::Looked;
@@ -122,7 +122,7 @@ fn remove_under(carried: &mut Groups<u64>, carrier: &Outgoing, number: u64)
 impl Untold {
     /// No records.
     pub fn new(alloc: Global) -> Untold
-        ensures { (rules : List RuleText) → HasUntold rules result [] }
+        ensures { (rules : RuleSet) → HasUntold rules result [] }
     {
         Untold {
             alloc,
@@ -141,7 +141,7 @@ impl Untold {
     /// Memory was refused; then the list may agree with no records any more.
     pub fn follow(
         &mut self,
-        rules: &[Rule],
+        rules: &RuleSet,
         event: &Event,
         before: &Looked<'_>,
     ) -> Result<(), AllocError>
@@ -163,7 +163,7 @@ impl Untold {
 
     /// The outcome that is to be told next: of the delivery with the lowest number, by the first reason that applies. Those of
     /// which none is to be told are forgotten; the one that is answered stays a candidate.
-    pub fn first_due<'t>(&mut self, rules: &[Rule], looked: &Looked<'t>) -> Option<DueOutcome<'t>>
+    pub fn first_due<'t>(&mut self, rules: &RuleSet, looked: &Looked<'t>) -> Option<DueOutcome<'t>>
         ensures due { IfSome result (λ due. (records : List Record) → AreLooked rules.now looked.now (history rules.now records) →
             IsDueOutcome rules.now (history rules.now records) (incoming_view due.delivery) due.why (told_view due.told)) }
         ensures kept { (records : List Record) → AreLooked rules.now looked.now (history rules.now records) →
@@ -181,7 +181,7 @@ impl Untold {
     }
 
     /// What the event completes is a candidate, and found by its address while it may wait.
-    fn complete(&mut self, rules: &[Rule], event: &Event) -> Result<(), AllocError>
+    fn complete(&mut self, rules: &RuleSet, event: &Event) -> Result<(), AllocError>
         ensures completed { OnOk result ((n : ℕ) → has self.new.candidates n
             ≡ (has self.old.candidates n || is_some_and (completed_by (event_view event.now)) (λ d. d.number == n))) }
         ensures waits { OnOk result (IfSome (completed_by (event_view event.now)) (λ d. fates.is_of_multicast rules.now d ≡ false →
@@ -200,7 +200,7 @@ impl Untold {
     }
 
     /// What goes to a consumer with the event waits no more, and if it is of anycast, it is found by the link that it goes over.
-    fn pair(&mut self, rules: &[Rule], event: &Event) -> Result<(), AllocError>
+    fn pair(&mut self, rules: &RuleSet, event: &Event) -> Result<(), AllocError>
         ensures begun { OnOk result (IfSome (outgoing_begun (event_view event.now)) (λ j. (n : ℕ) → names n j.note ≡ true →
             has_multicast rules.now j.link.address ≡ false → IsOn self.new.carried j n)) }
         ensures kept { OnOk result (KeepsOn self.old.carried self.new.carried) }

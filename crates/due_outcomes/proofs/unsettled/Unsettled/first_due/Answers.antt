@@ -1,5 +1,5 @@
 use Rattle.std.proofs.Common.{◌≡◌, refl, sym, ℕ, List, Option, Some, None, IfSome, option_map}
-use Rattle.capture_form.specs.Rules.{RuleText}
+use Rattle.capture_form.specs.Rules.{RuleSet}
 use Rattle.capture_form.specs.declared.records.Record.{Record}
 use Rattle.trace_events.specs.History.{history}
 use Rattle.trace_values.specs.View.{outgoing_view}
@@ -11,7 +11,7 @@ use Rattle.due_outcomes.proofs.SettlingsDue.{due-is, none-left}
 use Rattle.due_outcomes.proofs.unsettled.Unsettled.first_due.Goals as goal
 
 due-by : (looked : Looked) (n : ℕ) (o : Option Outgoing) → option_map outgoing_view o ≡ due_in looked.sent.now looked.deliveries.now n
-    → IfSome o (λ j. (rules : List RuleText) (records : List Record) → AreLooked rules looked (history rules records) → IsDueSettling (history rules records) (outgoing_view j))
+    → IfSome o (λ j. (rules : RuleSet) (records : List Record) → AreLooked rules looked (history rules records) → IsDueSettling (history rules records) (outgoing_view j))
 due-by looked n None is = tt
 due-by looked n (Some j) is = λ rules records stands. due-is rules (history rules records) looked stands n (outgoing_view j) (sym is)
 

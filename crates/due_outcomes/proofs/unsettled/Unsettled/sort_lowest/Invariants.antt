@@ -1,5 +1,5 @@
 use Rattle.std.proofs.Common.{List}
-use Rattle.capture_form.specs.Rules.{RuleText}
+use Rattle.capture_form.specs.Rules.{RuleSet}
 use Rattle.capture_form.specs.declared.records.Record.{Record}
 use Rattle.trace_events.specs.History.{history}
 use Rattle.number_groups.specs.Ascending.{count_of}
@@ -8,7 +8,7 @@ use Rattle.due_outcomes.specs.Unsettled.{HasUnsettled}
 use Rattle.due_outcomes.proofs.unsettled.Unsettled.sort_lowest.Given as goal
 
 abbrev pub invariant-loop-number : goal.invariant-loop-number
-invariant-loop-number l = (rules : List RuleText) (records : List Record) → AreLooked rules l.looked (history rules records) → HasUnsettled l.fn.self (history rules records)
+invariant-loop-number l = (rules : RuleSet) (records : List Record) → AreLooked rules l.looked (history rules records) → HasUnsettled l.fn.self (history rules records)
     → HasUnsettled l.self (history rules records)
 
 abbrev pub decreases-loop-number : goal.decreases-loop-number
