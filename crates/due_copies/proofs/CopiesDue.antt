@@ -4,7 +4,7 @@ use Rattle.std.specs.Prelude.{Contains, is_none}
 use Rattle.std.specs.List.{list_all}
 use Rattle.std.proofs.lemmas.Bool.{le-ltb}
 use Rattle.pairing_cert.specs.declared.note.Note.TheVariants as notes
-use Rattle.capture_form.specs.Rules.{RuleText}
+use Rattle.capture_form.specs.Rules.{RuleSet}
 use Rattle.trace_events.specs.Words.{is_some_and, where_passes}
 use Rattle.trace_events.specs.Event.{Event, Link, Incoming}
 use Rattle.trace_events.specs.Credit.{link_credit}
@@ -57,13 +57,13 @@ same_link : (k l : Link) → Some k ≡ Some l → k ≡ l
 same_link k l is = cc
 
 -- live links of one number are one
-pub live-same : (rules : List RuleText) (past : List Event) → AreJudged rules past → (k l : Link) → IsLiveLink k past → IsLiveLink l past → k.number ≡ l.number → k ≡ l
+pub live-same : (rules : RuleSet) (past : List Event) → AreJudged rules past → (k l : Link) → IsLiveLink k past → IsLiveLink l past → k.number ≡ l.number → k ≡ l
 live-same rules past are k l one other number =
     same_link k l (sym (link-found rules past are k one) ∙ (ap (λ n. link_at n past) number ∙ link-found rules past are l other))
 
 -- ---- the delivery of a copy is kept
 
-module _ (rules : List RuleText) (past : List Event) (are : AreJudged rules past) where
+module _ (rules : RuleSet) (past : List Event) (are : AreJudged rules past) where
   pub found-of : (d : Incoming) → Contains (incoming_deliveries past) d → incoming_at d.number past ≡ Some d
   found-of d there = (all_contained (IsKept past) (incoming_deliveries past) d (each_delivery (IsKept past) past (judged-kept rules past are).each) there).at
 
@@ -98,7 +98,7 @@ module _ (rules : List RuleText) (past : List Event) (are : AreJudged rules past
         by x there true unsent = ap (λ t. t && true) (later x (record { live = live; found = found-of x there; unsent = unsent }))
 
 -- where none is listed none is unsent
-pub one-unlisted : (rules : List RuleText) (past : List Event) (are : AreJudged rules past) (l : Link) (all : Lists) → Have rules all past → IsLiveLink l past
+pub one-unlisted : (rules : RuleSet) (past : List Event) (are : AreJudged rules past) (l : Link) (all : Lists) → Have rules all past → IsLiveLink l past
     → ((c : ℕ) → copy_on all l.number c ≡ None) → has_unsent rules l past ≡ false
 one-unlisted rules past are l all have live none = by (has_unsent rules l past) refl
   where
@@ -111,7 +111,7 @@ one-unlisted rules past are l all have live none = by (has_unsent rules l past) 
         absurd cc
 
 -- one whose copy is listed, and is not unsent, is listed no more
-pub have-passed : (rules : List RuleText) (past : List Event) (are : AreJudged rules past) (l : Link) → IsLiveLink l past → (all : Lists) (copies : ByLink) (c n : ℕ)
+pub have-passed : (rules : RuleSet) (past : List Event) (are : AreJudged rules past) (l : Link) → IsLiveLink l past → (all : Lists) (copies : ByLink) (c n : ℕ)
     → ((link other : ℕ) → copy_at copies link other ≡ (if l.number == link && (c == other) then None else copy_on all link other))
     → copy_on all l.number c ≡ Some n → ((d : Incoming) → d.number ≡ n → IsUnsentOn rules l d past → ⊥)
     → Have rules all past → Have rules (record all { copies = copies }) past
@@ -137,7 +137,7 @@ have-passed rules past are l live all copies c n removed at none have = record {
 
 -- ---- candidates
 
-some-of : (rules : List RuleText) (past : List Event) (l : Link) (d : Incoming) → IsUnsentOn rules l d past → has_unsent rules l past ≡ true
+some-of : (rules : RuleSet) (past : List Event) (l : Link) (d : Incoming) → IsUnsentOn rules l d past → has_unsent rules l past ≡ true
 some-of rules past l d h = by (has_unsent rules l past) refl
   where
     by : (b : Bool) → has_unsent rules l past ≡ b → b ≡ true
@@ -147,7 +147,7 @@ some-of rules past l d h = by (has_unsent rules l past) refl
         ∙ h.unsent
 
 -- without a candidate that may be sent none
-pub have-dropped : (rules : List RuleText) (past : List Event) (all : Lists) (links : Candidates) (completion number : ℕ)
+pub have-dropped : (rules : RuleSet) (past : List Event) (all : Lists) (links : Candidates) (completion number : ℕ)
     → ((c n : ℕ) → has links c n ≡ has all.links c n && not (completion == c && (number == n)))
     → ((l : Link) → l.number ≡ number → IsReady rules l past → ⊥) → Have rules all past → Have rules (record all { links = links }) past
 have-dropped rules past all links completion number dropped none have = record {
@@ -188,7 +188,7 @@ held false None window credit none = by (window == 0) (credit == 0) refl refl
         let never : false ≡ true = sym none ∙ (ap (λ b. b && nat_lt 0 window && true) (positive credit there) ∙ ap (λ b. b && true) (positive window here)) in
         absurd cc
 
-pub none-due : (rules : List RuleText) (past : List Event) → AreJudged rules past → (all : Lists) → Have rules all past → ((c n : ℕ) → waits all c n ≡ false) → copies_are_sent rules past ≡ true
+pub none-due : (rules : RuleSet) (past : List Event) → AreJudged rules past → (all : Lists) → Have rules all past → ((c n : ℕ) → waits all c n ≡ false) → copies_are_sent rules past ≡ true
 none-due rules past are all have none =
     all-each (λ l. list_all (λ d. not (is_unsent rules d l past) || is_held_back rules past l d) (incoming_deliveries past)) (live_links past)
     (λ l lives. all-each (λ d. not (is_unsent rules d l past) || is_held_back rules past l d) (incoming_deliveries past)
@@ -208,7 +208,7 @@ none-due rules past are all have none =
 -- ---- the link of a candidate
 
 -- a copy is due to consumers alone
-due-consumer : (rules : List RuleText) (past : List Event) (d : Incoming) (l : Link) → is_due rules d l past ≡ true → is_consumer l ≡ true
+due-consumer : (rules : RuleSet) (past : List Event) (d : Incoming) (l : Link) → is_due rules d l past ≡ true → is_consumer l ≡ true
 due-consumer rules [] d l due = absurd cc
 due-consumer rules (e ∷ past) d l due = by (completes d e) due (due-consumer rules past d l)
   where
@@ -223,7 +223,7 @@ due-consumer rules (e ∷ past) d l due = by (completes d e) due (due-consumer r
     by true is rest = makes is
     by false is rest = rest is
 
-module _ (rules : List RuleText) (past : List Event) (are : AreJudged rules past) (n : ℕ) (l : Link) (own : l.number ≡ n) (h : IsReady rules l past) where
+module _ (rules : RuleSet) (past : List Event) (are : AreJudged rules past) (n : ℕ) (l : Link) (own : l.number ≡ n) (h : IsReady rules l past) where
   one : (d : Incoming) × IsUnsentOn rules l d past
   one = one-unsent rules past are l h.live h.some
 
@@ -238,5 +238,5 @@ module _ (rules : List RuleText) (past : List Event) (are : AreJudged rules past
 
 -- ---- the list
 
-pub have-of : (rules : List RuleText) (copies : UnsentCopies) (past : List Event) → HasUnsent rules copies past → Have rules copies.lists past
+pub have-of : (rules : RuleSet) (copies : UnsentCopies) (past : List Event) → HasUnsent rules copies past → Have rules copies.lists past
 have-of rules copies past h = record { ranked = h.ranked; listed = h.listed; stands = h.stands; waits = h.waits }

@@ -3,7 +3,7 @@ use Rattle.std.proofs.Common.{◌≡◌, refl, sym, ap, ◌∙◌, ◌↔◌, �
 use Rattle.std.specs.Prelude.{Contains, is_none}
 use Rattle.std.specs.List.{cons_option}
 use Rattle.flow_counts.specs.Credit as counts
-use Rattle.capture_form.specs.Rules.{RuleText}
+use Rattle.capture_form.specs.Rules.{RuleSet}
 use Rattle.trace_events.specs.Words.{is_some_and}
 use Rattle.trace_events.specs.Said.{out_transfer}
 use Rattle.amqp_perf.specs.Meaning.{flag}
@@ -36,7 +36,7 @@ use Rattle.due_copies.proofs.UnsentSteps.{IsComing, coming, was, not-named, unli
 
 -- what is listed is listed under the record that completed it; each unsent copy is, its link stands with its session, and is a
 -- candidate where it may be sent a delivery
-pub record Have (rules : List RuleText) (all : Lists) (past : List Event) : Type 0 where
+pub record Have (rules : RuleSet) (all : Lists) (past : List Event) : Type 0 where
   pub ranked : (link c n : ℕ) → copy_on all link c ≡ Some n → (d : Incoming) → d.number ≡ n → completion d past ≡ Some c
   pub listed : (l : Link) (d : Incoming) → IsUnsentOn rules l d past → (c : ℕ) → completion d past ≡ Some c → copy_on all l.number c ≡ Some d.number
   pub stands : (l : Link) (d : Incoming) → IsUnsentOn rules l d past → stands all l.session.number l.number ≡ true
@@ -58,7 +58,7 @@ all-three true true false p q r = absurd cc
 all-three true false c p q r = absurd cc
 all-three false b c p q r = absurd cc
 
-module _ (rules : List RuleText) (e : Event) (past : List Event) (are : AreJudged rules (e ∷ past)) (lawful : first_broken rules (e ∷ past) ≡ None)
+module _ (rules : RuleSet) (e : Event) (past : List Event) (are : AreJudged rules (e ∷ past)) (lawful : first_broken rules (e ∷ past) ≡ None)
     (ended : List Link) (all : (l : Link) → Contains ended l ↔ IsLiveLink l past × (ends_link l e ≡ true))
     (receivers : List Receiver) (given : AreReceivers rules e past receivers)
     (old l₁ l₂ l₃ l₄ new : Lists)

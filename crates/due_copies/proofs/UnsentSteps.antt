@@ -2,7 +2,7 @@
 use Rattle.std.proofs.Common.{◌≡◌, refl, sym, ap, subst, ◌∙◌, ℕ, suc, ◌-◌, ◌≤◌, Bool, true, false, not, ◌&&◌, ◌||◌, inl, inr, List, [], ◌∷◌, length, Option, Some, None, IfSome, is_some, bytes_eq, nat_lt, if◌then◌else◌, ◌==◌, arith, eqb-true, eq-eqb, ltb-true}
 use Rattle.std.specs.List.{list_any}
 use Rattle.flow_counts.specs.Credit as counts
-use Rattle.capture_form.specs.Rules.{RuleText}
+use Rattle.capture_form.specs.Rules.{RuleSet}
 use Rattle.trace_events.specs.Words.{is_some_and, where_passes}
 use Rattle.trace_events.specs.Event.{Event, Link, Incoming, is_on_link}
 use Rattle.trace_events.specs.Said.{in_transfer, out_transfer}
@@ -53,7 +53,7 @@ both-off : (b : Bool) → (if b then false else false) ≡ false
 both-off true = refl
 both-off false = refl
 
-pub none-due : (rules : List RuleText) (past : List Event) → AreJudged rules past → (l : Link) → length past ≤ suc l.number → (d : Incoming) → is_due rules d l past ≡ false
+pub none-due : (rules : RuleSet) (past : List Event) → AreJudged rules past → (l : Link) → length past ≤ suc l.number → (d : Incoming) → is_due rules d l past ≡ false
 none-due rules [] are l later d = refl
 none-due rules (e ∷ past) are l later d =
     ap (λ b. if completes d e then b else is_due rules d l past) makes
@@ -90,7 +90,7 @@ pub record IsComing (e : Event) (receivers : List Receiver) (past : List Event) 
   pub receives : receives receivers l.number ≡ true
   pub at : consumer_at l.number past ≡ Some l
 
-module _ (rules : List RuleText) (e : Event) (past : List Event) (are : AreJudged rules (e ∷ past)) (lawful : first_broken rules (e ∷ past) ≡ None)
+module _ (rules : RuleSet) (e : Event) (past : List Event) (are : AreJudged rules (e ∷ past)) (lawful : first_broken rules (e ∷ past) ≡ None)
     (l : Link) (d : Incoming) (h : IsUnsentOn rules l d (e ∷ past)) where
   due : is_due rules d l (e ∷ past) ≡ true
   due = and_first (is_due rules d l (e ∷ past)) (not (is_named_on d l (e ∷ past))) h.unsent

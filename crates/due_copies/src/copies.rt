@@ -1,7 +1,7 @@
 //! The copies of multicast deliveries that are still to be sent, as work (own rules).
 
 ghost use Rattle.std.specs.Prelude.{◌≡◌, ◌∷◌, List, [], None, IfSome, OnOk, true, false, is_some, option_map};
-ghost use Rattle.capture_form.specs.Rules.{RuleText};
+ghost use Rattle.capture_form.specs.Rules.{RuleSet};
 ghost use Rattle.capture_form.specs.declared.records.Record.{Record};
 ghost use Rattle.trace_events.specs.Event as law;
 ghost use Rattle.trace_events.specs.History.{history};
@@ -15,7 +15,7 @@ ghost use Rattle.due_flows.specs.Lent.{AreOf};
 ghost use Rattle.due_copies.specs.Copies.{HasUnsent, IsDueCopy, IsKnownCopy, IsReady, IsUnsentOn};
 
 use crate::lists::Lists;
-use capture_form::Rule;
+use capture_form::RuleSet;
 use due_flows::Looked;
 use pairing_cert::Note;
 use state_addresses::{Copies, receivers_of};
@@ -44,7 +44,7 @@ pub struct UnsentCopies {
 impl UnsentCopies {
     /// No records.
     pub fn new(alloc: Global) -> UnsentCopies
-        ensures { (rules : List RuleText) → HasUnsent rules result [] }
+        ensures { (rules : RuleSet) → HasUnsent rules result [] }
     {
         let copies = Copies::new(alloc);
         let lists = Lists::new(alloc);
@@ -62,7 +62,7 @@ impl UnsentCopies {
     /// Memory was refused; then a copy that is due may not be found.
     pub fn follow(
         &mut self,
-        rules: &[Rule],
+        rules: &RuleSet,
         event: &Event,
         before: &Looked<'_>,
     ) -> Result<(), AllocError>
@@ -91,7 +91,7 @@ impl UnsentCopies {
 
     /// Of the copies that may be sent the one whose delivery was completed first, and of one delivery that to the link with
     /// the lowest number. Links before it are candidates no more.
-    pub fn first_due<'t>(&mut self, rules: &[Rule], looked: &Looked<'t>) -> Option<DueCopy<'t>>
+    pub fn first_due<'t>(&mut self, rules: &RuleSet, looked: &Looked<'t>) -> Option<DueCopy<'t>>
         ensures due { IfSome result (λ copy. (past : Events) → AreOf rules.now looked.now past → HasUnsent rules.now self.old past →
             IsDueCopy rules.now copy past) }
         ensures kept { (past : Events) → AreOf rules.now looked.now past → HasUnsent rules.now self.old past → HasUnsent rules.now self.new past }
@@ -112,7 +112,7 @@ impl UnsentCopies {
     fn copy_due<'t>(
         &mut self,
         number: u64,
-        rules: &[Rule],
+        rules: &RuleSet,
         looked: &Looked<'t>,
     ) -> Option<DueCopy<'t>>
         ensures due { IfSome result (λ copy. (past : Events) → AreOf rules.now looked.now past → HasUnsent rules.now self.old past →
@@ -139,7 +139,7 @@ impl UnsentCopies {
     fn earliest<'t>(
         &mut self,
         link: &Link,
-        rules: &[Rule],
+        rules: &RuleSet,
         looked: &Looked<'t>,
     ) -> Option<Incoming<'t>>
         ensures copy { (past : Events) → AreOf rules.now looked.now past → IsLiveLink (link_view link.now) past →
@@ -164,7 +164,7 @@ impl UnsentCopies {
 
 /// A live link may be sent a delivery: it has credit, its session has window, and nothing is in progress.
 fn may_take(link: &Link, looked: &Looked<'_>) -> bool
-    ensures { (rules : List RuleText) (past : Events) → AreOf rules looked.now past → IsLiveLink (link_view link.now) past →
+    ensures { (rules : RuleSet) (past : Events) → AreOf rules looked.now past → IsLiveLink (link_view link.now) past →
         result ≡ may_take past (link_view link.now) }
 {
     looked.link_credit(link) > 0
@@ -176,7 +176,7 @@ fn may_take(link: &Link, looked: &Looked<'_>) -> bool
 fn unsent_copy<'t>(
     number: u64,
     link: &Link,
-    rules: &[Rule],
+    rules: &RuleSet,
     looked: &Looked<'t>,
 ) -> Option<Incoming<'t>>
     ensures copy { (past : Events) → AreOf rules.now looked.now past → IsLiveLink (link_view link.now) past →

@@ -1,7 +1,7 @@
 //! The numbers of the copies that may be unsent, and of the links on which they are.
 
 ghost use Rattle.std.specs.Prelude.{◌≡◌, ◌&&◌, ℕ, List, Some, None, IfSome, OnOk, true, false, option_map, if◌then◌else◌, ◌==◌, nat_eq, slice_get};
-ghost use Rattle.capture_form.specs.Rules.{RuleText};
+ghost use Rattle.capture_form.specs.Rules.{RuleSet};
 ghost use Rattle.capture_form.specs.declared.records.Record.{Record};
 ghost use Rattle.number_groups.specs.Groups.{numbers};
 ghost use Rattle.trace_events.specs.Words.{is_some_and};
@@ -104,7 +104,7 @@ impl Lists {
         links: &ConsumerLinks,
         copies: &Copies,
     ) -> Result<(), AllocError>
-        ensures came { OnOk result ((rules : List RuleText) (records : List Record) → AreCopies rules copies.now (history rules records) → (l : law.Link) (d : law.Incoming) →
+        ensures came { OnOk result ((rules : RuleSet) (records : List Record) → AreCopies rules copies.now (history rules records) → (l : law.Link) (d : law.Incoming) →
             (event_view event.now).incoming ≡ Some d → completes d (event_view event.now) ≡ true → receives receivers.now l.number ≡ true →
             link_in links.now l.number ≡ Some l → IsLiveLink l (history rules records) →
             incoming_at d.number (history rules records) ≡ Some d → due.is_unsent rules d l (history rules records) ≡ true →
@@ -130,7 +130,7 @@ impl Lists {
         links: &ConsumerLinks,
         copies: &Copies,
     ) -> Result<(), AllocError>
-        ensures came { OnOk result ((rules : List RuleText) (records : List Record) → AreCopies rules copies.now (history rules records) → (l : law.Link) →
+        ensures came { OnOk result ((rules : RuleSet) (records : List Record) → AreCopies rules copies.now (history rules records) → (l : law.Link) →
             link_in links.now number ≡ Some l → IsLiveLink l (history rules records) →
             incoming_at (incoming_view delivery.now).number (history rules records) ≡ Some (incoming_view delivery.now) →
             due.is_unsent rules (incoming_view delivery.now) l (history rules records) ≡ true →
