@@ -3,7 +3,7 @@ use Rattle.std.proofs.Common.{◌≡◌, refl, sym, ap, subst, ◌∙◌, inl, i
 use Rattle.std.specs.Prelude.{Contains}
 use Rattle.std.specs.List.{list_any}
 use Rattle.std.proofs.lemmas.Slice.Eq.{bytes_eq-Decides}
-use Rattle.capture_form.specs.Rules.{RuleText}
+use Rattle.capture_form.specs.Rules.{RuleSet}
 use Rattle.capture_form.specs.declared.rules.Distribution.{Distribution}
 use Rattle.capture_form.specs.declared.rules.Distribution.TheVariants.{Closest, Balanced, Multicast}
 use Rattle.capture_form.specs.Addresses.{distribution}
@@ -70,7 +70,7 @@ picks-some Closest test address events n anycast there passes none = best-some _
 picks-some Balanced test address events n anycast there passes none = best-some _ (filter test (picks.consumers address events)) n (filter_has test (picks.consumers address events) n passes there) none
 picks-some Multicast test address events n anycast there passes none = absurd cc
 
-module _ (rules : List RuleText) (past : List Event) (are : AreJudged rules past) where
+module _ (rules : RuleSet) (past : List Event) (are : AreJudged rules past) where
   -- where a delivery may begin, a link is picked
   module _ (d : Incoming) (l : Link) (h : MayBegin rules past d l) where
     of-address : is_consumer_of (address_of d) past l ≡ true
@@ -111,12 +111,12 @@ module _ (rules : List RuleText) (past : List Event) (are : AreJudged rules past
 
 -- ---- the delivery
 
-pub next-waits : (rules : List RuleText) (past : List Event) (d : Incoming) → is_next_waiting rules past d ≡ true → is_waiting rules d past ≡ true
+pub next-waits : (rules : RuleSet) (past : List Event) (d : Incoming) → is_next_waiting rules past d ≡ true → is_waiting rules d past ≡ true
 next-waits rules past d next =
     and_first (is_waiting rules d past) (not (list_any (λ other. bytes_eq (address_of other) (address_of d) && is_waiting rules other past && completed_before other d past) (incoming_deliveries past))) next
 
 -- the table knows one that waits
-pub waiting-known : (rules : List RuleText) (past : List Event) (table : Deliveries) → AreHeld rules table past → (d : Incoming) → incoming_at d.number past ≡ Some d → is_waiting rules d past ≡ true → Knows table d
+pub waiting-known : (rules : RuleSet) (past : List Event) (table : Deliveries) → AreHeld rules table past → (d : Incoming) → incoming_at d.number past ≡ Some d → is_waiting rules d past ≡ true → Knows table d
 waiting-known rules past table were d found waits =
     ap (option_map (λ (x : Held). x.delivery)) (were d.number)
     ∙ (ap (λ o. option_map (λ (x : Held). x.delivery) (option_map (held rules past) (where_passes (is_held rules past) o))) found

@@ -3,7 +3,7 @@ use Rattle.std.proofs.Common.{◌≡◌, refl, sym, ap, ◌∙◌, ℕ, ◌<◌,
 use Rattle.std.proofs.lemmas.Bool.{ltb-false}
 use Rattle.std.specs.List.{list_any}
 use Rattle.std.proofs.lemmas.Slice.Eq.{bytes_eq-Decides}
-use Rattle.capture_form.specs.Rules.{RuleText}
+use Rattle.capture_form.specs.Rules.{RuleSet}
 use Rattle.trace_events.specs.Words.{is_some_and}
 use Rattle.trace_events.specs.Event.{Event, Link, Incoming}
 use Rattle.trace_events.specs.Incoming.{address_of, completed_before, completion, incoming_deliveries, is_complete}
@@ -48,7 +48,7 @@ before-later past a b c one two =
     let lt : x.first < y.second = omega (arith, below, above, same) in
     numbered past a c x.first y.second x.completed y.completed_then ∙ lt-ltb x.first y.second lt
 
-module _ (rules : List RuleText) (past : List Event) (are : AreJudged rules past) where
+module _ (rules : RuleSet) (past : List Event) (are : AreJudged rules past) where
   -- neither is before the next
   not-before : (a b d : Incoming) → is_waiting rules b past ≡ true → completed_before b a past ≡ false → completed_before d b past ≡ false → completed_before d a past ≡ false
   not-before a b d waits first second = by (completed_before d a past) refl

@@ -2,7 +2,7 @@
 use Rattle.std.proofs.Common.{◌≡◌, refl, sym, ap, subst, Bool, true, false, not, ◌&&◌, ◌||◌, List, [], ◌∷◌, length, filter, bytes_eq, ◌==◌}
 use Rattle.std.specs.Prelude.{Contains}
 use Rattle.std.proofs.lemmas.Slice.Eq.{bytes_eq-Decides}
-use Rattle.capture_form.specs.Rules.{RuleText}
+use Rattle.capture_form.specs.Rules.{RuleSet}
 use Rattle.trace_events.specs.Event.{Event, Link, Incoming}
 use Rattle.trace_events.specs.Address.{consumers, is_consumer_of}
 use Rattle.trace_events.specs.Incoming.{address_of, completed_before, incoming_deliveries}
@@ -28,7 +28,7 @@ empty : (ls : List Link) → ((l : Link) → Contains ls l → ⊥) → (length 
 empty [] none = refl
 empty (l ∷ ls) none = absurd (none l (contains_first l ls))
 
-module _ (rules : List RuleText) (past : List Event) (are : AreJudged rules past) where
+module _ (rules : RuleSet) (past : List Event) (are : AreJudged rules past) where
   -- a delivery that waits may begin on each link that is eligible
   eligible-begins : (d : Incoming) → Contains (incoming_deliveries past) d → is_waiting rules d past ≡ true → (l : Link) → Contains (eligible (address_of d) past) l → MayBegin rules past d l
   eligible-begins d listed waits l there =

@@ -2,7 +2,7 @@
 use Rattle.std.proofs.Common.{◌≡◌, refl, sym, ap, ◌∙◌, ◌↔◌, ℕ, Bool, true, false, not, ◌&&◌, bytes_eq, inl, inr, List, ◌∷◌, Some, None, if◌then◌else◌}
 use Rattle.std.specs.Prelude.{Contains}
 use Rattle.std.proofs.lemmas.Slice.Eq.{bytes_eq-Decides}
-use Rattle.capture_form.specs.Rules.{RuleText}
+use Rattle.capture_form.specs.Rules.{RuleSet}
 use Rattle.trace_events.specs.Words.{where_passes}
 use Rattle.trace_events.specs.Event.{Event, Link, Incoming, Outgoing}
 use Rattle.trace_events.specs.Ends.{ends_link}
@@ -19,11 +19,11 @@ use Rattle.due_waiting.specs.Waking.{MayBegin, IsGranted}
 use Rattle.due_waiting.proofs.Woken.{completed-now, might-before}
 
 -- each live link of a consumer stands with its session, and an address at which a delivery may begin is awake
-pub record Have (rules : List RuleText) (stand : ℕ → ℕ → Bool) (wake : List ℕ → Bool) (past : List Event) : Type 0 where
+pub record Have (rules : RuleSet) (stand : ℕ → ℕ → Bool) (wake : List ℕ → Bool) (past : List Event) : Type 0 where
   pub stands : (l : Link) → IsLiveLink l past → is_consumer l ≡ true → stand l.session.number l.number ≡ true
   pub awake : (d : Incoming) (l : Link) → MayBegin rules past d l → wake (address_of d) ≡ true
 
-module _ (rules : List RuleText) (e : Event) (past : List Event) (are : AreJudged rules (e ∷ past)) (lawful : first_broken rules (e ∷ past) ≡ None)
+module _ (rules : RuleSet) (e : Event) (past : List Event) (are : AreJudged rules (e ∷ past)) (lawful : first_broken rules (e ∷ past) ≡ None)
     (ended : List Link) (all : (l : Link) → Contains ended l ↔ IsLiveLink l past × (ends_link l e ≡ true))
     (stood stand₁ stand : ℕ → ℕ → Bool) (was_awake awake : List ℕ → Bool)
     (completed : (d : Incoming) → completed_by e ≡ Some d → awake (address_of d) ≡ true)
@@ -62,7 +62,7 @@ module _ (rules : List RuleText) (e : Event) (past : List Event) (are : AreJudge
   have-waiting = record { stands = stands-on; awake = λ d l h. awake-by d l h (completes d e) refl }
 
 -- without an address at which none may begin
-pub have-dropped : (rules : List RuleText) (past : List Event) (stand : ℕ → ℕ → Bool) (was_awake awake : List ℕ → Bool) (gone : List ℕ)
+pub have-dropped : (rules : RuleSet) (past : List Event) (stand : ℕ → ℕ → Bool) (was_awake awake : List ℕ → Bool) (gone : List ℕ)
     → ((d : Incoming) (l : Link) → MayBegin rules past d l → address_of d ≡ gone → ⊥) → ((at : List ℕ) → awake at ≡ was_awake at && not (bytes_eq gone at))
     → Have rules stand was_awake past → Have rules stand awake past
 have-dropped rules past stand was_awake awake gone none dropped has = record {

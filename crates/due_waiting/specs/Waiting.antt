@@ -1,7 +1,7 @@
 -- What the list of deliveries that wait has, and what it answers (own rules, after the message routing of the Qpid Dispatch
 -- Router).
 use Rattle.std.specs.Prelude.{◌≡◌, ℕ, Bool, true, false, not, List, Option, Some, None, if◌then◌else◌}
-use Rattle.capture_form.specs.Rules.{RuleText}
+use Rattle.capture_form.specs.Rules.{RuleSet}
 use Rattle.trace_events.specs.Words.{is_some_and}
 use Rattle.trace_events.specs.Event.{Event, Link, Incoming}
 use Rattle.trace_events.specs.Incoming.{address_of, completed_before, incoming_at, payload}
@@ -18,14 +18,14 @@ use Rattle.due_waiting.specs.declared.waiting.Waiting.{Waiting}
 
 -- the picks and the queues are those of the events, each live link of a consumer stands with its session, and an address at
 -- which a delivery may begin is to be looked at
-pub record HasWaiting (rules : List RuleText) (waiting : Waiting) (past : List Event) : Type 0 where
+pub record HasWaiting (rules : RuleSet) (waiting : Waiting) (past : List Event) : Type 0 where
   pub picks : ArePicks waiting.picks past
   pub queues : HaveQueues rules waiting.queues past
   pub stands : (l : Link) → IsLiveLink l past → is_consumer l ≡ true → stands waiting.links l.session.number l.number ≡ true
   pub awake : (d : Incoming) (l : Link) → MayBegin rules past d l → is_awake waiting.awake (address_of d) ≡ true
 
 -- the delivery that comes next at its address, and the live link that is picked for it
-pub record IsDueWaiting (rules : List RuleText) (due : DueWaiting) (past : List Event) : Type 0 where
+pub record IsDueWaiting (rules : RuleSet) (due : DueWaiting) (past : List Event) : Type 0 where
   pub live : IsLiveLink (link_view due.link) past
   pub at : link_at (link_view due.link).number past ≡ Some (link_view due.link)
   pub found : incoming_at (incoming_view due.delivery).number past ≡ Some (incoming_view due.delivery)
@@ -34,11 +34,11 @@ pub record IsDueWaiting (rules : List RuleText) (due : DueWaiting) (past : List 
   pub picked : is_picked_link rules past (incoming_view due.delivery) (link_view due.link) ≡ true
 
 -- no delivery may begin at the address
-abbrev pub NoneBegins : List RuleText → List Event → List ℕ → Type 0
+abbrev pub NoneBegins : RuleSet → List Event → List ℕ → Type 0
 NoneBegins rules past address = (d : Incoming) (l : Link) → MayBegin rules past d l → address_of d ≡ address → ⊥
 
 -- no delivery that may begin was completed before it
-abbrev pub IsEarliest : List RuleText → DueWaiting → List Event → Type 0
+abbrev pub IsEarliest : RuleSet → DueWaiting → List Event → Type 0
 IsEarliest rules due past = (d : Incoming) (l : Link) → MayBegin rules past d l → completed_before d (incoming_view due.delivery) past ≡ false
 
 -- there is one, and the delivery was not completed before it

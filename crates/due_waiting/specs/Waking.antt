@@ -1,7 +1,7 @@
 -- The anycast deliveries that wait and may begin, and the events behind which one may that might not before (part 2 of the
 -- standard, sections 2.5.6, 2.6.7 and 2.6.14).
 use Rattle.std.specs.Prelude.{◌≡◌, true, false, List, Some}
-use Rattle.capture_form.specs.Rules.{RuleText}
+use Rattle.capture_form.specs.Rules.{RuleSet}
 use Rattle.trace_events.specs.Event.{Event, Link, Incoming, Outgoing}
 use Rattle.trace_events.specs.Incoming.{address_of, incoming_at}
 use Rattle.trace_events.specs.Link.{IsLiveLink, is_consumer}
@@ -10,7 +10,7 @@ use Rattle.trace_duties.specs.Pick.{may_take}
 use Rattle.due_flows.specs.Standing.{goes_on, grants_window, has_window}
 
 -- the delivery waits, and the live link of a consumer of its address may be sent one
-pub record MayBegin (rules : List RuleText) (past : List Event) (d : Incoming) (l : Link) : Type 0 where
+pub record MayBegin (rules : RuleSet) (past : List Event) (d : Incoming) (l : Link) : Type 0 where
   pub found : incoming_at d.number past ≡ Some d
   pub waits : is_waiting rules d past ≡ true
   pub live : IsLiveLink l past

@@ -1,7 +1,7 @@
 //! The addresses to look at.
 
 ghost use Rattle.std.specs.Prelude.{◌≡◌, ◌+◌, ◌<◌, ◌&&◌, ◌||◌, ◌↔◌, ℕ, List, Some, IfSome, IsSome, OnOk, bytes_eq, false, is_some, not, option_and_then, option_map, true};
-ghost use Rattle.capture_form.specs.Rules.{RuleText};
+ghost use Rattle.capture_form.specs.Rules.{RuleSet};
 ghost use Rattle.trace_events.specs.Event as law;
 ghost use Rattle.trace_events.specs.Incoming.{address_of, completed_by};
 ghost use Rattle.trace_events.specs.Link.{IsLiveLink, is_consumer};
@@ -83,7 +83,7 @@ impl Awake {
             grants_window (event_view event.now) ≡ true → is_awake self.new l.address ≡ true) }
         ensures freed { OnOk result ((j : law.Outgoing) → (event_view event.now).outgoing ≡ Some j → goes_on (event_view event.now) ≡ false →
             is_awake self.new j.link.address ≡ true) }
-        ensures granted { OnOk result ((rules : List RuleText) (past : Events) → AreOf rules before.now past → (l : law.Link) →
+        ensures granted { OnOk result ((rules : RuleSet) (past : Events) → AreOf rules before.now past → (l : law.Link) →
             IsGranted (event_view event.now) past l → stands links.now l.session.number l.number ≡ true → consumer_at l.number past ≡ Some l →
             is_awake self.new l.address ≡ true) }
         ensures kept { OnOk result (IsKept self.old self.new) }
@@ -200,7 +200,7 @@ fn freed<'a>(event: &Event<'a, '_>) -> Option<&'a [u8]>
 
 /// The session to which a flow of the client may give window, where it had none.
 fn granted(event: &Event, before: &Looked<'_>) -> Option<u64>
-    ensures { (rules : List RuleText) (past : Events) → AreOf rules before.now past → (s : Session) → (event_view event.now).session ≡ Some s →
+    ensures { (rules : RuleSet) (past : Events) → AreOf rules before.now past → (s : Session) → (event_view event.now).session ≡ Some s →
         grants_window (event_view event.now) ≡ true → IsLiveOn s past → has_window s past ≡ false → result ≡ Some s.number }
 {
     let session = event.session?;

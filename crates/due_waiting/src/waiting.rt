@@ -1,7 +1,7 @@
 //! The anycast deliveries that wait and may begin, as work (own rules, after the message routing of the Qpid Dispatch Router).
 
 ghost use Rattle.std.specs.Prelude.{◌≡◌, ◌+◌, ◌<◌, ◌⊎◌, ◌∷◌, ◌||◌, ℕ, List, [], Some, None, IfSome, OnOk, bytes_eq, is_none, option_map, true, if◌then◌else◌};
-ghost use Rattle.capture_form.specs.Rules.{RuleText};
+ghost use Rattle.capture_form.specs.Rules.{RuleSet};
 ghost use Rattle.capture_form.specs.declared.records.Record.{Record};
 ghost use Rattle.trace_events.specs.History.{history};
 ghost use Rattle.trace_events.specs.Incoming.{address_of};
@@ -17,7 +17,7 @@ ghost use Rattle.due_waiting.specs.Waiting.{HasWaiting, IsDueWaiting, IsEarliest
 
 use crate::awake::Awake;
 use crate::by_session::BySession;
-use capture_form::Rule;
+use capture_form::RuleSet;
 use due_flows::Looked;
 use due_queues::{Picks, Queues};
 use std::alloc::{AllocError, Global};
@@ -48,7 +48,7 @@ pub struct Waiting {
 impl Waiting {
     /// No records.
     pub fn new(alloc: Global) -> Waiting
-        ensures { (rules : List RuleText) → HasWaiting rules result [] }
+        ensures { (rules : RuleSet) → HasWaiting rules result [] }
     {
         Waiting {
             alloc,
@@ -66,7 +66,7 @@ impl Waiting {
     /// Memory was refused; then a delivery that may begin may not be found, or another link be picked for it.
     pub fn follow(
         &mut self,
-        rules: &[Rule],
+        rules: &RuleSet,
         event: &Event,
         before: &Looked<'_>,
     ) -> Result<(), AllocError>
@@ -85,7 +85,7 @@ impl Waiting {
 
     /// Of the deliveries that may begin the one that was completed first. It takes time linear in the addresses to look at,
     /// and in the links of each of them; those at which none may begin go.
-    pub fn first_due<'t>(&mut self, rules: &[Rule], looked: &Looked<'t>) -> Option<DueWaiting<'t>>
+    pub fn first_due<'t>(&mut self, rules: &RuleSet, looked: &Looked<'t>) -> Option<DueWaiting<'t>>
         ensures due { IfSome result (λ due. (records : List Record) → AreOf rules.now looked.now (history rules.now records) →
             HasWaiting rules.now self.old (history rules.now records) → IsDueWaiting rules.now due (history rules.now records)) }
         ensures earliest { IfSome result (λ due. (records : List Record) → AreOf rules.now looked.now (history rules.now records) →
@@ -111,7 +111,7 @@ impl Waiting {
     fn look<'t>(
         &mut self,
         index: usize,
-        rules: &[Rule],
+        rules: &RuleSet,
         looked: &Looked<'t>,
     ) -> Option<DueWaiting<'t>>
         requires within { index < count_of self.old.awake }
@@ -139,7 +139,7 @@ fn due_at<'t>(
     address: &[u8],
     picks: &Picks,
     queues: &mut Queues,
-    rules: &[Rule],
+    rules: &RuleSet,
     looked: &Looked<'t>,
 ) -> Option<DueWaiting<'t>>
     ensures due { IfSome result (λ due. (records : List Record) → AreOf rules.now looked.now (history rules.now records) →
@@ -170,7 +170,7 @@ fn earlier<'t>(
     looked: &Looked<'t>,
 ) -> DueWaiting<'t>
     ensures one { (first.entry ≡ Some result) ⊎ (other.entry ≡ result) }
-    ensures order { (rules : List RuleText) (past : Events) → AreOf rules looked.now past →
+    ensures order { (rules : RuleSet) (past : Events) → AreOf rules looked.now past →
         IfSome first.entry (λ due. Knows looked.now.deliveries.now (incoming_view due.delivery)) →
         Knows looked.now.deliveries.now (incoming_view other.entry.delivery) → result ≡ earlier_of past first.entry other.entry }
 {

@@ -1,5 +1,5 @@
 use Rattle.std.proofs.Common.{◌≡◌, refl, sym, ap, subst, ◌∙◌, ◌≤◌, ◌+◌, inl, inr, Bool, false, true, not, List, Option, Some, None, IfSome}
-use Rattle.capture_form.specs.Rules.{RuleText}
+use Rattle.capture_form.specs.Rules.{RuleSet}
 use Rattle.capture_form.specs.declared.records.Record.{Record}
 use Rattle.trace_events.specs.Event.{Event, Link, Incoming}
 use Rattle.trace_events.specs.History.{history}
@@ -32,7 +32,7 @@ off false is = refl
 off true is = absurd cc
 
 -- the table knows what is due
-due-known : (rules : List RuleText) (past : List Event) (table : Deliveries) → AreHeld rules table past → (due : DueWaiting) → IsDueWaiting rules due past → Knows table (incoming_view due.delivery)
+due-known : (rules : RuleSet) (past : List Event) (table : Deliveries) → AreHeld rules table past → (due : DueWaiting) → IsDueWaiting rules due past → Knows table (incoming_view due.delivery)
 due-known rules past table were due is = waiting-known rules past table were (incoming_view due.delivery) is.found (next-waits rules past (incoming_view due.delivery) is.next)
 
 pub loop-index-preserved-in-Some : goal.loop-index-preserved-in-Some
@@ -58,7 +58,7 @@ loop-index-preserved-in-Some c =
     )
 
 -- what is ahead of all that may begin is the earliest
-earliest-of : (rules : List RuleText) (Are Has : List Record → Type 0) (first : Option DueWaiting)
+earliest-of : (rules : RuleSet) (Are Has : List Record → Type 0) (first : Option DueWaiting)
     → ((records : List Record) → Are records → Has records → (d : Incoming) (l : Link) → MayBegin rules (history rules records) d l → is_ahead (history rules records) first d ≡ true)
     → IfSome first (λ due. (records : List Record) → Are records → Has records → IsEarliest rules due (history rules records))
 earliest-of rules Are Has None ahead = tt
