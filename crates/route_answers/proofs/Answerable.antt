@@ -2,7 +2,7 @@
 use Rattle.std.proofs.Common.{◌≡◌, refl, ℕ, Bool, true, false, List, ◌∷◌, length, Option, Some, None, IsTrue}
 use Rattle.amqp_perf.specs.Meaning.{Meaning, AnOpen, ABegin, AnAttach, AFlow, ATransfer, ADisposition, ADetach, AnEnd, AClose, AttachFields}
 use Rattle.pairing_cert.specs.declared.note.Note.TheVariants as notes
-use Rattle.capture_form.specs.Rules.{RuleText}
+use Rattle.capture_form.specs.Rules.{RuleSet}
 use Rattle.trace_events.specs.declared.fault.Fault.{Fault}
 use Rattle.trace_events.specs.declared.fault.Fault.TheVariants.{Close, End, Refuse, Detach}
 use Rattle.trace_events.specs.Frame.{Body, NoFrame, Empty, NoPerformative, Says}
@@ -64,7 +64,7 @@ textless (AClose x) other number (Some (Close condition)) = tt
 textless (AClose x) other number (Some (End condition)) = tt
 textless (AClose x) other number (Some (Detach condition)) = tt
 
-module _ (rules : List RuleText) (c : ℕ) (past : List Event) (ready : IsReady rules past) where
+module _ (rules : RuleSet) (c : ℕ) (past : List Event) (ready : IsReady rules past) where
   abbrev at : Moment → Event
   at m = judge_moment rules past c m notes.None
 

@@ -5,12 +5,13 @@ use Rattle.trace_events.specs.Event.{Event, Opened, In, Out, Lost, Broken}
 use Rattle.trace_events.specs.History.{history}
 use Rattle.trace_clauses.proofs.Captures.{opened, lost}
 use Rattle.route_answers.specs.Answering.{may_happen}
+use Rattle.capture_form.specs.Rules.{no_rules}
 
 abbrev open_one : List Event
-open_one = history [] (opened 0 ∷ [])
+open_one = history no_rules (opened 0 ∷ [])
 
 abbrev lost_one : List Event
-lost_one = history [] (opened 0 ∷ lost 0 ∷ [])
+lost_one = history no_rules (opened 0 ∷ lost 0 ∷ [])
 
 -- a client opens a connection
 opens_one : may_happen 0 Opened [] ≡ true

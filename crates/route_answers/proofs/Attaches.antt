@@ -22,7 +22,7 @@ use Rattle.amqp_perf.specs.Slots.{fields_octets, uint_value}
 use Rattle.amqp_types.specs.Writing.{text_octets}
 use Rattle.trace_events.specs.Words.{is_some_and}
 use Rattle.amqp_perf.specs.Writing.{sender_mode_value, receiver_mode_value, role_value, source_octets, terminus_slots}
-use Rattle.capture_form.specs.Rules.{RuleText}
+use Rattle.capture_form.specs.Rules.{}
 use Rattle.trace_events.specs.declared.fault.Fault.{Fault}
 use Rattle.trace_events.specs.declared.fault.Fault.TheVariants.{Close, End, Refuse, Detach}
 use Rattle.trace_events.specs.declared.session.Session.{Session}

@@ -8,7 +8,7 @@ use Rattle.amqp_perf.specs.Conditions.{condition_name}
 use Rattle.amqp_perf.specs.Meaning.{AnOpen, AClose, AnEnd, ADetach}
 use Rattle.amqp_perf.specs.Router.{router_open, detach_with}
 use Rattle.amqp_perf.specs.Writing.{error_octets, error_slots, error_value}
-use Rattle.capture_form.specs.Rules.{RuleText}
+use Rattle.capture_form.specs.Rules.{RuleSet}
 use Rattle.trace_events.specs.Event.{Event}
 use Rattle.trace_events.specs.Connection.{is_over, was_opened, was_finished, has_out_frame, has_out_open}
 use Rattle.trace_clauses.specs.Clauses.{first_broken}
@@ -66,7 +66,7 @@ open_fits channel =
 
 -- ---- the frames
 
-module _ (rules : List RuleText) (c : ℕ) (past : List Event) (opened : was_opened c past ≡ true) (running : was_finished c past ≡ false) where
+module _ (rules : RuleSet) (c : ℕ) (past : List Event) (opened : was_opened c past ≡ true) (running : was_finished c past ≡ false) where
   -- where it has written no frame, the router's open
   pub first_fine : has_out_frame c past ≡ false → IsFine rules c past written_open
   first_fine none = open_fine rules c 0 past opened running none (fits_all c past (spoken_octets written_open) (open_fits 0))

@@ -2,7 +2,7 @@
 use Rattle.std.proofs.Common.{◌≡◌, refl, sym, ap, ◌∙◌, ℕ, Bool, true, false, ◌&&◌, ◌||◌, List, [], ◌∷◌, Option, Some, None, is_some, option_map, option_and_then, ◌==◌}
 use Rattle.std.specs.Prelude.{is_none}
 use Rattle.amqp_perf.specs.Meaning.{Meaning, AClose}
-use Rattle.capture_form.specs.Rules.{RuleText}
+use Rattle.capture_form.specs.Rules.{RuleSet}
 use Rattle.trace_events.specs.Words.{is_some_and}
 use Rattle.trace_events.specs.Frame.{Spoken, spoken_in}
 use Rattle.trace_events.specs.Event.{Event, Moment, Opened, In, Out, Lost, Broken, is_out, is_lost, is_broken}
@@ -101,7 +101,7 @@ open_framed c (e ∷ past) is =
     some_there (is_some (out_open e)) (is_out e.moment) (e.connection == c) (has_out_open c past) (has_out_frame c past) (open_out e.moment) (open_framed c past) is
 
 -- where it has written none, no frame
-pub unopened_unframed : (rules : List RuleText) (c : ℕ) (past : List Event) → first_broken rules past ≡ None → has_out_open c past ≡ false → has_out_frame c past ≡ false
+pub unopened_unframed : (rules : RuleSet) (c : ℕ) (past : List Event) → first_broken rules past ≡ None → has_out_open c past ≡ false → has_out_frame c past ≡ false
 unopened_unframed rules c past lawful none = by (has_out_frame c past) refl
   where
     by : (b : Bool) → has_out_frame c past ≡ b → b ≡ false
@@ -124,7 +124,7 @@ module _ (c : ℕ) (past : List Event) where
   close_written opened running framed error = rw (opened, running, framed) refl
 
 -- in a lawful history it has written a frame just where it has written an open
-pub framed_opened : (rules : List RuleText) (c : ℕ) (past : List Event) → first_broken rules past ≡ None → has_out_frame c past ≡ has_out_open c past
+pub framed_opened : (rules : RuleSet) (c : ℕ) (past : List Event) → first_broken rules past ≡ None → has_out_frame c past ≡ has_out_open c past
 framed_opened rules c past lawful = by (has_out_open c past) refl
   where
     by : (b : Bool) → has_out_open c past ≡ b → has_out_frame c past ≡ b

@@ -5,7 +5,7 @@ use Rattle.amqp_types.proofs.Shortest.{uint_long}
 use Rattle.amqp_perf.specs.declared.flow.Flow.{Flow}
 use Rattle.amqp_perf.specs.Meaning.{AFlow, flag}
 use Rattle.amqp_perf.specs.Router.{link_flow}
-use Rattle.capture_form.specs.Rules.{RuleText}
+use Rattle.capture_form.specs.Rules.{RuleSet}
 use Rattle.trace_events.specs.declared.session.Session.{Session}
 use Rattle.trace_events.specs.Words.{is_some_and, is_number}
 use Rattle.trace_events.specs.Event.{Event, Link}
@@ -47,7 +47,7 @@ flow_fits channel flow =
     )
     (omega arith)
 
-module _ (rules : List RuleText) (past : List Event) (s : Session) (live : IsLiveOn s past) (speaks : Speaks past s.connection) where
+module _ (rules : RuleSet) (past : List Event) (s : Session) (live : IsLiveOn s past) (speaks : Speaks past s.connection) where
   numbers : has_session_numbers (session_numbers s past) past s ≡ true
   numbers = rw (same (next_outgoing_id s past), same (next_incoming_id s past)) refl
 
@@ -66,7 +66,7 @@ drains : (flow : Flow) (handle count credit : ℕ) (b : Bool) → flag (link_flo
 drains flow handle count credit true = refl
 drains flow handle count credit false = refl
 
-module _ (rules : List RuleText) (past : List Event) (l : Link) (live : IsLiveLink l past) (speaks : Speaks past l.session.connection) where
+module _ (rules : RuleSet) (past : List Event) (l : Link) (live : IsLiveLink l past) (speaks : Speaks past l.session.connection) where
   -- a flow of the link
   module _ (count credit : ℕ) (draining : Bool) where
     abbrev shown : Flow

@@ -9,7 +9,7 @@ use Rattle.amqp_perf.specs.declared.attach.Role.{Role}
 use Rattle.amqp_perf.specs.declared.attach.Role.TheVariants.{Sender, Receiver}
 use Rattle.amqp_perf.specs.Nested.{TerminusFields, TargetFields, ATerminus, ACoordinator, AddressFields, AText, AnOther}
 use Rattle.amqp_perf.specs.Meaning.{AttachFields, TransferFields, flag}
-use Rattle.capture_form.specs.Rules.{RuleText}
+use Rattle.capture_form.specs.Rules.{RuleSet}
 use Rattle.trace_events.specs.declared.fault.Fault.{Fault}
 use Rattle.trace_events.specs.declared.fault.Fault.TheVariants.{Close, End, Refuse, Detach}
 use Rattle.trace_events.specs.declared.session.Session.{Session}
@@ -54,7 +54,7 @@ behind_open opened far y z other is =
     let one = unless_closed (not opened) NotAllowed (if far then Some (Close FramingError) else y) z other is in
     (not_false opened one.0, (unless_closed far FramingError y z other one.1).1)
 
-module _ (rules : List RuleText) (e : Event) (spoken : Spoken) (past : List Event) where
+module _ (rules : RuleSet) (e : Event) (spoken : Spoken) (past : List Event) where
   pub record StandsOn (z : Option Fault) : Type 0 where
     pub session : Session
     pub live : e.session ≡ Some session
@@ -99,13 +99,13 @@ names_link e is = by e.link is
     by None is = absurd cc
     by (Some l) is = refl
 
-attached_link : (rules : List RuleText) (fields : TransferFields) (octets : List ℕ) (past : List Event) (condition : ErrorCondition) (o : Option Link)
+attached_link : (rules : RuleSet) (fields : TransferFields) (octets : List ℕ) (past : List Event) (condition : ErrorCondition) (o : Option Link)
     → attached_fault rules fields octets past o ≡ Some (Detach condition) → is_some o ≡ true
 attached_link rules fields octets past condition None is = absurd cc
 attached_link rules fields octets past condition (Some l) is = refl
 
 -- a transfer that detaches names a link
-pub detached_link : (rules : List RuleText) (s : Session) (e : Event) (fields : TransferFields) (octets : List ℕ) (past : List Event) (condition : ErrorCondition)
+pub detached_link : (rules : RuleSet) (s : Session) (e : Event) (fields : TransferFields) (octets : List ℕ) (past : List Event) (condition : ErrorCondition)
     → transfer_fault rules s e fields octets past ≡ Some (Detach condition) → is_some e.link ≡ true
 detached_link rules s e fields octets past condition is =
     let one = not_this (given_window s past == 0) (Some (End WindowViolation)) (attached_fault rules fields octets past e.link) (Some (Detach condition)) never is in

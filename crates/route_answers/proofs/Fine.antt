@@ -5,7 +5,7 @@ use Rattle.amqp_perf.specs.declared.condition.ErrorCondition.{ErrorCondition}
 use Rattle.amqp_perf.specs.declared.flow.Flow.{Flow}
 use Rattle.amqp_perf.specs.Meaning.{Meaning, AnOpen, ABegin, AnAttach, AFlow, ADetach, AnEnd, AClose, AttachFields}
 use Rattle.amqp_perf.specs.Router.{router_open, begin_answer, detach_with}
-use Rattle.capture_form.specs.Rules.{RuleText}
+use Rattle.capture_form.specs.Rules.{RuleSet}
 use Rattle.trace_events.specs.Words.{is_some_and, is_number}
 use Rattle.trace_events.specs.Frame.{Spoken}
 use Rattle.trace_events.specs.Event.{Event}
@@ -26,16 +26,16 @@ use Rattle.route_answers.proofs.Words.{none_broken}
 use Rattle.route_answers.proofs.Connections.{Speaks, speaks_written, close_written}
 
 -- a frame that breaks no clause, fits, and is no transfer
-pub record IsFine (rules : List RuleText) (c : ℕ) (past : List Event) (spoken : Spoken) : Type 0 where
+pub record IsFine (rules : RuleSet) (c : ℕ) (past : List Event) (spoken : Spoken) : Type 0 where
   pub lawful : broken_clause rules (writing rules c past spoken) past ≡ None
   pub fits : length (spoken_octets spoken) ≤ frame_limit c past
   pub plain : as_transfer spoken.meaning ≡ None
 
-abbrev pub AreFine : List RuleText → ℕ → List Spoken → List Event → Type 0
+abbrev pub AreFine : RuleSet → ℕ → List Spoken → List Event → Type 0
 AreFine rules c [] past = Unit {0}
 AreFine rules c (spoken ∷ more) past = IsFine rules c past spoken × AreFine rules c more (writing rules c past spoken ∷ past)
 
-module _ (rules : List RuleText) (c channel : ℕ) (past : List Event) where
+module _ (rules : RuleSet) (c channel : ℕ) (past : List Event) where
   -- by the first clause, and those of its kind
   module _ (m : Meaning) (may : may_be_written c m past ≡ true) (fits : length (spoken_octets (says channel m)) ≤ frame_limit c past) where
     abbrev e : Event

@@ -1,7 +1,7 @@
 -- Frames of an answer, and whether opens are answered behind them.
 use Rattle.std.proofs.Common.{◌≡◌, refl, sym, subst, ◌∙◌, ℕ, Bool, true, false, ◌&&◌, List, [], ◌∷◌, Option, None, is_some, ◌==◌, eq-eqb, eqb-true}
 use Rattle.amqp_perf.specs.declared.condition.ErrorCondition.{ErrorCondition}
-use Rattle.capture_form.specs.Rules.{RuleText}
+use Rattle.capture_form.specs.Rules.{RuleSet}
 use Rattle.trace_events.specs.Frame.{Spoken}
 use Rattle.trace_events.specs.Event.{Event, is_out}
 use Rattle.trace_events.specs.Said.{in_open}
@@ -16,11 +16,11 @@ use Rattle.route_answers.proofs.Fine.{IsFine, AreFine}
 use Rattle.route_answers.proofs.Closing.{closing_fine, closing_over}
 
 -- they break no clause, and if the connection isn't over then, opens are answered on it
-pub record Goes (rules : List RuleText) (c : ℕ) (frames : List Spoken) (past : List Event) : Type 0 where
+pub record Goes (rules : RuleSet) (c : ℕ) (frames : List Spoken) (past : List Event) : Type 0 where
   pub fine : AreFine rules c frames past
   pub own : is_over c (behind rules c frames past) ≡ false → has_out_frame c (behind rules c frames past) ≡ has_in_open c past
 
-module _ (rules : List RuleText) (c : ℕ) (past : List Event) where
+module _ (rules : RuleSet) (c : ℕ) (past : List Event) where
   pub goes_none : (is_over c past ≡ false → has_out_frame c past ≡ has_in_open c past) → Goes rules c [] past
   goes_none own = record { fine = tt; own = own }
 
@@ -53,23 +53,23 @@ module _ (rules : List RuleText) (c : ℕ) (past : List Event) where
 
 -- ---- what is written on a connection leaves the others as they were
 
-pub behind_over : (rules : List RuleText) (c d : ℕ) (frames : List Spoken) (past : List Event) → (c == d) ≡ false → is_over d (behind rules c frames past) ≡ is_over d past
+pub behind_over : (rules : RuleSet) (c d : ℕ) (frames : List Spoken) (past : List Event) → (c == d) ≡ false → is_over d (behind rules c frames past) ≡ is_over d past
 behind_over rules c d [] past other = refl
 behind_over rules c d (s ∷ more) past other =
     behind_over rules c d more (writing rules c past s ∷ past) other ∙ has_event-other d (λ e. is_final e.moment) (writing rules c past s) past other
 
-pub behind_framed : (rules : List RuleText) (c d : ℕ) (frames : List Spoken) (past : List Event) → (c == d) ≡ false → has_out_frame d (behind rules c frames past) ≡ has_out_frame d past
+pub behind_framed : (rules : RuleSet) (c d : ℕ) (frames : List Spoken) (past : List Event) → (c == d) ≡ false → has_out_frame d (behind rules c frames past) ≡ has_out_frame d past
 behind_framed rules c d [] past other = refl
 behind_framed rules c d (s ∷ more) past other =
     behind_framed rules c d more (writing rules c past s ∷ past) other ∙ has_event-other d (λ e. is_out e.moment) (writing rules c past s) past other
 
 -- and no open of a client comes by it
-pub behind_opened : (rules : List RuleText) (c d : ℕ) (frames : List Spoken) (past : List Event) → has_in_open d (behind rules c frames past) ≡ has_in_open d past
+pub behind_opened : (rules : RuleSet) (c d : ℕ) (frames : List Spoken) (past : List Event) → has_in_open d (behind rules c frames past) ≡ has_in_open d past
 behind_opened rules c d [] past = refl
 behind_opened rules c d (s ∷ more) past = behind_opened rules c d more (writing rules c past s ∷ past)
 
 -- behind an input and the frames of its answer opens are answered
-module _ (rules : List RuleText) (e : Event) (past : List Event) (opens : AreOpensAnswered past) (frames : List Spoken) (goes : Goes rules e.connection frames (e ∷ past)) where
+module _ (rules : RuleSet) (e : Event) (past : List Event) (opens : AreOpensAnswered past) (frames : List Spoken) (goes : Goes rules e.connection frames (e ∷ past)) where
   at : (d : ℕ) (b : Bool) → (e.connection == d) ≡ b → is_over d (behind rules e.connection frames (e ∷ past)) ≡ false
       → has_out_frame d (behind rules e.connection frames (e ∷ past)) ≡ has_in_open d (behind rules e.connection frames (e ∷ past))
   at d false other over =

@@ -3,7 +3,7 @@ use Rattle.std.proofs.Common.{◌≡◌, refl, sym, ◌∙◌, ℕ, Bool, true, 
 use Rattle.amqp_perf.specs.declared.condition.ErrorCondition.{ErrorCondition}
 use Rattle.amqp_perf.specs.declared.condition.ErrorCondition.TheVariants.{FramingError, DecodeError}
 use Rattle.pairing_cert.specs.declared.note.Note.TheVariants as notes
-use Rattle.capture_form.specs.Rules.{RuleText}
+use Rattle.capture_form.specs.Rules.{RuleSet}
 use Rattle.trace_events.specs.declared.fault.Fault.TheVariants.{Close}
 use Rattle.trace_events.specs.Frame.{Body, NoFrame, Empty, NoPerformative, Says}
 use Rattle.trace_events.specs.Event.{Event, Moment, Opened, In, Out, Lost, Broken, is_out}
@@ -19,7 +19,7 @@ use Rattle.route_answers.proofs.Goes.{Goes, goes_none, goes_closing, opens_answe
 use Rattle.route_answers.proofs.Spoken.{said_goes}
 use Rattle.route_answers.proofs.Order.{in_order}
 
-module _ (rules : List RuleText) (c : ℕ) (past : List Event) (ready : IsReady rules past) where
+module _ (rules : RuleSet) (c : ℕ) (past : List Event) (ready : IsReady rules past) where
   abbrev at : Moment → Event
   at m = judge_moment rules past c m notes.None
 

@@ -2,7 +2,7 @@
 use Rattle.std.proofs.Common.{◌≡◌, refl, sym, ap, subst, ◌∙◌, ℕ, Bool, true, false, ◌&&◌, ◌||◌, List, [], ◌∷◌, Option, Some, None, is_some, option_and_then, option_map, if◌then◌else◌, ◌==◌, eqb-true}
 use Rattle.std.specs.Prelude.{is_none}
 use Rattle.amqp_perf.specs.Meaning.{OpenFields}
-use Rattle.capture_form.specs.Rules.{RuleText}
+use Rattle.capture_form.specs.Rules.{RuleSet}
 use Rattle.trace_events.specs.Frame.{Frame, Spoken, spoken_in}
 use Rattle.trace_events.specs.Event.{Event, Moment, Opened, In, Out, Lost, Broken, out_frame, is_out}
 use Rattle.trace_events.specs.Said.{as_open, out_spoken, in_open, out_open}
@@ -35,7 +35,7 @@ behind_first : (b : Bool) (opening : Option OpenFields) → is_some opening ≡ 
 behind_first true opening none is = refl
 behind_first false opening none is = let never : true ≡ false = sym is ∙ none in absurd cc
 
-module _ (rules : List RuleText) (e : Event) (past : List Event) (lawful : first_broken rules (e ∷ past) ≡ None) (out : is_out e.moment ≡ true) (other : is_some (out_open e) ≡ false)
+module _ (rules : RuleSet) (e : Event) (past : List Event) (lawful : first_broken rules (e ∷ past) ≡ None) (out : is_out e.moment ≡ true) (other : is_some (out_open e) ≡ false)
     (opens : AreOpensAnswered past) where
   framed_before : has_out_frame e.connection past ≡ true
   framed_before =

@@ -2,7 +2,7 @@
 use Rattle.std.proofs.Common.{◌≡◌, refl, sym, ap, ◌∙◌, ℕ, Bool, true, false, ◌&&◌, List, [], ◌∷◌, ◌++◌, length, reverse, None, append_assoc, append-nil, arith, if◌then◌else◌, ◌==◌, eq-eqb, lt-ltb}
 use Rattle.std.proofs.lemmas.List.{reverse-append, length-append, length-reverse}
 use Rattle.amqp_perf.specs.Meaning.{Meaning, AnOpen, ABegin, AnAttach, AFlow, ATransfer, ADisposition, ADetach, AnEnd, AClose}
-use Rattle.capture_form.specs.Rules.{RuleText}
+use Rattle.capture_form.specs.Rules.{RuleSet}
 use Rattle.trace_events.specs.Frame.{Spoken}
 use Rattle.trace_events.specs.Event.{Event, is_out}
 use Rattle.trace_events.specs.Said.{as_transfer}
@@ -16,7 +16,7 @@ use Rattle.route_answers.proofs.Words.{or_left, both, same_octets}
 use Rattle.route_answers.proofs.Fine.{AreFine}
 
 -- so far these frames were written behind an input, of those that it is owed
-record IsAnswering (rules : List RuleText) (input : Event) (before : List Event) (left : List Spoken) (past : List Event) : Type 0 where
+record IsAnswering (rules : RuleSet) (input : Event) (before : List Event) (left : List Spoken) (past : List Event) : Type 0 where
   from : up_to_input past ≡ input ∷ before
   done : List Spoken
   parts : last_answer rules past ≡ done ++ left
@@ -38,7 +38,7 @@ begins_more from (d ∷ done) (x ∷ events) s e same earlier now =
     by false is rest = absurd cc
 
 -- a frame that is no transfer carries no delivery
-picked : (rules : List RuleText) (past : List Event) (c channel : ℕ) (m : Meaning) (payload : List ℕ) → as_transfer m ≡ None
+picked : (rules : RuleSet) (past : List Event) (c channel : ℕ) (m : Meaning) (payload : List ℕ) → as_transfer m ≡ None
     → is_picked rules (writing rules c past (record { channel = channel; meaning = m; payload = payload })) past ≡ true
 picked rules past c channel (ATransfer x) payload none = absurd cc
 picked rules past c channel (AnOpen x) payload none = refl
@@ -50,7 +50,7 @@ picked rules past c channel (ADetach x) payload none = refl
 picked rules past c channel (AnEnd x) payload none = refl
 picked rules past c channel (AClose x) payload none = refl
 
-module _ (rules : List RuleText) (input : Event) (before : List Event) (s : Spoken) (left : List Spoken) (past : List Event) (is : IsAnswering rules input before (s ∷ left) past)
+module _ (rules : RuleSet) (input : Event) (before : List Event) (s : Spoken) (left : List Spoken) (past : List Event) (is : IsAnswering rules input before (s ∷ left) past)
     (plain : as_transfer s.meaning ≡ None) where
   abbrev e : Event
   e = writing rules input.connection past s
@@ -76,17 +76,17 @@ module _ (rules : List RuleText) (input : Event) (before : List Event) (s : Spok
   }
 
 -- where nothing is left it is answered
-all_answered : (rules : List RuleText) (input : Event) (before past : List Event) → IsAnswering rules input before [] past → is_answered rules past ≡ true
+all_answered : (rules : RuleSet) (input : Event) (before past : List Event) → IsAnswering rules input before [] past → is_answered rules past ≡ true
 all_answered rules input before past is =
     ap (λ from. begin_with from (last_answer rules past) (reverse (group past))) is.from
     ∙ (ap (λ answer. begin_with (input ∷ before) answer (reverse (group past))) (is.parts ∙ append-nil is.done) ∙ is.begins)
 
-pub record AreAnswered (rules : List RuleText) (c : ℕ) (left : List Spoken) (past : List Event) : Type 0 where
+pub record AreAnswered (rules : RuleSet) (c : ℕ) (left : List Spoken) (past : List Event) : Type 0 where
   pub frames : AreInOrder rules c left past
   pub answered : is_answered rules (behind rules c left past) ≡ true
   pub lawful : first_broken rules (behind rules c left past) ≡ None
 
-written : (rules : List RuleText) (input : Event) (before : List Event) (left : List Spoken) (past : List Event) → IsAnswering rules input before left past → AreFine rules input.connection left past
+written : (rules : RuleSet) (input : Event) (before : List Event) (left : List Spoken) (past : List Event) → IsAnswering rules input before left past → AreFine rules input.connection left past
     → first_broken rules past ≡ None → AreAnswered rules input.connection left past
 written rules input before [] past is fine lawful = record { frames = tt; answered = all_answered rules input before past is; lawful = lawful }
 written rules input before (s ∷ left) past is fine lawful =
@@ -99,7 +99,7 @@ written rules input before (s ∷ left) past is fine lawful =
     }
 
 -- the answer to an input, frame by frame
-module _ (rules : List RuleText) (e : Event) (past : List Event) (input : is_out e.moment ≡ false) where
+module _ (rules : RuleSet) (e : Event) (past : List Event) (input : is_out e.moment ≡ false) where
   from_here : up_to_input (e ∷ past) ≡ e ∷ past
   from_here = ap (λ b. if b then up_to_input past else e ∷ past) input
 

@@ -2,7 +2,7 @@
 use Rattle.std.proofs.Common.{◌≡◌, refl, sym, ap, ◌∙◌, ℕ, Bool, true, false, ◌&&◌, ◌||◌, not, List, ◌∷◌, Option, Some, None, if◌then◌else◌, ◌==◌, eq-eqb}
 use Rattle.amqp_perf.specs.Meaning.{Meaning}
 use Rattle.pairing_cert.specs.declared.note.Note.TheVariants as notes
-use Rattle.capture_form.specs.Rules.{RuleText}
+use Rattle.capture_form.specs.Rules.{RuleSet}
 use Rattle.trace_events.specs.declared.fault.Fault.{Fault}
 use Rattle.trace_events.specs.declared.session.Session.{Session}
 use Rattle.trace_events.specs.Words.{is_some_and}
@@ -26,7 +26,7 @@ abbrev pub spoken_on : ℕ → List ℕ → Meaning → Spoken
 spoken_on channel payload m = record { channel = channel; meaning = m; payload = payload }
 
 -- the event, and what it is before its fault is found
-abbrev pub said : List RuleText → ℕ → List Event → List ℕ → Spoken → Event
+abbrev pub said : RuleSet → ℕ → List Event → List ℕ → Spoken → Event
 said rules c past octets spoken = judge_moment rules past c (In (record { octets = octets; body = Says spoken })) notes.None
 
 abbrev pub unfaulted : ℕ → List Event → List ℕ → Spoken → Event
@@ -37,7 +37,7 @@ heard_by : (over passed : Bool) → not (over || passed) ≡ true → over ≡ f
 heard_by true passed is = absurd cc
 heard_by false passed is = refl
 
-pub alive : (rules : List RuleText) (c : ℕ) (past : List Event) (octets : List ℕ) (spoken : Spoken) → (said rules c past octets spoken).is_heard ≡ true → is_over c past ≡ false
+pub alive : (rules : RuleSet) (c : ℕ) (past : List Event) (octets : List ℕ) (spoken : Spoken) → (said rules c past octets spoken).is_heard ≡ true → is_over c past ≡ false
 alive rules c past octets spoken is = heard_by (is_over c past) _ is
 
 -- its fault is the one that is found
@@ -45,7 +45,7 @@ fault_by : (heard : Bool) (o p : Option Fault) → heard ≡ true → (if heard 
 fault_by true o p is same = same
 fault_by false o p is same = absurd cc
 
-pub found : (rules : List RuleText) (c : ℕ) (past : List Event) (octets : List ℕ) (spoken : Spoken) (fault : Option Fault) → (said rules c past octets spoken).is_heard ≡ true
+pub found : (rules : RuleSet) (c : ℕ) (past : List Event) (octets : List ℕ) (spoken : Spoken) (fault : Option Fault) → (said rules c past octets spoken).is_heard ≡ true
     → (said rules c past octets spoken).fault ≡ fault → spoken_fault rules (unfaulted c past octets spoken) spoken spoken.meaning past ≡ fault
 found rules c past octets spoken fault is same =
     fault_by (unfaulted c past octets spoken).is_heard (spoken_fault rules (unfaulted c past octets spoken) spoken spoken.meaning past) fault is same
@@ -58,10 +58,10 @@ session_alive c channel past s is = by (is_over c past) is
     by true is = absurd cc
     by false is = refl
 
-pub lawful_input : (rules : List RuleText) (c : ℕ) (past : List Event) (octets : List ℕ) (spoken : Spoken) → first_broken rules past ≡ None → first_broken rules (said rules c past octets spoken ∷ past) ≡ None
+pub lawful_input : (rules : RuleSet) (c : ℕ) (past : List Event) (octets : List ℕ) (spoken : Spoken) → first_broken rules past ≡ None → first_broken rules (said rules c past octets spoken ∷ past) ≡ None
 lawful_input rules c past octets spoken lawful = rw lawful refl
 
-module _ (rules : List RuleText) (c channel : ℕ) (past : List Event) (octets payload : List ℕ) (m : Meaning) (s : Session) (live : live_session c channel past ≡ Some s) where
+module _ (rules : RuleSet) (c channel : ℕ) (past : List Event) (octets payload : List ℕ) (m : Meaning) (s : Session) (live : live_session c channel past ≡ Some s) where
   abbrev e : Event
   e = said rules c past octets (spoken_on channel payload m)
 

@@ -9,7 +9,7 @@ use Rattle.amqp_perf.specs.declared.condition.ErrorCondition.TheVariants.{NotAll
 use Rattle.amqp_perf.specs.declared.flow.Flow.{Flow}
 use Rattle.amqp_perf.specs.Meaning.{Meaning, AnOpen, ABegin, AnAttach, AFlow, ATransfer, ADisposition, ADetach, AnEnd, AClose, OpenFields, AttachFields, TransferFields, DetachFields, flag, frame_limit}
 use Rattle.amqp_perf.specs.Router.{attach_refused}
-use Rattle.capture_form.specs.Rules.{RuleText}
+use Rattle.capture_form.specs.Rules.{RuleSet}
 use Rattle.trace_events.specs.declared.fault.Fault.{Fault}
 use Rattle.trace_events.specs.declared.fault.Fault.TheVariants.{Close, End, Refuse, Detach}
 use Rattle.trace_events.specs.declared.session.Session.{Session}
@@ -59,7 +59,7 @@ no_flow false b condition is = absurd cc
 abbrev no_link : Session → Option Link
 no_link s = None
 
-module _ (rules : List RuleText) (c channel : ℕ) (past : List Event) (octets payload : List ℕ) (ready : IsReady rules past) (opened : was_opened c past ≡ true) where
+module _ (rules : RuleSet) (c channel : ℕ) (past : List Event) (octets payload : List ℕ) (ready : IsReady rules past) (opened : was_opened c past ≡ true) where
   abbrev spoken : Meaning → Spoken
   spoken m = spoken_on channel payload m
 

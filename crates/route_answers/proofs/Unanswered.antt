@@ -1,7 +1,7 @@
 -- A transfer and a disposition without fault have no direct answer.
 use Rattle.std.proofs.Common.{◌≡◌, ℕ, Bool, true, false, cond, ◌||◌, List, [], Option, Some, None, refl}
 use Rattle.std.specs.Prelude.{is_some, option_and_then, option_map}
-use Rattle.capture_form.specs.Rules.{RuleText}
+use Rattle.capture_form.specs.Rules.{RuleSet}
 use Rattle.amqp_perf.specs.Meaning.{Meaning, AnOpen, ABegin, AnAttach, AFlow, ATransfer, ADisposition, ADetach, AnEnd, AClose}
 use Rattle.trace_events.specs.Frame.{Body, Frame, NoFrame, Empty, NoPerformative, Says, Spoken, spoken_in}
 use Rattle.trace_events.specs.Words.{is_some_and}
@@ -24,7 +24,7 @@ same_twice : (b : Bool) → ◌≡◌ {A = List Spoken} (cond b [] []) []
 same_twice true = refl
 same_twice false = refl
 
-module _ (rules : List RuleText) (e : Event) (past : List Event) (none : e.fault ≡ None) where
+module _ (rules : RuleSet) (e : Event) (past : List Event) (none : e.fault ≡ None) where
   nothing_said : (channel : ℕ) (meaning : Meaning) → is_unanswered meaning ≡ true
       → cond e.is_heard (heard_answer rules e channel meaning e.fault past) (passed_answer e meaning past) ≡ []
   nothing_said channel (AnOpen fields) is = absurd cc
@@ -64,5 +64,5 @@ transfer_or_disposition (Some (AnEnd error)) is = absurd cc
 transfer_or_disposition (Some (AClose error)) is = absurd cc
 
 -- nothing is owed for a transfer or a disposition without fault
-pub nothing_owed : (rules : List RuleText) (e : Event) (past : List Event) → e.fault ≡ None → is_some (in_transfer e) || is_some (in_disposition e) ≡ true → answer rules e past ≡ []
+pub nothing_owed : (rules : RuleSet) (e : Event) (past : List Event) → e.fault ≡ None → is_some (in_transfer e) || is_some (in_disposition e) ≡ true → answer rules e past ≡ []
 nothing_owed rules e past none is = nothing_at rules e past none e.moment (transfer_or_disposition (in_meaning e) is)

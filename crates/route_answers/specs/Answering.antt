@@ -1,6 +1,6 @@
 -- What an answer keeps: the law, the limit of the client, and the duties of a router (own rules).
 use Rattle.std.specs.Prelude.{◌≡◌, ◌≤◌, ◌<◌, ◌^◌, ℕ, Bool, true, false, ◌&&◌, ◌||◌, not, List, [], ◌∷◌, length, None, is_some}
-use Rattle.capture_form.specs.Rules.{RuleText}
+use Rattle.capture_form.specs.Rules.{RuleSet}
 use Rattle.trace_events.specs.Frame.{Spoken}
 use Rattle.trace_events.specs.Event.{Event, Moment, Opened, Out, is_lost}
 use Rattle.trace_events.specs.Said.{in_transfer, in_disposition}
@@ -33,7 +33,7 @@ abbrev pub AreOpensAnswered : List Event → Type 0
 AreOpensAnswered past = (c : ℕ) → is_over c past ≡ false → has_out_frame c past ≡ has_in_open c past
 
 -- no record breaks a clause, opens are answered, and a record's number has 64 bits
-pub record IsReady (rules : List RuleText) (past : List Event) : Type 0 where
+pub record IsReady (rules : RuleSet) (past : List Event) : Type 0 where
   pub lawful : first_broken rules past ≡ None
   pub opens : AreOpensAnswered past
   pub short : length past < 2 ^ 64
@@ -41,24 +41,24 @@ pub record IsReady (rules : List RuleText) (past : List Event) : Type 0 where
 -- ---- the frames of an answer
 
 -- it breaks no clause, is due, stands in turn, and is no longer than the client takes
-pub record IsInOrder (rules : List RuleText) (c : ℕ) (past : List Event) (spoken : Spoken) : Type 0 where
+pub record IsInOrder (rules : RuleSet) (c : ℕ) (past : List Event) (spoken : Spoken) : Type 0 where
   pub lawful : broken_clause rules (writing rules c past spoken) past ≡ None
   pub due : moment_keeps rules (writing rules c past spoken) past (writing rules c past spoken).moment ≡ true
   pub turn : stands_in_turn rules (writing rules c past spoken) past (writing rules c past spoken).moment ≡ true
   pub fits : length (spoken_octets spoken) ≤ frame_limit c past
 
 -- each of them, in its place
-abbrev pub AreInOrder : List RuleText → ℕ → List Spoken → List Event → Type 0
+abbrev pub AreInOrder : RuleSet → ℕ → List Spoken → List Event → Type 0
 AreInOrder rules c [] past = Unit {0}
 AreInOrder rules c (spoken ∷ more) past = IsInOrder rules c past spoken × AreInOrder rules c more (writing rules c past spoken ∷ past)
 
 -- ---- the answer to an event, by those before it
 
-abbrev pub answered_past : List RuleText → Event → List Event → List Event
+abbrev pub answered_past : RuleSet → Event → List Event → List Event
 answered_past rules e past = behind rules e.connection (answer rules e (e ∷ past)) (e ∷ past)
 
 -- each of its frames is in order; behind the last one the event is answered, and all is as before it
-pub record IsAnswerInOrder (rules : List RuleText) (e : Event) (past : List Event) : Type 0 where
+pub record IsAnswerInOrder (rules : RuleSet) (e : Event) (past : List Event) : Type 0 where
   pub frames : AreInOrder rules e.connection (answer rules e (e ∷ past)) (e ∷ past)
   pub answered : is_answered rules (answered_past rules e past) ≡ true
   pub lawful : first_broken rules (answered_past rules e past) ≡ None

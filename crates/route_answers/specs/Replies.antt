@@ -4,7 +4,7 @@ use Rattle.flow_counts.specs.declared.profile.TheConstants.{MAX_LINK_NAME, MAX_A
 use Rattle.amqp_perf.specs.Meaning.{Meaning, AnOpen, ABegin, AnAttach, AFlow, ADetach, AnEnd, AClose}
 use Rattle.amqp_perf.specs.Router.{router_open, begin_answer, attach_to_producer, attach_to_consumer, attach_refused, detach_with}
 use Rattle.amqp_perf.specs.View.{attach_fields}
-use Rattle.capture_form.specs.Rules.{RuleText}
+use Rattle.capture_form.specs.Rules.{RuleSet}
 use Rattle.trace_events.specs.declared.fault.Fault.{Fault}
 use Rattle.trace_events.specs.declared.fault.Fault.TheVariants.{Refuse}
 use Rattle.trace_events.specs.Frame.{Body, Says, Spoken}
@@ -68,7 +68,7 @@ CanBeWritten (answers.Two first second) = CanBeSaid first.saying × CanBeSaid se
 
 -- ---- the answer to a performative, heard or passed over
 
-abbrev pub said_answer : List RuleText → Event → ℕ → Meaning → List Event → List Spoken
+abbrev pub said_answer : RuleSet → Event → ℕ → Meaning → List Event → List Spoken
 said_answer rules e channel meaning past =
     if e.is_heard then heard_answer rules e channel meaning e.fault past else passed_answer e meaning past
 
@@ -100,6 +100,6 @@ IsAnswerableAt e past Broken = was_finished e.connection past ≡ has_out_close 
 IsAnswerableAt e past other = Unit {0}
 
 -- no record breaks a clause, the event included
-pub record IsAnswerable (rules : List RuleText) (e : Event) (past : List Event) : Type 0 where
+pub record IsAnswerable (rules : RuleSet) (e : Event) (past : List Event) : Type 0 where
   pub lawful : first_broken rules past ≡ None
   pub at : IsAnswerableAt e past e.moment

@@ -2,7 +2,7 @@
 
 ghost use Rattle.std.specs.Prelude.{◌≡◌, ℕ, List, [], ◌∷◌, None, Some, IsTrue, true};
 ghost use Rattle.pairing_cert.specs.declared.note.Note.TheVariants as notes;
-ghost use Rattle.capture_form.specs.Rules.{RuleText};
+ghost use Rattle.capture_form.specs.Rules.{RuleSet};
 ghost use Rattle.amqp_perf.specs.Meaning.{AFlow};
 ghost use Rattle.amqp_perf.specs.View.{view};
 ghost use Rattle.trace_events.specs.declared.fault.Fault.TheVariants as faults;
@@ -20,7 +20,7 @@ ghost use Rattle.route_answers.specs.Replies.{reply_view, answer_view, IsAnswera
 use crate::attach::accepted;
 use crate::reply::{Answer, Reply, Saying};
 use amqp_perf::{ErrorCondition, Flow, Performative, Role};
-use capture_form::Rule;
+use capture_form::RuleSet;
 use trace_events::{Fault, Session};
 use trace_judge::{Counts, Inputs, Openings};
 use trace_values::{Body, Event, Link, Moment, Spoken, handle_in};
@@ -32,7 +32,7 @@ fn closing<'p, 'a, P: Openings<'p>>(
     connection: u32,
     condition: Option<ErrorCondition>,
 ) -> Answer<'a>
-    ensures says { (rules : List RuleText) (history : Events) → P.stands_for past.now rules history → first_broken rules history ≡ None →
+    ensures says { (rules : RuleSet) (history : Events) → P.stands_for past.now rules history → first_broken rules history ≡ None →
         (answer_view result ≡ duties.closing connection condition history) }
     ensures short { CanBeWritten result }
 {
@@ -52,7 +52,7 @@ fn closing<'p, 'a, P: Openings<'p>>(
 
 /// The numbers of a session, as a flow.
 fn session_numbers<P: Counts>(past: &P, session: Session) -> Flow
-    ensures { (rules : List RuleText) (history : Events) → P.stands_for past.now rules history → IsLiveOn session history →
+    ensures { (rules : RuleSet) (history : Events) → P.stands_for past.now rules history → IsLiveOn session history →
         (result ≡ session_numbers session history) }
 {
     Flow::of_session(
@@ -63,7 +63,7 @@ fn session_numbers<P: Counts>(past: &P, session: Session) -> Flow
 
 /// The numbers of a link and its session.
 fn link_flow<'p, 'a, P: Inputs<'p> + Counts>(past: &P, link: &Link) -> Reply<'a>
-    ensures says { (rules : List RuleText) (history : Events) → P.stands_for past.now rules history → IsLiveLink (link_view link.now) history →
+    ensures says { (rules : RuleSet) (history : Events) → P.stands_for past.now rules history → IsLiveLink (link_view link.now) history →
         (reply_view result ≡ duties.link_flow (link_view link.now) history) }
     ensures short { CanBeSaid result.saying }
 {
@@ -91,7 +91,7 @@ fn link_flow<'p, 'a, P: Inputs<'p> + Counts>(past: &P, link: &Link) -> Reply<'a>
 
 /// The echo of a flow that asks for one: the link's numbers, or those of its session alone.
 fn echo<'p, 'a, P: Inputs<'p> + Counts>(past: &P, event: &Event, flow: &Flow) -> Answer<'a>
-    ensures says { (rules : List RuleText) (history : Events) → P.stands_for past.now rules history → EchoesLive (event_view event.now) history (AFlow flow.now) →
+    ensures says { (rules : RuleSet) (history : Events) → P.stands_for past.now rules history → EchoesLive (event_view event.now) history (AFlow flow.now) →
         (answer_view result ≡ duties.echo_on (event_view event.now).session (event_view event.now).link flow.now history) }
     ensures short { CanBeWritten result }
 {
@@ -113,7 +113,7 @@ fn echo<'p, 'a, P: Inputs<'p> + Counts>(past: &P, event: &Event, flow: &Flow) ->
 /// The answer to a frame without fault.
 fn plain_answer<'p, 'a, P: Inputs<'p> + Openings<'p> + Counts>(
     past: &P,
-    rules: &[Rule],
+    rules: &RuleSet,
     event: &Event,
     channel: u16,
     performative: &Performative<'a>,
@@ -169,7 +169,7 @@ fn fault_answer<'p, 'a, P: Openings<'p>>(
     performative: &Performative<'a>,
     fault: Fault,
 ) -> Answer<'a>
-    ensures says { (rules : List RuleText) (history : Events) → P.stands_for past.now rules history → first_broken rules history ≡ None →
+    ensures says { (rules : RuleSet) (history : Events) → P.stands_for past.now rules history → first_broken rules history ≡ None →
         (answer_view result ≡ duties.fault_answer (event_view event.now) channel (view performative.now) fault history) }
     ensures short { (number : ℕ) → AreShortTexts number (Some fault) (view performative.now) → CanBeWritten result }
 {
@@ -187,7 +187,7 @@ fn fault_answer<'p, 'a, P: Openings<'p>>(
 /// The answer to a performative: by its fault where it is heard; of those that are passed over a flow is echoed.
 fn spoken_answer<'p, 'a, P: Inputs<'p> + Openings<'p> + Counts>(
     past: &P,
-    rules: &[Rule],
+    rules: &RuleSet,
     event: &Event,
     channel: u16,
     performative: &Performative<'a>,
@@ -211,7 +211,7 @@ fn spoken_answer<'p, 'a, P: Inputs<'p> + Openings<'p> + Counts>(
 
 /// The answer to octets that are no frame, or begin with no performative.
 fn unread_answer<'p, 'a, P: Openings<'p>>(past: &P, event: &Event) -> Answer<'a>
-    ensures says { (rules : List RuleText) (history : Events) → P.stands_for past.now rules history → first_broken rules history ≡ None →
+    ensures says { (rules : RuleSet) (history : Events) → P.stands_for past.now rules history → first_broken rules history ≡ None →
         (answer_view result ≡ duties.unread_answer (event_view event.now) event.now.fault history) }
     ensures short { CanBeWritten result }
 {
@@ -224,7 +224,7 @@ fn unread_answer<'p, 'a, P: Openings<'p>>(past: &P, event: &Event) -> Answer<'a>
 /// The answer to a frame.
 fn body_answer<'p, 'a, P: Inputs<'p> + Openings<'p> + Counts>(
     past: &P,
-    rules: &[Rule],
+    rules: &RuleSet,
     event: &Event,
     body: &Body<'a>,
 ) -> Answer<'a>
@@ -244,7 +244,7 @@ fn body_answer<'p, 'a, P: Inputs<'p> + Openings<'p> + Counts>(
 /// The answer to what happens on a connection.
 fn moment_answer<'p, 'a, P: Inputs<'p> + Openings<'p> + Counts>(
     past: &P,
-    rules: &[Rule],
+    rules: &RuleSet,
     event: &Event<'_, 'a>,
 ) -> Answer<'a>
     ensures says { (history : Events) → P.stands_for past.now rules.now history → IsAnswerable rules.now (event_view event.now) history →
@@ -264,7 +264,7 @@ fn moment_answer<'p, 'a, P: Inputs<'p> + Openings<'p> + Counts>(
 /// it: it has no direct answer. Of any other, something may be owed or nothing.
 pub fn owes_nothing(event: &Event) -> bool
     ensures is { result ≡ is_sound_transfer_or_disposition (event_view event.now) }
-    ensures owed { result ≡ true → (rules : List RuleText) (past : Events) → duties.answer rules (event_view event.now) past ≡ [] }
+    ensures owed { result ≡ true → (rules : RuleSet) (past : Events) → duties.answer rules (event_view event.now) past ≡ [] }
 {
     event.fault.is_none() && (event.in_transfer().is_some() || event.in_disposition().is_some())
 }
@@ -273,7 +273,7 @@ pub fn owes_nothing(event: &Event) -> bool
 /// this one, which it has taken.
 pub fn answer_to<'p, 'a, P: Inputs<'p> + Openings<'p> + Counts>(
     past: &P,
-    rules: &[Rule],
+    rules: &RuleSet,
     event: &Event<'_, 'a>,
 ) -> Answer<'a>
     // They are exactly those that are owed.
