@@ -4,7 +4,7 @@ use Rattle.std.proofs.lemmas.List.{reverse-append, length-reverse}
 use Rattle.std.proofs.lemmas.Bool.{le-ltb}
 use Rattle.amqp_perf.specs.declared.attach.Role.TheVariants.{Sender, Receiver}
 use Rattle.amqp_perf.specs.Meaning.{Meaning, AnOpen, ABegin, AnAttach, AFlow, ATransfer, ADisposition, ADetach, AnEnd, AClose}
-use Rattle.capture_form.specs.Rules.{RuleText}
+use Rattle.capture_form.specs.Rules.{RuleSet}
 use Rattle.pairing_cert.specs.declared.note.Note.{Note}
 use Rattle.trace_events.specs.Frame.{Spoken}
 use Rattle.trace_events.specs.Event.{Event, is_out}
@@ -24,7 +24,7 @@ more_behind from (s ∷ answer) (e ∷ events) more is = by (is_on_connection_of
     by true is rest = rest is
     by false is rest = absurd cc
 
-pub answered_more : (rules : List RuleText) (e : Event) (past : List Event) → is_out e.moment ≡ true → is_answered rules past ≡ true → is_answered rules (e ∷ past) ≡ true
+pub answered_more : (rules : RuleSet) (e : Event) (past : List Event) → is_out e.moment ≡ true → is_answered rules past ≡ true → is_answered rules (e ∷ past) ≡ true
 answered_more rules e past out is =
     let from : up_to_input (e ∷ past) ≡ up_to_input past = ap (λ b. if b then up_to_input past else e ∷ past) out in
     let begins : begin_with (up_to_input (e ∷ past)) (last_answer rules (e ∷ past)) (reverse (group past) ++ e ∷ []) ≡ true =
@@ -45,14 +45,14 @@ as_long from (s ∷ answer) (e ∷ events) is = by (is_on_connection_of from e &
     by true is rest = omega (arith, rest is)
     by false is rest = absurd cc
 
-pub not_of_answer : (rules : List RuleText) (past : List Event) → is_answered rules past ≡ true → is_of_answer rules past ≡ false
+pub not_of_answer : (rules : RuleSet) (past : List Event) → is_answered rules past ≡ true → is_of_answer rules past ≡ false
 not_of_answer rules past is =
     le-ltb (length (group past)) (length (last_answer rules past))
     (omega (arith, as_long (up_to_input past) (last_answer rules past) (reverse (group past)) is, length-reverse (group past)))
 
 -- ---- a frame that is called for is no open
 
-no_open : (rules : List RuleText) (e : Event) (channel : ℕ) (past : List Event) (m : Meaning) → is_called_for rules e channel past m ≡ true → is_some (as_open m) ≡ false
+no_open : (rules : RuleSet) (e : Event) (channel : ℕ) (past : List Event) (m : Meaning) → is_called_for rules e channel past m ≡ true → is_some (as_open m) ≡ false
 no_open rules e channel past (AnOpen fields) is = absurd cc
 no_open rules e channel past (ABegin begin) is = refl
 no_open rules e channel past (AnAttach fields) is = refl
@@ -71,7 +71,7 @@ other : (a b : Bool) → a ≡ false → a || b ≡ true → b ≡ true
 other true b none is = absurd cc
 other false b none is = is
 
-pub due-no_open : (rules : List RuleText) (past : List Event) (c : ℕ) (note : Note) (s : Spoken) → is_answered rules past ≡ true
+pub due-no_open : (rules : RuleSet) (past : List Event) (c : ℕ) (note : Note) (s : Spoken) → is_answered rules past ≡ true
     → moment_keeps rules (writing rules past c note s) past (writing rules past c note s).moment ≡ true → is_some (out_open (writing rules past c note s)) ≡ false
 due-no_open rules past c note s answered keeps =
     let e = writing rules past c note s in

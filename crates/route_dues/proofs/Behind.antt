@@ -12,7 +12,7 @@ use Rattle.std.specs.Prelude.{option_map}
 use Rattle.pairing_cert.specs.declared.note.Note.{Note}
 use Rattle.capture_form.specs.declared.records.Record.{Record}
 use Rattle.capture_form.specs.declared.records.What.TheVariants as whats
-use Rattle.capture_form.specs.Rules.{RuleText}
+use Rattle.capture_form.specs.Rules.{RuleSet}
 use Rattle.trace_events.specs.Words.{or_else}
 use Rattle.trace_events.specs.Frame.{Spoken}
 use Rattle.trace_events.specs.Event.{Event, Out}
@@ -31,24 +31,24 @@ abbrev pub written : ℕ → Note → Spoken → Record
 written c note spoken = record { connection = c; what = whats.Out (spoken_octets spoken); note = note }
 
 -- the record of a frame that is read again is the event of writing it
-pub judged_writing : (rules : List RuleText) (past : List Event) (c : ℕ) (note : Note) (spoken : Spoken) → IsReadAgain spoken → judge rules past (written c note spoken) ≡ writing rules past c note spoken
+pub judged_writing : (rules : RuleSet) (past : List Event) (c : ℕ) (note : Note) (spoken : Spoken) → IsReadAgain spoken → judge rules past (written c note spoken) ≡ writing rules past c note spoken
 judged_writing rules past c note spoken again = ap (λ frame. judge_moment rules past c (Out frame) note) again
 
 -- it breaks nothing behind lawful records
-unbroken_behind : (rules : List RuleText) (past : List Event) (c : ℕ) (note : Note) (spoken : Spoken) → IsLawful rules past → MayFollow rules past c note spoken → first_broken rules (writing rules past c note spoken ∷ past) ≡ None
+unbroken_behind : (rules : RuleSet) (past : List Event) (c : ℕ) (note : Note) (spoken : Spoken) → IsLawful rules past → MayFollow rules past c note spoken → first_broken rules (writing rules past c note spoken ∷ past) ≡ None
 unbroken_behind rules past c note spoken lawful may =
     let e = writing rules past c note spoken in
     ap (λ o. or_else o (option_map (λ (clause : Clause). (e.number, clause)) (broken_clause rules e past))) lawful.unbroken
     ∙ ap (option_map (λ (clause : Clause). (e.number, clause))) may.lawful
 
 -- nor is it longer than frames may be
-pub follows_within : (rules : List RuleText) (past : List Event) (c : ℕ) (note : Note) (spoken : Spoken) → IsLawful rules past → MayFollow rules past c note spoken → length (spoken_octets spoken) ≤ MAX_FRAME_SIZE
+pub follows_within : (rules : RuleSet) (past : List Event) (c : ℕ) (note : Note) (spoken : Spoken) → IsLawful rules past → MayFollow rules past c note spoken → length (spoken_octets spoken) ≤ MAX_FRAME_SIZE
 follows_within rules past c note spoken lawful may =
     let e = writing rules past c note spoken in
     let one = met rules e past (unbroken_behind rules past c note spoken lawful may) (frame_of spoken) refl spoken refl L1 in
     within (spoken_octets spoken) c past (leb-true (length (spoken_octets spoken)) (frame_limit c past) (and_last (may_be_written c spoken.meaning past) (fits_limit c (frame_of spoken) past) one))
 
-module _ (rules : List RuleText) (past : List Event) (c : ℕ) (note : Note) (spoken : Spoken) (order : IsInOrder rules past) (may : MayFollow rules past c note spoken) (again : IsReadAgain spoken) where
+module _ (rules : RuleSet) (past : List Event) (c : ℕ) (note : Note) (spoken : Spoken) (order : IsInOrder rules past) (may : MayFollow rules past c note spoken) (again : IsReadAgain spoken) where
   abbrev e : Event
   e = writing rules past c note spoken
 

@@ -5,7 +5,7 @@ use Rattle.std.specs.Bool.{beq}
 use lib.Pointwise.{bytes_decides}
 use Rattle.amqp_perf.specs.Meaning.{TransferFields, flag}
 use Rattle.pairing_cert.specs.declared.note.Note.TheVariants as notes
-use Rattle.capture_form.specs.Rules.{RuleText}
+use Rattle.capture_form.specs.Rules.{RuleSet}
 use Rattle.trace_events.specs.Words.{is_some_and, is_none_or, where_passes}
 use Rattle.trace_events.specs.Event.{Event, Link, Incoming, Outgoing}
 use Rattle.trace_events.specs.Link.{is_consumer, IsLiveLink}
@@ -28,7 +28,7 @@ use Rattle.trace_duties.specs.Diligent.{is_picked, is_next_waiting, is_picked_li
 use Rattle.route_dues.proofs.Words.{or_right, both, same_bool}
 
 -- the delivery may go to the link, whose session has window
-pub record MayCarry (rules : List RuleText) (past : List Event) (l : Link) (d : Incoming) : Type 0 where
+pub record MayCarry (rules : RuleSet) (past : List Event) (l : Link) (d : Incoming) : Type 0 where
   pub live : IsLiveLink l past
   pub consumes : is_consumer l ≡ true
   pub window : nat_lt 0 (session_window l.session past) ≡ true
@@ -38,7 +38,7 @@ pub record MayCarry (rules : List RuleText) (past : List Event) (l : Link) (d : 
   pub address : address_of d ≡ l.address
 
 -- it may begin there
-pub record MayBegin (rules : List RuleText) (past : List Event) (l : Link) (d : Incoming) : Type 0 where
+pub record MayBegin (rules : RuleSet) (past : List Event) (l : Link) (d : Incoming) : Type 0 where
   pub carries : MayCarry rules past l d
   pub none : outgoing.in_progress l past ≡ None
   pub credit : nat_lt 0 (link_credit l past) ≡ true
@@ -47,10 +47,10 @@ pub record MayBegin (rules : List RuleText) (past : List Event) (l : Link) (d : 
   pub earliest : has_earlier_unsent rules past l d ≡ false
   pub picked : is_of_multicast rules d || is_next_waiting rules past d && is_picked_link rules past d l ≡ true
 
-abbrev Passes : List RuleText → List Event → Incoming → Bool
+abbrev Passes : RuleSet → List Event → Incoming → Bool
 Passes rules past d = is_complete d past && not (is_gone rules d past)
 
-module _ (rules : List RuleText) (past : List Event) (l : Link) (d : Incoming) (may : MayCarry rules past l d)
+module _ (rules : RuleSet) (past : List Event) (l : Link) (d : Incoming) (may : MayCarry rules past l d)
     (e : Event) (on : e.session ≡ Some l.session) (at : e.link ≡ Some l) (note : e.note ≡ notes.Pair d.number) where
   is_noted : noted e.note past ≡ Some d
   is_noted = ap (λ n. noted n past) note ∙ may.known
@@ -88,7 +88,7 @@ module _ (rules : List RuleText) (past : List Event) (l : Link) (d : Incoming) (
 
 -- ---- one that begins a delivery
 
-module _ (rules : List RuleText) (past : List Event) (l : Link) (d : Incoming) (may : MayBegin rules past l d)
+module _ (rules : RuleSet) (past : List Event) (l : Link) (d : Incoming) (may : MayBegin rules past l d)
     (e : Event) (on : e.session ≡ Some l.session) (at : e.link ≡ Some l) (note : e.note ≡ notes.Pair d.number)
     (j : Outgoing) (goes : e.outgoing ≡ Some j) (begun : j.number ≡ e.number) where
   pub begins : begins_outgoing e ≡ true
@@ -134,7 +134,7 @@ module _ (rules : List RuleText) (past : List Event) (l : Link) (d : Incoming) (
 
 -- ---- one that goes on with a delivery
 
-module _ (rules : List RuleText) (past : List Event) (l : Link) (d : Incoming) (may : MayCarry rules past l d)
+module _ (rules : RuleSet) (past : List Event) (l : Link) (d : Incoming) (may : MayCarry rules past l d)
     (e : Event) (on : e.session ≡ Some l.session) (at : e.link ≡ Some l) (note : e.note ≡ notes.Pair d.number)
     (j : Outgoing) (goes : e.outgoing ≡ Some j) (older : (j.number == e.number) ≡ false) where
   pub later : begins_outgoing e ≡ false

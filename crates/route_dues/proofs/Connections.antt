@@ -2,7 +2,7 @@
 use Rattle.std.proofs.Common.{◌≡◌, refl, sym, ap, subst, ◌∙◌, ℕ, Bool, true, false, ◌&&◌, ◌||◌, List, [], ◌∷◌, Option, Some, None, option_map, if◌then◌else◌, ◌==◌}
 use Rattle.std.specs.Prelude.{is_none}
 use Rattle.amqp_perf.specs.Meaning.{Meaning}
-use Rattle.capture_form.specs.Rules.{RuleText}
+use Rattle.capture_form.specs.Rules.{RuleSet}
 use Rattle.trace_events.specs.declared.session.Session.{Session}
 use Rattle.trace_events.specs.Words.{is_some_and}
 use Rattle.trace_events.specs.Frame.{Spoken, spoken_in}
@@ -21,7 +21,7 @@ use Rattle.route_dues.specs.Writing.{IsLawful}
 use Rattle.route_dues.proofs.Words.{neither}
 
 -- the events of a capture are judged
-pub lawful_judged : (rules : List RuleText) (past : List Event) → IsLawful rules past → AreJudged rules past
+pub lawful_judged : (rules : RuleSet) (past : List Event) → IsLawful rules past → AreJudged rules past
 lawful_judged rules past lawful = subst (λ (events : List Event). AreJudged rules events) (sym lawful.is) (history-judged rules lawful.records)
 
 -- ---- a connection that is not over is neither finished nor stopped
@@ -71,7 +71,7 @@ live_open c channel past s is = by (is_over c past) is
     by true is = absurd cc
     by false is = refl
 
-pub may_write : (rules : List RuleText) (past : List Event) (s : Session) → IsLawful rules past → IsLiveOn s past → (meaning : Meaning) → is_none (as_open meaning) ≡ true
+pub may_write : (rules : RuleSet) (past : List Event) (s : Session) → IsLawful rules past → IsLiveOn s past → (meaning : Meaning) → is_none (as_open meaning) ≡ true
     → may_be_written s.connection meaning past ≡ true
 may_write rules past s lawful live meaning other =
     let c = s.connection in

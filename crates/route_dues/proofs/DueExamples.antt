@@ -24,7 +24,7 @@ use Rattle.trace_clauses.specs.Outcome.{bare_octets}
 use Rattle.amqp_perf.specs.declared.descriptor.Outcome.TheVariants.{Accepted}
 use Rattle.trace_clauses.specs.Written.{spoken_octets, written_transfer, first_part, next_part, written_credit, written_outcome}
 use Rattle.amqp_perf.specs.Meaning.{AFlow, ATransfer}
-use Rattle.trace_clauses.proofs.Captures.{rule}
+use Rattle.trace_clauses.proofs.Captures.{rule, unmarked}
 use Rattle.trace_clauses.proofs.Made.{from, from_with, carry, gives, first, with_more, q, hi, pair, sent, sent_by}
 use Rattle.trace_duties.specs.Diligent.{moment_keeps}
 use Rattle.trace_duties.specs.Order.{is_earliest}
@@ -36,25 +36,25 @@ use Rattle.route_dues.specs.Transfers.{first_frame, next_frame}
 -- the octets of a frame
 unfoldable pub octets_on : List RuleText → List Record → ℕ → (Link → List Event → Option Spoken) → Option (List ℕ)
 unfolding frame_read whole_frame frame_at sized_frame headed_frame read digits spoken_octets frame_octets written
-octets_on rules records n frame = let past = history rules records in option_and_then (λ l. option_map spoken_octets (frame l past)) (link_at n past)
+octets_on rules records n frame = let past = history (unmarked rules) records in option_and_then (λ l. option_map spoken_octets (frame l past)) (link_at n past)
 
 -- the clause that it breaks, written with this note; whether it keeps the duties; and whether it begins nothing in front of
 -- an earlier copy
 unfoldable pub broken_on : List RuleText → List Record → ℕ → Note → (Link → List Event → Spoken) → Option (Option Clause)
 unfolding frame_read whole_frame frame_at sized_frame headed_frame read digits spoken_octets frame_octets written
 broken_on rules records n note frame =
-    let past = history rules records in option_map (λ l. broken_clause rules (writing rules past l.session.connection note (frame l past)) past) (link_at n past)
+    let past = history (unmarked rules) records in option_map (λ l. broken_clause (unmarked rules) (writing (unmarked rules) past l.session.connection note (frame l past)) past) (link_at n past)
 
 unfoldable pub kept_on : List RuleText → List Record → ℕ → Note → (Link → List Event → Spoken) → Option Bool
 unfolding frame_read whole_frame frame_at sized_frame headed_frame read digits spoken_octets frame_octets written
 kept_on rules records n note frame =
-    let past = history rules records in
-    option_map (λ l. moment_keeps rules (writing rules past l.session.connection note (frame l past)) past (Out (frame_of (frame l past)))) (link_at n past)
+    let past = history (unmarked rules) records in
+    option_map (λ l. moment_keeps (unmarked rules) (writing (unmarked rules) past l.session.connection note (frame l past)) past (Out (frame_of (frame l past)))) (link_at n past)
 
 unfoldable pub earliest_on : List RuleText → List Record → ℕ → Note → (Link → List Event → Spoken) → Option Bool
 unfolding frame_read whole_frame frame_at sized_frame headed_frame read digits spoken_octets frame_octets written
 earliest_on rules records n note frame =
-    let past = history rules records in option_map (λ l. is_earliest rules (writing rules past l.session.connection note (frame l past)) past) (link_at n past)
+    let past = history (unmarked rules) records in option_map (λ l. is_earliest (unmarked rules) (writing (unmarked rules) past l.session.connection note (frame l past)) past) (link_at n past)
 
 -- ---- frames
 

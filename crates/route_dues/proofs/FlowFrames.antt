@@ -6,7 +6,7 @@ use Rattle.std.proofs.lemmas.Slice.Eq.{bytes_eq-Decides}
 use Rattle.amqp_perf.specs.declared.flow.Flow.{Flow}
 use Rattle.amqp_perf.specs.Meaning.{AFlow, flag}
 use Rattle.pairing_cert.specs.declared.note.Note.{Note}
-use Rattle.capture_form.specs.Rules.{RuleText}
+use Rattle.capture_form.specs.Rules.{RuleSet}
 use Rattle.flow_counts.specs.declared.profile.TheConstants.{LOW_MARK}
 use Rattle.trace_events.specs.Frame.{Spoken}
 use Rattle.trace_events.specs.Words.{is_some_and, is_number}
@@ -33,7 +33,7 @@ use Rattle.route_dues.proofs.OwnEvents.{IsOwn, on-known, sendable-most, lacking-
 use Rattle.route_dues.proofs.Parts.{both, no_both, none_opened, by_lacking, by_drainable, by_grantable, number_some, receives}
 use Rattle.route_dues.proofs.Places.{session-there, link-known, link-there, link-place, no_handle}
 
-module _ (rules : List RuleText) (past : List Event) (are : AreJudged rules past) (c : ℕ) (note : Note) (channel : ℕ) (payload : List ℕ) (flow : Flow) where
+module _ (rules : RuleSet) (past : List Event) (are : AreJudged rules past) (c : ℕ) (note : Note) (channel : ℕ) (payload : List ℕ) (flow : Flow) where
   abbrev sent : Spoken
   sent = spoken_with channel (AFlow flow) payload
 

@@ -7,7 +7,7 @@ use Rattle.amqp_perf.specs.declared.flow.Flow.{Flow}
 use Rattle.amqp_perf.specs.Meaning.{AFlow}
 use Rattle.amqp_perf.specs.Router.{link_flow}
 use Rattle.pairing_cert.specs.declared.note.Note.TheVariants as notes
-use Rattle.capture_form.specs.Rules.{RuleText}
+use Rattle.capture_form.specs.Rules.{RuleSet}
 use Rattle.trace_events.specs.declared.session.Session.{Session}
 use Rattle.trace_events.specs.Words.{is_some_and, is_number}
 use Rattle.trace_events.specs.Event.{Event, Link, Out}
@@ -36,7 +36,7 @@ no_consumer Sender is = absurd cc
 
 -- ---- any flow on a live session
 
-module _ (rules : List RuleText) (past : List Event) (s : Session) (lawful : IsLawful rules past) (live : IsLiveOn s past) (flow : Flow) where
+module _ (rules : RuleSet) (past : List Event) (s : Session) (lawful : IsLawful rules past) (live : IsLiveOn s past) (flow : Flow) where
   abbrev e : Event
   e = writing rules past s.connection notes.None (says s.channel (AFlow flow))
 
@@ -70,7 +70,7 @@ module _ (rules : List RuleText) (past : List Event) (s : Session) (lawful : IsL
 
 -- ---- a session's
 
-module _ (rules : List RuleText) (past : List Event) (s : Session) where
+module _ (rules : RuleSet) (past : List Event) (s : Session) where
   pub right_numbers : has_session_numbers (session_numbers s past) past s ≡ true
   right_numbers = rw (eq-eqb (next_outgoing_id s past) (next_outgoing_id s past) refl, eq-eqb (next_incoming_id s past) (next_incoming_id s past) refl) refl
 
@@ -85,7 +85,7 @@ module _ (rules : List RuleText) (past : List Event) (s : Session) where
 
 -- ---- a link's
 
-module _ (rules : List RuleText) (past : List Event) (l : Link) (lawful : IsLawful rules past) (live : IsLiveLink l past) (count credit : ℕ) (drains : Bool) where
+module _ (rules : RuleSet) (past : List Event) (l : Link) (lawful : IsLawful rules past) (live : IsLiveLink l past) (count credit : ℕ) (drains : Bool) where
   abbrev flow : Flow
   flow = link_flow (session_numbers l.session past) l.handle count credit drains
 
@@ -104,7 +104,7 @@ module _ (rules : List RuleText) (past : List Event) (l : Link) (lawful : IsLawf
       (ap (λ o. is_some_and o (is_owed_on rules h past)) names ∙ owed)
 
 -- a producer's credit
-module _ (rules : List RuleText) (past : List Event) (l : Link) (lawful : IsLawful rules past) (live : IsLiveLink l past) (produces : is_producer l ≡ true) (due : may_be_topped_up rules past l ≡ true) where
+module _ (rules : RuleSet) (past : List Event) (l : Link) (lawful : IsLawful rules past) (live : IsLiveLink l past) (produces : is_producer l ≡ true) (due : may_be_topped_up rules past l ≡ true) where
   abbrev full : ℕ
   full = full_credit rules past l
 
@@ -125,7 +125,7 @@ module _ (rules : List RuleText) (past : List Event) (l : Link) (lawful : IsLawf
       ∙ both (may_be_topped_up rules past l) (writes given (written_credit l full past)) due (same_octets (spoken_octets (written_credit l full past))))
 
 -- a drain answer
-module _ (rules : List RuleText) (past : List Event) (l : Link) (lawful : IsLawful rules past) (live : IsLiveLink l past) (consumes : is_consumer l ≡ true) (due : may_be_drained rules past l ≡ true) where
+module _ (rules : RuleSet) (past : List Event) (l : Link) (lawful : IsLawful rules past) (live : IsLiveLink l past) (consumes : is_consumer l ≡ true) (due : may_be_drained rules past l ≡ true) where
   abbrev count : ℕ
   count = drained_count past l
 

@@ -6,7 +6,7 @@ use Rattle.amqp_perf.specs.declared.attach.Role.{Role}
 use Rattle.amqp_perf.specs.declared.attach.Role.TheVariants.{Sender, Receiver}
 use Rattle.amqp_perf.specs.Meaning.{Meaning, ATransfer, ADisposition, TransferFields, DispositionFields, flag}
 use Rattle.pairing_cert.specs.declared.note.Note.{Note}
-use Rattle.capture_form.specs.Rules.{RuleText}
+use Rattle.capture_form.specs.Rules.{RuleSet}
 use Rattle.flow_counts.specs.Credit.{LinkEvent, Begun}
 use Rattle.flow_counts.specs.GivenCredit as given
 use Rattle.trace_events.specs.Words.{is_some_and, is_number}
@@ -40,7 +40,7 @@ use Rattle.route_dues.proofs.Sums.{no_more}
 use Rattle.route_dues.proofs.Parts.{both, not_true, some_is, map_some, found_passes, is_same_number, no_both, none_opened, by_transfer, by_untold, by_unsettled}
 use Rattle.route_dues.proofs.Places.{session-there, link-known, no_handle}
 
-module _ (rules : List RuleText) (past : List Event) (are : AreJudged rules past) (c : ℕ) (note : Note) (channel : ℕ) (payload : List ℕ) where
+module _ (rules : RuleSet) (past : List Event) (are : AreJudged rules past) (c : ℕ) (note : Note) (channel : ℕ) (payload : List ℕ) where
   abbrev said : Meaning → Event
   said m = writing rules past c note (spoken_with channel m payload)
 

@@ -1,6 +1,6 @@
 -- A live link is found by its number, and it lives.
 use Rattle.std.proofs.Common.{◌≡◌, refl, ap, ◌∙◌, Bool, true, false, List, Option, Some, None, option_and_then, ◌==◌, eq-eqb, if◌then◌else◌}
-use Rattle.capture_form.specs.Rules.{RuleText}
+use Rattle.capture_form.specs.Rules.{RuleSet}
 use Rattle.trace_events.specs.declared.session.Session.{Session}
 use Rattle.trace_events.specs.Words.{is_some_and}
 use Rattle.trace_events.specs.Event.{Event, Link}
@@ -15,7 +15,7 @@ last_of : (over : Bool) (last : Option Session) (s : Session) → (if over then 
 last_of true last s is = absurd cc
 last_of false last s is = is
 
-module _ (rules : List RuleText) (past : List Event) (are : AreJudged rules past) (l : Link) (live : IsLiveLink l past) where
+module _ (rules : RuleSet) (past : List Event) (are : AreJudged rules past) (l : Link) (live : IsLiveLink l past) where
   pub live_found : link_at l.number past ≡ Some l
   live_found =
       let s = l.session in

@@ -6,7 +6,7 @@ use Rattle.pairing_cert.specs.declared.note.Note.{Note}
 use Rattle.capture_form.specs.declared.records.Record.{Record}
 use Rattle.capture_form.specs.declared.records.What.{What}
 use Rattle.capture_form.specs.declared.records.What.TheVariants as whats
-use Rattle.capture_form.specs.Rules.{RuleText}
+use Rattle.capture_form.specs.Rules.{RuleSet}
 use Rattle.trace_events.specs.Words.{or_else}
 use Rattle.trace_events.specs.Frame.{Frame, Spoken}
 use Rattle.trace_events.specs.Event.{Event, Out}
@@ -30,7 +30,7 @@ use Rattle.route_dues.proofs.Frames.{transfer-less, disposition-less}
 
 -- ---- each kind
 
-kinds : (rules : List RuleText) (past : List Event) → AreJudged rules past → (c : ℕ) (note : Note) (channel : ℕ) (payload : List ℕ) (m : Meaning) → (let spoken = spoken_with channel m payload in
+kinds : (rules : RuleSet) (past : List Event) → AreJudged rules past → (c : ℕ) (note : Note) (channel : ℕ) (payload : List ℕ) (m : Meaning) → (let spoken = spoken_with channel m payload in
     is_called_for rules (writing rules past c note spoken) channel past m ≡ true → ((clause : Clause) → spoken_meets rules (writing rules past c note spoken) (frame_of spoken) past spoken clause ≡ true)
     → work_left (writing rules past c note spoken ∷ past) < work_left past)
 kinds rules past are c told channel payload (ATransfer fields) called meets = transfer-less rules past are c told channel payload fields meets
@@ -47,7 +47,7 @@ or-other : (b c : Bool) → b ≡ false → b || c ≡ true → c ≡ true
 or-other true c none is = absurd cc
 or-other false c none is = is
 
-module _ (rules : List RuleText) (past : List Event) (c : ℕ) (note : Note) (s : Spoken) (way : IsUnderWay rules past) (may : MayFollow rules past c note s) where
+module _ (rules : RuleSet) (past : List Event) (c : ℕ) (note : Note) (s : Spoken) (way : IsUnderWay rules past) (may : MayFollow rules past c note s) where
   abbrev w : Event
   w = writing rules past c note s
 
@@ -68,7 +68,7 @@ module _ (rules : List RuleText) (past : List Event) (c : ℕ) (note : Note) (s 
 -- ---- as records
 
 -- a record of such a frame leaves less than the records before it
-pub record-lessens : (rules : List RuleText) (records : List Record) (r : Record) (s : Spoken) → IsUnderWay rules (history rules records)
+pub record-lessens : (rules : RuleSet) (records : List Record) (r : Record) (s : Spoken) → IsUnderWay rules (history rules records)
     → r.what ≡ whats.Out (spoken_octets s) → MayFollow rules (history rules records) r.connection r.note s → IsReadAgain s
     → work_left (history rules (records ++ r ∷ [])) < work_left (history rules records)
 record-lessens rules records r s way what follows again =
@@ -80,7 +80,7 @@ record-lessens rules records r s way what follows again =
     (lessens rules past r.connection r.note s way follows)
 
 -- and so does one more of a step, behind those of a capture
-pub written : (rules : List RuleText) (records group : List Record) (r : Record) (s : Spoken) → IsUnderWay rules (history rules (records ++ group))
+pub written : (rules : RuleSet) (records group : List Record) (r : Record) (s : Spoken) → IsUnderWay rules (history rules (records ++ group))
     → r.what ≡ whats.Out (spoken_octets s) → MayFollow rules (history rules (records ++ group)) r.connection r.note s → IsReadAgain s
     → work_left (history rules (records ++ (group ++ r ∷ []))) < work_left (history rules (records ++ group))
 written rules records group r s way what follows again =

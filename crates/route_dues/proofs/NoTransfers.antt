@@ -6,7 +6,7 @@ use Rattle.amqp_perf.specs.declared.condition.ErrorCondition.{ErrorCondition}
 use Rattle.amqp_perf.specs.declared.condition.ErrorCondition.TheVariants.{FramingError}
 use Rattle.amqp_perf.specs.declared.flow.Flow.{Flow}
 use Rattle.amqp_perf.specs.Meaning.{Meaning, AnOpen, ABegin, AnAttach, AFlow, ATransfer, ADisposition, ADetach, AnEnd, AClose, flag}
-use Rattle.capture_form.specs.Rules.{RuleText}
+use Rattle.capture_form.specs.Rules.{RuleSet}
 use Rattle.trace_events.specs.declared.fault.Fault.{Fault}
 use Rattle.trace_events.specs.declared.fault.Fault.TheVariants.{Close, End, Refuse, Detach}
 use Rattle.trace_events.specs.declared.session.Session.{Session}
@@ -24,7 +24,7 @@ use Rattle.route_dues.specs.Steps.{AreNoTransfers}
 
 -- ---- a frame that is no transfer
 
-pub begins_nothing : (rules : List RuleText) (past : List Event) (c : ℕ) (told : Note) (channel : ℕ) (m : Meaning) (payload : List ℕ) → as_transfer m ≡ None
+pub begins_nothing : (rules : RuleSet) (past : List Event) (c : ℕ) (told : Note) (channel : ℕ) (m : Meaning) (payload : List ℕ) → as_transfer m ≡ None
     → begins_outgoing (writing rules past c told (record { channel = channel; meaning = m; payload = payload })) ≡ false
 begins_nothing rules past c told channel (ATransfer x) payload none = absurd cc
 begins_nothing rules past c told channel (AnOpen x) payload none = refl
@@ -59,7 +59,7 @@ echo_plain : (s : Option Session) (l : Option Link) (flow : Flow) (past : List E
 echo_plain None l flow past = tt
 echo_plain (Some s) l flow past = either (flag flow.echo) (flow_on s l past ∷ []) [] (flow_plain s l past, tt) tt
 
-plain : (rules : List RuleText) (e : Event) (channel : ℕ) (m : Meaning) (past : List Event) → AreNoTransfers (plain_answer rules e channel m past)
+plain : (rules : RuleSet) (e : Event) (channel : ℕ) (m : Meaning) (past : List Event) → AreNoTransfers (plain_answer rules e channel m past)
 plain rules e channel (AnOpen fields) past = (refl, tt)
 plain rules e channel (ABegin begin) past = (refl, tt)
 plain rules e channel (AnAttach fields) past = (refl, tt)
@@ -81,7 +81,7 @@ refused channel condition (ADetach fields) = tt
 refused channel condition (AnEnd error) = tt
 refused channel condition (AClose error) = tt
 
-heard : (rules : List RuleText) (e : Event) (channel : ℕ) (m : Meaning) (fault : Option Fault) (past : List Event) → AreNoTransfers (heard_answer rules e channel m fault past)
+heard : (rules : RuleSet) (e : Event) (channel : ℕ) (m : Meaning) (fault : Option Fault) (past : List Event) → AreNoTransfers (heard_answer rules e channel m fault past)
 heard rules e channel m None past = plain rules e channel m past
 heard rules e channel m (Some (Close condition)) past = closing_plain e.connection (Some condition) past
 heard rules e channel m (Some (End condition)) past = (refl, tt)
@@ -106,7 +106,7 @@ unread e (Some (End condition)) past = tt
 unread e (Some (Refuse condition)) past = tt
 unread e (Some (Detach condition)) past = tt
 
-in_body : (rules : List RuleText) (e : Event) (body : Body) (past : List Event) → AreNoTransfers (body_answer rules e body past)
+in_body : (rules : RuleSet) (e : Event) (body : Body) (past : List Event) → AreNoTransfers (body_answer rules e body past)
 in_body rules e (Says spoken) past =
     either e.is_heard (heard_answer rules e spoken.channel spoken.meaning e.fault past) (passed_answer e spoken.meaning past)
     (heard rules e spoken.channel spoken.meaning e.fault past) (passed e spoken.meaning past)
@@ -114,12 +114,12 @@ in_body rules e NoFrame past = unread e e.fault past
 in_body rules e (Empty channel) past = unread e e.fault past
 in_body rules e (NoPerformative channel) past = unread e e.fault past
 
-at_moment : (rules : List RuleText) (e : Event) (m : Moment) (past : List Event) → AreNoTransfers (moment_answer rules e m past)
+at_moment : (rules : RuleSet) (e : Event) (m : Moment) (past : List Event) → AreNoTransfers (moment_answer rules e m past)
 at_moment rules e (In frame) past = in_body rules e frame.body past
 at_moment rules e Broken past = either (has_out_close e.connection past) [] (closing e.connection (Some FramingError) past) tt (closing_plain e.connection (Some FramingError) past)
 at_moment rules e Opened past = tt
 at_moment rules e (Out frame) past = tt
 at_moment rules e Lost past = tt
 
-pub answer_plain : (rules : List RuleText) (e : Event) (past : List Event) → AreNoTransfers (answer rules e past)
+pub answer_plain : (rules : RuleSet) (e : Event) (past : List Event) → AreNoTransfers (answer rules e past)
 answer_plain rules e past = at_moment rules e e.moment past

@@ -12,7 +12,7 @@ use Rattle.amqp_perf.specs.declared.descriptor.Outcome.TheVariants.{Accepted, Re
 use Rattle.amqp_perf.specs.Nested.{StateFields}
 use Rattle.pairing_cert.specs.declared.note.Why.{Why}
 use Rattle.pairing_cert.specs.declared.note.Why.TheVariants.{C, Z, S, L, N, M}
-use Rattle.capture_form.specs.Rules.{RuleText}
+use Rattle.capture_form.specs.Rules.{RuleSet}
 use Rattle.trace_events.specs.Event.{Event, Incoming, Outgoing}
 use Rattle.trace_events.specs.Link.{is_live}
 use Rattle.trace_events.specs.Disposition.{terminal_state}
@@ -109,7 +109,7 @@ module _ (d : Incoming) (past : List Event) (state : Option (List ℕ)) where
   anycast_fits false None why h = absurd cc
   anycast_fits false (Some j) why h = paired_fits j (decision j past) why h
 
-pub row_fits : (rules : List RuleText) (d : Incoming) (past : List Event) (why : Why) (state : Option (List ℕ)) → row rules d past why ≡ Some state → Fits d past state
+pub row_fits : (rules : RuleSet) (d : Incoming) (past : List Event) (why : Why) (state : Option (List ℕ)) → row rules d past why ≡ Some state → Fits d past state
 row_fits rules d past N state is = small_one d past state (is_gone rules d past) (Some (bare_octets Released)) (omega arith) is
 row_fits rules d past M state is = told_small d past state (is_of_multicast rules d) (whole_verdict rules d past) is
 row_fits rules d past C state is = anycast_fits d past state (is_of_multicast rules d) (pairing d past) C is

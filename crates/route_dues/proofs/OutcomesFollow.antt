@@ -9,7 +9,7 @@ use Rattle.amqp_perf.specs.Meaning.{ADisposition, DispositionFields}
 use Rattle.amqp_perf.specs.Router.{outcome_told}
 use Rattle.pairing_cert.specs.declared.note.Note.TheVariants as notes
 use Rattle.pairing_cert.specs.declared.note.Why.{Why}
-use Rattle.capture_form.specs.Rules.{RuleText}
+use Rattle.capture_form.specs.Rules.{RuleSet}
 use Rattle.trace_events.specs.Frame.{Spoken}
 use Rattle.trace_events.specs.Words.{is_some_and, is_number, are_same_octets}
 use Rattle.trace_events.specs.Event.{Event, Incoming}
@@ -65,7 +65,7 @@ some_of : {A : Type 0} (o : Option A) → is_some o ≡ true → (x : A) × (o �
 some_of None is = absurd cc
 some_of (Some x) is = (x, refl)
 
-module _ (rules : List RuleText) (past : List Event) (d : Incoming) (lawful : IsLawful rules past) (found : incoming_at d.number past ≡ Some d) (may : may_be_told d past ≡ true) where
+module _ (rules : RuleSet) (past : List Event) (d : Incoming) (lawful : IsLawful rules past) (found : incoming_at d.number past ≡ Some d) (may : may_be_told d past ≡ true) where
   are : AreJudged rules past
   are = lawful_judged rules past lawful
 
@@ -108,7 +108,7 @@ same_state : (state : Option (List ℕ)) → are_same_octets state state ≡ tru
 same_state None = refl
 same_state (Some octets) = (bytes_decides octets octets).1 refl
 
-module _ (rules : List RuleText) (past : List Event) (d : Incoming) (why : Why) (state : Option StateFields) (id : ℕ) (lawful : IsLawful rules past)
+module _ (rules : RuleSet) (past : List Event) (d : Incoming) (why : Why) (state : Option StateFields) (id : ℕ) (lawful : IsLawful rules past)
     (live : IsLiveOn d.link.session past) (given : d.id ≡ Some id) (names : to_tell rules d.link.session id past ≡ Some d) (found : incoming_at d.number past ≡ Some d)
     (may : may_be_told d past ≡ true) (is : row rules d past why ≡ Some (octets_in state)) where
   abbrev fields : DispositionFields
@@ -163,7 +163,7 @@ module _ (rules : List RuleText) (past : List Event) (d : Incoming) (why : Why) 
   }
 
 -- where a row applies to a delivery that may be told, its state may be told
-pub outcome_follows : (rules : List RuleText) (past : List Event) (d : Incoming) (why : Why) (state : Option StateFields) → IsLawful rules past → incoming_at d.number past ≡ Some d
+pub outcome_follows : (rules : RuleSet) (past : List Event) (d : Incoming) (why : Why) (state : Option StateFields) → IsLawful rules past → incoming_at d.number past ≡ Some d
     → may_be_told d past ≡ true → row rules d past why ≡ Some (octets_in state)
     → MayFollow rules past d.link.session.connection (notes.Told why) (outcome_frame d state)
 outcome_follows rules past d why state lawful found may is =

@@ -3,7 +3,7 @@ use Rattle.std.proofs.Common.{◌≡◌, refl, sym, ap, subst, ◌∙◌, ℕ, �
 use Rattle.std.specs.Prelude.{Contains, count_by}
 use Rattle.std.specs.List.{sum_by, cons_option, AllByRecursion}
 use Rattle.std.proofs.lemmas.List.Sums.{sum_by-cons}
-use Rattle.capture_form.specs.Rules.{RuleText}
+use Rattle.capture_form.specs.Rules.{RuleSet}
 use Rattle.flow_counts.specs.declared.profile.TheConstants.{CAPACITY}
 use Rattle.flow_counts.specs.declared.events.WindowEvent.TheVariants as windows
 use Rattle.flow_counts.specs.Credit.{LinkEvent, OurFlow}
@@ -48,7 +48,7 @@ all_in P (y ∷ ys) x all there = elim (contains_cases y ys x there) [
 ]
 
 -- the link of an event that has the number of one of the links is that one
-pub on-known : (rules : List RuleText) (past : List Event) → AreJudged rules past → (e : Event) (m : Link) → e.link ≡ Some m → IsKnown past m
+pub on-known : (rules : RuleSet) (past : List Event) → AreJudged rules past → (e : Event) (m : Link) → e.link ≡ Some m → IsKnown past m
     → (l : Link) → Contains (links past) l → is_on_link l e ≡ true → m ≡ l
 on-known rules past are e m is known l there on =
     let at = (all_in (λ k. (link_at k.number past ≡ Some k) × (k.number < length past)) (links past) l (links-found rules past are) there).0 in

@@ -4,7 +4,7 @@ use lib.Pointwise.{bytes_decides}
 use Rattle.amqp_perf.specs.Meaning.{ATransfer, TransferFields}
 use Rattle.pairing_cert.specs.declared.note.Note.{Note}
 use Rattle.pairing_cert.specs.declared.note.Note.TheVariants as notes
-use Rattle.capture_form.specs.Rules.{RuleText}
+use Rattle.capture_form.specs.Rules.{RuleSet}
 use Rattle.trace_events.specs.Words.{is_some_and, or_else, where_passes}
 use Rattle.trace_events.specs.Frame.{Spoken}
 use Rattle.trace_events.specs.Event.{Event, Link, Incoming, Outgoing, Out}
@@ -32,7 +32,7 @@ use Rattle.route_dues.proofs.Carrying.{MayCarry, MayBegin, filled_of, first_meet
 
 -- ---- what the event is
 
-module _ (rules : List RuleText) (past : List Event) (l : Link) (note : Note) (fields : TransferFields) (octets : List ℕ)
+module _ (rules : RuleSet) (past : List Event) (l : Link) (note : Note) (fields : TransferFields) (octets : List ℕ)
     (live : IsLiveLink l past) (consumes : is_consumer l ≡ true) (names : fields.handle ≡ l.handle) where
   abbrev e : Event
   e = writing rules past l.session.connection note (written_transfer l fields octets)
@@ -91,7 +91,7 @@ unsent_yet j (e ∷ past) are after =
 
 -- ---- a delivery begins
 
-module _ (rules : List RuleText) (past : List Event) (l : Link) (d : Incoming) (lawful : IsLawful rules past) (born : AreBorn past) (may : MayBegin rules past l d) where
+module _ (rules : RuleSet) (past : List Event) (l : Link) (d : Incoming) (lawful : IsLawful rules past) (born : AreBorn past) (may : MayBegin rules past l d) where
   abbrev of : Bool → TransferFields
   of more = first_part l (next_delivery_id l.session past) d.format more
 
@@ -145,7 +145,7 @@ module _ (rules : List RuleText) (past : List Event) (l : Link) (d : Incoming) (
 
 -- ---- a delivery goes on
 
-module _ (rules : List RuleText) (past : List Event) (l : Link) (d : Incoming) (lawful : IsLawful rules past) (may : MayCarry rules past l d)
+module _ (rules : RuleSet) (past : List Event) (l : Link) (d : Incoming) (lawful : IsLawful rules past) (may : MayCarry rules past l d)
     (j : Outgoing) (going : outgoing.in_progress l past ≡ Some j) (older : (j.number == length past) ≡ false) (named : j.note ≡ notes.Pair d.number)
     (so_far : outgoing.payload j past ≡ take (length (outgoing.payload j past)) (incoming.payload d past)) where
   abbrev left : List ℕ

@@ -3,7 +3,7 @@ use Rattle.std.proofs.Common.{◌≡◌, sym, ap, subst, ◌∙◌, ℕ, inl, in
 use Rattle.std.specs.Prelude.{Contains, filter, bytes_eq}
 use Rattle.std.specs.List.{best_of}
 use lib.Pointwise.{bytes_decides}
-use Rattle.capture_form.specs.Rules.{RuleText}
+use Rattle.capture_form.specs.Rules.{RuleSet}
 use Rattle.capture_form.specs.declared.rules.Distribution.{Distribution}
 use Rattle.capture_form.specs.declared.rules.Distribution.TheVariants.{Closest, Balanced, Multicast}
 use Rattle.capture_form.specs.Addresses.{distribution}
@@ -65,7 +65,7 @@ pub record IsPicked (past : List Event) (d : Incoming) (l : Link) : Type 0 where
   pub lives : is_live past l ≡ true
   pub takes : may_take past l ≡ true
 
-module _ (rules : List RuleText) (past : List Event) (are : AreJudged rules past) (d : Incoming) (l : Link) (at : link_at l.number past ≡ Some l) (picked : is_picked_link rules past d l ≡ true) where
+module _ (rules : RuleSet) (past : List Event) (are : AreJudged rules past) (d : Incoming) (l : Link) (at : link_at l.number past ≡ Some l) (picked : is_picked_link rules past d l ≡ true) where
   chosen : Contains (filter (is_eligible past) (picks.consumers (address_of d) (address_events past))) l.number
   chosen = picked_from (distribution rules (address_of d)) (is_eligible past) (address_of d) (address_events past) l.number (number-some (pick rules (address_of d) past) l.number picked)
 

@@ -1,7 +1,7 @@
 -- The session and the link on which a frame stands.
 use Rattle.std.proofs.Common.{◌≡◌, sym, ap, ◌∙◌, ℕ, Bool, true, false, List, Option, Some, None, option_and_then, if◌then◌else◌, ◌==◌}
 use Rattle.std.specs.Prelude.{Contains}
-use Rattle.capture_form.specs.Rules.{RuleText}
+use Rattle.capture_form.specs.Rules.{RuleSet}
 use Rattle.trace_events.specs.Event.{Event, Link}
 use Rattle.trace_events.specs.declared.session.Session.{Session}
 use Rattle.trace_events.specs.Connection.{is_over}
@@ -21,7 +21,7 @@ last_of : (over : Bool) (last : Option Session) (s : Session) → (if over then 
 last_of true last s is = absurd cc
 last_of false last s is = is
 
-module _ (rules : List RuleText) (past : List Event) (are : AreJudged rules past) where
+module _ (rules : RuleSet) (past : List Event) (are : AreJudged rules past) where
   pub session-known : (c channel : ℕ) (s : Session) → live_session c channel past ≡ Some s → known_sessions.IsKnown past s
   session-known c channel s is = last_session-known rules past are c channel s (last_of (is_over c past) (last_session c channel past) s is)
 

@@ -3,7 +3,7 @@
 use Rattle.std.proofs.Common.{◌≡◌, refl, sym, ap, subst, ◌∙◌, Bool, true, false, ◌&&◌, ◌||◌, not, List, length, Option, Some, None, is_some, nat_lt, ne_eqb, arith}
 use Rattle.std.specs.Prelude.{is_none, Contains}
 use Rattle.pairing_cert.specs.declared.note.Note.TheVariants as notes
-use Rattle.capture_form.specs.Rules.{RuleText}
+use Rattle.capture_form.specs.Rules.{RuleSet}
 use Rattle.trace_events.specs.Event.{Event, Link, Incoming, Outgoing}
 use Rattle.trace_events.specs.Link.{link_at, is_consumer, IsLiveLink}
 use Rattle.trace_events.specs.Window.{session_window}
@@ -41,7 +41,7 @@ same_some a b is = cc
 
 -- ---- a delivery goes on
 
-module _ (rules : List RuleText) (past : List Event) (l : Link) (d : Incoming) (j : Outgoing) (lawful : IsLawful rules past) (live : IsLiveLink l past)
+module _ (rules : RuleSet) (past : List Event) (l : Link) (d : Incoming) (j : Outgoing) (lawful : IsLawful rules past) (live : IsLiveLink l past)
     (stands : stands_still past l ≡ true) (going : in_progress l past ≡ Some j) (named : noted j.note past ≡ Some d) where
   pub goes_on : MayFollow rules past l.session.connection j.note (next_frame past l d j)
   goes_on =
@@ -68,7 +68,7 @@ none_of : {A : Type 0} (o : Option A) → is_none o ≡ true → o ≡ None
 none_of None is = refl
 none_of (Some x) is = absurd cc
 
-module _ (rules : List RuleText) (past : List Event) (l : Link) (d : Incoming) (lawful : IsLawful rules past) (live : IsLiveLink l past) (consumes : is_consumer l ≡ true)
+module _ (rules : RuleSet) (past : List Event) (l : Link) (d : Incoming) (lawful : IsLawful rules past) (live : IsLiveLink l past) (consumes : is_consumer l ≡ true)
     (found : incoming_at d.number past ≡ Some d) (takes : may_take past l ≡ true) where
   begin_by : GoesFirst rules l past d → address_of d ≡ l.address → is_in_order l past d ≡ true → has_earlier_unsent rules past l d ≡ false → is_of_multicast rules d || is_next_waiting rules past d && is_picked_link rules past d l ≡ true
       → MayFollow rules past l.session.connection (notes.Pair d.number) (first_frame past l d)
@@ -106,7 +106,7 @@ waits-alone : (many complete paired had : Bool) → not many && complete && not 
 waits-alone false complete paired had is = refl
 waits-alone true complete paired had is = absurd cc
 
-no_copies : (rules : List RuleText) (past : List Event) → AreJudged rules past → (l : Link) (d : Incoming) → address_of d ≡ l.address → is_waiting rules d past ≡ true → has_earlier_unsent rules past l d ≡ false
+no_copies : (rules : RuleSet) (past : List Event) → AreJudged rules past → (l : Link) (d : Incoming) → address_of d ≡ l.address → is_waiting rules d past ≡ true → has_earlier_unsent rules past l d ≡ false
 no_copies rules past are l d at waits = none-before (λ (x : Incoming). completed_before x d past && is_unsent rules x l past) (incoming_deliveries past) (λ x there. by x there (is_unsent rules x l past) refl)
   where
     by : (x : Incoming) → Contains (incoming_deliveries past) x → (b : Bool) → is_unsent rules x l past ≡ b → completed_before x d past && b ≡ false
@@ -120,7 +120,7 @@ no_copies rules past are l d at waits = none-before (λ (x : Incoming). complete
         absurd cc
 
 -- the next one of those that wait
-module _ (rules : List RuleText) (past : List Event) (l : Link) (d : Incoming) (lawful : IsLawful rules past) (keeps : all_keep rules past ≡ true) (at : link_at l.number past ≡ Some l)
+module _ (rules : RuleSet) (past : List Event) (l : Link) (d : Incoming) (lawful : IsLawful rules past) (keeps : all_keep rules past ≡ true) (at : link_at l.number past ≡ Some l)
     (found : incoming_at d.number past ≡ Some d) (next : is_next_waiting rules past d ≡ true) (picked : is_picked_link rules past d l ≡ true) where
   pub next_begins : MayFollow rules past l.session.connection (notes.Pair d.number) (first_frame past l d)
   next_begins =

@@ -5,7 +5,7 @@ use Rattle.amqp_perf.specs.declared.attach.Role.TheVariants.{Sender}
 use Rattle.amqp_perf.specs.Meaning.{ADisposition, DispositionFields}
 use Rattle.amqp_perf.specs.Router.{settling}
 use Rattle.pairing_cert.specs.declared.note.Note.TheVariants as notes
-use Rattle.capture_form.specs.Rules.{RuleText}
+use Rattle.capture_form.specs.Rules.{RuleSet}
 use Rattle.trace_events.specs.declared.session.Session.{Session}
 use Rattle.trace_events.specs.Words.{is_some_and, is_number, or_else, where_passes}
 use Rattle.trace_events.specs.Event.{Event, Outgoing, is_on_session}
@@ -69,7 +69,7 @@ contained_found test (y ∷ ys) x there is = by (test y) refl (λ later. contain
       | inr below ↦ later below
     ]
 
-module _ (rules : List RuleText) (past : List Event) (s : Session) (id : ℕ) (j : Outgoing) (lawful : IsLawful rules past) (live : IsLiveOn s past) (settles : to_settle s id past ≡ Some j) where
+module _ (rules : RuleSet) (past : List Event) (s : Session) (id : ℕ) (j : Outgoing) (lawful : IsLawful rules past) (live : IsLiveOn s past) (settles : to_settle s id past ≡ Some j) where
   abbrev e : Event
   e = writing rules past s.connection notes.None (written_settling s.channel id)
 
@@ -101,7 +101,7 @@ module _ (rules : List RuleText) (past : List Event) (s : Session) (id : ℕ) (j
     earliest = refl;
   }
 
-module _ (rules : List RuleText) (past : List Event) (j : Outgoing) (lawful : IsLawful rules past) (there : Contains (outgoing_deliveries past) j) (is : is_to_settle past j ≡ true) where
+module _ (rules : RuleSet) (past : List Event) (j : Outgoing) (lawful : IsLawful rules past) (there : Contains (outgoing_deliveries past) j) (is : is_to_settle past j ≡ true) where
   abbrev parts : Bool
   parts = is_live past j.link && is_some (decision j past)
 

@@ -22,7 +22,7 @@ use Rattle.pairing_cert.specs.declared.note.Why.{Why}
 use Rattle.pairing_cert.specs.declared.note.Why.TheVariants.{C, Z, S, L, N, M}
 use Rattle.capture_form.specs.declared.records.What.{What}
 use Rattle.capture_form.specs.declared.records.What.TheVariants as whats
-use Rattle.capture_form.specs.Rules.{RuleText}
+use Rattle.capture_form.specs.Rules.{RuleSet}
 use Rattle.trace_events.specs.Words.{or_else, where_passes}
 use Rattle.trace_events.specs.Frame.{Spoken, spoken_in, body_in, body_by, body_on, said_on, frame_read}
 use Rattle.trace_events.specs.Event.{Event, Incoming, Outgoing, in_frame}
@@ -104,7 +104,7 @@ what_writable whats.Broken fields is = absurd cc
 
 -- ---- of a decision
 
-module _ (rules : List RuleText) (e : Event) (past : List Event) (are : AreJudged rules (e ∷ past)) (j : Outgoing) (fields : DispositionFields) where
+module _ (rules : RuleSet) (e : Event) (past : List Event) (are : AreJudged rules (e ∷ past)) (j : Outgoing) (fields : DispositionFields) where
   said_here : in_disposition e ≡ Some fields → IfThere IsWritableState fields.state
   said_here is = what_writable are.0.0.what fields (sym (ap in_disposition are.0.1) ∙ is)
 
@@ -113,7 +113,7 @@ module _ (rules : List RuleText) (e : Event) (past : List Event) (are : AreJudge
       let one = passing is_decisive (answering j e) fields (if_some (is_live past j.link) (where_passes is_decisive (answering j e)) fields is).1 in
       said_here (passing _ (in_disposition e) fields (if_some _ _ fields one.0).1).0
 
-decided_writable : (rules : List RuleText) (past : List Event) (j : Outgoing) (fields : DispositionFields) → AreJudged rules past → first_deciding j past ≡ Some fields → IfThere IsWritableState fields.state
+decided_writable : (rules : RuleSet) (past : List Event) (j : Outgoing) (fields : DispositionFields) → AreJudged rules past → first_deciding j past ≡ Some fields → IfThere IsWritableState fields.state
 decided_writable rules [] j fields are is = absurd cc
 decided_writable rules (e ∷ past) j fields are is = by (first_deciding j past) refl is (decided_writable rules past j fields are.1)
   where
@@ -121,7 +121,7 @@ decided_writable rules (e ∷ past) j fields are is = by (first_deciding j past)
     by None none is earlier = deciding_here rules e past are j fields is
     by (Some x) at is earlier = earlier (at ∙ is)
 
-decision_writable : (rules : List RuleText) (past : List Event) (j : Outgoing) (fields : DispositionFields) → AreJudged rules past → decision j past ≡ Some fields → IfThere IsWritableState fields.state
+decision_writable : (rules : RuleSet) (past : List Event) (j : Outgoing) (fields : DispositionFields) → AreJudged rules past → decision j past ≡ Some fields → IfThere IsWritableState fields.state
 decision_writable rules past j fields are is = by j.link.is_pre_settled is
   where
     by : (b : Bool) → (if b then None else first_deciding j past) ≡ Some fields → IfThere IsWritableState fields.state
@@ -156,7 +156,7 @@ where_false : {A : Type 0} (b : Bool) (x y : A) → (if b then None else Some x)
 where_false true x y is = absurd cc
 where_false false x y is = cc
 
-module _ (rules : List RuleText) (d : Incoming) (past : List Event) (are : AreJudged rules past) (octets : List ℕ) where
+module _ (rules : RuleSet) (d : Incoming) (past : List Event) (are : AreJudged rules past) (octets : List ℕ) where
   bare_if : (b : Bool) (outcome : Outcome) → (if b then Some (Some (bare_octets outcome)) else None) ≡ Some (Some octets) → Made octets
   bare_if b outcome is = bare_made outcome octets (same_some (bare_octets outcome) octets (where_true b (Some (bare_octets outcome)) (Some octets) is))
 
@@ -215,7 +215,7 @@ told_short d past octets fits =
     omega (arith, short, outcome_long d.link.session.channel id (Some octets), list_least (fits_octet (body + 1)) body)
 
 -- the state that a row tells can be written
-pub row_state : (rules : List RuleText) (past : List Event) (d : Incoming) (why : Why) (octets : List ℕ) → IsLawful rules past → row rules d past why ≡ Some (Some octets) → HasState octets
+pub row_state : (rules : RuleSet) (past : List Event) (d : Incoming) (why : Why) (octets : List ℕ) → IsLawful rules past → row rules d past why ≡ Some (Some octets) → HasState octets
 row_state rules past d why octets lawful is =
     let made = row_made rules d past (lawful_judged rules past lawful) octets why is in
     let short = told_short d past octets (row_fits rules d past why (Some octets) is) in

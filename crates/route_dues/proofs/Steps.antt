@@ -3,7 +3,7 @@ use Rattle.std.proofs.Common.{◌≡◌, refl, sym, ap, subst, ◌∙◌, ℕ, �
 use Rattle.flow_counts.specs.declared.profile.TheConstants.{MAX_FRAME_SIZE}
 use Rattle.pairing_cert.specs.declared.note.Note.{Note}
 use Rattle.pairing_cert.specs.declared.note.Note.TheVariants as notes
-use Rattle.capture_form.specs.Rules.{RuleText}
+use Rattle.capture_form.specs.Rules.{RuleSet}
 use Rattle.capture_form.specs.declared.records.Record.{Record}
 use Rattle.trace_events.specs.Words.{or_else}
 use Rattle.trace_events.specs.Frame.{Frame, Spoken}
@@ -38,7 +38,7 @@ both a b left right = rw (left, right) refl
 
 -- ---- before the first step
 
-pub start : (rules : List RuleText) → IsAtRest rules []
+pub start : (rules : RuleSet) → IsAtRest rules []
 start rules = record {
   under_way = record {
     order = record {
@@ -56,14 +56,14 @@ start rules = record {
 -- ---- an input
 
 -- earlier events of lawful ones are lawful
-unbroken_before : (rules : List RuleText) (e : Event) (past : List Event) → first_broken rules (e ∷ past) ≡ None → first_broken rules past ≡ None
+unbroken_before : (rules : RuleSet) (e : Event) (past : List Event) → first_broken rules (e ∷ past) ≡ None → first_broken rules past ≡ None
 unbroken_before rules e past is = by (first_broken rules past) is
   where
     by : (o : Option (ℕ × Clause)) → or_else o (option_map (λ (clause : Clause). (e.number, clause)) (broken_clause rules e past)) ≡ None → o ≡ None
     by None is = refl
     by (Some x) is = absurd cc
 
-unbroken_at : (rules : List RuleText) (e : Event) (past : List Event) → first_broken rules (e ∷ past) ≡ None → broken_clause rules e past ≡ None
+unbroken_at : (rules : RuleSet) (e : Event) (past : List Event) → first_broken rules (e ∷ past) ≡ None → broken_clause rules e past ≡ None
 unbroken_at rules e past is = by (first_broken rules past) (broken_clause rules e past) is
   where
     by : (o : Option (ℕ × Clause)) (p : Option Clause) → or_else o (option_map (λ (clause : Clause). (e.number, clause)) p) ≡ None → p ≡ None
@@ -71,14 +71,14 @@ unbroken_at rules e past is = by (first_broken rules past) (broken_clause rules 
     by None (Some x) is = absurd cc
     by (Some x) p is = absurd cc
 
-unbroken_behind : (rules : List RuleText) (c : ℕ) (frames : List Spoken) (past : List Event) → first_broken rules (behind rules c frames past) ≡ None → first_broken rules past ≡ None
+unbroken_behind : (rules : RuleSet) (c : ℕ) (frames : List Spoken) (past : List Event) → first_broken rules (behind rules c frames past) ≡ None → first_broken rules past ≡ None
 unbroken_behind rules c [] past is = is
 unbroken_behind rules c (s ∷ more) past is =
     let e = writing rules past c notes.None s in
     unbroken_before rules e past (unbroken_behind rules c more (e ∷ past) is)
 
 -- what a client does is written by no one, and begins no delivery to a client
-input_keeps : (rules : List RuleText) (past : List Event) (c : ℕ) (m : Moment) → IsTrue (may_happen c m past) → IsAtRest rules past
+input_keeps : (rules : RuleSet) (past : List Event) (c : ℕ) (m : Moment) → IsTrue (may_happen c m past) → IsAtRest rules past
     → moment_keeps rules (judge_moment rules past c m notes.None) past m ≡ true
 input_keeps rules past c Opened may rest = both (is_quiet rules past) (is_answered rules past) rest.quiet rest.under_way.answered
 input_keeps rules past c (In frame) may rest = both (is_quiet rules past) (is_answered rules past) rest.quiet rest.under_way.answered
@@ -86,21 +86,21 @@ input_keeps rules past c Lost may rest = both (is_quiet rules past) (is_answered
 input_keeps rules past c Broken may rest = both (is_quiet rules past) (is_answered rules past) rest.quiet rest.under_way.answered
 input_keeps rules past c (Out frame) may rest = absurd cc
 
-input_turn : (rules : List RuleText) (past : List Event) (c : ℕ) (m : Moment) → IsTrue (may_happen c m past) → stands_in_turn rules (judge_moment rules past c m notes.None) past m ≡ true
+input_turn : (rules : RuleSet) (past : List Event) (c : ℕ) (m : Moment) → IsTrue (may_happen c m past) → stands_in_turn rules (judge_moment rules past c m notes.None) past m ≡ true
 input_turn rules past c Opened may = refl
 input_turn rules past c (In frame) may = refl
 input_turn rules past c Lost may = refl
 input_turn rules past c Broken may = refl
 input_turn rules past c (Out frame) may = absurd cc
 
-input_begins : (rules : List RuleText) (past : List Event) (c : ℕ) (m : Moment) → IsTrue (may_happen c m past) → begins_outgoing (judge_moment rules past c m notes.None) ≡ false
+input_begins : (rules : RuleSet) (past : List Event) (c : ℕ) (m : Moment) → IsTrue (may_happen c m past) → begins_outgoing (judge_moment rules past c m notes.None) ≡ false
 input_begins rules past c Opened may = refl
 input_begins rules past c (In frame) may = refl
 input_begins rules past c Lost may = refl
 input_begins rules past c Broken may = refl
 input_begins rules past c (Out frame) may = absurd cc
 
-module _ (rules : List RuleText) (past : List Event) (r : Record) (rest : IsAtRest rules past) (short : length past < 2 ^ 64) (may : IsTrue (may_happen r.connection (moment_of r.what) past))
+module _ (rules : RuleSet) (past : List Event) (r : Record) (rest : IsAtRest rules past) (short : length past < 2 ^ 64) (may : IsTrue (may_happen r.connection (moment_of r.what) past))
     (unnoted : r.note ≡ notes.None) where
   abbrev m : Moment
   m = moment_of r.what
@@ -153,7 +153,7 @@ module _ (rules : List RuleText) (past : List Event) (r : Record) (rest : IsAtRe
 
 -- ---- its answer
 
-module _ (rules : List RuleText) (past : List Event) (c : ℕ) (s : Spoken) (left : List Spoken) (is : IsAnswering rules c past (s ∷ left)) where
+module _ (rules : RuleSet) (past : List Event) (c : ℕ) (s : Spoken) (left : List Spoken) (is : IsAnswering rules c past (s ∷ left)) where
   abbrev w : Event
   w = writing rules past c notes.None s
 
@@ -177,12 +177,12 @@ module _ (rules : List RuleText) (past : List Event) (c : ℕ) (s : Spoken) (lef
     answered = is.answered;
   }
 
-pub answered : (rules : List RuleText) (past : List Event) (c : ℕ) → IsAnswering rules c past [] → IsUnderWay rules past
+pub answered : (rules : RuleSet) (past : List Event) (c : ℕ) → IsAnswering rules c past [] → IsUnderWay rules past
 answered rules past c is = record { order = is.order; turns = is.turns; opens = is.opens; answered = is.answered }
 
 -- ---- what is due
 
-pub due : (rules : List RuleText) (past : List Event) (c : ℕ) (note : Note) (s : Spoken) → IsUnderWay rules past → MayFollow rules past c note s
+pub due : (rules : RuleSet) (past : List Event) (c : ℕ) (note : Note) (s : Spoken) → IsUnderWay rules past → MayFollow rules past c note s
     → stands_in_turn rules (writing rules past c note s) past (Out (frame_of s)) ≡ true → IsReadAgain s → IsUnderWay rules (writing rules past c note s ∷ past)
 due rules past c note s way may turn again =
     let w = writing rules past c note s in
@@ -196,14 +196,14 @@ due rules past c note s way may turn again =
 
 -- ---- at its end
 
-pub rest : (rules : List RuleText) (past : List Event) → IsUnderWay rules past → is_quiet rules past ≡ true → IsAtRest rules past
+pub rest : (rules : RuleSet) (past : List Event) → IsUnderWay rules past → is_quiet rules past ≡ true → IsAtRest rules past
 rest rules past way quiet = record { under_way = way; quiet = quiet }
 
-pub diligent : (rules : List RuleText) (records : List Record) → IsAtRest rules (history rules records) → is_diligent rules records ≡ true
+pub diligent : (rules : RuleSet) (records : List Record) → IsAtRest rules (history rules records) → is_diligent rules records ≡ true
 diligent rules records at =
     let past = history rules records in
     both (all_keep rules past && is_quiet rules past) (is_answered rules past)
     (both (all_keep rules past) (is_quiet rules past) at.under_way.order.keeps at.quiet) at.under_way.answered
 
-pub ordered : (rules : List RuleText) (records : List Record) → IsAtRest rules (history rules records) → is_ordered rules records ≡ true
+pub ordered : (rules : RuleSet) (records : List Record) → IsAtRest rules (history rules records) → is_ordered rules records ≡ true
 ordered rules records at = at.under_way.turns

@@ -6,7 +6,7 @@ use Rattle.amqp_perf.specs.Router.{link_flow}
 use Rattle.pairing_cert.specs.declared.note.Note.{Note}
 use Rattle.pairing_cert.specs.declared.note.Note.TheVariants as notes
 use Rattle.pairing_cert.specs.declared.note.Why.{Why}
-use Rattle.capture_form.specs.Rules.{RuleText}
+use Rattle.capture_form.specs.Rules.{RuleSet}
 use Rattle.trace_events.specs.declared.session.Session.{Session}
 use Rattle.trace_events.specs.Words.{is_some_and, is_none_or}
 use Rattle.trace_events.specs.Event.{Event, Link, Incoming, Outgoing, Out}
@@ -35,7 +35,7 @@ use Rattle.route_dues.proofs.FlowsFollow.{no_consumer}
 
 -- ---- dispositions
 
-module _ (rules : List RuleText) (past : List Event) where
+module _ (rules : RuleSet) (past : List Event) where
   pub outcome_in_turn : (d : Incoming) (why : Why) (state : Option StateFields)
       → stands_in_turn rules (writing rules past d.link.session.connection (notes.Told why) (outcome_frame d state)) past (Out (frame_of (outcome_frame d state))) ≡ true
   outcome_in_turn d why state = or_right (is_of_answer rules past) true refl
@@ -46,7 +46,7 @@ module _ (rules : List RuleText) (past : List Event) where
 
 -- ---- transfers
 
-module _ (rules : List RuleText) (past : List Event) (l : Link) (note : Note) (fields : TransferFields) (octets : List ℕ) (live : IsLiveLink l past) (names : fields.handle ≡ l.handle)
+module _ (rules : RuleSet) (past : List Event) (l : Link) (note : Note) (fields : TransferFields) (octets : List ℕ) (live : IsLiveLink l past) (names : fields.handle ≡ l.handle)
     (told : is_all_told rules past ≡ true) where
   abbrev e : Event
   e = writing rules past l.session.connection note (written_transfer l fields octets)
@@ -69,7 +69,7 @@ module _ (rules : List RuleText) (past : List Event) (l : Link) (note : Note) (f
       (both (is_all_told rules past) _ told
       (or_right (is_some_and e.link (stands_still past)) (begins_in_turn rules e past) (both (none_stands_still past) _ moving first)))
 
-module _ (rules : List RuleText) (past : List Event) (l : Link) (d : Incoming) (live : IsLiveLink l past) (told : is_all_told rules past ≡ true) where
+module _ (rules : RuleSet) (past : List Event) (l : Link) (d : Incoming) (live : IsLiveLink l past) (told : is_all_told rules past ≡ true) where
   -- a part of a delivery in progress
   pub part_in_turn : (j : Outgoing) → stands_still past l ≡ true
       → stands_in_turn rules (writing rules past l.session.connection j.note (next_frame past l d j)) past (Out (frame_of (next_frame past l d j))) ≡ true
@@ -101,7 +101,7 @@ module _ (rules : List RuleText) (past : List Event) (l : Link) (d : Incoming) (
 
 -- ---- flows
 
-module _ (rules : List RuleText) (past : List Event) (l : Link) (live : IsLiveLink l past) where
+module _ (rules : RuleSet) (past : List Event) (l : Link) (live : IsLiveLink l past) where
   flow_in_turn : (count credit : ℕ) (drains : Bool) → link_flow_in_turn rules past l ≡ true
       → (let spoken = says l.session.channel (AFlow (link_flow (session_numbers l.session past) l.handle count credit drains)) in
       stands_in_turn rules (writing rules past l.session.connection notes.None spoken) past (Out (frame_of spoken)) ≡ true)
@@ -120,6 +120,6 @@ module _ (rules : List RuleText) (past : List Event) (l : Link) (live : IsLiveLi
   credit_in_turn produces drained =
       flow_in_turn (received_count l past) (full_credit rules past l) false (ap (λ b. if b then is_all_sent rules past else is_all_drained rules past) (no_consumer l.role produces) ∙ drained)
 
-pub window_in_turn : (rules : List RuleText) (past : List Event) (s : Session) → is_all_credited rules past ≡ true
+pub window_in_turn : (rules : RuleSet) (past : List Event) (s : Session) → is_all_credited rules past ≡ true
     → stands_in_turn rules (writing rules past s.connection notes.None (written_session_flow s past)) past (Out (frame_of (written_session_flow s past))) ≡ true
 window_in_turn rules past s credited = or_right (is_of_answer rules past) (is_all_credited rules past) credited

@@ -2,7 +2,7 @@
 use Rattle.std.specs.Prelude.{◌≡◌, ◌≤◌, ℕ, true, List, [], ◌∷◌, None, length}
 use Rattle.flow_counts.specs.declared.profile.TheConstants.{MAX_FRAME_SIZE}
 use Rattle.amqp_perf.specs.Meaning.{Meaning}
-use Rattle.capture_form.specs.Rules.{RuleText}
+use Rattle.capture_form.specs.Rules.{RuleSet}
 use Rattle.trace_events.specs.Frame.{Spoken}
 use Rattle.trace_events.specs.Event.{Event}
 use Rattle.trace_events.specs.Said.{as_transfer}
@@ -16,14 +16,14 @@ use Rattle.route_dues.specs.Writing.{IsInOrder}
 
 -- while a step is written: no record breaks a clause, the duties are kept, copies are in order, each record stands in turn,
 -- opens are answered, and so is the input of the step
-pub record IsUnderWay (rules : List RuleText) (past : List Event) : Type 0 where
+pub record IsUnderWay (rules : RuleSet) (past : List Event) : Type 0 where
   pub order : IsInOrder rules past
   pub turns : are_in_turn rules past ≡ true
   pub opens : AreOpensAnswered past
   pub answered : is_answered rules past ≡ true
 
 -- between steps: all of this, and nothing is left that could be written
-pub record IsAtRest (rules : List RuleText) (past : List Event) : Type 0 where
+pub record IsAtRest (rules : RuleSet) (past : List Event) : Type 0 where
   pub under_way : IsUnderWay rules past
   pub quiet : is_quiet rules past ≡ true
 
@@ -33,7 +33,7 @@ AreNoTransfers [] = Unit {0}
 AreNoTransfers (spoken ∷ more) = (as_transfer spoken.meaning ≡ None) × AreNoTransfers more
 
 -- these frames of an answer are left to be written on the connection; behind the last one the step is under way
-pub record IsAnswering (rules : List RuleText) (c : ℕ) (past : List Event) (left : List Spoken) : Type 0 where
+pub record IsAnswering (rules : RuleSet) (c : ℕ) (past : List Event) (left : List Spoken) : Type 0 where
   pub order : IsInOrder rules past
   pub turns : are_in_turn rules past ≡ true
   pub frames : AreInOrder rules c left past

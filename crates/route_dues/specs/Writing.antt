@@ -3,7 +3,7 @@ use Rattle.std.specs.Prelude.{◌≡◌, ℕ, true, List, None}
 use Rattle.amqp_perf.specs.Meaning.{Meaning}
 use Rattle.pairing_cert.specs.declared.note.Note.{Note}
 use Rattle.capture_form.specs.declared.records.Record.{Record}
-use Rattle.capture_form.specs.Rules.{RuleText}
+use Rattle.capture_form.specs.Rules.{RuleSet}
 use Rattle.trace_events.specs.Frame.{Frame, Says, Spoken, frame_read}
 use Rattle.trace_events.specs.Event.{Event, Out}
 use Rattle.trace_events.specs.History.{judge_moment, history}
@@ -21,7 +21,7 @@ abbrev pub frame_of : Spoken → Frame
 frame_of spoken = record { octets = spoken_octets spoken; body = Says spoken }
 
 -- it is written on this connection, with this note
-abbrev pub writing : List RuleText → List Event → ℕ → Note → Spoken → Event
+abbrev pub writing : RuleSet → List Event → ℕ → Note → Spoken → Event
 writing rules past c note spoken = judge_moment rules past c (Out (frame_of spoken)) note
 
 -- its octets say the same again, where they are read
@@ -29,19 +29,19 @@ abbrev pub IsReadAgain : Spoken → Type 0
 IsReadAgain spoken = frame_read (spoken_octets spoken) ≡ frame_of spoken
 
 -- the events of a capture, no record of which breaks a clause
-pub record IsLawful (rules : List RuleText) (past : List Event) : Type 0 where
+pub record IsLawful (rules : RuleSet) (past : List Event) : Type 0 where
   pub records : List Record
   pub is : past ≡ history rules records
   pub unbroken : first_broken rules past ≡ None
 
 -- what a router keeps from event to event: its records are lawful, its duties are kept, and copies are in order
-pub record IsInOrder (rules : List RuleText) (past : List Event) : Type 0 where
+pub record IsInOrder (rules : RuleSet) (past : List Event) : Type 0 where
   pub lawful : IsLawful rules past
   pub keeps : all_keep rules past ≡ true
   pub copies : CopiesInOrder rules past
 
 -- written here, the frame breaks no clause, keeps the duties of a router, and begins nothing in front of an earlier copy
-pub record MayFollow (rules : List RuleText) (past : List Event) (c : ℕ) (note : Note) (spoken : Spoken) : Type 0 where
+pub record MayFollow (rules : RuleSet) (past : List Event) (c : ℕ) (note : Note) (spoken : Spoken) : Type 0 where
   pub lawful : broken_clause rules (writing rules past c note spoken) past ≡ None
   pub keeps : moment_keeps rules (writing rules past c note spoken) past (Out (frame_of spoken)) ≡ true
   pub earliest : is_earliest rules (writing rules past c note spoken) past ≡ true

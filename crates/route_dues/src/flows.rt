@@ -5,7 +5,7 @@ ghost use Rattle.std.specs.Prelude.{◌≡◌, ◌≤◌, List, length};
 ghost use Rattle.flow_counts.specs.declared.profile.TheConstants.{MAX_FRAME_SIZE};
 ghost use Rattle.amqp_types.specs.Writing.{Puts};
 ghost use Rattle.amqp_perf.specs.Meaning.{AFlow};
-ghost use Rattle.capture_form.specs.Rules.{RuleText};
+ghost use Rattle.capture_form.specs.Rules.{RuleSet};
 ghost use Rattle.trace_events.specs.Session.{IsLiveOn};
 ghost use Rattle.trace_events.specs.Link.{IsLiveLink};
 ghost use Rattle.trace_clauses.specs.FlowClause as law;
@@ -15,7 +15,7 @@ ghost use Rattle.route_dues.specs.Writing.{IsReadAgain};
 
 use crate::frame::put_spoken;
 use amqp_perf::{Flow, Performative};
-use capture_form::Rule;
+use capture_form::RuleSet;
 use std::alloc::AllocError;
 use trace_events::Session;
 use trace_judge::{Counts, full_credit};
@@ -32,9 +32,9 @@ pub fn put_window<P: Counts>(
     past: &P,
     session: Session,
 ) -> Result<(), AllocError>
-    ensures appended { (rules : List RuleText) (history : Events) → P.stands_for past.now rules history → IsLiveOn session history
+    ensures appended { (rules : RuleSet) (history : Events) → P.stands_for past.now rules history → IsLiveOn session history
         → Puts out.old.items out.new.items result (spoken_octets (written_session_flow session history)) }
-    ensures again { (rules : List RuleText) (history : Events) → P.stands_for past.now rules history → IsLiveOn session history → IsReadAgain (written_session_flow session history) }
+    ensures again { (rules : RuleSet) (history : Events) → P.stands_for past.now rules history → IsLiveOn session history → IsReadAgain (written_session_flow session history) }
 {
     let numbers = Flow::of_session(
         past.next_incoming_id(session),
@@ -53,9 +53,9 @@ fn put_numbers<P: Counts>(
     link_credit: u32,
     drains: bool,
 ) -> Result<(), AllocError>
-    ensures appended { (rules : List RuleText) (history : Events) → P.stands_for past.now rules history → IsLiveLink (link_view link.now) history
+    ensures appended { (rules : RuleSet) (history : Events) → P.stands_for past.now rules history → IsLiveLink (link_view link.now) history
         → Puts out.old.items out.new.items result (spoken_octets (says link.now.session.channel (AFlow (link_numbers (link_view link.now) delivery_count link_credit drains history)))) }
-    ensures again { (rules : List RuleText) (history : Events) → P.stands_for past.now rules history → IsLiveLink (link_view link.now) history
+    ensures again { (rules : RuleSet) (history : Events) → P.stands_for past.now rules history → IsLiveLink (link_view link.now) history
         → IsReadAgain (says link.now.session.channel (AFlow (link_numbers (link_view link.now) delivery_count link_credit drains history))) }
 {
     let session = link.session;
@@ -75,7 +75,7 @@ fn put_numbers<P: Counts>(
 pub fn put_credit<P: Counts>(
     out: &mut Vec<u8>,
     past: &P,
-    rules: &[Rule],
+    rules: &RuleSet,
     link: &Link,
 ) -> Result<(), AllocError>
     requires few { P.is_short past.now }
@@ -95,9 +95,9 @@ pub fn put_credit<P: Counts>(
 ///
 /// Where memory is refused: then nothing was appended.
 pub fn put_drain<P: Counts>(out: &mut Vec<u8>, past: &P, link: &Link) -> Result<(), AllocError>
-    ensures appended { (rules : List RuleText) (history : Events) → P.stands_for past.now rules history → IsLiveLink (link_view link.now) history
+    ensures appended { (rules : RuleSet) (history : Events) → P.stands_for past.now rules history → IsLiveLink (link_view link.now) history
         → Puts out.old.items out.new.items result (spoken_octets (written_count (link_view link.now) (law.drained_count history (link_view link.now)) 0 history)) }
-    ensures again { (rules : List RuleText) (history : Events) → P.stands_for past.now rules history → IsLiveLink (link_view link.now) history
+    ensures again { (rules : RuleSet) (history : Events) → P.stands_for past.now rules history → IsLiveLink (link_view link.now) history
         → IsReadAgain (written_count (link_view link.now) (law.drained_count history (link_view link.now)) 0 history) }
 {
     let count = past

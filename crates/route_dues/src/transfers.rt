@@ -3,7 +3,7 @@
 
 ghost use Rattle.std.specs.Prelude.{◌≡◌, ◌≤◌, ◌-◌, true, List, [], OnOk, length, drop};
 ghost use Rattle.amqp_types.specs.Writing.{Puts, uint_octets};
-ghost use Rattle.capture_form.specs.Rules.{RuleText};
+ghost use Rattle.capture_form.specs.Rules.{RuleSet};
 ghost use Rattle.trace_events.specs.Event as law;
 ghost use Rattle.trace_events.specs.Incoming as received;
 ghost use Rattle.trace_events.specs.Outgoing as sent;
@@ -67,9 +67,9 @@ pub fn put_next<'a, P: Outcomes<'a>>(
     link: &Link,
     rest: &[u8],
 ) -> Result<(), AllocError>
-    ensures appended { (rules : List RuleText) (history : Events) (d : law.Incoming) (j : law.Outgoing) → P.stands_for past.now rules history
+    ensures appended { (rules : RuleSet) (history : Events) (d : law.Incoming) (j : law.Outgoing) → P.stands_for past.now rules history
         → rest.now ≡ drop (length (sent.payload j history)) (received.payload d history) → Puts out.old.items out.new.items result (spoken_octets (next_frame history (link_view link.now) d j)) }
-    ensures again { (rules : List RuleText) (history : Events) (d : law.Incoming) (j : law.Outgoing) → P.stands_for past.now rules history
+    ensures again { (rules : RuleSet) (history : Events) (d : law.Incoming) (j : law.Outgoing) → P.stands_for past.now rules history
         → rest.now ≡ drop (length (sent.payload j history)) (received.payload d history) → OnOk result (IsReadAgain (next_frame history (link_view link.now) d j)) }
 {
     let limit = past.frame_limit(link.session.connection);
@@ -92,10 +92,10 @@ pub fn put_first<'a, P: Counts + Outcomes<'a>>(
     delivery: &Incoming,
     payload: &[u8],
 ) -> Result<(), AllocError>
-    ensures appended { (rules : List RuleText) (history : Events) → P.stands_for past.now rules history → IsLiveLink (link_view link.now) history
+    ensures appended { (rules : RuleSet) (history : Events) → P.stands_for past.now rules history → IsLiveLink (link_view link.now) history
         → payload.now ≡ received.payload (incoming_view delivery.now) history
         → Puts out.old.items out.new.items result (spoken_octets (first_frame history (link_view link.now) (incoming_view delivery.now))) }
-    ensures again { (rules : List RuleText) (history : Events) → P.stands_for past.now rules history → IsLiveLink (link_view link.now) history
+    ensures again { (rules : RuleSet) (history : Events) → P.stands_for past.now rules history → IsLiveLink (link_view link.now) history
         → payload.now ≡ received.payload (incoming_view delivery.now) history → OnOk result (IsReadAgain (first_frame history (link_view link.now) (incoming_view delivery.now))) }
 {
     let id = past.next_delivery_id(link.session);
