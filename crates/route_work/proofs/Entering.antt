@@ -1,7 +1,7 @@
 -- One record more, behind those for which the books stand.
 use Rattle.std.proofs.Common.{◌≡◌, refl, sym, ap, subst, ◌∙◌, ℕ, List, [], ◌∷◌, ◌++◌, length, None, Result, Ok, Err, IfOk, OnOk}
 use Rattle.capture_form.specs.declared.records.Record.{Record}
-use Rattle.capture_form.specs.Rules.{RuleText}
+use Rattle.capture_form.specs.Rules.{RuleSet}
 use Rattle.trace_events.specs.Event.{Event, Moment}
 use Rattle.trace_events.specs.History.{judge, history, moment_of}
 use Rattle.trace_clauses.specs.Clauses.{first_broken}
@@ -10,7 +10,7 @@ use Rattle.trace_clauses.proofs.Broken.{length-history}
 use Rattle.state_tables.specs.Connections.{IsLawfulNext}
 use Rattle.route_work.specs.Books.{IsUnbroken}
 
-module _ (rules : List RuleText) (records : List Record) (r : Record) where
+module _ (rules : RuleSet) (records : List Record) (r : Record) where
   abbrev past : List Event
   past = history rules records
 

@@ -6,7 +6,7 @@ use Rattle.flow_counts.specs.declared.profile.TheConstants.{MAX_FRAME_SIZE}
 use Rattle.pairing_cert.specs.declared.note.Note.{Note}
 use Rattle.pairing_cert.specs.declared.note.Note.TheVariants as notes
 use Rattle.pairing_cert.specs.declared.note.Why.{Why}
-use Rattle.capture_form.specs.Rules.{RuleText}
+use Rattle.capture_form.specs.Rules.{RuleSet}
 use Rattle.capture_form.specs.declared.records.Record.{Record}
 use Rattle.capture_form.specs.declared.records.What.TheVariants as whats
 use Rattle.amqp_perf.specs.Nested.{StateFields}
@@ -45,7 +45,7 @@ use Rattle.route_work.specs.declared.due.Due.{Due}
 use Rattle.route_work.specs.declared.due.Due.TheVariants as dues
 use Rattle.route_work.specs.Dues.{IsDue, IsWaitingDue, IsFrameFor, IsNextFrame, is_in_turn, connection_of, note_of}
 
-module _ (rules : List RuleText) (past : List Event) (order : IsInOrder rules past) where
+module _ (rules : RuleSet) (past : List Event) (order : IsInOrder rules past) where
   framed : (c : ℕ) (note : Note) (spoken : Spoken) (octets : List ℕ) → MayFollow rules past c note spoken
       → stands_in_turn rules (writing rules past c note spoken) past (Out (frame_of spoken)) ≡ true → IsReadAgain spoken → octets ≡ spoken_octets spoken → IsFrameFor rules past c note octets
   framed c note spoken octets may turn again is = record {
@@ -132,7 +132,7 @@ module _ (rules : List RuleText) (past : List Event) (order : IsInOrder rules pa
       (window_in_turn rules past s turn) again same
 
 -- an outcome that is due, whatever else is
-pub outcome_told : (rules : List RuleText) (past : List Event) → IsInOrder rules past → (due : Due) (x : DueOutcome) → due ≡ dues.Outcome x → IsDue rules past due → IfSome (told_view x.told) HasState
+pub outcome_told : (rules : RuleSet) (past : List Event) → IsInOrder rules past → (due : Due) (x : DueOutcome) → due ≡ dues.Outcome x → IsDue rules past due → IfSome (told_view x.told) HasState
 outcome_told rules past order due x same is =
     state_told rules past order (incoming_view x.delivery) x.why (told_view x.told) (subst (λ (y : Due). IsDue rules past y) same is)
 
@@ -154,13 +154,13 @@ on_ok (Ok x) so holds = so holds
 on_ok (Err e) so holds = tt
 
 -- of what is due they are the frame
-pub frame_of_due : (rules : List RuleText) (past : List Event) (octets : List ℕ) (due other : Due) → due ≡ other → IsFrameFor rules past (connection_of other) (note_of other) octets
+pub frame_of_due : (rules : RuleSet) (past : List Event) (octets : List ℕ) (due other : Due) → due ≡ other → IsFrameFor rules past (connection_of other) (note_of other) octets
     → IsFrameFor rules past (connection_of due) (note_of due) octets
 frame_of_due rules past octets due other same is = subst (λ (x : Due). IsFrameFor rules past (connection_of x) (note_of x) octets) (sym same) is
 
 -- ---- as a record
 
-pub frame_recorded : (rules : List RuleText) (past : List Event) (r : Record) (c : ℕ) (certified : Note) (octets : List ℕ) → r.connection ≡ c → r.note ≡ certified → r.what ≡ whats.Out octets → IsFrameFor rules past c certified octets
+pub frame_recorded : (rules : RuleSet) (past : List Event) (r : Record) (c : ℕ) (certified : Note) (octets : List ℕ) → r.connection ≡ c → r.note ≡ certified → r.what ≡ whats.Out octets → IsFrameFor rules past c certified octets
     → IsNextFrame rules past r
 frame_recorded rules past r c certified octets on told written is = record {
   spoken = is.spoken;

@@ -1,6 +1,6 @@
 -- What lists that are empty leave of what is due in front of others.
 use Rattle.std.proofs.Common.{◌≡◌, refl, Bool, true, ◌&&◌, List, Option, Some, None, IfSome}
-use Rattle.capture_form.specs.Rules.{RuleText}
+use Rattle.capture_form.specs.Rules.{RuleSet}
 use Rattle.capture_form.specs.declared.records.Record.{Record}
 use Rattle.trace_events.specs.Event.{Event}
 use Rattle.trace_events.specs.History.{history}
@@ -16,7 +16,7 @@ use Rattle.route_work.specs.Work.{IsAllTold, IsAllSent}
 pub both : (a b : Bool) → a ≡ true → b ≡ true → a && b ≡ true
 both a b one other = rw (one, other) refl
 
-module _ (rules : List RuleText) (past : List Event) (told : IsAllTold rules past) where
+module _ (rules : RuleSet) (past : List Event) (told : IsAllTold rules past) where
   pub all_told : is_all_told rules past ≡ true
   all_told = both _ _ told.outcomes told.settlings
 
@@ -34,7 +34,7 @@ module _ (rules : List RuleText) (past : List Event) (told : IsAllTold rules pas
     all_credited drains credits = both _ _ (all_drained drains) credits
 
 -- of the deliveries that wait the first is the earliest
-pub earliest_first : (rules : List RuleText) (records : List Record) (o : Option DueWaiting) → IfSome o (λ due. IsEarliest rules due (history rules records))
+pub earliest_first : (rules : RuleSet) (records : List Record) (o : Option DueWaiting) → IfSome o (λ due. IsEarliest rules due (history rules records))
     → IfSome o (λ due. is_first_to_begin rules (history rules records) (incoming_view due.delivery) ≡ true)
 earliest_first rules records None is = tt
 earliest_first rules records (Some due) is = first-begins rules (history rules records) (history-judged rules records) (incoming_view due.delivery) is

@@ -1,7 +1,7 @@
 -- What a router's books stand for: the records so far, judged by its rules (own rules).
 use Rattle.std.specs.Prelude.{◌≡◌, List, ◌∷◌, ◌++◌, [], None}
 use Rattle.capture_form.specs.declared.records.Record.{Record}
-use Rattle.capture_form.specs.Rules.{RuleText}
+use Rattle.capture_form.specs.Rules.{RuleSet}
 use Rattle.trace_events.specs.Event.{Event}
 use Rattle.trace_events.specs.History.{judge, history}
 use Rattle.trace_clauses.specs.Clauses.{broken_clause}
@@ -11,23 +11,23 @@ use Rattle.route_dues.specs.Writing.{IsInOrder}
 use Rattle.route_work.specs.declared.books.Books.{Books}
 
 -- the tables that are lent tell of these events
-abbrev pub TellsOf : List RuleText → Looked → List Event → Type 0
+abbrev pub TellsOf : RuleSet → Looked → List Event → Type 0
 TellsOf rules looked past =
     StandFor rules looked.connections.now looked.links.now looked.consumers.now looked.deliveries.now
     looked.consumer_links.now looked.copies.now looked.sent.now looked.verdicts.now past
 
 -- a record breaks no clause behind others
-abbrev pub IsUnbroken : List RuleText → List Record → Record → Type 0
+abbrev pub IsUnbroken : RuleSet → List Record → Record → Type 0
 IsUnbroken rules records r = let past = history rules records in broken_clause rules (judge rules past r) past ≡ None
 
-module _ {D : Type 0} (HasAll : D → List RuleText → List Event → Type 0) where
+module _ {D : Type 0} (HasAll : D → RuleSet → List Event → Type 0) where
   -- the tables tell of these records, and all that is due is listed
-  pub record AreBooks (rules : List RuleText) (books : Books D) (records : List Record) : Type 0 where
+  pub record AreBooks (rules : RuleSet) (books : Books D) (records : List Record) : Type 0 where
     pub tables : AreTables rules books.tables (history rules records)
     pub listed : HasAll books.dues rules (history rules records)
 
   -- of some records, which are in order
-  pub record AreInOrder (rules : List RuleText) (books : Books D) : Type 0 where
+  pub record AreInOrder (rules : RuleSet) (books : Books D) : Type 0 where
     pub records : List Record
     pub stand : AreBooks rules books records
     pub order : IsInOrder rules (history rules records)

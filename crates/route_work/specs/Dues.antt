@@ -6,7 +6,7 @@ use Rattle.pairing_cert.specs.declared.note.Note.{Note}
 use Rattle.pairing_cert.specs.declared.note.Note.TheVariants as notes
 use Rattle.capture_form.specs.declared.records.Record.{Record}
 use Rattle.capture_form.specs.declared.records.What.TheVariants as whats
-use Rattle.capture_form.specs.Rules.{RuleText}
+use Rattle.capture_form.specs.Rules.{RuleSet}
 use Rattle.trace_events.specs.Frame.{Spoken}
 use Rattle.trace_events.specs.Event.{Event, Out}
 use Rattle.trace_events.specs.Link.{IsLiveLink, link_at}
@@ -32,7 +32,7 @@ use Rattle.route_work.specs.declared.due.DueBegin.{DueBegin}
 -- ---- each kind, as the lists say it
 
 -- a delivery waits, none of its address before it, and the live link is picked; this is its payload
-pub record IsWaitingDue (rules : List RuleText) (past : List Event) (due : DueBegin) : Type 0 where
+pub record IsWaitingDue (rules : RuleSet) (past : List Event) (due : DueBegin) : Type 0 where
   pub live : IsLiveLink (link_view due.link) past
   pub at : link_at (link_view due.link).number past ≡ Some (link_view due.link)
   pub found : incoming_at (incoming_view due.delivery).number past ≡ Some (incoming_view due.delivery)
@@ -40,7 +40,7 @@ pub record IsWaitingDue (rules : List RuleText) (past : List Event) (due : DueBe
   pub picked : is_picked_link rules past (incoming_view due.delivery) (link_view due.link) ≡ true
   pub payload : due.payload.now ≡ payload (incoming_view due.delivery) past
 
-abbrev pub IsDue : List RuleText → List Event → Due → Type 0
+abbrev pub IsDue : RuleSet → List Event → Due → Type 0
 IsDue rules past (dues.Outcome due) = IsDueOutcome rules past (incoming_view due.delivery) due.why (told_view due.told)
 IsDue rules past (dues.Settling j) = IsDueSettling past (outgoing_view j)
 IsDue rules past (dues.Part due) = IsDuePart due past
@@ -51,7 +51,7 @@ IsDue rules past (dues.Credit l) = IsToppable rules (link_view l) past
 IsDue rules past (dues.Window s) = IsLacking s past
 
 -- nothing of an earlier place is due, nor of its own in front of it
-abbrev pub is_in_turn : List RuleText → List Event → Due → Bool
+abbrev pub is_in_turn : RuleSet → List Event → Due → Bool
 is_in_turn rules past (dues.Outcome due) = true
 is_in_turn rules past (dues.Settling j) = none_is_untold rules past
 is_in_turn rules past (dues.Part due) = is_all_told rules past
@@ -64,7 +64,7 @@ is_in_turn rules past (dues.Window s) = is_all_credited rules past
 -- ---- the record of a frame that is due
 
 -- the record writes a frame that may follow, stands in turn, and is read again
-pub record IsNextFrame (rules : List RuleText) (past : List Event) (r : Record) : Type 0 where
+pub record IsNextFrame (rules : RuleSet) (past : List Event) (r : Record) : Type 0 where
   pub spoken : Spoken
   pub what : r.what ≡ whats.Out (spoken_octets spoken)
   pub follows : MayFollow rules past r.connection r.note spoken
@@ -73,7 +73,7 @@ pub record IsNextFrame (rules : List RuleText) (past : List Event) (r : Record) 
   pub short : length (spoken_octets spoken) ≤ MAX_FRAME_SIZE
 
 -- behind some events that are in order, for which the one who is asked stands, this is due, and nothing in front of it
-pub record IsDueBehind (StandsFor : List Event → Type 0) (rules : List RuleText) (due : Due) : Type 0 where
+pub record IsDueBehind (StandsFor : List Event → Type 0) (rules : RuleSet) (due : Due) : Type 0 where
   pub past : List Event
   pub stands : StandsFor past
   pub order : IsInOrder rules past
@@ -100,7 +100,7 @@ note_of (dues.Copy due) = notes.Pair due.delivery.number
 note_of other = notes.None
 
 -- these are the octets of a frame that may follow there, stands in turn, and is read again
-pub record IsFrameFor (rules : List RuleText) (past : List Event) (c : ℕ) (note : Note) (octets : List ℕ) : Type 0 where
+pub record IsFrameFor (rules : RuleSet) (past : List Event) (c : ℕ) (note : Note) (octets : List ℕ) : Type 0 where
   pub spoken : Spoken
   pub is : octets ≡ spoken_octets spoken
   pub follows : MayFollow rules past c note spoken

@@ -1,7 +1,7 @@
 //! The tables, with lists of what is due.
 
 ghost use Rattle.std.specs.Prelude.{◌≡◌, ◌∷◌, [], ◌++◌, List, None, true, OnOk, IfOk, IfSome, length};
-ghost use Rattle.capture_form.specs.Rules.{RuleText};
+ghost use Rattle.capture_form.specs.Rules.{RuleSet};
 ghost use Rattle.capture_form.specs.declared.records.Record.{Record};
 ghost use Rattle.trace_events.specs.History.{history, judge, moment_of};
 ghost use Rattle.state_ledger.specs.HeldEvents.{held_event_view};
@@ -15,7 +15,7 @@ ghost use Rattle.trace_values.specs.View.{Events, event_view};
 
 use crate::dues::Dues;
 use crate::record_of;
-use capture_form::{Record, Rule};
+use capture_form::{Record, RuleSet};
 use state_answers::{Looked, Tables};
 use state_ledger::HeldEvent;
 use std::alloc::{AllocError, Global};
@@ -43,7 +43,7 @@ impl<D: Dues + Drop> Drop for Books<D> {
 impl<D: Dues> Books<D> {
     /// No records.
     pub fn new(alloc: Global) -> Books<D>
-        ensures { (rules : List RuleText) → AreBooks D.has_all rules result [] }
+        ensures { (rules : RuleSet) → AreBooks D.has_all rules result [] }
     {
         let tables = Tables::new(alloc);
         let dues = D::new(alloc);
@@ -56,7 +56,7 @@ impl<D: Dues> Books<D> {
 
     /// The tables, lent.
     pub fn looked(&self) -> Looked<'_>
-        ensures { (rules : List RuleText) (records : List Record) → AreBooks D.has_all rules self.now records → TellsOf rules result (history rules records) }
+        ensures { (rules : RuleSet) (records : List Record) → AreBooks D.has_all rules self.now records → TellsOf rules result (history rules records) }
     {
         self.tables.looked()
     }
@@ -69,7 +69,7 @@ impl<D: Dues> Books<D> {
     pub fn judge(
         &self,
         held: &mut HeldEvent,
-        rules: &[Rule],
+        rules: &RuleSet,
         number: u64,
         entry: &ReadRecord<'_>,
     ) -> Result<(), AllocError>
@@ -87,7 +87,7 @@ impl<D: Dues> Books<D> {
     /// # Errors
     ///
     /// Memory was refused; then the books may agree with no records any more.
-    pub fn follow(&mut self, rules: &[Rule], event: &Event) -> Result<(), AllocError>
+    pub fn follow(&mut self, rules: &RuleSet, event: &Event) -> Result<(), AllocError>
         ensures { OnOk result ((records : List Record) (r : Record) → IsLawfulNext rules.now records r (event_view event.now) →
             AreBooks D.has_all rules.now self.old records → AreBooks D.has_all rules.now self.new (records ++ r ∷ [])) }
     {
@@ -102,7 +102,7 @@ impl<D: Dues> Books<D> {
     /// # Errors
     ///
     /// Where memory is refused.
-    pub fn next_record(&mut self, rules: &[Rule]) -> Result<Option<Record>, AllocError>
+    pub fn next_record(&mut self, rules: &RuleSet) -> Result<Option<Record>, AllocError>
         requires known { AreInOrder D.has_all rules.now self.old }
         ensures bounds { IfOk result (λ next. IfSome next IsRecord) }
         ensures next { (records : List Record) → AreBooks D.has_all rules.now self.old records → IsInOrder rules.now (history rules.now records) →

@@ -1,7 +1,7 @@
 //! What is asked of lists of what is due.
 
 ghost use Rattle.std.specs.Prelude.{◌≡◌, ◌∷◌, List, [], None, true, OnOk, IfSome};
-ghost use Rattle.capture_form.specs.Rules.{RuleText};
+ghost use Rattle.capture_form.specs.Rules.{RuleSet};
 ghost use Rattle.capture_form.specs.declared.records.Record.{Record};
 ghost use Rattle.trace_events.specs.History.{history};
 ghost use Rattle.state_tables.specs.Connections.{IsLawfulNext};
@@ -11,7 +11,7 @@ ghost use Rattle.route_work.specs.Dues.{IsDue, is_in_turn};
 ghost use Rattle.route_work.specs.Books.{TellsOf};
 
 use crate::Due;
-use capture_form::Rule;
+use capture_form::RuleSet;
 use state_answers::Looked;
 use std::alloc::{AllocError, Global};
 use trace_values::Event;
@@ -20,11 +20,11 @@ use trace_values::Event;
 /// sessions. They are moved by one event after the other, and ask the tables of what else they need.
 pub trait Dues {
     /// All that is due behind these events, judged by these rules, is listed.
-    ghost has_all: { Self → List RuleText → Events → Type 0 };
+    ghost has_all: { Self → RuleSet → Events → Type 0 };
 
     /// Of no records.
     fn new(alloc: Global) -> Self
-        ensures { (rules : List RuleText) → has_all result rules [] };
+        ensures { (rules : RuleSet) → has_all result rules [] };
 
     /// The event follows those so far, of which the tables that are lent tell.
     ///
@@ -33,7 +33,7 @@ pub trait Dues {
     /// Memory was refused; then something may be due that is not listed any more.
     fn follow(
         &mut self,
-        rules: &[Rule],
+        rules: &RuleSet,
         event: &Event,
         before: &Looked<'_>,
     ) -> Result<(), AllocError>
@@ -42,7 +42,7 @@ pub trait Dues {
             has_all self.new rules.now (event_view event.now ∷ history rules.now records)) };
 
     /// What is due next, by the tables of the events so far; `None` where nothing is.
-    fn next_due<'t>(&mut self, rules: &[Rule], looked: &Looked<'t>) -> Option<Due<'t>>
+    fn next_due<'t>(&mut self, rules: &RuleSet, looked: &Looked<'t>) -> Option<Due<'t>>
         // What is answered is due.
         ensures due { (records : List Record) → TellsOf rules.now looked.now (history rules.now records) →
             has_all self.old rules.now (history rules.now records) → IfSome result (IsDue rules.now (history rules.now records)) }

@@ -2,7 +2,7 @@
 //! 2.6.7).
 
 ghost use Rattle.std.specs.Prelude.{◌≡◌, true, ◌∷◌, List, [], None, IfSome, OnOk};
-ghost use Rattle.capture_form.specs.Rules.{RuleText};
+ghost use Rattle.capture_form.specs.Rules.{RuleSet};
 ghost use Rattle.capture_form.specs.declared.records.Record.{Record};
 ghost use Rattle.trace_events.specs.History.{history};
 ghost use Rattle.trace_values.specs.View.{event_view};
@@ -12,7 +12,7 @@ ghost use Rattle.route_work.specs.Books.{TellsOf};
 ghost use Rattle.route_work.specs.Work.{HasFlowing, IsAllGiven, IsAllSent, IsAllTold};
 
 use crate::{Credits, Drains, Due, Looked, Windows};
-use capture_form::Rule;
+use capture_form::RuleSet;
 use std::alloc::{AllocError, Global};
 use trace_values::Event;
 
@@ -37,7 +37,7 @@ impl Drop for Flowing {
 impl Flowing {
     /// Of no records.
     pub(crate) fn new(alloc: Global) -> Flowing
-        ensures { (rules : List RuleText) → HasFlowing rules result [] }
+        ensures { (rules : RuleSet) → HasFlowing rules result [] }
     {
         let drains = Drains::new(alloc);
         let credits = Credits::new(alloc);
@@ -55,7 +55,7 @@ impl Flowing {
     ///
     /// Memory was refused; then something that is due may not be found any more.
     pub(crate) fn follow(&mut self, event: &Event, before: &Looked<'_>) -> Result<(), AllocError>
-        ensures { OnOk result ((rules : List RuleText) (records : List Record) (r : Record) → IsLawfulNext rules records r (event_view event.now) →
+        ensures { OnOk result ((rules : RuleSet) (records : List Record) (r : Record) → IsLawfulNext rules records r (event_view event.now) →
             TellsOf rules before.now (history rules records) → HasFlowing rules self.old (history rules records) →
             HasFlowing rules self.new (event_view event.now ∷ history rules records)) }
     {
@@ -67,7 +67,7 @@ impl Flowing {
 
     /// The first drain answer; where no drain may be answered, the first credit; where none may be given, the first window.
     #[tactic(auto, using(crate::proofs::Turns::all_sent, crate::proofs::Turns::all_drained, crate::proofs::Turns::all_credited))]
-    pub(crate) fn next_due<'t>(&mut self, rules: &[Rule], looked: &Looked<'t>) -> Option<Due<'t>>
+    pub(crate) fn next_due<'t>(&mut self, rules: &RuleSet, looked: &Looked<'t>) -> Option<Due<'t>>
         ensures due { (records : List Record) → TellsOf rules.now looked.now (history rules.now records) →
             HasFlowing rules.now self.old (history rules.now records) → IfSome result (IsDue rules.now (history rules.now records)) }
         ensures turn { (records : List Record) → TellsOf rules.now looked.now (history rules.now records) →

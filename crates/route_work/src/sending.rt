@@ -2,7 +2,7 @@
 //! standard, section 2.6.14; own rules).
 
 ghost use Rattle.std.specs.Prelude.{◌≡◌, true, ◌&&◌, ◌∷◌, List, [], None, IfSome, OnOk};
-ghost use Rattle.capture_form.specs.Rules.{RuleText};
+ghost use Rattle.capture_form.specs.Rules.{RuleSet};
 ghost use Rattle.capture_form.specs.declared.records.Record.{Record};
 ghost use Rattle.trace_events.specs.History.{history};
 ghost use Rattle.trace_duties.specs.Quiet.{none_stands_still};
@@ -16,7 +16,7 @@ ghost use Rattle.route_work.specs.Books.{TellsOf};
 ghost use Rattle.route_work.specs.Work.{HasSending, IsAllSent, IsAllTold};
 
 use crate::{Due, DueBegin, DueCopy, Looked, Parts, UnsentCopies};
-use capture_form::Rule;
+use capture_form::RuleSet;
 use due_waiting::{DueWaiting, Waiting};
 use std::alloc::{AllocError, Global};
 use trace_values::Event;
@@ -42,7 +42,7 @@ impl Drop for Sending {
 impl Sending {
     /// Of no records.
     pub(crate) fn new(alloc: Global) -> Sending
-        ensures { (rules : List RuleText) → HasSending rules result [] }
+        ensures { (rules : RuleSet) → HasSending rules result [] }
     {
         let parts = Parts::new(alloc);
         let waiting = Waiting::new(alloc);
@@ -61,7 +61,7 @@ impl Sending {
     /// Memory was refused; then something that is due may not be found any more.
     pub(crate) fn follow(
         &mut self,
-        rules: &[Rule],
+        rules: &RuleSet,
         event: &Event,
         before: &Looked<'_>,
     ) -> Result<(), AllocError>
@@ -77,7 +77,7 @@ impl Sending {
 
     /// The first part of a delivery in progress; where none goes on, of the deliveries that wait and may begin and of the copies
     /// that may be sent the one that was completed first.
-    pub(crate) fn next_due<'t>(&mut self, rules: &[Rule], looked: &Looked<'t>) -> Option<Due<'t>>
+    pub(crate) fn next_due<'t>(&mut self, rules: &RuleSet, looked: &Looked<'t>) -> Option<Due<'t>>
         ensures due { (records : List Record) → TellsOf rules.now looked.now (history rules.now records) →
             HasSending rules.now self.old (history rules.now records) → IfSome result (IsDue rules.now (history rules.now records)) }
         ensures turn { (records : List Record) → TellsOf rules.now looked.now (history rules.now records) →
@@ -103,9 +103,9 @@ fn first_completed<'t>(
     copy: Option<DueCopy<'t>>,
     looked: &Looked<'t>,
 ) -> Option<Due<'t>>
-    ensures due { (rules : List RuleText) (past : Events) → IfSome waiting.entry (λ due. IsDueWaiting rules due past) → IfSome copy.entry (λ due. IsDueCopy rules due past) →
+    ensures due { (rules : RuleSet) (past : Events) → IfSome waiting.entry (λ due. IsDueWaiting rules due past) → IfSome copy.entry (λ due. IsDueCopy rules due past) →
         IfSome result (IsDue rules past) }
-    ensures turn { (rules : List RuleText) (past : Events) → is_all_told rules past && none_stands_still past ≡ true →
+    ensures turn { (rules : RuleSet) (past : Events) → is_all_told rules past && none_stands_still past ≡ true →
         IfSome waiting.entry (λ due. is_first_to_begin rules past (incoming_view due.delivery) ≡ true) → IfSome result (λ due. is_in_turn rules past due ≡ true) }
     ensures none { result ≡ None → (waiting.entry ≡ None) × (copy.entry ≡ None) }
 {
@@ -128,8 +128,8 @@ fn first_completed<'t>(
 
 /// A delivery that waits, as what is due.
 fn due_of<'t>(begin: DueWaiting<'t>) -> Due<'t>
-    ensures due { (rules : List RuleText) (past : Events) → IsDueWaiting rules begin.entry past → IsDue rules past result }
-    ensures turn { (rules : List RuleText) (past : Events) → is_all_told rules past && none_stands_still past ≡ true →
+    ensures due { (rules : RuleSet) (past : Events) → IsDueWaiting rules begin.entry past → IsDue rules past result }
+    ensures turn { (rules : RuleSet) (past : Events) → is_all_told rules past && none_stands_still past ≡ true →
         is_first_to_begin rules past (incoming_view begin.entry.delivery) ≡ true → is_in_turn rules past result ≡ true }
 {
     Due::Waiting(DueBegin {

@@ -2,7 +2,7 @@
 //! 2.6.12).
 
 ghost use Rattle.std.specs.Prelude.{◌≡◌, true, ◌∷◌, List, [], None, IfSome, OnOk};
-ghost use Rattle.capture_form.specs.Rules.{RuleText};
+ghost use Rattle.capture_form.specs.Rules.{RuleSet};
 ghost use Rattle.capture_form.specs.declared.records.Record.{Record};
 ghost use Rattle.trace_events.specs.History.{history};
 ghost use Rattle.trace_values.specs.View.{event_view};
@@ -12,7 +12,7 @@ ghost use Rattle.route_work.specs.Books.{TellsOf};
 ghost use Rattle.route_work.specs.Work.{HasTelling, IsAllTold};
 
 use crate::{Due, Looked, Unsettled, Untold};
-use capture_form::Rule;
+use capture_form::RuleSet;
 use std::alloc::{AllocError, Global};
 use trace_values::Event;
 
@@ -35,7 +35,7 @@ impl Drop for Telling {
 impl Telling {
     /// Of no records.
     pub(crate) fn new(alloc: Global) -> Telling
-        ensures { (rules : List RuleText) → HasTelling rules result [] }
+        ensures { (rules : RuleSet) → HasTelling rules result [] }
     {
         let untold = Untold::new(alloc);
         let unsettled = Unsettled::new(alloc);
@@ -49,7 +49,7 @@ impl Telling {
     /// Memory was refused; then something that is due may not be found any more.
     pub(crate) fn follow(
         &mut self,
-        rules: &[Rule],
+        rules: &RuleSet,
         event: &Event,
         before: &Looked<'_>,
     ) -> Result<(), AllocError>
@@ -63,7 +63,7 @@ impl Telling {
     }
 
     /// The first outcome; where none is to be told, the first settling.
-    pub(crate) fn next_due<'t>(&mut self, rules: &[Rule], looked: &Looked<'t>) -> Option<Due<'t>>
+    pub(crate) fn next_due<'t>(&mut self, rules: &RuleSet, looked: &Looked<'t>) -> Option<Due<'t>>
         ensures due { (records : List Record) → TellsOf rules.now looked.now (history rules.now records) →
             HasTelling rules.now self.old (history rules.now records) → IfSome result (IsDue rules.now (history rules.now records)) }
         ensures turn { (records : List Record) → TellsOf rules.now looked.now (history rules.now records) →

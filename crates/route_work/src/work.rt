@@ -7,7 +7,7 @@ use crate::flowing::Flowing;
 use crate::sending::Sending;
 use crate::telling::Telling;
 use crate::{Due, Dues, Looked};
-use capture_form::Rule;
+use capture_form::RuleSet;
 use std::alloc::{AllocError, Global};
 use trace_values::Event;
 
@@ -46,7 +46,7 @@ impl Dues for Work {
 
     fn follow(
         &mut self,
-        rules: &[Rule],
+        rules: &RuleSet,
         event: &Event,
         before: &Looked<'_>,
     ) -> Result<(), AllocError> {
@@ -56,7 +56,7 @@ impl Dues for Work {
         Ok(())
     }
 
-    fn next_due<'t>(&mut self, rules: &[Rule], looked: &Looked<'t>) -> Option<Due<'t>> {
+    fn next_due<'t>(&mut self, rules: &RuleSet, looked: &Looked<'t>) -> Option<Due<'t>> {
         if let Some(due) = self.telling.next_due(rules, looked) {
             return Some(due);
         }

@@ -2,7 +2,7 @@
 
 ghost use Rattle.std.specs.Prelude.{◌≡◌, true, List, [], IfOk, IfSome, OnOk};
 ghost use Rattle.pairing_cert.specs.declared.note.Note.TheVariants as notes;
-ghost use Rattle.capture_form.specs.Rules.{RuleText};
+ghost use Rattle.capture_form.specs.Rules.{RuleSet};
 ghost use Rattle.capture_form.specs.Text.{IsRecord};
 ghost use Rattle.trace_judge.specs.Told.{told_view};
 ghost use Rattle.trace_values.specs.View.{Events, incoming_view};
@@ -13,7 +13,7 @@ ghost use Rattle.route_work.specs.Dues as dues;
 ghost use Rattle.route_work.specs.Dues.{IsDue, IsDueBehind, IsNextFrame, IsFrameFor, is_in_turn};
 
 use crate::due::Due;
-use capture_form::{Frame, Record, Rule, What};
+use capture_form::{Frame, Record, RuleSet, What};
 use due_outcomes::DueOutcome;
 use pairing_cert::Note;
 use route_dues::{
@@ -63,7 +63,7 @@ fn put_told(
 ) -> Result<(), AllocError>
     requires told { IfSome (told_view due.now.told) HasState }
     requires none { out.old.items ≡ [] }
-    ensures frame { (rules : List RuleText) (history : Events) → IsInOrder rules history →
+    ensures frame { (rules : RuleSet) (history : Events) → IsInOrder rules history →
         IsDueOutcome rules history (incoming_view due.now.delivery) due.now.why (told_view due.now.told) →
         OnOk result (IsFrameFor rules history due.now.delivery.link.session.connection (notes.Told due.now.why) out.new.items) }
 {
@@ -82,7 +82,7 @@ fn put_due<'a, P: Counts + Outcomes<'a>>(
     out: &mut Vec<u8>,
     scratch: &mut Vec<u8>,
     past: &P,
-    rules: &[Rule],
+    rules: &RuleSet,
     due: &Due<'_>,
 ) -> Result<(), AllocError>
     requires few { P.is_short past.now }
@@ -111,7 +111,7 @@ fn put_due<'a, P: Counts + Outcomes<'a>>(
 pub fn record_of<'a, P: Counts + Outcomes<'a>>(
     alloc: Global,
     past: &P,
-    rules: &[Rule],
+    rules: &RuleSet,
     due: &Due<'_>,
 ) -> Result<Record, AllocError>
     requires few { P.is_short past.now }
