@@ -4,7 +4,7 @@ use Rattle.std.specs.List.{AllByRecursion}
 use Rattle.capture_form.specs.declared.records.Record.{Record}
 use Rattle.capture_form.specs.declared.records.What.{What}
 use Rattle.capture_form.specs.declared.records.What.TheVariants as whats
-use Rattle.capture_form.specs.Rules.{RuleText}
+use Rattle.capture_form.specs.Rules.{RuleSet}
 use Rattle.capture_form.specs.Text.{IsRecord, Trace}
 use Rattle.trace_events.specs.Frame.{Spoken}
 use Rattle.trace_events.specs.Event.{Event}
@@ -34,7 +34,7 @@ all-more P (y ∷ xs) x all one = (all.0, all-more P xs x all.1 one)
 output_is : (w : What) (octets : List ℕ) → w ≡ whats.Out octets → is_output w ≡ true
 output_is w octets is = ap is_output is
 
-module _ {D : Type 0} (HasAll : D → List RuleText → List Event → Type 0) (capture : Trace) where
+module _ {D : Type 0} (HasAll : D → RuleSet → List Event → Type 0) (capture : Trace) where
   abbrev so_far : List Record → List Record
   so_far group = capture.records ++ group
 
@@ -101,9 +101,9 @@ module _ {D : Type 0} (HasAll : D → List RuleText → List Event → Type 0) (
 
   -- ---- a frame that is due
 
-  pub known : (given : List RuleText) → given ≡ capture.rules → (books : Books D) (group : List Record) → IsDraft HasAll capture books group → AreInOrder HasAll given books
+  pub known : (given : RuleSet) → given ≡ capture.rules → (books : Books D) (group : List Record) → IsDraft HasAll capture books group → AreInOrder HasAll given books
   known given same books group draft =
-      subst (λ (xs : List RuleText). AreInOrder HasAll xs books) (sym same)
+      subst (λ (xs : RuleSet). AreInOrder HasAll xs books) (sym same)
       (record { records = so_far group; stand = draft.stand; order = draft.under_way.order })
 
   pub due-fits : (books : Books D) (group : List Record) (r : Record) → IsDraft HasAll capture books group → IsNextFrame capture.rules (history capture.rules (so_far group)) r
@@ -120,18 +120,18 @@ module _ {D : Type 0} (HasAll : D → List RuleText → List Event → Type 0) (
     bounds = all-more IsRecord group r draft.bounds bounds;
   }
 
-pub due-leaves-less : {D : Type 0} (HasAll : D → List RuleText → List Event → Type 0) (capture : Trace) (books : Books D) (group : List Record) (r : Record) → IsDraft HasAll capture books group
+pub due-leaves-less : {D : Type 0} (HasAll : D → RuleSet → List Event → Type 0) (capture : Trace) (books : Books D) (group : List Record) (r : Record) → IsDraft HasAll capture books group
     → IsNextFrame capture.rules (history capture.rules (capture.records ++ group)) r
     → work_left (history capture.rules (capture.records ++ (group ++ r ∷ []))) < work_left (history capture.rules (capture.records ++ group))
 due-leaves-less HasAll capture books group r draft next =
     subst (λ (rs : List Record). work_left (history capture.rules rs) < work_left (history capture.rules (capture.records ++ group))) (append_assoc capture.records group (r ∷ []))
     (due-less capture.rules (capture.records ++ group) r draft.under_way next)
 
-pub due-output : (rules : List RuleText) (past : List Event) (r : Record) → IsNextFrame rules past r → is_output r.what ≡ true
+pub due-output : (rules : RuleSet) (past : List Event) (r : Record) → IsNextFrame rules past r → is_output r.what ≡ true
 due-output rules past r next = output_is r.what (spoken_octets next.spoken) next.what
 
 -- a frame that is due, by rules that were lent, once it was entered
-module _ {D : Type 0} (HasAll : D → List RuleText → List Event → Type 0) (capture : Trace) (given : List RuleText) (same : given ≡ capture.rules) (books between later : Books D) (group after : List Record) (next : Option Record) (r : Record) (is : next ≡ Some r)
+module _ {D : Type 0} (HasAll : D → RuleSet → List Event → Type 0) (capture : Trace) (given : RuleSet) (same : given ≡ capture.rules) (books between later : Books D) (group after : List Record) (next : Option Record) (r : Record) (is : next ≡ Some r)
     (asked : (rs : List Record) → AreBooks HasAll given books rs → IsInOrder given (history given rs) → IfSome next (IsNextFrame given (history given rs)))
     (bounds : IfSome next IsRecord)
     (draft : IsDraft HasAll capture books group) where
@@ -141,7 +141,7 @@ module _ {D : Type 0} (HasAll : D → List RuleText → List Event → Type 0) (
   is_next : IsNextFrame capture.rules past r
   is_next =
       subst (λ (o : Option Record). IfSome o (IsNextFrame capture.rules past)) is
-      (subst (λ (xs : List RuleText). (rs : List Record) → AreBooks HasAll xs books rs → IsInOrder xs (history xs rs) → IfSome next (IsNextFrame xs (history xs rs))) same asked
+      (subst (λ (xs : RuleSet). (rs : List Record) → AreBooks HasAll xs books rs → IsInOrder xs (history xs rs) → IfSome next (IsNextFrame xs (history xs rs))) same asked
       (capture.records ++ group) draft.stand draft.under_way.order)
 
   pub due-adds : after ≡ group ++ r ∷ [] → AddsOutputs group after
@@ -156,6 +156,6 @@ module _ {D : Type 0} (HasAll : D → List RuleText → List Event → Type 0) (
       → (AreBooksOf HasAll capture between group → IsUnbroken capture.rules (capture.records ++ group) r → AreBooksOf HasAll capture later (group ++ r ∷ []))
       → after ≡ group ++ r ∷ [] → IsDraft HasAll capture later after
   due-follows kept entered grown =
-      let stood = subst (λ (xs : List RuleText). (rs : List Record) → AreBooks HasAll xs books rs → AreBooks HasAll xs between rs) same kept (capture.records ++ group) draft.stand in
+      let stood = subst (λ (xs : RuleSet). (rs : List Record) → AreBooks HasAll xs books rs → AreBooks HasAll xs between rs) same kept (capture.records ++ group) draft.stand in
       subst (λ (rs : List Record). IsDraft HasAll capture later rs) (sym grown)
       (due-entered HasAll capture books later group r draft is_next (subst (λ (o : Option Record). IfSome o IsRecord) is bounds) (entered stood (due-fits HasAll capture books group r draft is_next)))

@@ -3,7 +3,7 @@ use Rattle.std.specs.Prelude.{◌≡◌, ℕ, List, [], ◌∷◌, IsTrue}
 use Rattle.pairing_cert.specs.declared.note.Note.TheVariants as notes
 use Rattle.capture_form.specs.declared.records.Record.{Record}
 use Rattle.capture_form.specs.declared.records.What.TheVariants as whats
-use Rattle.capture_form.specs.Rules.{RuleText}
+use Rattle.capture_form.specs.Rules.{RuleSet}
 use Rattle.capture_form.specs.Text.{IsRecord}
 use Rattle.trace_events.specs.Frame.{Spoken}
 use Rattle.trace_events.specs.Event.{Event, Moment}
@@ -37,7 +37,7 @@ replies_of (One first) = first ∷ []
 replies_of (Two first second) = first ∷ second ∷ []
 
 -- a client may have done this behind some events of a router
-pub record IsAnswerable (rules : List RuleText) (e : Event) : Type 0 where
+pub record IsAnswerable (rules : RuleSet) (e : Event) : Type 0 where
   pub past : List Event
   pub connection : ℕ
   pub moment : Moment
@@ -46,12 +46,12 @@ pub record IsAnswerable (rules : List RuleText) (e : Event) : Type 0 where
   pub judged : e ≡ judge_moment rules past connection moment notes.None
 
 -- these frames are the answer to an event, behind whatever history of a router it is
-pub record IsAnswerOf (rules : List RuleText) (looked : Looked) (e : Event) (frames : List Spoken) : Type 0 where
+pub record IsAnswerOf (rules : RuleSet) (looked : Looked) (e : Event) (frames : List Spoken) : Type 0 where
   pub says : (past : List Event) (c : ℕ) (m : Moment) → IsReady rules past → IsTrue (may_happen c m past)
       → e ≡ judge_moment rules past c m notes.None → TellsOf rules looked (e ∷ past) → frames ≡ answer rules e (e ∷ past)
 
 -- these records write such frames
-pub record AreAnswers (rules : List RuleText) (looked : Looked) (e : Event) (records : List Record) : Type 0 where
+pub record AreAnswers (rules : RuleSet) (looked : Looked) (e : Event) (records : List Record) : Type 0 where
   pub frames : List Spoken
   pub answers : IsAnswerOf rules looked e frames
   pub written : AreReplies e.connection frames records

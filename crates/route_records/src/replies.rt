@@ -6,7 +6,7 @@ ghost use Rattle.state_ledger.specs.HeldEvents.{held_event_view};
 ghost use Rattle.route_answers.specs.Replies.{answer_view, reply_view, CanBeSaid, CanBeWritten};
 ghost use Rattle.route_records.specs.Replies.{IsReply, AreReplies, IsAnswerable, IsAnswerOf, AreAnswers, replies_of};
 
-use capture_form::{Frame, Record, Rule, What};
+use capture_form::{Frame, Record, RuleSet, What};
 use pairing_cert::Note;
 use route_answers::{Answer, Reply, answer_to};
 use route_work::Looked;
@@ -67,7 +67,7 @@ fn records_of(alloc: Global, connection: u32, answer: &Answer<'_>) -> Result<Rep
 /// The direct answer to what a client did, by the tables of what was recorded up to it.
 fn answer_by<'m>(
     looked: &Looked<'_>,
-    rules: &[Rule],
+    rules: &RuleSet,
     held: &HeldEvent,
     entry: &ReadRecord<'m>,
 ) -> Answer<'m>
@@ -87,7 +87,7 @@ fn answer_by<'m>(
 pub(crate) fn replies_to(
     alloc: Global,
     looked: &Looked<'_>,
-    rules: &[Rule],
+    rules: &RuleSet,
     held: &HeldEvent,
     entry: &ReadRecord<'_>,
 ) -> Result<Replies, AllocError>
