@@ -3,7 +3,7 @@ use Rattle.std.proofs.Common.{◌≡◌, ◌≢◌, refl, sym, ap, ◌∙◌, �
 use Rattle.amqp_perf.specs.declared.attach.Role.{Role}
 use Rattle.amqp_perf.specs.declared.attach.Role.TheVariants.{Sender, Receiver}
 use Rattle.amqp_perf.specs.Meaning.{Meaning, AnOpen, ABegin, AnAttach, AFlow, ATransfer, ADisposition, ADetach, AnEnd, AClose, DispositionFields}
-use Rattle.capture_form.specs.Rules.{RuleText}
+use Rattle.capture_form.specs.Rules.{RuleSet}
 use Rattle.trace_events.specs.Credit.{begins_outgoing}
 use Rattle.trace_events.specs.Event.{Event, Incoming, Link, Moment, Out, Outgoing, out_frame}
 use Rattle.trace_events.specs.Frame.{Frame, Spoken, spoken_in}
@@ -51,7 +51,7 @@ is_of_kind L13 m = is_some (as_detach m) || is_end m
 is_of_kind _ m = true
 
 -- a role speaks of no clause but these
-role_meets : (rules : List RuleText) (e : Event) (fields : DispositionFields) (past : List Event) (role : Role) (c : Clause)
+role_meets : (rules : RuleSet) (e : Event) (fields : DispositionFields) (past : List Event) (role : Role) (c : Clause)
     → not (disposition_meets rules e fields past role c) ≡ true → is_of_kind c (ADisposition fields) ≡ true
 role_meets rules e fields past role L1 h = refl
 role_meets rules e fields past role L11 h = refl
@@ -61,7 +61,7 @@ role_meets rules e fields past Sender _ h = cc
 role_meets rules e fields past Receiver _ h = cc
 
 -- a frame that does not meet a clause is of the kind of which that speaks
-pub of_kind : (rules : List RuleText) (e : Event) (spoken : Spoken) (past : List Event) (m : Meaning) (c : Clause)
+pub of_kind : (rules : RuleSet) (e : Event) (spoken : Spoken) (past : List Event) (m : Meaning) (c : Clause)
     → not (meaning_meets rules e spoken past m c) ≡ true → is_of_kind c m ≡ true
 of_kind rules e spoken past (AnOpen fields) L1 h = refl
 of_kind rules e spoken past (AnOpen fields) L14 h = refl
@@ -101,7 +101,7 @@ of_kind rules e spoken past (AClose error) L14 h = refl
 of_kind rules e spoken past (AClose error) _ h = cc
 
 -- what a transfer has, apart from its kind
-abbrev pub has_parts : List RuleText → Event → List Event → Clause → Bool
+abbrev pub has_parts : RuleSet → Event → List Event → Clause → Bool
 has_parts rules e past L5 = is_some e.link
 has_parts rules e past L7 = is_some e.link
 has_parts rules e past L8 = is_some (to_carry rules e.note past) && is_some e.outgoing
@@ -176,7 +176,7 @@ has_delivery None true own goes is h = cc
 has_delivery None false own goes is h = cc
 has_delivery (Some j) begins own goes is h = refl
 
-module _ (rules : List RuleText) (e : Event) (frame : Frame) (past : List Event) (channel : ℕ) (payload : List ℕ) where
+module _ (rules : RuleSet) (e : Event) (frame : Frame) (past : List Event) (channel : ℕ) (payload : List ℕ) where
   -- a clause that a performative does not meet
   abbrev breaks : Meaning → Clause → Bool
   breaks m c = let spoken : Spoken = record { channel = channel; meaning = m; payload = payload } in not (spoken_meets rules e frame past spoken c)
@@ -247,7 +247,7 @@ all true false h i = cc
 all false b h i = cc
 
 -- what a clause compares is there, in what is said
-abbrev is_there : List RuleText → Event → List Event → Clause → Option Spoken → Bool
+abbrev is_there : RuleSet → Event → List Event → Clause → Option Spoken → Bool
 is_there rules e past L1 said = true
 is_there rules e past L13 said =
     let m = option_map (λ (x : Spoken). x.meaning) said in is_some (option_and_then as_detach m) || is_some_and m is_end
@@ -264,7 +264,7 @@ is_there rules e past L11 said = is_some (option_and_then as_disposition (option
 is_there rules e past L12 said = is_some (option_and_then as_disposition (option_map (λ (x : Spoken). x.meaning) said))
 is_there rules e past L14 said = true
 
-there : (rules : List RuleText) (e : Event) (past : List Event) (spoken : Spoken) (c : Clause)
+there : (rules : RuleSet) (e : Event) (past : List Event) (spoken : Spoken) (c : Clause)
     → (is_of_kind c spoken.meaning ≡ true) × (has_parts rules e past c ≡ true) → is_there rules e past c (Some spoken) ≡ true
 there rules e past spoken L1 h = refl
 there rules e past spoken L5 h = all (is_some (as_transfer spoken.meaning)) (is_some e.link) h.0 h.1
@@ -274,19 +274,19 @@ there rules e past spoken L9 h = h.1
 there rules e past spoken L14 h = refl
 there rules e past spoken _ h = h.0
 
-by-spoken : (rules : List RuleText) (e : Event) (frame : Frame) (past : List Event) (said : Option Spoken) (c : Clause)
+by-spoken : (rules : RuleSet) (e : Event) (frame : Frame) (past : List Event) (said : Option Spoken) (c : Clause)
     → broken_by rules e frame past said ≡ Some c → is_there rules e past c said ≡ true
 by-spoken rules e frame past (Some spoken) c f = there rules e past spoken c (has rules e frame past spoken.channel spoken.payload spoken.meaning c f)
 by-spoken rules e frame past None L1 f = refl
 by-spoken rules e frame past None _ f = cc
 
-by-moment : (rules : List RuleText) (e : Event) (past : List Event) (moment : Moment) (c : Clause) → broken_at rules e past moment ≡ Some c
+by-moment : (rules : RuleSet) (e : Event) (past : List Event) (moment : Moment) (c : Clause) → broken_at rules e past moment ≡ Some c
     → is_some (out_frame moment) ≡ true × is_there rules e past c (option_and_then (λ (frame : Frame). spoken_in frame.body) (out_frame moment)) ≡ true
 by-moment rules e past (Out frame) c f = (refl, by-spoken rules e frame past (spoken_in frame.body) c f)
 by-moment rules e past _ c f = cc
 
 -- the event has what the clause compares that it breaks first
-pub broken_has : (rules : List RuleText) (e : Event) (past : List Event) (c : Clause) → broken_clause rules e past ≡ Some c → has_facts rules e past c ≡ true
+pub broken_has : (rules : RuleSet) (e : Event) (past : List Event) (c : Clause) → broken_clause rules e past ≡ Some c → has_facts rules e past c ≡ true
 broken_has rules e past L1 f = (by-moment rules e past e.moment L1 f).0
 broken_has rules e past L2 f = (by-moment rules e past e.moment L2 f).1
 broken_has rules e past L3 f = (by-moment rules e past e.moment L3 f).1

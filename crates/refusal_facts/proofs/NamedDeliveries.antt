@@ -1,6 +1,6 @@
 -- What a note names, where that may not be carried.
 use Rattle.std.proofs.Common.{◌≡◌, ℕ, List, None}
-use Rattle.capture_form.specs.Rules.{RuleText}
+use Rattle.capture_form.specs.Rules.{RuleSet}
 use Rattle.pairing_cert.specs.declared.note.Note.{Note}
 use Rattle.pairing_cert.specs.declared.note.Note.TheVariants as notes
 use Rattle.trace_events.specs.Event.{Event}
@@ -10,14 +10,14 @@ use Rattle.refusal_facts.specs.TransferFacts.{IsNamed, IsNamedBy}
 use Rattle.refusal_facts.specs.declared.transfer.Named.{Named}
 use Rattle.refusal_facts.specs.declared.transfer.Named.TheVariants as named
 
-not-carried : (rules : List RuleText) (knows : ℕ → Type 0) (past : List Event) (says : Note) (delivery : Incoming)
+not-carried : (rules : RuleSet) (knows : ℕ → Type 0) (past : List Event) (says : Note) (delivery : Incoming)
     → IsNamedBy rules knows past says (named.Carried delivery) → ⊥
 not-carried rules knows past (notes.Pair n) delivery by = by
 not-carried rules knows past notes.None delivery by = cc
 not-carried rules knows past (notes.Told why) delivery by = cc
 
 -- it stands for what the note names
-pub uncarried_named : (rules : List RuleText) (knows : ℕ → Type 0) (past : List Event) (says : Note) (stands : Named)
+pub uncarried_named : (rules : RuleSet) (knows : ℕ → Type 0) (past : List Event) (says : Note) (stands : Named)
     → to_carry rules says past ≡ None → IsNamedBy rules knows past says stands → IsNamed rules knows past says stands
 uncarried_named rules knows past says named.Nothing none by = (none, by)
 uncarried_named rules knows past says (named.Carried delivery) none by = absurd (not-carried rules knows past says delivery by)

@@ -1,6 +1,6 @@
 -- What a reason is worth.
 use Rattle.std.specs.Prelude.{◌≡◌, ℕ, Bool, true, false, ◌&&◌, ◌||◌, List, Some, is_some}
-use Rattle.capture_form.specs.Rules.{RuleText}
+use Rattle.capture_form.specs.Rules.{RuleSet}
 use Rattle.trace_events.specs.Event.{Event, channel_of, out_frame}
 use Rattle.trace_clauses.specs.declared.clause.Clause.{Clause}
 use Rattle.trace_events.specs.Said.{is_out_end, out_attach, out_begin, out_detach, out_disposition, out_flow, out_transfer}
@@ -18,7 +18,7 @@ use Rattle.refusal_facts.specs.declared.reason.Facts.TheVariants as kinds
 use Rattle.refusal_facts.specs.declared.reason.Reason.{Reason}
 
 -- each number is the law's at this event, by those before it
-abbrev pub AreFacts : List RuleText → (ℕ → Type 0) → Event → List Event → Facts → Type 0
+abbrev pub AreFacts : RuleSet → (ℕ → Type 0) → Event → List Event → Facts → Type 0
 AreFacts rules knows e past (kinds.Frame facts) = IsFrame e facts
 AreFacts rules knows e past (kinds.Writing facts) = AreWriting e past facts
 AreFacts rules knows e past (kinds.Begin facts) = AreBegin e past facts
@@ -58,7 +58,7 @@ is_of L14 (kinds.Noted said) = true
 is_of _ _ = false
 
 -- the event has what the clause compares
-abbrev pub has_facts : List RuleText → Event → List Event → Clause → Bool
+abbrev pub has_facts : RuleSet → Event → List Event → Clause → Bool
 has_facts rules e past L1 = is_some (out_frame e.moment)
 has_facts rules e past L2 = is_some (out_begin e)
 has_facts rules e past L3 = is_some (out_attach e)
@@ -75,7 +75,7 @@ has_facts rules e past L13 = is_some (out_detach e) || is_out_end e
 has_facts rules e past L14 = true
 
 -- it is of this event, and names the first clause that the event breaks, with what that compares
-abbrev pub IsReasonOf : List RuleText → (ℕ → Type 0) → Event → List Event → Reason → Type 0
+abbrev pub IsReasonOf : RuleSet → (ℕ → Type 0) → Event → List Event → Reason → Type 0
 IsReasonOf rules knows e past reason =
     (reason.number ≡ e.number) × (reason.connection ≡ e.connection) × (reason.channel ≡ channel_of e.moment)
     × (broken_clause rules e past ≡ Some reason.clause) × AreFacts rules knows e past reason.facts

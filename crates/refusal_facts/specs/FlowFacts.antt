@@ -1,6 +1,6 @@
 -- What L10 compares: a flow with what its session and link have come to.
 use Rattle.std.specs.Prelude.{◌≡◌, ℕ, false, true, List, Option, Some, None, IfSome, option_map}
-use Rattle.capture_form.specs.Rules.{RuleText}
+use Rattle.capture_form.specs.Rules.{RuleSet}
 use Rattle.trace_events.specs.Credit.{delivery_count, given_credit, is_draining, link_credit, received_count}
 use Rattle.trace_events.specs.Due.{has_unsent}
 use Rattle.trace_events.specs.Event.{Event}
@@ -24,7 +24,7 @@ AreSessionNumbers past numbers =
     × (numbers.next_outgoing_id ≡ next_outgoing_id numbers.session past)
 
 -- the counts of a producer's link
-abbrev pub AreProducerNumbers : List RuleText → List Event → ProducerNumbers → Type 0
+abbrev pub AreProducerNumbers : RuleSet → List Event → ProducerNumbers → Type 0
 AreProducerNumbers rules past numbers =
     (numbers.delivery_count ≡ received_count (link_view numbers.link) past)
     × (numbers.given_credit ≡ given_credit (link_view numbers.link) past)
@@ -33,7 +33,7 @@ AreProducerNumbers rules past numbers =
     × (numbers.full_credit ≡ full_credit rules past (link_view numbers.link))
 
 -- the counts of a consumer's link, and what waits for it
-abbrev pub AreConsumerNumbers : List RuleText → List Event → ConsumerNumbers → Type 0
+abbrev pub AreConsumerNumbers : RuleSet → List Event → ConsumerNumbers → Type 0
 AreConsumerNumbers rules past numbers =
     (numbers.delivery_count ≡ delivery_count (link_view numbers.link) past)
     × (numbers.credit ≡ link_credit (link_view numbers.link) past)
@@ -42,7 +42,7 @@ AreConsumerNumbers rules past numbers =
     × (numbers.has_unsent ≡ has_unsent rules (link_view numbers.link) past)
 
 -- the link of a flow that names this handle, if any, and its counts
-abbrev pub IsFlowLink : List RuleText → Event → List Event → Option ℕ → FlowLink → Type 0
+abbrev pub IsFlowLink : RuleSet → Event → List Event → Option ℕ → FlowLink → Type 0
 IsFlowLink rules e past handle Nothing = handle ≡ None
 IsFlowLink rules e past handle (NotLive named) = (handle ≡ Some named) × (e.link ≡ None)
 IsFlowLink rules e past handle (Producer numbers) =
@@ -51,7 +51,7 @@ IsFlowLink rules e past handle (Consumer numbers) =
     (e.link ≡ Some (link_view numbers.link)) × (is_consumer (link_view numbers.link) ≡ true) × AreConsumerNumbers rules past numbers
 
 -- L10
-abbrev pub AreFlow : List RuleText → Event → List Event → FlowFacts → Type 0
+abbrev pub AreFlow : RuleSet → Event → List Event → FlowFacts → Type 0
 AreFlow rules e past facts =
     (out_flow e ≡ Some facts.flow) × (option_map (λ numbers. numbers.session) facts.session ≡ e.session)
     × IfSome facts.session (AreSessionNumbers past) × IsFlowLink rules e past facts.flow.handle facts.link

@@ -1,7 +1,7 @@
 -- What L1, L2 and L3 compare: a frame with what happened on its connection, a begin and an attach with those of the client.
 use Rattle.std.specs.Prelude.{◌≡◌, List, length, Some, None, is_some, option_and_then, option_map}
 use Rattle.amqp_perf.specs.View.{attach_fields}
-use Rattle.capture_form.specs.Rules.{RuleText}
+use Rattle.capture_form.specs.Rules.{}
 use Rattle.trace_events.specs.Connection.{was_opened, was_finished, was_stopped, has_out_frame, frame_limit}
 use Rattle.trace_events.specs.Event.{Event, out_frame}
 use Rattle.trace_events.specs.Heard.{is_of_connection}

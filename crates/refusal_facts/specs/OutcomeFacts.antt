@@ -3,7 +3,7 @@ use Rattle.std.specs.Prelude.{◌≡◌, ℕ, List, Option, Some, None, IfSome, 
 use Rattle.amqp_perf.specs.declared.descriptor.Outcome.{Outcome}
 use Rattle.amqp_perf.specs.Meaning.{flag, last_id}
 use Rattle.amqp_perf.specs.NestedViews.{state_view}
-use Rattle.capture_form.specs.Rules.{RuleText}
+use Rattle.capture_form.specs.Rules.{RuleSet}
 use Rattle.pairing_cert.specs.declared.note.Note.{Note}
 use Rattle.pairing_cert.specs.declared.note.Note.TheVariants as notes
 use Rattle.trace_events.specs.Connection.{frame_limit}
@@ -25,13 +25,13 @@ use Rattle.refusal_facts.specs.declared.outcome.SettlingFacts.{SettlingFacts}
 use Rattle.refusal_facts.specs.declared.outcome.ToldDelivery.{ToldDelivery}
 
 -- what the row that a note names tells of the delivery
-abbrev pub row_of : List RuleText → Incoming → List Event → Note → Option (Option (List ℕ))
+abbrev pub row_of : RuleSet → Incoming → List Event → Note → Option (Option (List ℕ))
 row_of rules d past (notes.Told why) = row rules d past why
 row_of rules d past notes.None = None
 row_of rules d past (notes.Pair n) = None
 
 -- the best verdict of the copies of a multicast delivery, where each that is due has its own
-abbrev pub verdict_of : List RuleText → Incoming → List Event → Option Outcome
+abbrev pub verdict_of : RuleSet → Incoming → List Event → Option Outcome
 verdict_of rules d past = if is_of_multicast rules d then whole_verdict rules d past else None
 
 -- how a delivery to a client stands
@@ -41,7 +41,7 @@ IsCarrier past carrier =
     × (option_map decision_view carrier.decision ≡ option_map terminal_state (decision (outgoing_view carrier.outgoing) past))
 
 -- how a delivery stands whose outcome is told
-abbrev pub AreTold : List RuleText → Note → List Event → ToldDelivery → Type 0
+abbrev pub AreTold : RuleSet → Note → List Event → ToldDelivery → Type 0
 AreTold rules note past told =
     let d = incoming_view told.delivery in
     (told.is_complete ≡ is_complete d past) × (told.is_closed ≡ is_closed past d) × (told.is_multicast ≡ is_of_multicast rules d)
@@ -50,7 +50,7 @@ AreTold rules note past told =
     × (option_map (λ carrier. outgoing_view carrier.outgoing) told.carrier ≡ pairing d past) × IfSome told.carrier (IsCarrier past)
 
 -- L11
-abbrev pub AreOutcome : List RuleText → Event → List Event → OutcomeFacts → Type 0
+abbrev pub AreOutcome : RuleSet → Event → List Event → OutcomeFacts → Type 0
 AreOutcome rules e past facts =
     (facts.note ≡ e.note) × (option_map (λ fields. fields.first) (out_disposition e) ≡ Some facts.first)
     × (option_map last_id (out_disposition e) ≡ Some facts.last)

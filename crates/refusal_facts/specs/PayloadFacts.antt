@@ -1,7 +1,7 @@
 -- What L8 compares: the octets of a delivery to a client with those of the delivery that it carries.
 use Rattle.std.specs.Prelude.{◌≡◌, ◌≢◌, ◌<◌, ◌≤◌, ℕ, ◌+◌, ◌-◌, ◌%◌, ◌^◌, Bool, false, List, length, drop, slice_get, Some, option_map}
 use Rattle.amqp_perf.specs.Meaning.{flag}
-use Rattle.capture_form.specs.Rules.{RuleText}
+use Rattle.capture_form.specs.Rules.{RuleSet}
 use Rattle.trace_events.specs.Event.{Event}
 use Rattle.trace_events.specs.Incoming as received
 use Rattle.trace_events.specs.Outgoing as told
@@ -30,7 +30,7 @@ IsDifferenceFrom sent due said more Nothing =
 
 -- L8: the delivery that is carried, the one that carries it, how many octets were sent of that before, counted in 64 bits, and
 -- how the octets differ, behind so many
-abbrev pub ArePayload : List RuleText → Event → List Event → PayloadFacts → Type 0
+abbrev pub ArePayload : RuleSet → Event → List Event → PayloadFacts → Type 0
 ArePayload rules e past facts =
     (to_carry rules e.note past ≡ Some (incoming_view facts.delivery)) × (e.outgoing ≡ Some (outgoing_view facts.outgoing))
     × (facts.whole ≡ length (received.payload (incoming_view facts.delivery) past))

@@ -1,7 +1,7 @@
 -- What L4 to L7 and L9 compare: a transfer with its link, and with the delivery that it carries.
 use Rattle.std.specs.Prelude.{◌≡◌, ℕ, List, Some, None, option_and_then, option_map, unwrap_or}
 use Rattle.amqp_perf.specs.Meaning.{flag}
-use Rattle.capture_form.specs.Rules.{RuleText}
+use Rattle.capture_form.specs.Rules.{RuleSet}
 use Rattle.pairing_cert.specs.declared.note.Note.{Note}
 use Rattle.pairing_cert.specs.declared.note.Note.TheVariants as notes
 use Rattle.trace_events.specs.Credit.{begins_outgoing, delivery_count, link_credit}
@@ -47,7 +47,7 @@ AreGoingOn e facts =
     × (option_map (λ fields. fields.settled) (out_transfer e) ≡ Some facts.settled)
 
 -- what stands for the delivery of a number that may not be carried; of one of which nothing can be told this says nothing
-abbrev pub IsNamedAt : List RuleText → (ℕ → Type 0) → List Event → ℕ → Named → Type 0
+abbrev pub IsNamedAt : RuleSet → (ℕ → Type 0) → List Event → ℕ → Named → Type 0
 IsNamedAt rules knows past n named.Nothing = ⊥
 IsNamedAt rules knows past n (named.Carried delivery) = ⊥
 IsNamedAt rules knows past n (named.Kept delivery complete gone) =
@@ -56,13 +56,13 @@ IsNamedAt rules knows past n (named.Kept delivery complete gone) =
 IsNamedAt rules knows past n (named.Unknown number) = (number ≡ n) × (knows n → incoming_at n past ≡ None)
 
 -- what a note names that may not be carried
-abbrev pub IsNamedBy : List RuleText → (ℕ → Type 0) → List Event → Note → Named → Type 0
+abbrev pub IsNamedBy : RuleSet → (ℕ → Type 0) → List Event → Note → Named → Type 0
 IsNamedBy rules knows past (notes.Pair n) stands = IsNamedAt rules knows past n stands
 IsNamedBy rules knows past notes.None stands = stands ≡ named.Nothing
 IsNamedBy rules knows past (notes.Told why) stands = stands ≡ named.Nothing
 
 -- what a note names
-abbrev pub IsNamed : List RuleText → (ℕ → Type 0) → List Event → Note → Named → Type 0
+abbrev pub IsNamed : RuleSet → (ℕ → Type 0) → List Event → Note → Named → Type 0
 IsNamed rules knows past note (named.Carried delivery) = to_carry rules note past ≡ Some (incoming_view delivery)
 IsNamed rules knows past note named.Nothing = (to_carry rules note past ≡ None) × IsNamedBy rules knows past note named.Nothing
 IsNamed rules knows past note (named.Kept delivery complete gone) =
@@ -71,7 +71,7 @@ IsNamed rules knows past note (named.Unknown number) =
     (to_carry rules note past ≡ None) × IsNamedBy rules knows past note (named.Unknown number)
 
 -- L7: the delivery that the note names, the link, and what this transfer says
-abbrev pub AreCarrying : List RuleText → (ℕ → Type 0) → Event → List Event → CarryingFacts → Type 0
+abbrev pub AreCarrying : RuleSet → (ℕ → Type 0) → Event → List Event → CarryingFacts → Type 0
 AreCarrying rules knows e past facts =
     (facts.note ≡ e.note) × (e.link ≡ Some (link_view facts.link)) × IsNamed rules knows past e.note facts.named
     × (facts.begins ≡ begins_outgoing e)
@@ -79,7 +79,7 @@ AreCarrying rules knows e past facts =
     × (option_map (λ fields. flag fields.settled) (out_transfer e) ≡ Some facts.is_settled)
 
 -- L9: who was sent the delivery before, whether a copy is due to the link, and what the link's last delivery carries
-abbrev pub AreOrder : List RuleText → Event → List Event → OrderFacts → Type 0
+abbrev pub AreOrder : RuleSet → Event → List Event → OrderFacts → Type 0
 AreOrder rules e past facts =
     (e.link ≡ Some (link_view facts.link)) × (to_carry rules e.note past ≡ Some (incoming_view facts.delivery))
     × (facts.completion ≡ completion (incoming_view facts.delivery) past)

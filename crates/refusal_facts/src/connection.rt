@@ -1,6 +1,6 @@
 //! What L1 compares: a frame that the router writes, on its connection.
 
-ghost use Rattle.capture_form.specs.Rules.{RuleText};
+ghost use Rattle.capture_form.specs.Rules.{RuleSet};
 ghost use Rattle.std.specs.Prelude.{List, ◌≡◌, ◌&&◌, IfSome, is_none, is_some, option_map};
 ghost use Rattle.amqp_perf.specs.View.{view};
 ghost use Rattle.trace_events.specs.Event as said;
@@ -81,7 +81,7 @@ pub(crate) fn writing_facts<'a, P: Openings<'a> + Outcomes<'a>>(
     past: &P,
     event: &Event,
 ) -> Option<WritingFacts>
-    ensures facts { (rules : List RuleText) (history : Events) → P.stands_for past.now rules history → IfSome result (AreWriting (event_view event.now) history) }
+    ensures facts { (rules : RuleSet) (history : Events) → P.stands_for past.now rules history → IfSome result (AreWriting (event_view event.now) history) }
     ensures there { is_some result ≡ is_some (out_spoken (event_view event.now)) }
 {
     let frame = out_frame(event)?;

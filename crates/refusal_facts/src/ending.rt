@@ -1,6 +1,6 @@
 //! What L13 compares: a detach or an end with what is live, and with what the client has ended.
 
-ghost use Rattle.capture_form.specs.Rules.{RuleText};
+ghost use Rattle.capture_form.specs.Rules.{RuleSet};
 ghost use Rattle.std.specs.Prelude.{List, ◌≡◌, is_some, IfSome};
 ghost use Rattle.trace_events.specs.Link as links;
 ghost use Rattle.trace_events.specs.Session.{IsLiveOn, StandsLive};
@@ -37,7 +37,7 @@ pub struct EndFacts {
 
 /// A detach of the handle is owed on the session, if there is one.
 fn is_detach_owed<'a, P: Openings<'a>>(past: &P, session: Option<Session>, handle: u32) -> bool
-    ensures { (rules : List RuleText) (history : Events) → P.stands_for past.now rules history → IfSome session (λ s. IsLiveOn s history) →
+    ensures { (rules : RuleSet) (history : Events) → P.stands_for past.now rules history → IfSome session (λ s. IsLiveOn s history) →
         (result ≡ is_some_and session (λ s. links.owes_detach s handle history)) }
 {
     match session {
@@ -51,7 +51,7 @@ pub(crate) fn detach_facts<'a, P: Openings<'a>>(
     past: &P,
     event: &Event<'a, 'a>,
 ) -> Option<DetachFacts<'a>>
-    ensures facts { (rules : List RuleText) (history : Events) → P.stands_for past.now rules history → StandsLive (event_view event.now) history → IfSome result (AreDetach (event_view event.now) history) }
+    ensures facts { (rules : RuleSet) (history : Events) → P.stands_for past.now rules history → StandsLive (event_view event.now) history → IfSome result (AreDetach (event_view event.now) history) }
     ensures there { is_some result ≡ is_some (said.out_detach (event_view event.now)) }
 {
     let detach = event.out_detach()?;
@@ -65,7 +65,7 @@ pub(crate) fn detach_facts<'a, P: Openings<'a>>(
 
 /// An end.
 pub(crate) fn end_facts<'a, P: Openings<'a>>(past: &P, event: &Event) -> Option<EndFacts>
-    ensures facts { (rules : List RuleText) (history : Events) → P.stands_for past.now rules history → IfSome result (AreEnd (event_view event.now) history) }
+    ensures facts { (rules : RuleSet) (history : Events) → P.stands_for past.now rules history → IfSome result (AreEnd (event_view event.now) history) }
     ensures there { is_some result ≡ said.is_out_end (event_view event.now) }
 {
     let spoken = event.out_spoken()?;

@@ -1,6 +1,6 @@
 //! The reason of an event.
 
-ghost use Rattle.capture_form.specs.Rules.{RuleText};
+ghost use Rattle.capture_form.specs.Rules.{RuleSet};
 ghost use Rattle.std.specs.Prelude.{List, ◌≡◌, ◌||◌, true, IfSome, is_some, length, option_map};
 ghost use Rattle.trace_events.specs.Event as law_events;
 ghost use Rattle.trace_events.specs.Said as said;
@@ -24,7 +24,7 @@ use crate::reason::{Facts, Reason};
 use crate::transfer::{
     beginning_facts, carrying_facts, going_on_facts, order_facts, sending_facts,
 };
-use capture_form::Rule;
+use capture_form::RuleSet;
 use trace_clauses::Clause;
 use trace_judge::{Questions, broken_clause};
 use trace_values::Event;
@@ -35,7 +35,7 @@ use trace_values::Event;
 pub fn explain<'a, P: Questions<'a>, C: Payloads<'a>>(
     past: &P,
     contents: &C,
-    rules: &[Rule],
+    rules: &RuleSet,
     event: &Event<'a, 'a>,
 ) -> Option<Reason<'a>>
     requires few { P.is_short past.now }
@@ -68,7 +68,7 @@ pub fn explain<'a, P: Questions<'a>, C: Payloads<'a>>(
 fn facts_of<'a, P: Questions<'a>, C: Payloads<'a>>(
     past: &P,
     contents: &C,
-    rules: &[Rule],
+    rules: &RuleSet,
     event: &Event<'a, 'a>,
     clause: Clause,
 ) -> Facts<'a>
@@ -91,7 +91,7 @@ fn facts_of<'a, P: Questions<'a>, C: Payloads<'a>>(
 fn facts_by<'a, P: Questions<'a>, C: Payloads<'a>>(
     past: &P,
     contents: &C,
-    rules: &[Rule],
+    rules: &RuleSet,
     event: &Event<'a, 'a>,
     clause: Clause,
 ) -> Option<Facts<'a>>
@@ -124,7 +124,7 @@ fn facts_by<'a, P: Questions<'a>, C: Payloads<'a>>(
 
 /// L1: a frame that is no performative, or one that is.
 fn frame_or_writing<'a, P: Questions<'a>>(past: &P, event: &Event<'a, 'a>) -> Option<Facts<'a>>
-    ensures facts { (rules : List RuleText) (history : Events) → P.stands_for past.now rules history → IfSome result (AreFacts rules (λ n. P.knows_number past.now n history) (event_view event.now) history) }
+    ensures facts { (rules : RuleSet) (history : Events) → P.stands_for past.now rules history → IfSome result (AreFacts rules (λ n. P.knows_number past.now n history) (event_view event.now) history) }
     ensures kind { is_some (law_events.out_frame (event_view event.now).moment) ≡ true → is_some_and result (is_of clauses.L1) ≡ true }
 {
     match frame_facts(event) {
@@ -135,7 +135,7 @@ fn frame_or_writing<'a, P: Questions<'a>>(past: &P, event: &Event<'a, 'a>) -> Op
 
 /// L13: a detach, or an end.
 fn detach_or_end<'a, P: Questions<'a>>(past: &P, event: &Event<'a, 'a>) -> Option<Facts<'a>>
-    ensures facts { (rules : List RuleText) (history : Events) → P.stands_for past.now rules history → StandsLive (event_view event.now) history → IfSome result (AreFacts rules (λ n. P.knows_number past.now n history) (event_view event.now) history) }
+    ensures facts { (rules : RuleSet) (history : Events) → P.stands_for past.now rules history → StandsLive (event_view event.now) history → IfSome result (AreFacts rules (λ n. P.knows_number past.now n history) (event_view event.now) history) }
     ensures kind { (is_some (said.out_detach (event_view event.now)) || said.is_out_end (event_view event.now)) ≡ true → is_some_and result (is_of clauses.L13) ≡ true }
 {
     match detach_facts(past, event) {

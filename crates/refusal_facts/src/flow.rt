@@ -1,6 +1,6 @@
 //! What L10 compares: a flow with what its session and link have come to.
 
-ghost use Rattle.capture_form.specs.Rules.{RuleText};
+ghost use Rattle.capture_form.specs.Rules.{RuleSet};
 ghost use Rattle.std.specs.Prelude.{List, ◌≡◌, is_some, ◌-◌, IfSome, option_map};
 ghost use Rattle.trace_events.specs.Link.{IsLiveLink, NamesLive};
 ghost use Rattle.trace_events.specs.Said as said;
@@ -9,7 +9,7 @@ ghost use Rattle.trace_values.specs.View.{Events, event_view, link_view};
 ghost use Rattle.refusal_facts.specs.FlowFacts.{AreConsumerNumbers, AreFlow, AreProducerNumbers, AreSessionNumbers, IsFlowLink};
 
 use amqp_perf::{Flow, Performative};
-use capture_form::Rule;
+use capture_form::RuleSet;
 use flow_counts::CAPACITY;
 use trace_events::Session;
 use trace_judge::{Counts, Inputs, may_be_topped_up};
@@ -116,7 +116,7 @@ fn out_flow(event: &Event) -> Option<Flow>
 
 fn session_numbers<P: Counts>(past: &P, session: Option<Session>) -> Option<SessionNumbers>
     ensures same { option_map (λ numbers. numbers.session) result ≡ session }
-    ensures numbers { (rules : List RuleText) (history : Events) → P.stands_for past.now rules history → IfSome session (λ s. IsLiveOn s history) → IfSome result (AreSessionNumbers history) }
+    ensures numbers { (rules : RuleSet) (history : Events) → P.stands_for past.now rules history → IfSome session (λ s. IsLiveOn s history) → IfSome result (AreSessionNumbers history) }
 {
     match session {
         Some(session) => Some(SessionNumbers {
@@ -130,7 +130,7 @@ fn session_numbers<P: Counts>(past: &P, session: Option<Session>) -> Option<Sess
 
 fn producer_numbers<'a, 'l, P: Inputs<'a> + Counts>(
     past: &P,
-    rules: &[Rule],
+    rules: &RuleSet,
     link: &Link<'l>,
 ) -> ProducerNumbers<'l>
     requires few { P.is_short past.now }
@@ -148,7 +148,11 @@ fn producer_numbers<'a, 'l, P: Inputs<'a> + Counts>(
     }
 }
 
-fn consumer_numbers<'l, P: Counts>(past: &P, rules: &[Rule], link: &Link<'l>) -> ConsumerNumbers<'l>
+fn consumer_numbers<'l, P: Counts>(
+    past: &P,
+    rules: &RuleSet,
+    link: &Link<'l>,
+) -> ConsumerNumbers<'l>
     requires few { P.is_short past.now }
     ensures same { link_view result.link ≡ link_view link.now }
     ensures numbers { (history : Events) → P.stands_for past.now rules.now history → IsLiveLink (link_view link.now) history → AreConsumerNumbers rules.now history result }
@@ -166,7 +170,7 @@ fn consumer_numbers<'l, P: Counts>(past: &P, rules: &[Rule], link: &Link<'l>) ->
 /// The numbers of the link that a flow with this handle names.
 fn link_numbers<'a, 'l, P: Inputs<'a> + Counts>(
     past: &P,
-    rules: &[Rule],
+    rules: &RuleSet,
     handle: Option<u32>,
     event: &Event<'l, 'l>,
 ) -> FlowLink<'l>
@@ -188,7 +192,7 @@ fn link_numbers<'a, 'l, P: Inputs<'a> + Counts>(
 /// L10.
 pub(crate) fn flow_facts<'a, P: Inputs<'a> + Counts>(
     past: &P,
-    rules: &[Rule],
+    rules: &RuleSet,
     event: &Event<'a, 'a>,
 ) -> Option<FlowFacts<'a>>
     requires few { P.is_short past.now }

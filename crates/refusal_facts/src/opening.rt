@@ -1,6 +1,6 @@
 //! What L2 and L3 compare: a begin and an attach with those of the client that they answer.
 
-ghost use Rattle.capture_form.specs.Rules.{RuleText};
+ghost use Rattle.capture_form.specs.Rules.{RuleSet};
 ghost use Rattle.std.specs.Prelude.{List, ◌≡◌, is_some, IfSome, option_and_then, option_map};
 ghost use Rattle.trace_events.specs.Session.{IsLiveOn, StandsLive};
 ghost use Rattle.trace_clauses.specs.LinkClause as attaches;
@@ -43,7 +43,7 @@ pub struct AttachFacts<'a> {
 
 /// L2.
 pub(crate) fn begin_facts<'a, P: Openings<'a>>(past: &P, event: &Event) -> Option<BeginFacts>
-    ensures facts { (rules : List RuleText) (history : Events) → P.stands_for past.now rules history → IfSome result (AreBegin (event_view event.now) history) }
+    ensures facts { (rules : RuleSet) (history : Events) → P.stands_for past.now rules history → IfSome result (AreBegin (event_view event.now) history) }
     ensures there { is_some result ≡ is_some (said.out_begin (event_view event.now)) }
 {
     let spoken = event.out_spoken()?;
@@ -83,7 +83,7 @@ fn asked_on<'a, P: Openings<'a>>(
     session: Option<Session>,
     handle: u32,
 ) -> Option<Asking<'a>>
-    ensures { (rules : List RuleText) (history : Events) → P.stands_for past.now rules history → IfSome session (λ s. IsLiveOn s history) →
+    ensures { (rules : RuleSet) (history : Events) → P.stands_for past.now rules history → IfSome session (λ s. IsLiveOn s history) →
         (option_map asking_view result ≡ option_and_then (λ s. attaches.asking s handle history) session) }
 {
     past.asking(session?, handle)
@@ -94,7 +94,7 @@ pub(crate) fn attach_facts<'a, P: Openings<'a>>(
     past: &P,
     event: &Event<'a, 'a>,
 ) -> Option<AttachFacts<'a>>
-    ensures facts { (rules : List RuleText) (history : Events) → P.stands_for past.now rules history → StandsLive (event_view event.now) history → IfSome result (AreAttach (event_view event.now) history) }
+    ensures facts { (rules : RuleSet) (history : Events) → P.stands_for past.now rules history → StandsLive (event_view event.now) history → IfSome result (AreAttach (event_view event.now) history) }
     ensures there { is_some result ≡ is_some (said.out_attach (event_view event.now)) }
 {
     let ours = event.out_attach()?;

@@ -1,6 +1,6 @@
 //! What L11 and L12 compare: a disposition with the delivery whose outcome it tells, or which it settles.
 
-ghost use Rattle.capture_form.specs.Rules.{RuleText};
+ghost use Rattle.capture_form.specs.Rules.{RuleSet};
 ghost use Rattle.std.specs.Prelude.{List, ◌≡◌, is_some, IfSome, option_and_then, option_map};
 ghost use Rattle.trace_events.specs.Incoming as received;
 ghost use Rattle.trace_events.specs.Outgoing as sent;
@@ -10,7 +10,7 @@ ghost use Rattle.trace_events.specs.Said as said;
 ghost use Rattle.refusal_facts.specs.OutcomeFacts.{AreOutcome, AreSettling, AreTold, IsCarrier, row_of, verdict_of};
 
 use amqp_perf::{Outcome, State};
-use capture_form::Rule;
+use capture_form::RuleSet;
 use pairing_cert::Note;
 use trace_judge::{Outcomes, Told, row};
 use trace_values::{Decision, Event, Incoming, Outgoing, has_multicast};
@@ -75,7 +75,7 @@ pub struct SettlingFacts {
 /// What the row that a note names tells of the delivery.
 fn row_of<'a, P: Outcomes<'a>>(
     past: &P,
-    rules: &[Rule],
+    rules: &RuleSet,
     delivery: &Incoming,
     note: Note,
 ) -> Option<Told<'a>>
@@ -90,7 +90,11 @@ fn row_of<'a, P: Outcomes<'a>>(
 }
 
 /// The best verdict of the copies of a multicast delivery, where each that is due has its own.
-fn verdict_of<'a, P: Outcomes<'a>>(past: &P, rules: &[Rule], delivery: &Incoming) -> Option<Outcome>
+fn verdict_of<'a, P: Outcomes<'a>>(
+    past: &P,
+    rules: &RuleSet,
+    delivery: &Incoming,
+) -> Option<Outcome>
     requires few { P.is_short past.now }
     ensures { (history : Events) → P.stands_for past.now rules.now history → P.knows_incoming past.now (incoming_view delivery.now) history →
         (result ≡ verdict_of rules.now (incoming_view delivery.now) history) }
@@ -105,7 +109,7 @@ fn verdict_of<'a, P: Outcomes<'a>>(past: &P, rules: &[Rule], delivery: &Incoming
 /// How the delivery to a client stands.
 fn carrier_standing<'a, P: Outcomes<'a>>(past: &P, outgoing: Outgoing<'a>) -> Carrier<'a>
     ensures same { outgoing_view result.outgoing ≡ outgoing_view outgoing.entry }
-    ensures stands { (rules : List RuleText) (history : Events) → P.stands_for past.now rules history → P.knows_outgoing past.now (outgoing_view outgoing.entry) history → IsCarrier history result }
+    ensures stands { (rules : RuleSet) (history : Events) → P.stands_for past.now rules history → P.knows_outgoing past.now (outgoing_view outgoing.entry) history → IsCarrier history result }
 {
     Carrier {
         outgoing,
@@ -117,9 +121,9 @@ fn carrier_standing<'a, P: Outcomes<'a>>(past: &P, outgoing: Outgoing<'a>) -> Ca
 
 /// How the last delivery to a client stands that carries this one, if there is one.
 fn carrier_of<'a, P: Outcomes<'a>>(past: &P, delivery: &Incoming) -> Option<Carrier<'a>>
-    ensures same { (rules : List RuleText) (history : Events) → P.stands_for past.now rules history → P.knows_incoming past.now (incoming_view delivery.now) history →
+    ensures same { (rules : RuleSet) (history : Events) → P.stands_for past.now rules history → P.knows_incoming past.now (incoming_view delivery.now) history →
         (option_map (λ c. outgoing_view c.outgoing) result ≡ sent.pairing (incoming_view delivery.now) history) }
-    ensures stands { (rules : List RuleText) (history : Events) → P.stands_for past.now rules history → P.knows_incoming past.now (incoming_view delivery.now) history → IfSome result (IsCarrier history) }
+    ensures stands { (rules : RuleSet) (history : Events) → P.stands_for past.now rules history → P.knows_incoming past.now (incoming_view delivery.now) history → IfSome result (IsCarrier history) }
 {
     match past.pairing(delivery) {
         Some(outgoing) => Some(carrier_standing(past, outgoing)),
@@ -130,7 +134,7 @@ fn carrier_of<'a, P: Outcomes<'a>>(past: &P, delivery: &Incoming) -> Option<Carr
 /// How the delivery stands.
 fn standing<'a, P: Outcomes<'a>>(
     past: &P,
-    rules: &[Rule],
+    rules: &RuleSet,
     delivery: Incoming<'a>,
     note: Note,
 ) -> ToldDelivery<'a>
@@ -154,7 +158,7 @@ fn standing<'a, P: Outcomes<'a>>(
 /// The delivery that begins in the record of this number, if there is a number, and how it stands.
 fn told_delivery<'a, P: Outcomes<'a>>(
     past: &P,
-    rules: &[Rule],
+    rules: &RuleSet,
     number: Option<u64>,
     note: Note,
 ) -> Option<ToldDelivery<'a>>
@@ -172,7 +176,7 @@ fn told_delivery<'a, P: Outcomes<'a>>(
 /// L11.
 pub(crate) fn outcome_facts<'a, P: Outcomes<'a>>(
     past: &P,
-    rules: &[Rule],
+    rules: &RuleSet,
     event: &Event<'a, 'a>,
 ) -> Option<OutcomeFacts<'a>>
     requires few { P.is_short past.now }

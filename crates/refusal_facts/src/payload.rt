@@ -1,6 +1,6 @@
 //! What L8 compares: the octets of a delivery to a client with those of the delivery that it carries.
 
-ghost use Rattle.capture_form.specs.Rules.{RuleText};
+ghost use Rattle.capture_form.specs.Rules.{};
 ghost use Rattle.std.specs.Prelude.{List, ◌≡◌, ◌&&◌, is_some, ◌≢◌, ◌<◌, ◌+◌, ◌^◌, ℕ, Some, IfSome, IfNone, drop, length, slice_get};
 ghost use Rattle.trace_values.specs.View.{Events, event_view};
 ghost use Rattle.trace_events.specs.Event as law_events;
@@ -9,7 +9,7 @@ ghost use Rattle.trace_clauses.specs.TransferClause.{to_carry};
 ghost use Rattle.refusal_facts.specs.PayloadFacts.{AreAlikeBelow, ArePayload, IsDifferenceFrom};
 
 use crate::payloads::Payloads;
-use capture_form::Rule;
+use capture_form::RuleSet;
 use trace_judge::Questions;
 use trace_values::{Event, Incoming, Outgoing};
 
@@ -97,7 +97,7 @@ fn behind(whole: &[u8], count: u64) -> &[u8]
 pub(crate) fn payload_facts<'a, P: Questions<'a>, C: Payloads<'a>>(
     past: &P,
     contents: &C,
-    rules: &[Rule],
+    rules: &RuleSet,
     event: &Event<'a, 'a>,
 ) -> Option<PayloadFacts<'a>>
     ensures facts { (history : Events) → P.stands_for past.now rules.now history → C.tells_of contents.now rules.now history → ((d : law_events.Incoming) → P.knows_incoming past.now d history → C.knows contents.now d) →

@@ -1,6 +1,6 @@
 //! What L4 to L7 and L9 compare: a transfer with its link, and with the delivery that it carries.
 
-ghost use Rattle.capture_form.specs.Rules.{RuleText};
+ghost use Rattle.capture_form.specs.Rules.{RuleSet};
 ghost use Rattle.std.specs.Prelude.{List, ◌≡◌, ◌&&◌, is_some, IfSome, None, option_and_then, option_map};
 ghost use Rattle.trace_events.specs.Event as law_events;
 ghost use Rattle.trace_events.specs.Incoming as received;
@@ -14,7 +14,7 @@ ghost use Rattle.trace_events.specs.Said as said;
 ghost use Rattle.refusal_facts.specs.TransferFacts.{AreBeginning, AreCarrying, AreGoingOn, AreOrder, AreSending, IsNamed, IsNamedAt, IsNamedBy};
 
 use crate::payloads::Payloads;
-use capture_form::Rule;
+use capture_form::RuleSet;
 use pairing_cert::Note;
 use trace_events::Session;
 use trace_judge::{Carriage, Counts, Outcomes, Questions};
@@ -118,7 +118,7 @@ pub struct OrderFacts<'a> {
 
 /// The window of the session, if there is one.
 fn window_on<P: Counts>(past: &P, session: Option<Session>) -> Option<u32>
-    ensures { (rules : List RuleText) (history : Events) → P.stands_for past.now rules history → IfSome session (λ s. IsLiveOn s history) →
+    ensures { (rules : RuleSet) (history : Events) → P.stands_for past.now rules history → IfSome session (λ s. IsLiveOn s history) →
         (result ≡ option_map (λ s. windows.session_window s history) session) }
 {
     match session {
@@ -129,7 +129,7 @@ fn window_on<P: Counts>(past: &P, session: Option<Session>) -> Option<u32>
 
 /// The id of the router's next transfer on the session, if there is one.
 fn next_id_on<P: Counts>(past: &P, session: Option<Session>) -> Option<u32>
-    ensures { (rules : List RuleText) (history : Events) → P.stands_for past.now rules history → IfSome session (λ s. IsLiveOn s history) →
+    ensures { (rules : RuleSet) (history : Events) → P.stands_for past.now rules history → IfSome session (λ s. IsLiveOn s history) →
         (result ≡ option_map (λ s. windows.next_outgoing_id s history) session) }
 {
     match session {
@@ -143,7 +143,7 @@ pub(crate) fn sending_facts<'a, P: Counts>(
     past: &P,
     event: &Event<'a, 'a>,
 ) -> Option<SendingFacts<'a>>
-    ensures facts { (rules : List RuleText) (history : Events) → P.stands_for past.now rules history → StandsLive (event_view event.now) history → IfSome result (AreSending (event_view event.now) history) }
+    ensures facts { (rules : RuleSet) (history : Events) → P.stands_for past.now rules history → StandsLive (event_view event.now) history → IfSome result (AreSending (event_view event.now) history) }
     ensures there { is_some result ≡ is_some (said.out_transfer (event_view event.now)) }
 {
     let transfer = event.out_transfer()?;
@@ -163,7 +163,7 @@ pub(crate) fn beginning_facts<'a, P: Counts>(
     past: &P,
     event: &Event<'a, 'a>,
 ) -> Option<BeginningFacts<'a>>
-    ensures facts { (rules : List RuleText) (history : Events) → P.stands_for past.now rules history → NamesLive (event_view event.now) history → IfSome result (AreBeginning (event_view event.now) history) }
+    ensures facts { (rules : RuleSet) (history : Events) → P.stands_for past.now rules history → NamesLive (event_view event.now) history → IfSome result (AreBeginning (event_view event.now) history) }
     ensures there { is_some result ≡ (is_some (said.out_transfer (event_view event.now)) && is_some (event_view event.now).link) }
 {
     let transfer = event.out_transfer()?;
@@ -192,7 +192,7 @@ pub(crate) fn going_on_facts<'a>(event: &Event<'a, 'a>) -> Option<GoingOnFacts<'
 }
 
 /// The delivery that begins in the record of this number, which may not be carried.
-fn named_at<'a, P: Outcomes<'a>>(past: &P, rules: &[Rule], number: u64) -> Named<'a>
+fn named_at<'a, P: Outcomes<'a>>(past: &P, rules: &RuleSet, number: u64) -> Named<'a>
     ensures { (history : Events) → P.stands_for past.now rules.now history → IsNamedAt rules.now (λ n. P.knows_number past.now n history) history number result }
 {
     match past.incoming_at(number) {
@@ -206,7 +206,7 @@ fn named_at<'a, P: Outcomes<'a>>(past: &P, rules: &[Rule], number: u64) -> Named
 }
 
 /// The delivery that a note names, which may not be carried.
-fn uncarried<'a, P: Outcomes<'a>>(past: &P, rules: &[Rule], note: Note) -> Named<'a>
+fn uncarried<'a, P: Outcomes<'a>>(past: &P, rules: &RuleSet, note: Note) -> Named<'a>
     ensures { (history : Events) → P.stands_for past.now rules.now history → IsNamedBy rules.now (λ n. P.knows_number past.now n history) history note result }
 {
     match note {
@@ -217,7 +217,7 @@ fn uncarried<'a, P: Outcomes<'a>>(past: &P, rules: &[Rule], note: Note) -> Named
 
 /// The delivery that a note names.
 #[tactic(auto, using(crate::proofs::NamedDeliveries::uncarried_named))]
-fn named_by<'a, P: Outcomes<'a> + Carriage<'a>>(past: &P, rules: &[Rule], note: Note) -> Named<'a>
+fn named_by<'a, P: Outcomes<'a> + Carriage<'a>>(past: &P, rules: &RuleSet, note: Note) -> Named<'a>
     ensures { (history : Events) → P.stands_for past.now rules.now history → IsNamed rules.now (λ n. P.knows_number past.now n history) history note result }
 {
     match past.to_carry(rules, note) {
@@ -229,7 +229,7 @@ fn named_by<'a, P: Outcomes<'a> + Carriage<'a>>(past: &P, rules: &[Rule], note: 
 /// L7.
 pub(crate) fn carrying_facts<'a, P: Outcomes<'a> + Carriage<'a>>(
     past: &P,
-    rules: &[Rule],
+    rules: &RuleSet,
     event: &Event<'a, 'a>,
 ) -> Option<CarryingFacts<'a>>
     ensures facts { (history : Events) → P.stands_for past.now rules.now history → IfSome result (AreCarrying rules.now (λ n. P.knows_number past.now n history) (event_view event.now) history) }
@@ -248,7 +248,7 @@ pub(crate) fn carrying_facts<'a, P: Outcomes<'a> + Carriage<'a>>(
 
 /// The record that completed the delivery, if there is one.
 fn completion_of<'a, C: Payloads<'a>>(contents: &C, delivery: &Option<Incoming>) -> Option<u64>
-    ensures { (rules : List RuleText) (history : Events) → C.tells_of contents.now rules history → IfSome (option_map incoming_view delivery.now) (λ d. C.knows contents.now d) →
+    ensures { (rules : RuleSet) (history : Events) → C.tells_of contents.now rules history → IfSome (option_map incoming_view delivery.now) (λ d. C.knows contents.now d) →
         (result ≡ option_and_then (λ d. received.completion d history) (option_map incoming_view delivery.now)) }
 {
     match delivery {
@@ -263,7 +263,7 @@ fn is_in_order<'a, P: Carriage<'a>>(
     before: &Option<Incoming>,
     delivery: &Incoming,
 ) -> bool
-    ensures { (rules : List RuleText) (history : Events) → P.stands_for past.now rules history → IfSome (option_map incoming_view before.now) (λ d. P.knows_incoming past.now d history) →
+    ensures { (rules : RuleSet) (history : Events) → P.stands_for past.now rules history → IfSome (option_map incoming_view before.now) (λ d. P.knows_incoming past.now d history) →
         P.knows_incoming past.now (incoming_view delivery.now) history →
         (result ≡ is_none_or (option_map incoming_view before.now) (λ d. received.completed_before d (incoming_view delivery.now) history)) }
 {
@@ -277,7 +277,7 @@ fn is_in_order<'a, P: Carriage<'a>>(
 pub(crate) fn order_facts<'a, P: Questions<'a>, C: Payloads<'a>>(
     past: &P,
     contents: &C,
-    rules: &[Rule],
+    rules: &RuleSet,
     event: &Event<'a, 'a>,
 ) -> Option<OrderFacts<'a>>
     requires few { P.is_short past.now }
