@@ -1,6 +1,6 @@
 -- The record that completed a delivery which the table can tell of.
 use Rattle.std.proofs.Common.{◌≡◌, sym, ap, ◌∙◌, ℕ, List, Option, Some, None, option_map}
-use Rattle.capture_form.specs.Rules.{RuleText}
+use Rattle.capture_form.specs.Rules.{RuleSet}
 use Rattle.trace_events.specs.Event.{Event, Incoming}
 use Rattle.trace_events.specs.Incoming.{completion}
 use Rattle.state_incoming.specs.Held.{Held, IsEntry, held_at}
@@ -14,7 +14,7 @@ some-apart d e = cc
 some-same : (x d : Incoming) → Some x ≡ Some d → x ≡ d
 some-same x d e = cc
 
-module _ (rules : List RuleText) (past : List Event) (table : Deliveries) (are : AreHeld rules table past) (d : Incoming) (knows : Knows table d) where
+module _ (rules : RuleSet) (past : List Event) (table : Deliveries) (are : AreHeld rules table past) (d : Incoming) (knows : Knows table d) where
   -- it has an entry
   pub has_entry : None ≡ held_in table d.number → ⊥
   has_entry is = some-apart d (ap (λ (o : Option Held). option_map (λ (x : Held). x.delivery) o) is ∙ knows)

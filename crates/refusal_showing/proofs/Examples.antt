@@ -2,20 +2,20 @@
 use Rattle.std.proofs.Common.{◌≡◌, refl, sym, ap, ◌∙◌, ℕ, ◌+◌, List, [], ◌∷◌, ◌++◌, length, arith}
 use Rattle.std.proofs.lemmas.List.{length-append}
 use Rattle.capture_form.specs.declared.records.Record.{Record}
-use Rattle.capture_form.specs.Rules.{RuleText}
+use Rattle.capture_form.specs.Rules.{RuleSet}
 use Rattle.capture_form.specs.Text.{Trace, IsCapture, text}
 use Rattle.capture_form.specs.declared.fault.FormKind.{FormKind}
 use Rattle.capture_form.specs.declared.fault.FormKind.TheVariants as kinds
-use Rattle.capture_form.specs.Reading.{announced_at, head_at, magic_at, reading}
+use Rattle.capture_form.specs.Reading.{announced_at, form_at, head_at, magic_at, reading}
 use Rattle.capture_form.proofs.ReadingLaws.{headless, one_capture}
 use Rattle.audit_core.specs.declared.verdict.Verdict.TheVariants.{Malformed}
 use Rattle.audit_core.specs.Watching.{SawAll, SawRefused, Watched}
 
 -- a watcher that keeps the records of which it is told, and knows just these
-abbrev keeps : List Record → List RuleText → List Record → Type 0
+abbrev keeps : List Record → RuleSet → List Record → Type 0
 keeps kept rules records = kept ≡ records
 
-abbrev keeps_refused : List Record → List RuleText → List Record → Record → Type 0
+abbrev keeps_refused : List Record → RuleSet → List Record → Record → Type 0
 keeps_refused kept rules before entry = kept ≡ before ++ entry ∷ []
 
 -- it has seen all of a capture where it keeps its records, and not where it keeps others
@@ -28,7 +28,7 @@ others_seen capture kept bounds others s =
 
 -- it has seen the refused record where it keeps those before and then this one, and not where it keeps nothing, or another
 -- number of them
-refused_seen : (rules : List RuleText) (before : List Record) (entry : Record) (rest : List ℕ) → IsCapture (record { rules = rules; records = before ++ entry ∷ [] })
+refused_seen : (rules : RuleSet) (before : List Record) (entry : Record) (rest : List ℕ) → IsCapture (record { rules = rules; records = before ++ entry ∷ [] })
     → SawRefused keeps_refused (before ++ entry ∷ []) (text (record { rules = rules; records = before ++ entry ∷ [] }) ++ rest) (length before)
 refused_seen rules before entry rest bounds = record { rules = rules; before = before; entry = entry; rest = rest; bounds = bounds; begins = refl; place = refl; seen = refl }
 
@@ -45,7 +45,7 @@ front_seen : (octets : List ℕ) (offset : ℕ) (form_kind : FormKind) → Watch
 front_seen octets offset form_kind = refl
 
 one_more_seen : (entry : Record) → Watched keeps keeps_refused (entry ∷ []) [] (Malformed 0 kinds.Magic) → ⊥
-unfolding head_at announced_at magic_at
+unfolding head_at announced_at form_at magic_at
 one_more_seen entry s =
     let none : entry ∷ [] ≡ [] = s ∙ (headless [] refl).1 in
     absurd cc

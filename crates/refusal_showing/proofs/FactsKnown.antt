@@ -1,6 +1,6 @@
 -- Facts by what can be told are facts by anything that tells no more.
 use Rattle.std.proofs.Common.{ℕ, List, Option, Some, None, IfSome}
-use Rattle.capture_form.specs.Rules.{RuleText}
+use Rattle.capture_form.specs.Rules.{RuleSet}
 use Rattle.pairing_cert.specs.declared.note.Note.{Note}
 use Rattle.pairing_cert.specs.declared.note.Note.TheVariants as notes
 use Rattle.trace_events.specs.Event.{Event}
@@ -12,7 +12,7 @@ use Rattle.refusal_facts.specs.declared.reason.Reason.{Reason}
 use Rattle.refusal_facts.specs.declared.transfer.Named.{Named}
 use Rattle.refusal_facts.specs.declared.transfer.Named.TheVariants as named
 
-module _ (rules : List RuleText) (knows less : ℕ → Type 0) (known : (n : ℕ) → less n → knows n) (e : Event) (past : List Event) where
+module _ (rules : RuleSet) (knows less : ℕ → Type 0) (known : (n : ℕ) → less n → knows n) (e : Event) (past : List Event) where
   at-less : (n : ℕ) (stands : Named) → IsNamedAt rules knows past n stands → IsNamedAt rules less past n stands
   at-less n named.Nothing h = h
   at-less n (named.Carried delivery) h = h

@@ -1,6 +1,6 @@
 -- How many octets were sent of a delivery to a client that the table has, or that begins behind its events.
 use Rattle.std.proofs.Common.{◌≡◌, refl, sym, ap, subst, ◌∙◌, ℕ, suc, ◌%◌, ◌^◌, ◌<◌, ◌≤◌, Bool, true, false, List, [], ◌∷◌, length, Option, Some, None, IfSome, unwrap_or, find, option_map, if◌then◌else◌, ◌==◌, inl, inr, arith, eqb-true, ne_eqb}
-use Rattle.capture_form.specs.Rules.{RuleText}
+use Rattle.capture_form.specs.Rules.{RuleSet}
 use Rattle.flow_counts.specs.Parts.{joined_payload}
 use Rattle.pairing_cert.specs.declared.note.Note.{Note}
 use Rattle.trace_events.specs.Words.{is_some_and}
@@ -46,7 +46,7 @@ found-number n (k ∷ js) j found = by (k.number == n) refl found (found-number 
 none-apart : (j : Outgoing) → None ≡ Some j → ⊥
 none-apart j e = cc
 
-module _ (rules : List RuleText) (past : List Event) (deliveries : Deliveries) (table : SentDeliveries) (tells : TellOf rules deliveries table past) (j : Outgoing) (knows : KnowsOrBegins table past j) where
+module _ (rules : RuleSet) (past : List Event) (deliveries : Deliveries) (table : SentDeliveries) (tells : TellOf rules deliveries table past) (j : Outgoing) (knows : KnowsOrBegins table past j) where
   born : AreBorn past
   born = subst AreBorn (sym tells.judged.1) (judged-born rules _ (history-judged rules tells.judged.0))
 

@@ -2,7 +2,7 @@
 
 use crate::explain_refused;
 use audit_core::{Ledger, Watcher};
-use capture_form::{Record, Rule};
+use capture_form::{Record, RuleSet};
 use capture_view::{Names, view_of};
 use capture_words::Page;
 use refusal_words::{Compared, Explained, Origins, compared_with};
@@ -68,7 +68,7 @@ impl Watcher for Explaining {
     fn taken(
         &mut self,
         _ledger: &Ledger,
-        _rules: &[Rule],
+        _rules: &RuleSet,
         entry: &Record,
     ) -> Result<(), AllocError> {
         let view = view_of(self.taken, entry);
@@ -81,7 +81,7 @@ impl Watcher for Explaining {
     fn refused(
         &mut self,
         ledger: &Ledger,
-        rules: &[Rule],
+        rules: &RuleSet,
         entry: &Record,
     ) -> Result<(), AllocError> {
         let view = view_of(self.taken, entry);
@@ -97,7 +97,7 @@ impl Watcher for Explaining {
 /// none where it breaks no clause.
 fn write_reason<'x>(
     ledger: &'x Ledger,
-    rules: &[Rule],
+    rules: &RuleSet,
     entry: &'x Record,
     origins: &Origins,
     text: &mut String,

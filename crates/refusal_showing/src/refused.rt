@@ -6,7 +6,7 @@ ghost use Rattle.state_ledger.specs.Ledger.{Stands, broken_behind};
 ghost use Rattle.refusal_showing.specs.Refused.{IsReasonBehind};
 
 use crate::contents::Contents;
-use capture_form::{Record, Rule};
+use capture_form::{Record, RuleSet};
 use refusal_facts::{Reason, explain};
 use state_ledger::Ledger;
 use trace_judge::judge_unopened;
@@ -14,7 +14,7 @@ use trace_judge::judge_unopened;
 /// The reason why the ledger does not take the record, judged by these rules, if it breaks a clause.
 pub fn explain_refused<'a>(
     ledger: &'a Ledger,
-    rules: &[Rule],
+    rules: &RuleSet,
     entry: &'a Record,
 ) -> Option<Reason<'a>>
     // There is a reason just where the record breaks a clause behind those of the ledger, and it names the first one.
