@@ -7,6 +7,7 @@ use Rattle.amqp_perf.specs.Meaning.{AFlow, AnAttach}
 use Rattle.amqp_frames.specs.Writing.{frame_octets}
 use Rattle.amqp_frames.specs.Reading.{whole_frame, frame_at, sized_frame, headed_frame}
 use Rattle.capture_form.specs.declared.records.Record.{Record}
+use Rattle.capture_form.specs.Rules.{no_rules}
 use Rattle.trace_events.specs.Frame.{frame_read}
 use Rattle.trace_events.specs.History.{history}
 use Rattle.trace_clauses.specs.Written.{spoken_octets}
@@ -54,11 +55,11 @@ no_attach = refl
 
 unfoldable levels_in : Pick → List Record → List (Option Level)
 unfolding frame_read whole_frame frame_at sized_frame headed_frame read digits spoken_octets frame_octets written
-levels_in pick records = levels_of pick [] (history [] records)
+levels_in pick records = levels_of pick no_rules (history no_rules records)
 
 unfoldable place_in : Pick → List Record → Option Place
 unfolding frame_read whole_frame frame_at sized_frame headed_frame read digits spoken_octets frame_octets written
-place_in pick records = chosen pick (history [] records)
+place_in pick records = chosen pick (history no_rules records)
 
 -- behind the last of some records
 abbrev last : List (Option Level) → Option Level

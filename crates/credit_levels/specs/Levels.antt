@@ -1,6 +1,6 @@
 -- What stands behind each record, of the link that is picked: numbers of the law.
 use Rattle.std.specs.Prelude.{◌≡◌, ℕ, ◌==◌, List, [], ◌∷◌, ◌++◌, Option, None, option_and_then, option_map}
-use Rattle.capture_form.specs.Rules.{RuleText}
+use Rattle.capture_form.specs.Rules.{RuleSet}
 use Rattle.trace_events.specs.Words.{is_some_and, or_else, where_passes}
 use Rattle.trace_events.specs.Event.{Event, Link, Moment}
 use Rattle.trace_events.specs.Link.{is_consumer, live_link}
@@ -31,7 +31,7 @@ chosen pick (e ∷ past) = let earlier = chosen pick past in or_else earlier (op
 -- ---- numbers
 
 -- the link's credit, its session's window, whether a delivery waits at its address, and whether its client drains it
-abbrev pub level_on : List RuleText → List Event → Link → Level
+abbrev pub level_on : RuleSet → List Event → Link → Level
 level_on rules now l = record {
   credit = link_credit l now;
   window = session_window l.session now;
@@ -40,22 +40,22 @@ level_on rules now l = record {
 }
 
 -- what stands at a place, if a link lives there
-abbrev pub level_at : List RuleText → Place → List Event → Option Level
+abbrev pub level_at : RuleSet → Place → List Event → Option Level
 level_at rules place now = option_map (level_on rules now) (link_at place now)
 
 -- what stands behind the last record, of the link that is picked, if that lives
-abbrev pub level_of : Pick → List RuleText → List Event → Option Level
+abbrev pub level_of : Pick → RuleSet → List Event → Option Level
 level_of pick rules now = option_and_then (λ place. level_at rules place now) (chosen pick now)
 
 -- what stands behind each record, the oldest first
-abbrev pub levels_of : Pick → List RuleText → List Event → List (Option Level)
+abbrev pub levels_of : Pick → RuleSet → List Event → List (Option Level)
 levels_of pick rules [] = []
 levels_of pick rules (e ∷ past) = let earlier = levels_of pick rules past in earlier ++ level_of pick rules (e ∷ past) ∷ []
 
 -- ---- values of the code
 
 -- what was taken is that of these records, judged by these rules
-pub record AreOf (pick : Pick) (rules : List RuleText) (taken : Levels) (past : List Event) : Type 0 where
+pub record AreOf (pick : Pick) (rules : RuleSet) (taken : Levels) (past : List Event) : Type 0 where
   pub asks : taken.pick ≡ pick
   pub place : taken.place ≡ chosen pick past
   pub levels : taken.levels.items ≡ levels_of pick rules past

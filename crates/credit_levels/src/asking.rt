@@ -1,6 +1,6 @@
 //! What stands at a place, asked of whoever can tell of the past.
 
-ghost use Rattle.capture_form.specs.Rules.{RuleText};
+ghost use Rattle.capture_form.specs.Rules.{RuleSet};
 ghost use Rattle.std.specs.Prelude.{List, ◌≡◌, ◌==◌, IfSome, option_map};
 ghost use Rattle.trace_events.specs.History.{moment_of};
 ghost use Rattle.trace_events.specs.Link.{IsLiveLink, is_consumer, live_link};
@@ -9,24 +9,24 @@ ghost use Rattle.trace_values.specs.View.{Events, link_view};
 ghost use Rattle.credit_levels.specs.Levels as spec;
 
 use crate::pick::{Pick, Place};
-use capture_form::{Record, Rule};
+use capture_form::{Record, RuleSet};
 use credit_chart::Level;
 use trace_judge::{Counts, Inputs};
 use trace_values::{Link, Moment};
 
 /// The link that stands at a place, if it lives.
 pub(crate) fn link_at<'a, P: Inputs<'a>>(past: &P, place: Place) -> Option<Link<'a>>
-    ensures value { (rules : List RuleText) (history : Events) → P.stands_for past.now rules history → option_map link_view result ≡ spec.link_at place history }
-    ensures live { (rules : List RuleText) (history : Events) → P.stands_for past.now rules history → IfSome (option_map link_view result) (λ l. IsLiveLink l history) }
+    ensures value { (rules : RuleSet) (history : Events) → P.stands_for past.now rules history → option_map link_view result ≡ spec.link_at place history }
+    ensures live { (rules : RuleSet) (history : Events) → P.stands_for past.now rules history → IfSome (option_map link_view result) (λ l. IsLiveLink l history) }
 {
     of_number(link_on(past, place), place.number)
 }
 
 /// The link that lives on the handle of a place.
 fn link_on<'a, P: Inputs<'a>>(past: &P, place: Place) -> Option<Link<'a>>
-    ensures value { (rules : List RuleText) (history : Events) → P.stands_for past.now rules history →
+    ensures value { (rules : RuleSet) (history : Events) → P.stands_for past.now rules history →
         option_map link_view result ≡ live_link place.connection place.channel place.handle history }
-    ensures live { (rules : List RuleText) (history : Events) → P.stands_for past.now rules history → IfSome (option_map link_view result) (λ l. IsLiveLink l history) }
+    ensures live { (rules : RuleSet) (history : Events) → P.stands_for past.now rules history → IfSome (option_map link_view result) (λ l. IsLiveLink l history) }
 {
     match past.live_session(place.connection, place.channel) {
         Some(session) => past.session_link(session, place.handle),
@@ -57,7 +57,7 @@ pub(crate) fn opened<'a, P: Inputs<'a>>(
     number: u64,
     entry: &Record,
 ) -> Option<Place>
-    ensures { (rules : List RuleText) (history : Events) → P.stands_for past.now rules history →
+    ensures { (rules : RuleSet) (history : Events) → P.stands_for past.now rules history →
         result ≡ spec.opened pick.now number entry.now.connection (moment_of entry.now.what) history }
 {
     let moment = Moment::of(&entry.what);
@@ -78,7 +78,7 @@ fn is_consumers(link: Option<Link<'_>>) -> bool
 /// What stands at a place, if a link lives there.
 pub(crate) fn level_at<'a, P: Inputs<'a> + Counts>(
     past: &P,
-    rules: &[Rule],
+    rules: &RuleSet,
     place: Place,
 ) -> Option<Level>
     ensures { (history : Events) → P.stands_for past.now rules.now history → result ≡ spec.level_at rules.now place history }

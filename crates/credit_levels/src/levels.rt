@@ -2,7 +2,7 @@
 
 use crate::asking::{level_at, opened};
 use crate::pick::{Pick, Place};
-use capture_form::{Record, Rule};
+use capture_form::{Record, RuleSet};
 use credit_chart::Level;
 use std::alloc::{AllocError, Global};
 use trace_judge::{Counts, Inputs};
@@ -16,7 +16,7 @@ pub struct Levels<'p> {
 }
 
 impl<'p> Levels<'p> {
-    ghost use Rattle.capture_form.specs.Rules.{RuleText};
+    ghost use Rattle.capture_form.specs.Rules.{RuleSet};
     ghost use Rattle.std.specs.Prelude.{List, ◌≡◌, ◌∷◌, [], OnOk, length};
     ghost use Rattle.trace_events.specs.History.{judge};
     ghost use Rattle.trace_values.specs.View.{Events};
@@ -25,7 +25,7 @@ impl<'p> Levels<'p> {
 
     /// No records yet.
     pub fn new(alloc: Global, pick: Pick<'p>) -> Levels<'p>
-        ensures { (rules : List RuleText) → AreOf pick.entry rules result [] }
+        ensures { (rules : RuleSet) → AreOf pick.entry rules result [] }
     {
         Levels {
             pick,
@@ -36,14 +36,14 @@ impl<'p> Levels<'p> {
 
     /// Where the link stands that is picked, if one has opened.
     pub fn place(&self) -> Option<Place>
-        ensures { (pick : Pick) (rules : List RuleText) (history : Events) → AreOf pick rules self.now history → result ≡ chosen pick history }
+        ensures { (pick : Pick) (rules : RuleSet) (history : Events) → AreOf pick rules self.now history → result ≡ chosen pick history }
     {
         self.place
     }
 
     /// What stood behind each record, where that link lived.
     pub fn levels(&self) -> &[Option<Level>]
-        ensures { (pick : Pick) (rules : List RuleText) (history : Events) → AreOf pick rules self.now history → result.now ≡ levels_of pick rules history }
+        ensures { (pick : Pick) (rules : RuleSet) (history : Events) → AreOf pick rules self.now history → result.now ≡ levels_of pick rules history }
     {
         self.levels.as_slice()
     }
@@ -52,7 +52,7 @@ impl<'p> Levels<'p> {
     pub fn take<'a, P: Inputs<'a> + Counts>(
         &mut self,
         past: &P,
-        rules: &[Rule],
+        rules: &RuleSet,
         number: u64,
         entry: &Record,
     ) -> Result<(), AllocError>
