@@ -1,7 +1,7 @@
 -- What is drawn of a capture that is audited, and what is not.
 use Rattle.std.proofs.Common.{◌≡◌, refl, ℕ, List, Option, None, Some}
 use Rattle.capture_form.specs.declared.records.Record.{Record}
-use Rattle.capture_form.specs.Rules.{RuleText}
+use Rattle.capture_form.specs.Rules.{}
 use Rattle.capture_form.specs.Text.{Trace, IsCapture, text}
 use Rattle.trace_clauses.specs.declared.tally.Tally.{Tally}
 use Rattle.audit_core.specs.declared.verdict.Verdict.TheVariants.{Accepted, Malformed, NoMemory}

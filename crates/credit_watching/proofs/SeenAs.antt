@@ -2,7 +2,7 @@
 use Rattle.std.proofs.Common.{◌≡◌, refl, sym, subst, ◌∙◌, ℕ, List, Option, None, Some}
 use Rattle.std.specs.Prelude.{IfSome}
 use Rattle.capture_form.specs.declared.records.Record.{Record}
-use Rattle.capture_form.specs.Rules.{RuleText}
+use Rattle.capture_form.specs.Rules.{RuleSet}
 use Rattle.capture_form.specs.Reading.{reading}
 use Rattle.audit_core.specs.declared.verdict.Verdict.{Verdict}
 use Rattle.audit_core.specs.declared.verdict.Verdict.TheVariants.{Accepted, Refused, Malformed, NoMemory, Unreadable}
@@ -13,10 +13,10 @@ use Rattle.credit_levels.specs.declared.pick.Place.{Place}
 use Rattle.credit_watching.specs.Drawn.{DrawsAt, title_on}
 
 -- what is known of one follows from what is known of another
-module _ {V W : Type 0} (saw : V → List RuleText → List Record → Type 0) (refuses : V → List RuleText → List Record → Record → Type 0)
-    (drew : W → List RuleText → List Record → Type 0) (v : V) (w : W)
-    (one : (rules : List RuleText) (records : List Record) → saw v rules records → drew w rules records)
-    (behind : (rules : List RuleText) (records : List Record) (entry : Record) → refuses v rules records entry → drew w rules records) where
+module _ {V W : Type 0} (saw : V → RuleSet → List Record → Type 0) (refuses : V → RuleSet → List Record → Record → Type 0)
+    (drew : W → RuleSet → List Record → Type 0) (v : V) (w : W)
+    (one : (rules : RuleSet) (records : List Record) → saw v rules records → drew w rules records)
+    (behind : (rules : RuleSet) (records : List Record) (entry : Record) → refuses v rules records entry → drew w rules records) where
   watched_so : (octets : List ℕ) (verdict : Verdict) → Watched saw refuses v octets verdict → Watched drew (λ w' rules before entry. drew w' rules before) w octets verdict
   watched_so octets (Accepted tally) s = record { trace = s.trace; bounds = s.bounds; whole = s.whole; seen = one s.trace.rules s.trace.records s.seen }
   watched_so octets (Refused number clause) s = record {

@@ -1,7 +1,7 @@
 -- One record more of an audit.
 use Rattle.std.proofs.Common.{◌≡◌, sym, ap, subst, ◌∙◌, ℕ, ◌-◌, List, [], ◌∷◌, ◌++◌, length, arith}
 use Rattle.capture_form.specs.declared.records.Record.{Record}
-use Rattle.capture_form.specs.Rules.{RuleText}
+use Rattle.capture_form.specs.Rules.{RuleSet}
 use Rattle.trace_events.specs.Event.{Event}
 use Rattle.trace_events.specs.History.{history, judge}
 use Rattle.trace_clauses.specs.declared.tally.Tally.{Tally}
@@ -12,7 +12,7 @@ use Rattle.credit_levels.specs.declared.pick.Pick.{Pick}
 use Rattle.credit_levels.specs.Levels.{AreOf}
 
 -- what was handed on stands for the events up to the record, and so the levels are those of them
-pub takes_more : (rules : List RuleText) (old new : Levels) (Past : List Event → Type 0) (records : List Record) (entry : Record) (tally : Tally) (number : ℕ)
+pub takes_more : (rules : RuleSet) (old new : Levels) (Past : List Event → Type 0) (records : List Record) (entry : Record) (tally : Tally) (number : ℕ)
     → tally ≡ tally_of (history rules (records ++ entry ∷ [])) → number ≡ tally.records - 1 → Past (history rules (records ++ entry ∷ []))
     → ((pick : Pick) (past : List Event) → number ≡ length past → Past (judge rules past entry ∷ past) → AreOf pick rules old past → AreOf pick rules new (judge rules past entry ∷ past))
     → (pick : Pick) → AreOf pick rules old (history rules records) → AreOf pick rules new (history rules (records ++ entry ∷ []))

@@ -1,7 +1,7 @@
 -- What is drawn of a capture that is audited (own rules).
 use Rattle.std.specs.Prelude.{◌≡◌, ℕ, List, ◌++◌, Option, Some, None, codes, decimal}
 use Rattle.capture_form.specs.declared.records.Record.{Record}
-use Rattle.capture_form.specs.Rules.{RuleText}
+use Rattle.capture_form.specs.Rules.{RuleSet}
 use Rattle.trace_events.specs.Event.{Event}
 use Rattle.trace_events.specs.History.{history}
 use Rattle.audit_core.specs.declared.verdict.Verdict.{Verdict}
@@ -25,10 +25,10 @@ DrawsAt title (Some place) levels None = ⊥
 DrawsAt title (Some place) levels (Some octets) = HasCurves (title_on title place) levels octets
 
 -- the same of the link that is picked, and of what stands behind each record of these events
-abbrev pub Draws : List ℕ → Pick → List RuleText → List Event → Option (List ℕ) → Type 0
+abbrev pub Draws : List ℕ → Pick → RuleSet → List Event → Option (List ℕ) → Type 0
 Draws title pick rules past drawn = DrawsAt title (chosen pick past) (levels_of pick rules past) drawn
 
-abbrev pub DrawsRecords : List ℕ → Pick → Option (List ℕ) → List RuleText → List Record → Type 0
+abbrev pub DrawsRecords : List ℕ → Pick → Option (List ℕ) → RuleSet → List Record → Type 0
 DrawsRecords title pick drawn rules records = Draws title pick rules (history rules records) drawn
 
 -- the same of the records that an audit of these octets takes: at `Accepted` of all, at `Refused` of those in front of the refused one, at

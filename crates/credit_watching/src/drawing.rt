@@ -2,7 +2,7 @@
 
 ghost use Rattle.std.specs.Prelude.{◌≡◌, IfOk, IfSome, List, option_map};
 ghost use Rattle.std.specs.String.{string_bytes};
-ghost use Rattle.capture_form.specs.Rules.{RuleText};
+ghost use Rattle.capture_form.specs.Rules.{RuleSet};
 ghost use Rattle.svg_text.specs.Drawn.{IsSvg};
 ghost use Rattle.trace_events.specs.Event.{Event};
 ghost use Rattle.audit_core.specs.Verdict.{AnswersRead};
@@ -60,7 +60,7 @@ where
 #[tactic(auto, using(crate::proofs::SeenAs::drawn_at, crate::proofs::SeenAs::undrawn))]
 fn draw_taken(alloc: Global, title: &str, levels: &Levels<'_>) -> Result<Option<String>, AllocError>
     ensures document { IfOk result (λ drawn. IfSome drawn (λ text. IsSvg (string_bytes text))) }
-    ensures curves { IfOk result (λ drawn. (pick : picks.Pick) (rules : List RuleText) (history : List Event) → AreOf pick rules levels.now history →
+    ensures curves { IfOk result (λ drawn. (pick : picks.Pick) (rules : RuleSet) (history : List Event) → AreOf pick rules levels.now history →
         Draws title.now pick rules history (option_map string_bytes drawn)) }
 {
     match levels.place() {
@@ -77,7 +77,7 @@ fn draw_at(
     place: Place,
 ) -> Result<String, AllocError>
     ensures document { IfOk result (λ text. IsSvg (string_bytes text)) }
-    ensures curves { IfOk result (λ text. (pick : picks.Pick) (rules : List RuleText) (history : List Event) → AreOf pick rules levels.now history →
+    ensures curves { IfOk result (λ text. (pick : picks.Pick) (rules : RuleSet) (history : List Event) → AreOf pick rules levels.now history →
         HasCurves (title_on title.now place) (levels_of pick rules history) (string_bytes text)) }
 {
     let words = title_on(alloc, title, place)?;

@@ -1,7 +1,7 @@
 //! The levels of the records that an audit takes.
 
 use audit_core::{Ledger, Watcher};
-use capture_form::{Record, Rule};
+use capture_form::{Record, RuleSet};
 use credit_levels::{Levels, Pick};
 use std::alloc::{AllocError, Global};
 
@@ -13,12 +13,12 @@ pub(crate) struct Watching<'p> {
 
 impl<'p> Watching<'p> {
     ghost use Rattle.std.specs.Prelude.{◌≡◌, List, []};
-    ghost use Rattle.capture_form.specs.Rules.{RuleText};
+    ghost use Rattle.capture_form.specs.Rules.{RuleSet};
     ghost use Rattle.credit_levels.specs.Levels.{AreOf};
 
     /// No record was taken yet. It takes no memory.
     pub(crate) fn new(alloc: Global, pick: Pick<'p>) -> Watching<'p>
-        ensures { (rules : List RuleText) → AreOf pick.entry rules result.levels [] }
+        ensures { (rules : RuleSet) → AreOf pick.entry rules result.levels [] }
     {
         Watching {
             levels: Levels::new(alloc, pick),
@@ -40,7 +40,12 @@ impl Watcher for Watching<'_> {
 
     ghost saw_refused = { λ first watching rules records entry. HasTaken first watching rules records };
 
-    fn taken(&mut self, ledger: &Ledger, rules: &[Rule], entry: &Record) -> Result<(), AllocError> {
+    fn taken(
+        &mut self,
+        ledger: &Ledger,
+        rules: &RuleSet,
+        entry: &Record,
+    ) -> Result<(), AllocError> {
         let number = ledger.tally().records.saturating_sub(1);
         self.levels.take(&ledger.looked(), rules, number, entry)
     }
@@ -48,7 +53,7 @@ impl Watcher for Watching<'_> {
     fn refused(
         &mut self,
         _ledger: &Ledger,
-        _rules: &[Rule],
+        _rules: &RuleSet,
         _entry: &Record,
     ) -> Result<(), AllocError> {
         Ok(())
