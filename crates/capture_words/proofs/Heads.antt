@@ -5,10 +5,11 @@ use Rattle.std.proofs.lemmas.List.{length-append}
 use Rattle.capture_form.specs.declared.fault.FormKind.{FormKind}
 use Rattle.capture_form.specs.declared.fault.FormKind.TheVariants as kinds
 use Rattle.capture_form.specs.declared.fault.FormFault.{FormFault}
-use Rattle.capture_form.specs.Rules.{RuleText}
+use Rattle.capture_form.specs.Rules.{RuleSet}
+use Rattle.capture_form.specs.Text.{head_text}
 use Rattle.capture_form.specs.Reading.{Reads, head_at, reading, reads_behind, records_at}
 use Rattle.capture_form.specs.Laws.{records_behind}
-use Rattle.capture_form.specs.Reader.{IsHead, StopsHead, text_of_head}
+use Rattle.capture_form.specs.Reader.{IsHead, StopsHead}
 use Rattle.capture_words.specs.declared.ending.Ending.{Ending}
 use Rattle.capture_words.specs.declared.ending.Ending.TheVariants.{Malformed}
 use Rattle.capture_view.specs.Viewed.{Viewed}
@@ -18,32 +19,32 @@ use Rattle.capture_words.specs.Ending.{ending_at}
 use Rattle.capture_words.specs.Shown.{EndsBy, EndsRecords, EndsText}
 
 -- what is read of a text, by its head
-reads_by : (octets : List ℕ) (head : Result (List RuleText × List ℕ) FormFault) → head_at octets ≡ head
+reads_by : (octets : List ℕ) (head : Result (RuleSet × List ℕ) FormFault) → head_at octets ≡ head
     → reading octets ≡ reads_behind (length octets) head
 unfolding reading
 reads_by octets head is = ap (reads_behind (length octets)) is
 
-pub behind_head : (octets : List ℕ) (rules : List RuleText) (rest : List ℕ) (place : ℕ) → head_at octets ≡ Ok (rules, rest)
-    → octets ≡ text_of_head rules ++ rest → place ≡ length (text_of_head rules)
+pub behind_head : (octets : List ℕ) (rules : RuleSet) (rest : List ℕ) (place : ℕ) → head_at octets ≡ Ok (rules, rest)
+    → octets ≡ head_text rules ++ rest → place ≡ length (head_text rules)
     → ((records_behind place rest).fault ≡ (reading octets).fault) × ((records_behind place rest).records ≡ (reading octets).records)
 behind_head octets rules rest place read spelled at_is =
-    let lengths : length octets ≡ length (text_of_head rules) + length rest = ap length spelled ∙ length-append (text_of_head rules) rest in
+    let lengths : length octets ≡ length (head_text rules) + length rest = ap length spelled ∙ length-append (head_text rules) rest in
     let whole : place + length rest ≡ length octets = omega arith in
     let by = reads_by octets (Ok (rules, rest)) read in (
       ap (λ w. (records_at (length rest) w rest).fault) whole ∙ sym (ap (λ (r : Reads). r.fault) by),
       ap (λ w. (records_at (length rest) w rest).records) whole ∙ sym (ap (λ (r : Reads). r.records) by),
     )
 
-pub ends_behind_head : (known left : Option (List ℕ)) (rules : List RuleText) (place : ℕ) (ending : Ending)
-    → IfSome known (λ octets. IsHead octets left rules) → place ≡ length (text_of_head rules)
+pub ends_behind_head : (known left : Option (List ℕ)) (rules : RuleSet) (place : ℕ) (ending : Ending)
+    → IfSome known (λ octets. IsHead octets left rules) → place ≡ length (head_text rules)
     → IfSome left (λ rest. EndsRecords place rest ending) → IfSome known (λ octets. EndsText octets ending)
 ends_behind_head None left rules place ending head at_is ends = tt
 ends_behind_head (Some octets) left rules place ending head at_is ends =
     let here : EndsRecords place head.0 ending = subst (λ (l : Option (List ℕ)). IfSome l (λ rest. EndsRecords place rest ending)) head.2 ends in
     subst (λ (f : Option FormFault). EndsBy f ending) (behind_head octets rules head.0 place head.1.read head.1.spelled at_is).0 here
 
-pub taken_behind_head : {S : Type 0} (agrees : S → List Viewed → Type 0) (first now : S) (known left : Option (List ℕ)) (rules : List RuleText) (place : ℕ) (ending : Ending)
-    → IfSome known (λ octets. IsHead octets left rules) → place ≡ length (text_of_head rules)
+pub taken_behind_head : {S : Type 0} (agrees : S → List Viewed → Type 0) (first now : S) (known left : Option (List ℕ)) (rules : RuleSet) (place : ℕ) (ending : Ending)
+    → IfSome known (λ octets. IsHead octets left rules) → place ≡ length (head_text rules)
     → IfSome left (λ rest. TakesAll agrees (records_behind place rest).records ending first now) → IfSome known (λ octets. TakesAll agrees (reading octets).records ending first now)
 taken_behind_head agrees first now None left rules place ending head at_is takes = tt
 taken_behind_head agrees first now (Some octets) left rules place ending head at_is takes =
