@@ -7,10 +7,11 @@ use Rattle.capture_form.specs.declared.records.Record.{Record}
 use Rattle.capture_form.specs.declared.reader.Reader.{Reader}
 use Rattle.capture_form.specs.declared.fault.FormKind.{FormKind}
 use Rattle.capture_form.specs.declared.fault.FormKind.TheVariants as kinds
-use Rattle.capture_form.specs.Rules.{RuleText}
+use Rattle.capture_form.specs.Rules.{RuleSet}
+use Rattle.capture_form.specs.Text.{head_text}
 use Rattle.capture_form.specs.Reading.{reading}
 use Rattle.capture_form.specs.Laws.{records_behind}
-use Rattle.capture_form.specs.Reader.{IsHead, StopsHead, fault_of, left_of, offset_of, text_of_head}
+use Rattle.capture_form.specs.Reader.{IsHead, StopsHead, fault_of, left_of, offset_of}
 use Rattle.capture_packets.specs.declared.conversation.Conversation.{Conversation}
 use Rattle.capture_packets.specs.declared.writer.PacketWriter.{PacketWriter}
 use Rattle.capture_packets.specs.Blocks.{file_head}
@@ -115,11 +116,11 @@ cut_head failed a b front taken stops known =
 
 -- ---- a text, by what stands behind its head
 
-module _ (known left : Option (List ℕ)) (rules : List RuleText) (place : ℕ) where
+module _ (known left : Option (List ℕ)) (rules : RuleSet) (place : ℕ) where
   abbrev pub Stands : Type 0
-  Stands = IfSome known (λ octets. IsHead octets left rules) × (place ≡ length (text_of_head rules))
+  Stands = IfSome known (λ octets. IsHead octets left rules) × (place ≡ length (head_text rules))
 
-behind_so : (P : List Record → Type 0) (known left : Option (List ℕ)) (rules : List RuleText) (place : ℕ) → Stands known left rules place
+behind_so : (P : List Record → Type 0) (known left : Option (List ℕ)) (rules : RuleSet) (place : ℕ) → Stands known left rules place
     → IfSome left (λ octets. P (records_behind place octets).records) → IfSome known (λ octets. P (reading octets).records)
 behind_so P None left rules place stands holds = tt
 behind_so P (Some octets) left rules place stands holds =
@@ -127,11 +128,11 @@ behind_so P (Some octets) left rules place stands holds =
     let here : P (records_behind place head.0).records = subst (λ (l : Option (List ℕ)). IfSome l (λ rest. P (records_behind place rest).records)) head.2 holds in
     subst P (behind_head octets rules head.0 place head.1.read head.1.spelled stands.1).1 here
 
-pub read_behind_head : (known left : Option (List ℕ)) (rules : List RuleText) (place : ℕ) (read : List Record) (ending : Ending) → Stands known left rules place
+pub read_behind_head : (known left : Option (List ℕ)) (rules : RuleSet) (place : ℕ) (read : List Record) (ending : Ending) → Stands known left rules place
     → IfSome left (λ octets. AreReadOf (records_behind place octets).records read ending) → IfSome known (λ octets. AreReadOf (reading octets).records read ending)
 read_behind_head known left rules place read ending stands holds = behind_so (λ all. AreReadOf all read ending) known left rules place stands holds
 
-pub first_behind_head : (known left : Option (List ℕ)) (rules : List RuleText) (place : ℕ) (read : List Record) → Stands known left rules place
+pub first_behind_head : (known left : Option (List ℕ)) (rules : RuleSet) (place : ℕ) (read : List Record) → Stands known left rules place
     → IfSome left (λ octets. AreFirstOf (records_behind place octets).records read) → IfSome known (λ octets. AreFirstOf (reading octets).records read)
 first_behind_head known left rules place read stands holds = behind_so (λ all. AreFirstOf all read) known left rules place stands holds
 
