@@ -9,11 +9,14 @@ use Rattle.std.proofs.lemmas.Grind.{flat_map-append}
 use Rattle.capture_form.specs.declared.fault.FormFault.{FormFault}
 use Rattle.capture_form.specs.declared.records.Record.{Record}
 use Rattle.capture_form.specs.Frame.{AreOctets}
-use Rattle.capture_form.specs.Rules.{RuleText, IsRule, AreRules}
-use Rattle.capture_form.specs.Text.{Trace, IsCapture, magic, rule_text, rules_text, record_text, records_text, text}
+use Rattle.capture_form.specs.Rules.{RuleText, RuleSet, no_rules, IsRule, AreRules}
+use Rattle.audit_core.specs.Stops.{rules_start}
+use Rattle.audit_core.proofs.TextLengths.{starts_at}
+use Rattle.capture_form.specs.Text.{Trace, IsCapture, form_text, rule_text, rules_text, record_text, records_text, text}
 use Rattle.capture_form.specs.Reading.{Reads, reading, head_at, rule_at}
 use Rattle.capture_form.specs.Laws.{BeginsWith, HasHead, trace_of}
 use Rattle.capture_form.specs.Gives.{is_refusal, was_refused, IsRuleStart, IsRefusedRule, IsRefusedRecord}
+use Rattle.capture_form.proofs.FormLemmas.{form_short}
 use Rattle.capture_form.proofs.ReadingLaws.{headless}
 use Rattle.capture_form.proofs.RuleLemmas.{rule_again}
 use Rattle.capture_form.proofs.WritingLemmas.{long_text}
@@ -55,7 +58,7 @@ abbrev Exact : List ℕ → Trace → Option FormFault → Type 0
 Exact octets capture fault = was_refused fault ≡ false → ◌≡◌ {A = Reads} (record { rules = capture.rules; records = capture.records; fault = fault }) (reading octets)
 
 abbrev nothing : Trace
-nothing = record { rules = []; records = [] }
+nothing = record { rules = no_rules; records = [] }
 
 -- rules and records that were read: all others that can be read stand behind them
 pub record ReadInFront (octets : List ℕ) (capture : Trace) : Type 0 where
@@ -75,9 +78,9 @@ in_front octets capture fault exact found at = by (was_refused fault) refl
     })
     whole false has not =
         let none = headless octets has in
-        let rules : capture.rules ≡ [] = ap (λ (r : Reads). r.rules) (exact not) ∙ none.0 in
+        let rules : capture.rules ≡ no_rules = ap (λ (r : Reads). r.rules) (exact not) ∙ none.0 in
         let records : capture.records ≡ [] = ap (λ (r : Reads). r.records) (exact not) ∙ none.1 in
-        inl (ap (λ (rs : List RuleText). let t : Trace = record { rules = rs; records = capture.records } in t) rules ∙ ap (λ (es : List Record). let t : Trace = record { rules = []; records = es } in t) records)
+        inl (ap (λ (rs : RuleSet). let t : Trace = record { rules = rs; records = capture.records } in t) rules ∙ ap (λ (es : List Record). let t : Trace = record { rules = no_rules; records = es } in t) records)
 
     stopped_at : (f : FormFault) → Stopped octets capture f → (capture ≡ nothing) ⊎ ReadInFront octets capture
     stopped_at f (inl rule) = inl rule.nothing
@@ -98,35 +101,36 @@ first_rule [] some = absurd (omega (arith, some))
 first_rule (rule ∷ more) some = (rule, more, refl)
 
 -- the first rule stands behind their number
-rule_starts : (rules : List RuleText) (records : List Record) (octets behind : List ℕ) → AreRules rules → 0 < length rules → octets ≡ text (record { rules = rules; records = records }) ++ behind → IsRuleStart octets 10
+rule_starts : (rules : RuleSet) (records : List Record) (octets behind : List ℕ) → AreRules rules → 0 < length rules.list → octets ≡ text (record { rules = rules; records = records }) ++ behind → IsRuleStart octets (rules_start rules.form)
 unfolding text rules_text
 rule_starts rules records octets behind bounds some begins =
-    let f = first_rule rules some in
+    let f = first_rule rules.list some in
     let rule = f.0 in
-    let rest = flat_map rule_text rules ++ (records_text records ++ behind) in
-    let parts : octets ≡ (magic ++ (to_be_bytes w16 (length rules) ++ [])) ++ (flat_map rule_text rules ++ (records_text records ++ behind)) =
-    begins ∙ regrouped (to_be_bytes w16 (length rules)) (flat_map rule_text rules) (records_text records) behind in
-    let first : flat_map rule_text rules ++ (records_text records ++ behind) ≡ rule_text f.0 ++ (flat_map rule_text f.1 ++ (records_text records ++ behind)) =
+    let rest = flat_map rule_text rules.list ++ (records_text records ++ behind) in
+    let parts : octets ≡ (form_text rules.form ++ (to_be_bytes w16 (length rules.list) ++ [])) ++ (flat_map rule_text rules.list ++ (records_text records ++ behind)) =
+    begins ∙ regrouped (form_text rules.form) (to_be_bytes w16 (length rules.list)) (flat_map rule_text rules.list) (records_text records) behind in
+    let first : flat_map rule_text rules.list ++ (records_text records ++ behind) ≡ rule_text f.0 ++ (flat_map rule_text f.1 ++ (records_text records ++ behind)) =
     ap (λ (rs : List RuleText). flat_map rule_text rs ++ (records_text records ++ behind)) f.2
     ∙ ap (λ (t : List ℕ). t ++ (records_text records ++ behind)) (flat_map-cons rule_text f.0 f.1)
     ∙ append_assoc (rule_text f.0) (flat_map rule_text f.1) (records_text records ++ behind) in
     let is_rule : AllByRecursion IsRule (f.0 ∷ f.1) = subst (λ rs. AllByRecursion IsRule rs) f.2 bounds.each in
     let reads = ap (rule_at []) first ∙ rule_again [] f.0 (flat_map rule_text f.1 ++ (records_text records ++ behind)) is_rule.0 refl in
     record {
-      count = length rules;
+      form = rules.form;
+      count = length rules.list;
       rules = [];
-      rest = flat_map rule_text rules ++ (records_text records ++ behind);
+      rest = flat_map rule_text rules.list ++ (records_text records ++ behind);
       fewer = some;
       front = parts;
       sound = ap is_ok reads;
-      place = omega arith;
+      place = starts_at rules.form ∙ sym (length-append (form_text rules.form) (to_be_bytes w16 (length rules.list) ++ []));
     }
   where
-    regrouped : (number rules records behind : List ℕ) → (magic ++ ((number ++ rules) ++ records)) ++ behind ≡ (magic ++ (number ++ [])) ++ (rules ++ (records ++ behind))
-    regrouped number rules records behind = simp (append_assoc, append-nil)
+    regrouped : (form number rules records behind : List ℕ) → (form ++ ((number ++ rules) ++ records)) ++ behind ≡ (form ++ (number ++ [])) ++ (rules ++ (records ++ behind))
+    regrouped form number rules records behind = simp (append_assoc, append-nil)
 
-at_rules : (octets : List ℕ) (capture : Trace) → IsCapture capture → 0 < length capture.rules → (capture ≡ nothing) ⊎ ReadInFront octets capture → IsRefusedAt octets 10
-at_rules octets capture bounds some (inl none) = absurd (omega (arith, some, ap (λ (t : Trace). length t.rules) none))
+at_rules : (octets : List ℕ) (capture : Trace) → IsCapture capture → 0 < length capture.rules.list → (capture ≡ nothing) ⊎ ReadInFront octets capture → IsRefusedAt octets (rules_start capture.rules.form)
+at_rules octets capture bounds some (inl none) = absurd (omega (arith, some, ap (λ (t : Trace). length t.rules.list) none))
 at_rules octets capture bounds some (inr read) =
     record { trace = nothing; place = inl (record { nothing = refl; start = rule_starts capture.rules capture.records octets read.front.0 bounds.rules some read.front.1 }); lawful = refl }
 
@@ -136,12 +140,12 @@ around [] n lt = absurd (omega (arith, lt))
 around (r ∷ rs) zero lt = (r, rs, refl)
 around (r ∷ rs) (suc n) lt = let a = around rs n (omega (arith, lt)) in (a.0, a.1, ap (λ es. r ∷ es) a.2)
 
-text_cut : (rules : List RuleText) (front more : List Record) → text (record { rules = rules; records = front ++ more }) ≡ text (record { rules = rules; records = front }) ++ records_text more
+text_cut : (rules : RuleSet) (front more : List Record) → text (record { rules = rules; records = front ++ more }) ≡ text (record { rules = rules; records = front }) ++ records_text more
 unfolding text
 text_cut rules front more =
-    ap (λ (t : List ℕ). magic ++ (rules_text rules ++ t)) (flat_map-append record_text front more)
-    ∙ ap (λ (t : List ℕ). magic ++ t) (sym (append_assoc (rules_text rules) (records_text front) (records_text more)))
-    ∙ sym (append_assoc magic (rules_text rules ++ records_text front) (records_text more))
+    ap (λ (t : List ℕ). form_text rules.form ++ (rules_text rules.list ++ t)) (flat_map-append record_text front more)
+    ∙ ap (λ (t : List ℕ). form_text rules.form ++ t) (sym (append_assoc (rules_text rules.list) (records_text front) (records_text more)))
+    ∙ sym (append_assoc (form_text rules.form) (rules_text rules.list ++ records_text front) (records_text more))
 
 at_record : (octets : List ℕ) (capture : Trace) (number : ℕ) → number < length capture.records → broken_in (first_of number capture) ≡ None → (capture ≡ nothing) ⊎ ReadInFront octets capture
     → IsRefusedAt octets (length (text (first_of number capture)))
@@ -200,7 +204,7 @@ module _ (octets : List ℕ) (capture : Trace) where
     short found at few = by (in_front octets capture fault exact found at)
       where
         by : (capture ≡ nothing) ⊎ ReadInFront octets capture → length (text capture) < 2 ^ 64
-        by (inl none) = omega (arith, ap (λ (t : Trace). length (text t)) none, long_text nothing)
+        by (inl none) = omega (arith, ap (λ (t : Trace). length (text t)) none, long_text nothing, form_short nothing.rules.form)
         by (inr read) = omega (arith, few, ap length read.front.1, length-append (text capture) read.front.0)
 
     -- no fault, and no broken record

@@ -1,7 +1,7 @@
 -- What the words for an auditor say, at small captures.
 use Rattle.std.proofs.Common.{◌≡◌, ℕ, List, [], ◌∷◌, Option, Some, None, Err, refl, sym, ap, ◌∙◌, inl, inr, arith}
 use Rattle.capture_form.specs.declared.records.Record.{Record}
-use Rattle.capture_form.specs.Rules.{RuleText}
+use Rattle.capture_form.specs.Rules.{RuleSet, no_rules}
 use Rattle.trace_clauses.specs.declared.clause.Clause.{Clause}
 use Rattle.trace_clauses.specs.declared.clause.Clause.TheVariants.{L1, L2}
 use Rattle.trace_clauses.specs.declared.tally.Tally.{Tally}
@@ -23,11 +23,11 @@ use Rattle.audit_core.specs.Verdict.{WantsMemory, AnswersCapture, AcceptsUnlessR
 abbrev unasked : Record
 unasked = write 0 written_open
 
-broken_unasked : broken_behind [] [] unasked ≡ Some L1
+broken_unasked : broken_behind no_rules [] unasked ≡ Some L1
 unfolding broken_of
 broken_unasked = refl
 
-first_unasked : first_broken [] (history [] (unasked ∷ [])) ≡ Some (0, L1)
+first_unasked : first_broken no_rules (history no_rules (unasked ∷ [])) ≡ Some (0, L1)
 unfolding broken_of
 first_unasked = refl
 
@@ -36,7 +36,7 @@ some_is_none x e = cc
 
 -- ---- agreeing
 
-module _ (auditor : Auditor) (rules : List RuleText) where
+module _ (auditor : Auditor) (rules : RuleSet) where
   -- what stands for a lawful record, and has not stopped, agrees with it
   agrees : StandsFor auditor rules (opened 0 ∷ []) → auditor.refusal ≡ None → Agrees auditor rules (opened 0 ∷ [])
   agrees stands runs = record { stands = stands; counted = stands.1.1; lawful = refl; runs = runs }
@@ -46,7 +46,7 @@ module _ (auditor : Auditor) (rules : List RuleText) where
   fewer counts a = absurd (omega (arith, ap (λ (t : Tally). t.records) (sym counts ∙ a.counted)))
 
   -- one of them breaks a clause
-  broken : Agrees auditor [] (unasked ∷ []) → ⊥
+  broken : Agrees auditor no_rules (unasked ∷ []) → ⊥
   broken a = some_is_none (0, L1) (sym first_unasked ∙ a.lawful)
 
   -- it has stopped
@@ -55,27 +55,27 @@ module _ (auditor : Auditor) (rules : List RuleText) where
 
 -- ---- refusing
 
-refused : IsRefusalBehind [] [] unasked (Broken 0 L1)
+refused : IsRefusalBehind no_rules [] unasked (Broken 0 L1)
 refused = (refl, broken_unasked)
 
 -- another number, another clause, and a record that breaks none
-other_number : IsRefusalBehind [] [] unasked (Broken 1 L1) → ⊥
+other_number : IsRefusalBehind no_rules [] unasked (Broken 1 L1) → ⊥
 other_number why = absurd (omega (arith, why.0))
 
-other_clause : IsRefusalBehind [] [] unasked (Broken 0 L2) → ⊥
+other_clause : IsRefusalBehind no_rules [] unasked (Broken 0 L2) → ⊥
 other_clause why = let same : Some L1 ≡ Some L2 = sym broken_unasked ∙ why.1 in absurd cc
 
-not_broken : IsRefusalBehind [] [] (opened 0) (Broken 0 L1) → ⊥
+not_broken : IsRefusalBehind no_rules [] (opened 0) (Broken 0 L1) → ⊥
 not_broken why = let never : ◌≡◌ {A = Option Clause} None (Some L1) = why.1 in absurd cc
 
 -- ---- wanting memory
 
 -- for the second record, behind one that meets the clauses
-second : WantsMemory (record { rules = []; records = opened 0 ∷ unasked ∷ [] })
+second : WantsMemory (record { rules = no_rules; records = opened 0 ∷ unasked ∷ [] })
 second = inr (1, omega arith, refl)
 
 -- a capture without rules and records is never refused for want of memory
-never_of_nothing : AnswersCapture (record { rules = []; records = [] }) (Err Memory) → ⊥
+never_of_nothing : AnswersCapture (record { rules = no_rules; records = [] }) (Err Memory) → ⊥
 never_of_nothing (inl rules) = absurd (omega (arith, rules))
 never_of_nothing (inr place) = absurd (omega (arith, place.1))
 

@@ -3,14 +3,14 @@ use Rattle.std.proofs.Common.{◌≡◌, ℕ, List, length, Option, None}
 use Rattle.std.specs.Io.KnownBytes.{Consumes}
 use Rattle.capture_form.specs.declared.records.Record.{Record}
 use Rattle.capture_form.specs.declared.reader.Reader.{Reader}
-use Rattle.capture_form.specs.Rules.{RuleText}
+use Rattle.capture_form.specs.Rules.{RuleSet}
 use Rattle.capture_form.specs.Text.{IsCapture, records_text, text}
 use Rattle.capture_form.specs.Reader.{left_of, offset_of, fault_of}
 use Rattle.audit_core.specs.declared.auditor.Auditor.{Auditor}
 use Rattle.audit_core.specs.Auditor.{Agrees}
 
 -- records of these rules were read from what was left, taken by the auditor, and seen
-pub record ReadSoFar {R : Type 0} (remaining : R → Option (List ℕ)) (rules : List RuleText) (left : Option (List ℕ)) (reader : Reader R) (auditor : Auditor) (offset : ℕ) (saw : List Record → Type 0) : Type 0 where
+pub record ReadSoFar {R : Type 0} (remaining : R → Option (List ℕ)) (rules : RuleSet) (left : Option (List ℕ)) (reader : Reader R) (auditor : Auditor) (offset : ℕ) (saw : List Record → Type 0) : Type 0 where
   pub records : List Record
   pub bounds : IsCapture (record { rules = rules; records = records })
   pub agrees : Agrees auditor rules records

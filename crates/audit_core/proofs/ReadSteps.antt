@@ -8,9 +8,9 @@ use Rattle.capture_form.specs.declared.records.Record.{Record}
 use Rattle.capture_form.specs.declared.reader.Reader.{Reader}
 use Rattle.capture_form.specs.declared.fault.FormKind.{FormKind}
 use Rattle.capture_form.specs.declared.fault.FormFault.{FormFault}
-use Rattle.capture_form.specs.Rules.{RuleText, AreRules}
-use Rattle.capture_form.specs.Text.{IsCapture, IsRecord, record_text, records_text, text}
-use Rattle.capture_form.specs.Reader.{left_of, offset_of, fault_of, text_of_head, text_of_next, IsHead, IsNext, StopsHead, StopsNext}
+use Rattle.capture_form.specs.Rules.{RuleSet, AreRules}
+use Rattle.capture_form.specs.Text.{IsCapture, IsRecord, record_text, records_text, text, head_text}
+use Rattle.capture_form.specs.Reader.{left_of, offset_of, fault_of, text_of_next, IsHead, IsNext, StopsHead, StopsNext}
 use Rattle.capture_form.proofs.TextLemmas.{long_record}
 use Rattle.capture_form.proofs.Loops.{flat_map_push}
 use Rattle.trace_clauses.specs.declared.tally.Tally.{Tally}
@@ -38,29 +38,29 @@ many_records (entry ∷ records) =
 
 -- ---- by what was left at first, and what is left
 
-module _ (rules : List RuleText) (records : List Record) (offset : ℕ) (bounds : IsCapture (record { rules = rules; records = records })) (lawful : broken_in (record { rules = rules; records = records }) ≡ None)
+module _ (rules : RuleSet) (records : List Record) (offset : ℕ) (bounds : IsCapture (record { rules = rules; records = records })) (lawful : broken_in (record { rules = rules; records = records }) ≡ None)
     (place : offset ≡ length (text (record { rules = rules; records = records }))) where
-  pub begins : (all rest : List ℕ) → all ≡ records_text records ++ rest → text_of_head rules ++ all ≡ text (record { rules = rules; records = records }) ++ rest
-  begins all rest taken = ap (λ (t : List ℕ). text_of_head rules ++ t) taken ∙ text_parts rules records rest
+  pub begins : (all rest : List ℕ) → all ≡ records_text records ++ rest → head_text rules ++ all ≡ text (record { rules = rules; records = records }) ++ rest
+  begins all rest taken = ap (λ (t : List ℕ). head_text rules ++ t) taken ∙ text_parts rules records rest
 
   ends_by : (tally : Tally) → tally ≡ tally_of (history rules records) → (first left later : Option (List ℕ)) → Consumes first left (records_text records) → IfSome left (λ octets. IsNext octets later None)
-      → IfSome first (λ all. AnswersRead (text_of_head rules ++ all) (Accepted tally))
+      → IfSome first (λ all. AnswersRead (head_text rules ++ all) (Accepted tally))
   ends_by tally counted None left later taken next = tt
   ends_by tally counted (Some all) None later taken next = absurd taken
-  ends_by tally counted (Some all) (Some rest) later taken next = accepted rules records (text_of_head rules ++ all) rest bounds lawful (begins all rest taken) tally counted next.0
+  ends_by tally counted (Some all) (Some rest) later taken next = accepted rules records (head_text rules ++ all) rest bounds lawful (begins all rest taken) tally counted next.0
 
   refuses_by : (entry : Record) → IsRecord entry → (refusal : Refusal) → IsRefusalBehind rules records entry refusal → (first left later : Option (List ℕ)) → Consumes first left (records_text records) → IfSome left (λ octets. IsNext octets later (Some entry))
-      → IfSome first (λ all. AnswersRead (text_of_head rules ++ all) (verdict_of_refusal offset refusal))
+      → IfSome first (λ all. AnswersRead (head_text rules ++ all) (verdict_of_refusal offset refusal))
   refuses_by entry fits refusal why None left later taken next = tt
   refuses_by entry fits refusal why (Some all) None later taken next = absurd taken
   refuses_by entry fits refusal why (Some all) (Some rest) later taken next =
-      refuses_next rules records (text_of_head rules ++ all) rest bounds lawful (begins all rest taken) entry next.0 fits next.1.spelled refusal offset place why
+      refuses_next rules records (head_text rules ++ all) rest bounds lawful (begins all rest taken) entry next.0 fits next.1.spelled refusal offset place why
 
   stops_by : (form_kind : FormKind) → (first left : Option (List ℕ)) → Consumes first left (records_text records) → IfSome left (StopsNext form_kind)
-      → IfSome first (λ all. AnswersRead (text_of_head rules ++ all) (verdict_of_fault form_kind offset))
+      → IfSome first (λ all. AnswersRead (head_text rules ++ all) (verdict_of_fault form_kind offset))
   stops_by form_kind None left taken stops = tt
   stops_by form_kind (Some all) None taken stops = absurd taken
-  stops_by form_kind (Some all) (Some rest) taken stops = stops_next rules records (text_of_head rules ++ all) rest bounds lawful (begins all rest taken) offset place form_kind stops
+  stops_by form_kind (Some all) (Some rest) taken stops = stops_next rules records (head_text rules ++ all) rest bounds lawful (begins all rest taken) offset place form_kind stops
 
 consumes_by : (records : List Record) (entry : Record) (first left later : Option (List ℕ)) → Consumes first left (records_text records) → IfSome left (λ octets. IsNext octets later (Some entry)) → Consumes first later (records_text (records ++ entry ∷ []))
 consumes_by records entry None left later taken next = tt
@@ -89,8 +89,8 @@ moved_so before after found entry is moved = moved ∙ ap (λ f. before + length
 
 -- ---- steps
 
-module _ {R : Type 0} (remaining : R → Option (List ℕ)) (rules : List RuleText) where
-  pub starts : (reader : Reader R) (auditor : Auditor) (offset : ℕ) (saw : List Record → Type 0) → AreRules rules → Agrees auditor rules [] → offset ≡ length (text_of_head rules) → offset_of reader ≡ length (text_of_head rules) → fault_of reader ≡ None
+module _ {R : Type 0} (remaining : R → Option (List ℕ)) (rules : RuleSet) where
+  pub starts : (reader : Reader R) (auditor : Auditor) (offset : ℕ) (saw : List Record → Type 0) → AreRules rules → Agrees auditor rules [] → offset ≡ length (head_text rules) → offset_of reader ≡ length (head_text rules) → fault_of reader ≡ None
       → saw [] → ReadSoFar remaining rules (left_of remaining reader) reader auditor offset saw
   starts reader auditor offset saw bounds agrees place at runs unseen = record {
     records = [];
@@ -112,7 +112,7 @@ module _ {R : Type 0} (remaining : R → Option (List ℕ)) (rules : List RuleTe
 
     pub goes_on : (entry : Record) (next : Reader R) (taker : Auditor) (len : ℕ) (then_saw : List Record → Type 0) → IsRecord entry → len ≡ length (record_text entry) → IfSome (left_of remaining reader) (λ octets. IsNext octets (left_of remaining next) (Some entry))
         → offset_of next ≡ offset_of reader + length (record_text entry) → fault_of next ≡ None
-        → ((rs : List RuleText) (es : List Record) → Agrees auditor rs es → Agrees taker rs (es ++ entry ∷ [])) → ((es : List Record) → Agrees auditor rules es → saw es → then_saw (es ++ entry ∷ []))
+        → ((rs : RuleSet) (es : List Record) → Agrees auditor rs es → Agrees taker rs (es ++ entry ∷ [])) → ((es : List Record) → Agrees auditor rules es → saw es → then_saw (es ++ entry ∷ []))
         → ReadSoFar remaining rules first next taker (offset + len) then_saw
     goes_on entry next taker len then_saw fits counted read moved runs takes sees = record {
       records = so_far.records ++ entry ∷ [];
@@ -125,19 +125,19 @@ module _ {R : Type 0} (remaining : R → Option (List ℕ)) (rules : List RuleTe
       seen = sees so_far.records so_far.agrees so_far.seen;
     }
 
-    pub ends : (tally : Tally) (next : Option (List ℕ)) → tally ≡ tally_by auditor → IfSome (left_of remaining reader) (λ octets. IsNext octets next None) → IfSome first (λ all. AnswersRead (text_of_head rules ++ all) (Accepted tally))
+    pub ends : (tally : Tally) (next : Option (List ℕ)) → tally ≡ tally_by auditor → IfSome (left_of remaining reader) (λ octets. IsNext octets next None) → IfSome first (λ all. AnswersRead (head_text rules ++ all) (Accepted tally))
     ends tally next counted read =
         ends_by rules so_far.records offset so_far.bounds so_far.agrees.lawful so_far.place tally (counted ∙ so_far.agrees.counted) first (left_of remaining reader) next so_far.read read
 
     pub refuses : (entry : Record) (next : Option (List ℕ)) (refusal : Refusal) → IsRecord entry → IfSome (left_of remaining reader) (λ octets. IsNext octets next (Some entry))
-        → ((rs : List RuleText) (es : List Record) → Agrees auditor rs es → IsRefusalBehind rs es entry refusal) → IfSome first (λ all. AnswersRead (text_of_head rules ++ all) (verdict_of_refusal offset refusal))
+        → ((rs : RuleSet) (es : List Record) → Agrees auditor rs es → IsRefusalBehind rs es entry refusal) → IfSome first (λ all. AnswersRead (head_text rules ++ all) (verdict_of_refusal offset refusal))
     refuses entry next refusal fits read why =
         refuses_by rules so_far.records offset so_far.bounds so_far.agrees.lawful so_far.place entry fits refusal (why rules so_far.records so_far.agrees) first (left_of remaining reader) next so_far.read read
 
     pub stops : (fault : FormFault) → (fault_of reader ≡ None → fault.offset ≡ offset_of reader) → (fault_of reader ≡ None → IfSome (left_of remaining reader) (StopsNext fault.kind))
-        → IfSome first (λ all. AnswersRead (text_of_head rules ++ all) (verdict_of_fault fault.kind fault.offset))
+        → IfSome first (λ all. AnswersRead (head_text rules ++ all) (verdict_of_fault fault.kind fault.offset))
     stops fault there why =
-        subst (λ o. IfSome first (λ all. AnswersRead (text_of_head rules ++ all) (verdict_of_fault fault.kind o))) (sym (there so_far.runs ∙ so_far.at))
+        subst (λ o. IfSome first (λ all. AnswersRead (head_text rules ++ all) (verdict_of_fault fault.kind o))) (sym (there so_far.runs ∙ so_far.at))
         (stops_by rules so_far.records offset so_far.bounds so_far.agrees.lawful so_far.place fault.kind first (left_of remaining reader) so_far.read (why so_far.runs))
 
 -- ---- of all octets that are known
@@ -146,11 +146,11 @@ pub head_known : (known : Option (List ℕ)) (fault : FormFault) → IfSome know
 head_known None fault stops = tt
 head_known (Some octets) fault stops = stops_head fault.kind fault.offset octets stops
 
-pub read_known : (known left : Option (List ℕ)) (rules : List RuleText) (verdict : Verdict) → IfSome known (λ octets. IsHead octets left rules)
-    → IfSome left (λ all. AnswersRead (text_of_head rules ++ all) verdict) → IfSome known (λ octets. AnswersRead octets verdict)
+pub read_known : (known left : Option (List ℕ)) (rules : RuleSet) (verdict : Verdict) → IfSome known (λ octets. IsHead octets left rules)
+    → IfSome left (λ all. AnswersRead (head_text rules ++ all) verdict) → IfSome known (λ octets. AnswersRead octets verdict)
 read_known None left rules verdict head answers = tt
 read_known (Some octets) left rules verdict head answers =
-    let behind : IfSome (Some head.0) (λ all. AnswersRead (text_of_head rules ++ all) verdict) = subst (λ l. IfSome l (λ all. AnswersRead (text_of_head rules ++ all) verdict)) head.2 answers in
+    let behind : IfSome (Some head.0) (λ all. AnswersRead (head_text rules ++ all) verdict) = subst (λ l. IfSome l (λ all. AnswersRead (head_text rules ++ all) verdict)) head.2 answers in
     subst (λ o. AnswersRead o verdict) (sym head.1.spelled) behind
 
 pub kept_known : (known : Option (List ℕ)) (verdict : Verdict) → IfSome known (λ octets. AnswersRead octets verdict) → IfSome known (λ octets. (tally : Tally) → verdict ≡ Accepted tally → IsKept octets)

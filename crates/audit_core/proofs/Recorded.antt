@@ -3,7 +3,7 @@ use Rattle.std.proofs.Common.{◌≡◌, refl, sym, ap, subst, ◌∙◌, ℕ, �
 use Rattle.std.proofs.Math.Seq.{take-suc}
 use Rattle.std.proofs.lemmas.List.{length-take-le, take-append-drop, take_all}
 use Rattle.capture_form.specs.declared.records.Record.{Record}
-use Rattle.capture_form.specs.Rules.{RuleText}
+use Rattle.capture_form.specs.Rules.{RuleSet}
 use Rattle.capture_form.specs.Text.{Trace}
 use Rattle.trace_clauses.specs.declared.clause.Clause.{Clause}
 use Rattle.trace_clauses.specs.declared.tally.Tally.{Tally}
@@ -46,7 +46,7 @@ module _ (capture : Trace) (i : ℕ) (auditor : Auditor) (entry d : Record) (lt 
   stops_at Memory why = (lt, agrees.lawful)
 
   -- a record that is refused
-  pub refused : (refusal : Refusal) → ((rs : List RuleText) (es : List Record) → Agrees auditor rs es → IsRefusalBehind rs es entry refusal) → StopsAudit capture (stop_of i refusal)
+  pub refused : (refusal : Refusal) → ((rs : RuleSet) (es : List Record) → Agrees auditor rs es → IsRefusalBehind rs es entry refusal) → StopsAudit capture (stop_of i refusal)
   refused refusal why = stops_at refusal (why capture.rules (take i capture.records) agrees)
 
 -- so many were taken

@@ -7,7 +7,7 @@ use Rattle.capture_form.specs.declared.records.Record.{Record}
 use Rattle.capture_form.specs.declared.fault.FormKind.{FormKind}
 use Rattle.capture_form.specs.declared.fault.FormKind.TheVariants as kinds
 use Rattle.capture_form.specs.declared.fault.FormFault.{FormFault}
-use Rattle.capture_form.specs.Rules.{RuleText}
+use Rattle.capture_form.specs.Rules.{RuleSet, no_rules}
 use Rattle.capture_form.specs.Text.{Trace, IsCapture, IsRecord, record_text, text}
 use Rattle.capture_form.specs.Reading.{record_at, records_at, head_at, Reads, reads_behind, reading}
 use Rattle.capture_form.specs.Laws.{trace_of}
@@ -34,7 +34,7 @@ all_push (e ∷ entries) entry h g = (h.0, all_push entries entry h.1 g)
 malformed_head : (octets : List ℕ) (fault : FormFault) → head_at octets ≡ Err fault → IsMalformed octets fault.offset fault.kind
 unfolding reading
 malformed_head octets fault e =
-    let reads : ◌≡◌ {A = Reads} (reading octets) (record { rules = []; records = []; fault = Some fault }) = ap (reads_behind (length octets)) e in
+    let reads : ◌≡◌ {A = Reads} (reading octets) (record { rules = no_rules; records = []; fault = Some fault }) = ap (reads_behind (length octets)) e in
     record { fault = ap (λ (r : Reads). r.fault) reads; lawful = ap (λ (r : Reads). broken_in (trace_of r)) reads }
 
 -- what stops the reading of the head
@@ -46,12 +46,12 @@ stops_head kinds.Note offset octets e = malformed_head octets (record { offset =
 stops_head kinds.Length offset octets e = malformed_head octets (record { offset = offset; kind = kinds.Length }) e
 stops_head kinds.Truncated offset octets e = malformed_head octets (record { offset = offset; kind = kinds.Truncated }) e
 stops_head kinds.Memory offset octets (inl start) = inl start
-stops_head kinds.Memory offset octets (inr rule) = inr (record { trace = record { rules = []; records = [] }; place = inl (record { nothing = refl; start = rule }); lawful = refl })
+stops_head kinds.Memory offset octets (inr rule) = inr (record { trace = record { rules = no_rules; records = [] }; place = inl (record { nothing = refl; start = rule }); lawful = refl })
 stops_head kinds.Read offset octets start = inl start
 
 -- ---- records behind those that were judged
 
-module _ (rules : List RuleText) (records : List Record) (octets rest : List ℕ) (bounds : IsCapture (record { rules = rules; records = records }))
+module _ (rules : RuleSet) (records : List Record) (octets rest : List ℕ) (bounds : IsCapture (record { rules = rules; records = records }))
     (lawful : broken_in (record { rules = rules; records = records }) ≡ None) (begins : octets ≡ text (record { rules = rules; records = records }) ++ rest) where
   abbrev trace : Trace
   trace = record { rules = rules; records = records }

@@ -3,7 +3,7 @@ use Rattle.std.proofs.Common.{◌≡◌, refl, sym, ap, subst, ◌∙◌, List, 
 use Rattle.std.specs.Prelude.{OnOk}
 use Rattle.std.specs.Result.{result_err}
 use Rattle.capture_form.specs.declared.records.Record.{Record}
-use Rattle.capture_form.specs.Rules.{RuleText}
+use Rattle.capture_form.specs.Rules.{RuleSet}
 use Rattle.trace_clauses.specs.declared.clause.Clause.{Clause}
 use Rattle.trace_clauses.specs.declared.tally.Tally.{Tally}
 use Rattle.trace_clauses.proofs.Lawful.{history-push, lawful-push}
@@ -17,32 +17,32 @@ use Rattle.audit_core.specs.declared.auditor.Auditor.{Auditor}
 use Rattle.audit_core.specs.declared.verdict.Refusal.{Refusal}
 use Rattle.audit_core.specs.Auditor.{Agrees, IsRefusalBehind, refusal_at}
 
-module _ (rules : List RuleText) (rs : List Record) (r : Record) where
+module _ (rules : RuleSet) (rs : List Record) (r : Record) where
   -- what is broken behind lawful records is the first that is
   pub broken_first : (clause : Clause) → first_broken rules (history rules rs) ≡ None → broken_behind rules rs r ≡ Some clause
       → first_broken rules (history rules (rs ++ r ∷ [])) ≡ Some (length rs, clause)
   broken_first clause before now =
       ap (first_broken rules) (history-push rules rs r) ∙ rw (before, now) refl ∙ ap (λ n. Some (n, clause)) (length-history rules rs)
 
-  module _ (auditor : Auditor) (agrees : Agrees auditor rules rs) (held : List RuleText) (same : held ≡ auditor.rules.items) where
+  module _ (auditor : Auditor) (agrees : Agrees auditor rules rs) (held : RuleSet) (same : held ≡ auditor.rules) where
     -- the auditor's own rules
     these : held ≡ rules
     these = same ∙ agrees.stands.0
 
     -- the ledger stands under them
     own : Stands held auditor.ledger rs
-    own = subst (λ (rl : List RuleText). Stands rl auditor.ledger rs) (sym these) agrees.stands.1
+    own = subst (λ (rl : RuleSet). Stands rl auditor.ledger rs) (sym these) agrees.stands.1
 
     pub met : (Stands held auditor.ledger rs → broken_behind held rs r ≡ None) → broken_behind rules rs r ≡ None
-    met entered = subst (λ (rl : List RuleText). broken_behind rl rs r ≡ None) these (entered own)
+    met entered = subst (λ (rl : RuleSet). broken_behind rl rs r ≡ None) these (entered own)
 
     -- it agrees with the longer capture where its ledger stands for that
     pub longer : (next : Auditor) → next.rules ≡ auditor.rules → next.refusal ≡ auditor.refusal → broken_behind rules rs r ≡ None
         → (Stands held auditor.ledger rs → Stands held next.ledger (rs ++ r ∷ [])) → Agrees next rules (rs ++ r ∷ [])
     longer next kept runs unbroken entered =
-        let stands : Stands rules next.ledger (rs ++ r ∷ []) = subst (λ (rl : List RuleText). Stands rl next.ledger (rs ++ r ∷ [])) these (entered own) in
+        let stands : Stands rules next.ledger (rs ++ r ∷ []) = subst (λ (rl : RuleSet). Stands rl next.ledger (rs ++ r ∷ [])) these (entered own) in
         record {
-          stands = (ap (λ v. v.items) kept ∙ agrees.stands.0, stands);
+          stands = (kept ∙ agrees.stands.0, stands);
           counted = stands.1;
           lawful = lawful-push rules rs r agrees.lawful unbroken;
           runs = runs ∙ agrees.runs;
@@ -54,13 +54,13 @@ module _ (rules : List RuleText) (rs : List Record) (r : Record) where
     refused tally is (why.Broken clause) reason =
         let broken : broken_behind held rs r ≡ Some clause = reason own in
         let number : tally.records ≡ length rs = ap (λ (t : Tally). t.records) (is ∙ agrees.counted) ∙ length-history rules rs in
-        (number, subst (λ (rl : List RuleText). broken_behind rl rs r ≡ Some clause) these broken)
+        (number, subst (λ (rl : RuleSet). broken_behind rl rs r ≡ Some clause) these broken)
     refused tally is why.Memory reason = tt
 
 -- an auditor that took a record goes on with the refusal that it met: none
 pub goes_with : (old a : Auditor) (entry : Record) (r : Result (Unit {0}) Refusal) (o : Option Refusal) → o ≡ result_err r
-    → OnOk r ((rules : List RuleText) (rs : List Record) → Agrees old rules rs → Agrees a rules (rs ++ entry ∷ []))
-    → OnOk r ((rules : List RuleText) (rs : List Record) → Agrees old rules rs → Agrees (record a { refusal = o }) rules (rs ++ entry ∷ []))
+    → OnOk r ((rules : RuleSet) (rs : List Record) → Agrees old rules rs → Agrees a rules (rs ++ entry ∷ []))
+    → OnOk r ((rules : RuleSet) (rs : List Record) → Agrees old rules rs → Agrees (record a { refusal = o }) rules (rs ++ entry ∷ []))
 goes_with old a entry (Ok u) o is taken = λ rules rs agrees.
     let on = taken rules rs agrees in
     record { stands = on.stands; counted = on.counted; lawful = on.lawful; runs = is }

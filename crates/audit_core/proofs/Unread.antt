@@ -5,7 +5,7 @@ use Rattle.std.specs.Io.KnownBytes.{Keeps}
 use Rattle.capture_form.specs.declared.records.Record.{Record}
 use Rattle.capture_form.specs.declared.fault.FormKind.{FormKind}
 use Rattle.capture_form.specs.declared.fault.FormKind.TheVariants as kinds
-use Rattle.capture_form.specs.Rules.{RuleText}
+use Rattle.capture_form.specs.Rules.{RuleSet}
 use Rattle.trace_clauses.specs.declared.tally.Tally.{Tally}
 use Rattle.audit_core.specs.declared.verdict.Verdict.{Verdict}
 use Rattle.audit_core.specs.declared.verdict.Verdict.TheVariants.{Accepted, NoMemory, Unreadable}
@@ -44,7 +44,7 @@ pub roomless_kept : (known : Option (List ℕ)) → IfSome known (λ octets. (ta
 roomless_kept None = tt
 roomless_kept (Some octets) = λ tally is. absurd cc
 
-pub roomless_seen : {W : Type 0} (saw : W → List RuleText → List Record → Type 0) (refuses : W → List RuleText → List Record → Record → Type 0) (known : Option (List ℕ)) (watcher : W)
+pub roomless_seen : {W : Type 0} (saw : W → RuleSet → List Record → Type 0) (refuses : W → RuleSet → List Record → Record → Type 0) (known : Option (List ℕ)) (watcher : W)
     → IfSome known (λ octets. Watched saw refuses watcher octets (NoMemory 0))
 roomless_seen saw refuses None watcher = tt
 roomless_seen saw refuses (Some octets) watcher = tt

@@ -8,10 +8,10 @@ use Rattle.capture_form.specs.declared.reader.Reader.{Reader}
 use Rattle.capture_form.specs.declared.fault.FormKind.{FormKind}
 use Rattle.capture_form.specs.declared.fault.FormKind.TheVariants as kinds
 use Rattle.capture_form.specs.declared.fault.FormFault.{FormFault}
-use Rattle.capture_form.specs.Rules.{RuleText}
-use Rattle.capture_form.specs.Text.{IsRecord, record_text, records_text, text}
+use Rattle.capture_form.specs.Rules.{RuleSet, no_rules}
+use Rattle.capture_form.specs.Text.{IsRecord, record_text, records_text, text, head_text}
 use Rattle.capture_form.specs.Reading.{head_at, reading, record_at}
-use Rattle.capture_form.specs.Reader.{left_of, fault_of, text_of_head, IsHead, IsNext, StopsHead, StopsNext}
+use Rattle.capture_form.specs.Reader.{left_of, fault_of, IsHead, IsNext, StopsHead, StopsNext}
 use Rattle.capture_form.proofs.ReadingLaws.{headless}
 use Rattle.trace_clauses.specs.declared.clause.Clause.{Clause}
 use Rattle.trace_clauses.specs.declared.tally.Tally.{Tally}
@@ -33,7 +33,7 @@ pub no_want : (number : ℕ) (clause : Clause) → Broken number clause ≢ Memo
 no_want number clause e = cc
 
 -- what was read so far, where it is known that the watcher had seen none
-pub seen_by : {R : Type 0} (remaining : R → Option (List ℕ)) (rules : List RuleText) (left : Option (List ℕ)) (reader : Reader R) (auditor : Auditor) (offset : ℕ) (P : Type 0) (seen : List Record → Type 0)
+pub seen_by : {R : Type 0} (remaining : R → Option (List ℕ)) (rules : RuleSet) (left : Option (List ℕ)) (reader : Reader R) (auditor : Auditor) (offset : ℕ) (P : Type 0) (seen : List Record → Type 0)
     → ReadSoFar remaining rules left reader auditor offset (λ records. P → seen records) → P → ReadSoFar remaining rules left reader auditor offset seen
 seen_by remaining rules left reader auditor offset P seen s p = record {
   records = s.records;
@@ -47,37 +47,37 @@ seen_by remaining rules left reader auditor offset P seen s p = record {
 }
 
 -- the rules and the ledger of an auditor are those of the records for which it stands
-pub held_by : (auditor : Auditor) (held : List RuleText) (ledger : Ledger) → held ≡ rules_of auditor → ledger ≡ auditor.ledger → (rules : List RuleText) (records : List Record) → StandsFor auditor rules records
+pub held_by : (auditor : Auditor) (held : RuleSet) (ledger : Ledger) → held ≡ rules_of auditor → ledger ≡ auditor.ledger → (rules : RuleSet) (records : List Record) → StandsFor auditor rules records
     → Stands held ledger records
 held_by auditor held ledger same own rules records stands =
     subst (λ l. Stands held l records) (sym own) (subst (λ rl. Stands rl auditor.ledger records) (sym (same ∙ stands.0)) stands.1)
 
-module _ {W : Type 0} (saw : W → List RuleText → List Record → Type 0) (refuses : W → List RuleText → List Record → Record → Type 0) where
+module _ {W : Type 0} (saw : W → RuleSet → List Record → Type 0) (refuses : W → RuleSet → List Record → Record → Type 0) where
   -- what is known behind the ledger's records is known behind those for which the auditor stands
-  pub explained : (before after : W) (auditor : Auditor) (held : List RuleText) (ledger : Ledger) (entry : Record) → held ≡ rules_of auditor → ledger ≡ auditor.ledger
+  pub explained : (before after : W) (auditor : Auditor) (held : RuleSet) (ledger : Ledger) (entry : Record) → held ≡ rules_of auditor → ledger ≡ auditor.ledger
       → ((records : List Record) → Stands held ledger records → saw before held records → refuses after held records entry)
-      → (rules : List RuleText) (records : List Record) → StandsFor auditor rules records → saw before rules records → refuses after rules records entry
+      → (rules : RuleSet) (records : List Record) → StandsFor auditor rules records → saw before rules records → refuses after rules records entry
   explained before after auditor held ledger entry same own told rules records stands seen =
       let is : held ≡ rules = same ∙ stands.0 in
       let under = held_by auditor held ledger same own rules records stands in
       subst (λ rl. refuses after rl records entry) is (told records under (subst (λ rl. saw before rl records) (sym is) seen))
 
   -- the same of a record that the ledger took
-  pub seen_taken : (before after : W) (auditor : Auditor) (held : List RuleText) (ledger : Ledger) (entry : Record) → held ≡ rules_of auditor → ledger ≡ auditor.ledger
+  pub seen_taken : (before after : W) (auditor : Auditor) (held : RuleSet) (ledger : Ledger) (entry : Record) → held ≡ rules_of auditor → ledger ≡ auditor.ledger
       → ((records : List Record) → Stands held ledger (records ++ entry ∷ []) → saw before held records → saw after held (records ++ entry ∷ []))
-      → (rules : List RuleText) (records : List Record) → StandsFor auditor rules (records ++ entry ∷ []) → saw before rules records → saw after rules (records ++ entry ∷ [])
+      → (rules : RuleSet) (records : List Record) → StandsFor auditor rules (records ++ entry ∷ []) → saw before rules records → saw after rules (records ++ entry ∷ [])
   seen_taken before after auditor held ledger entry same own told rules records stands seen =
       let is : held ≡ rules = same ∙ stands.0 in
       let under = held_by auditor held ledger same own rules (records ++ entry ∷ []) stands in
       subst (λ rl. saw after rl (records ++ entry ∷ [])) is (told records under (subst (λ rl. saw before rl records) (sym is) seen))
 
   -- octets with a fault in their head have no record
-  headless_seen : (watcher : W) (octets : List ℕ) (fault : FormFault) → saw watcher [] [] → head_at octets ≡ Err fault → saw watcher (reading octets).rules (reading octets).records
+  headless_seen : (watcher : W) (octets : List ℕ) (fault : FormFault) → saw watcher no_rules [] → head_at octets ≡ Err fault → saw watcher (reading octets).rules (reading octets).records
   headless_seen watcher octets fault unseen e =
       let none = headless octets (ap is_ok e) in
-      subst (λ (rules : List RuleText). saw watcher rules (reading octets).records) (sym none.0) (subst (λ (records : List Record). saw watcher [] records) (sym none.1) unseen)
+      subst (λ (rules : RuleSet). saw watcher rules (reading octets).records) (sym none.0) (subst (λ (records : List Record). saw watcher no_rules records) (sym none.1) unseen)
 
-  stops_head_seen : (watcher : W) (octets : List ℕ) (form_kind : FormKind) (offset : ℕ) → saw watcher [] [] → StopsHead form_kind offset octets → Watched saw refuses watcher octets (verdict_of_fault form_kind offset)
+  stops_head_seen : (watcher : W) (octets : List ℕ) (form_kind : FormKind) (offset : ℕ) → saw watcher no_rules [] → StopsHead form_kind offset octets → Watched saw refuses watcher octets (verdict_of_fault form_kind offset)
   stops_head_seen watcher octets kinds.Magic offset unseen stops = headless_seen watcher octets (record { offset = offset; kind = kinds.Magic }) unseen stops
   stops_head_seen watcher octets kinds.Rules offset unseen stops = headless_seen watcher octets (record { offset = offset; kind = kinds.Rules }) unseen stops
   stops_head_seen watcher octets kinds.Kind offset unseen stops = headless_seen watcher octets (record { offset = offset; kind = kinds.Kind }) unseen stops
@@ -87,19 +87,19 @@ module _ {W : Type 0} (saw : W → List RuleText → List Record → Type 0) (re
   stops_head_seen watcher octets kinds.Memory offset unseen stops = tt
   stops_head_seen watcher octets kinds.Read offset unseen stops = tt
 
-  pub head_seen : (known : Option (List ℕ)) (watcher : W) (fault : FormFault) → saw watcher [] [] → IfSome known (StopsHead fault.kind fault.offset) → IfSome known (λ octets. Watched saw refuses watcher octets (verdict_of_fault fault.kind fault.offset))
+  pub head_seen : (known : Option (List ℕ)) (watcher : W) (fault : FormFault) → saw watcher no_rules [] → IfSome known (StopsHead fault.kind fault.offset) → IfSome known (λ octets. Watched saw refuses watcher octets (verdict_of_fault fault.kind fault.offset))
   head_seen None watcher fault unseen stops = tt
   head_seen (Some octets) watcher fault unseen stops = stops_head_seen watcher octets fault.kind fault.offset unseen stops
 
   -- what holds behind a head holds of the whole
-  pub seen_known : (known left : Option (List ℕ)) (rules : List RuleText) (watcher : W) (verdict : Verdict) → IfSome known (λ octets. IsHead octets left rules)
-      → IfSome left (λ all. Watched saw refuses watcher (text_of_head rules ++ all) verdict) → IfSome known (λ octets. Watched saw refuses watcher octets verdict)
+  pub seen_known : (known left : Option (List ℕ)) (rules : RuleSet) (watcher : W) (verdict : Verdict) → IfSome known (λ octets. IsHead octets left rules)
+      → IfSome left (λ all. Watched saw refuses watcher (head_text rules ++ all) verdict) → IfSome known (λ octets. Watched saw refuses watcher octets verdict)
   seen_known None left rules watcher verdict head behind = tt
   seen_known (Some octets) left rules watcher verdict head behind =
-      let at : IfSome (Some head.0) (λ all. Watched saw refuses watcher (text_of_head rules ++ all) verdict) = subst (λ l. IfSome l (λ all. Watched saw refuses watcher (text_of_head rules ++ all) verdict)) head.2 behind in
+      let at : IfSome (Some head.0) (λ all. Watched saw refuses watcher (head_text rules ++ all) verdict) = subst (λ l. IfSome l (λ all. Watched saw refuses watcher (head_text rules ++ all) verdict)) head.2 behind in
       subst (λ o. Watched saw refuses watcher o verdict) (sym head.1.spelled) at
 
-  module _ {R : Type 0} (remaining : R → Option (List ℕ)) (rules : List RuleText) (first : Option (List ℕ)) (reader : Reader R) (auditor : Auditor) (offset : ℕ) (before : W)
+  module _ {R : Type 0} (remaining : R → Option (List ℕ)) (rules : RuleSet) (first : Option (List ℕ)) (reader : Reader R) (auditor : Auditor) (offset : ℕ) (before : W)
       (so_far : ReadSoFar remaining rules first reader auditor offset (saw before rules)) where
     saw_all : (octets rest : List ℕ) → octets ≡ text (record { rules = rules; records = so_far.records }) ++ rest → rest ≡ [] → SawAll saw before octets
     saw_all octets rest spelled none =
@@ -108,19 +108,19 @@ module _ {W : Type 0} (saw : W → List RuleText → List Record → Type 0) (re
         record { trace = record { rules = rules; records = so_far.records }; bounds = so_far.bounds; whole = spelled ∙ whole; seen = so_far.seen }
 
     ends_by : (tally : Tally) (from left next : Option (List ℕ)) → Consumes from left (records_text so_far.records) → IfSome left (λ octets. IsNext octets next None)
-        → IfSome from (λ all. Watched saw refuses before (text_of_head rules ++ all) (Accepted tally))
+        → IfSome from (λ all. Watched saw refuses before (head_text rules ++ all) (Accepted tally))
     ends_by tally None left next taken read = tt
     ends_by tally (Some all) None next taken read = absurd taken
     ends_by tally (Some all) (Some rest) next taken read =
-        saw_all (text_of_head rules ++ all) rest (begins rules so_far.records offset so_far.bounds so_far.agrees.lawful so_far.place all rest taken) read.0
+        saw_all (head_text rules ++ all) rest (begins rules so_far.records offset so_far.bounds so_far.agrees.lawful so_far.place all rest taken) read.0
 
     pub ends_seen : (tally : Tally) (next : Option (List ℕ)) → IfSome (left_of remaining reader) (λ octets. IsNext octets next None)
-        → IfSome first (λ all. Watched saw refuses before (text_of_head rules ++ all) (Accepted tally))
+        → IfSome first (λ all. Watched saw refuses before (head_text rules ++ all) (Accepted tally))
     ends_seen tally next read = ends_by tally first (left_of remaining reader) next so_far.read read
 
     stopped : (octets rest : List ℕ) (form_kind : FormKind) → octets ≡ text (record { rules = rules; records = so_far.records }) ++ rest → 0 < length rest → record_at rest ≡ Err form_kind → saw before (reading octets).rules (reading octets).records
     stopped octets rest form_kind spelled some e =
-        subst (λ (own : List RuleText). saw before own (reading octets).records) (sym (rules_to rules so_far.records octets rest so_far.bounds so_far.agrees.lawful spelled))
+        subst (λ (own : RuleSet). saw before own (reading octets).records) (sym (rules_to rules so_far.records octets rest so_far.bounds so_far.agrees.lawful spelled))
         (subst (λ (records : List Record). saw before rules records) (sym (reads_to rules so_far.records octets rest so_far.bounds so_far.agrees.lawful spelled form_kind some e)) so_far.seen)
 
     stops_at : (octets rest : List ℕ) (form_kind : FormKind) (at : ℕ) → octets ≡ text (record { rules = rules; records = so_far.records }) ++ rest → StopsNext form_kind rest → Watched saw refuses before octets (verdict_of_fault form_kind at)
@@ -134,14 +134,14 @@ module _ {W : Type 0} (saw : W → List RuleText → List Record → Type 0) (re
     stops_at octets rest kinds.Read at spelled stops = tt
 
     stops_by : (form_kind : FormKind) (at : ℕ) (from left : Option (List ℕ)) → Consumes from left (records_text so_far.records) → IfSome left (StopsNext form_kind)
-        → IfSome from (λ all. Watched saw refuses before (text_of_head rules ++ all) (verdict_of_fault form_kind at))
+        → IfSome from (λ all. Watched saw refuses before (head_text rules ++ all) (verdict_of_fault form_kind at))
     stops_by form_kind at None left taken stops = tt
     stops_by form_kind at (Some all) None taken stops = absurd taken
     stops_by form_kind at (Some all) (Some rest) taken stops =
-        stops_at (text_of_head rules ++ all) rest form_kind at (begins rules so_far.records offset so_far.bounds so_far.agrees.lawful so_far.place all rest taken) stops
+        stops_at (head_text rules ++ all) rest form_kind at (begins rules so_far.records offset so_far.bounds so_far.agrees.lawful so_far.place all rest taken) stops
 
     pub stops_seen : (fault : FormFault) → (fault_of reader ≡ None → IfSome (left_of remaining reader) (StopsNext fault.kind))
-        → IfSome first (λ all. Watched saw refuses before (text_of_head rules ++ all) (verdict_of_fault fault.kind fault.offset))
+        → IfSome first (λ all. Watched saw refuses before (head_text rules ++ all) (verdict_of_fault fault.kind fault.offset))
     stops_seen fault why = stops_by fault.kind fault.offset first (left_of remaining reader) so_far.read (why so_far.runs)
 
     module _ (after : W) (entry : Record) (fits : IsRecord entry) where
@@ -160,13 +160,13 @@ module _ {W : Type 0} (saw : W → List RuleText → List Record → Type 0) (re
       }
 
       refuses_by : (refusal : Refusal) (from left next : Option (List ℕ)) → Consumes from left (records_text so_far.records) → IfSome left (λ octets. IsNext octets next (Some entry))
-          → IsRefusalBehind rules so_far.records entry refusal → (refusal ≢ Memory → refuses after rules so_far.records entry) → IfSome from (λ all. Watched saw refuses after (text_of_head rules ++ all) (verdict_of_refusal offset refusal))
+          → IsRefusalBehind rules so_far.records entry refusal → (refusal ≢ Memory → refuses after rules so_far.records entry) → IfSome from (λ all. Watched saw refuses after (head_text rules ++ all) (verdict_of_refusal offset refusal))
       refuses_by refusal None left next taken read why told = tt
       refuses_by refusal (Some all) None next taken read why told = absurd taken
       refuses_by refusal (Some all) (Some rest) next taken read why told =
-          saw_refused (text_of_head rules ++ all) rest read.0 refusal (begins rules so_far.records offset so_far.bounds so_far.agrees.lawful so_far.place all rest taken) read.1.spelled why told
+          saw_refused (head_text rules ++ all) rest read.0 refusal (begins rules so_far.records offset so_far.bounds so_far.agrees.lawful so_far.place all rest taken) read.1.spelled why told
 
       pub refuses_seen : (refusal : Refusal) (next : Option (List ℕ)) → IfSome (left_of remaining reader) (λ octets. IsNext octets next (Some entry))
           → IsRefusalBehind rules so_far.records entry refusal → (refusal ≢ Memory → refuses after rules so_far.records entry)
-          → IfSome first (λ all. Watched saw refuses after (text_of_head rules ++ all) (verdict_of_refusal offset refusal))
+          → IfSome first (λ all. Watched saw refuses after (head_text rules ++ all) (verdict_of_refusal offset refusal))
       refuses_seen refusal next read why told = refuses_by refusal first (left_of remaining reader) next so_far.read read why told

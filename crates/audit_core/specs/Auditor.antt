@@ -1,7 +1,7 @@
 -- What an auditor has come to: for which capture it stands, or at which refusal it stopped.
 use Rattle.std.specs.Prelude.{◌≡◌, ℕ, List, length, Option, Some, None, ⊤}
 use Rattle.capture_form.specs.declared.records.Record.{Record}
-use Rattle.capture_form.specs.Rules.{RuleText}
+use Rattle.capture_form.specs.Rules.{RuleSet}
 use Rattle.trace_clauses.specs.declared.tally.Tally.{Tally}
 use Rattle.trace_events.specs.History.{history}
 use Rattle.trace_clauses.specs.Clauses.{first_broken}
@@ -17,12 +17,12 @@ use Rattle.audit_core.specs.declared.verdict.Refusal.TheVariants.{Broken, Memory
 -- ---- what is kept: all that these contracts know of the inside of an auditor
 
 -- what it keeps stands for these records, judged by these rules
-abbrev pub StandsFor : Auditor → List RuleText → List Record → Type 0
-StandsFor auditor rules records = (auditor.rules.items ≡ rules) × Stands rules auditor.ledger records
+abbrev pub StandsFor : Auditor → RuleSet → List Record → Type 0
+StandsFor auditor rules records = (auditor.rules ≡ rules) × Stands rules auditor.ledger records
 
 -- the rules by which it judges
-abbrev pub rules_of : Auditor → List RuleText
-rules_of auditor = auditor.rules.items
+abbrev pub rules_of : Auditor → RuleSet
+rules_of auditor = auditor.rules
 
 -- what the records that it took hold
 abbrev pub tally_by : Auditor → Tally
@@ -39,7 +39,7 @@ refusal_of auditor = auditor.refusal
 -- ---- what that means
 
 -- an auditor agrees with the capture of these rules and records: it took each of them, and each meets the clauses
-pub record Agrees (auditor : Auditor) (rules : List RuleText) (records : List Record) : Type 0 where
+pub record Agrees (auditor : Auditor) (rules : RuleSet) (records : List Record) : Type 0 where
   pub stands : StandsFor auditor rules records
   pub counted : tally_by auditor ≡ tally_of (history rules records)
   pub lawful : first_broken rules (history rules records) ≡ None
@@ -51,7 +51,7 @@ Stopped auditor refusal = refusal_of auditor ≡ Some refusal
 
 -- why a record is refused behind others: it is the first that breaks a clause, and this is the first that it breaks;
 -- want of memory says nothing of it
-abbrev pub IsRefusalBehind : List RuleText → List Record → Record → Refusal → Type 0
+abbrev pub IsRefusalBehind : RuleSet → List Record → Record → Refusal → Type 0
 IsRefusalBehind rules records entry (Broken number clause) = (number ≡ length records) × (broken_behind rules records entry ≡ Some clause)
 IsRefusalBehind rules records entry Memory = ⊤
 

@@ -43,7 +43,7 @@ first_of n capture = record { rules = capture.rules; records = take n capture.re
 
 -- memory was refused for the rules, or for a record behind those that meet the clauses
 abbrev pub WantsMemory : Trace → Type 0
-WantsMemory capture = (0 < length capture.rules) ⊎ ((number : ℕ) × (number < length capture.records) × (broken_in (first_of number capture) ≡ None))
+WantsMemory capture = (0 < length capture.rules.list) ⊎ ((number : ℕ) × (number < length capture.records) × (broken_in (first_of number capture) ≡ None))
 
 -- an answer is the one that is to be given, unless memory was refused
 abbrev pub AnswersCapture : Trace → Result Tally Refusal → Type 0
@@ -132,7 +132,7 @@ pub record IsUnreadRecord (octets : List ℕ) (offset : ℕ) : Type 0 where
   pub place : offset ≡ length (text trace)
   pub lawful : broken_in trace ≡ None
 
--- no more was read from there on: the start of the magic, the number of rules, a rule, or such a record
+-- no more was read from there on: the start of the magic, the mark, the number of rules, a rule, or such a record
 abbrev pub IsUnreadAt : List ℕ → ℕ → Type 0
 IsUnreadAt octets offset = IsPartStart octets offset ⊎ IsUnreadRecord octets offset
 

@@ -2,7 +2,7 @@
 
 ghost use Rattle.std.specs.Prelude.{◌≡◌, ◌≢◌, ◌<◌, ◌∷◌, [], ◌++◌, List, None, IfErr, IfSome, OnOk};
 ghost use Rattle.capture_form.specs.declared.records.Record.{Record};
-ghost use Rattle.capture_form.specs.Rules.{RuleText, AreRules};
+ghost use Rattle.capture_form.specs.Rules.{RuleSet, AreRules};
 ghost use Rattle.capture_form.specs.Text.{IsRecord};
 ghost use Rattle.state_ledger.specs.Ledger.{broken_behind};
 ghost use Rattle.audit_core.specs.declared.auditor.TheConstants.{MOST_RECORDS};
@@ -10,7 +10,7 @@ ghost use Rattle.audit_core.specs.declared.verdict.Refusal.TheVariants.{Memory};
 ghost use Rattle.audit_core.specs.Auditor.{Agrees, IsRefusalBehind, StandsFor, Stopped, entries_by, refusal_at, refusal_of, rules_of, tally_by};
 
 use crate::verdict::Refusal;
-use capture_form::{Record, Rule};
+use capture_form::{Record, RuleSet};
 use state_ledger::{Ledger, NotEntered};
 use std::alloc::Global;
 use trace_clauses::Tally;
@@ -20,7 +20,7 @@ pub const MOST_RECORDS: u64 = 9223372036854775807;
 
 /// An auditor of one capture: what the records that it took have come to. It keeps none of them.
 pub struct Auditor {
-    rules: Vec<Rule>,
+    rules: RuleSet,
     ledger: Ledger,
     // Why it stopped.
     refusal: Option<Refusal>,
@@ -39,9 +39,9 @@ impl Drop for Auditor {
 
 impl Auditor {
     /// An auditor of a capture with these rules, which has taken no record yet. It takes no memory.
-    pub fn new(alloc: Global, rules: Vec<Rule>) -> Auditor
-        requires { AreRules rules.items }
-        ensures { Agrees result rules.items [] }
+    pub fn new(alloc: Global, rules: RuleSet) -> Auditor
+        requires { AreRules rules }
+        ensures { Agrees result rules [] }
     {
         Auditor {
             rules,
@@ -60,10 +60,10 @@ impl Auditor {
         requires bounds { IsRecord entry }
         requires few { (tally_by self.old).records < MOST_RECORDS }
         // Behind the capture with which it agrees, the record meets the law, and it agrees with the longer one.
-        ensures met { OnOk result ((rules : List RuleText) (records : List Record) → Agrees self.old rules records → broken_behind rules records entry ≡ None) }
-        ensures taken { OnOk result ((rules : List RuleText) (records : List Record) → Agrees self.old rules records → Agrees self.new rules (records ++ entry ∷ [])) }
+        ensures met { OnOk result ((rules : RuleSet) (records : List Record) → Agrees self.old rules records → broken_behind rules records entry ≡ None) }
+        ensures taken { OnOk result ((rules : RuleSet) (records : List Record) → Agrees self.old rules records → Agrees self.new rules (records ++ entry ∷ [])) }
         // Or it breaks this clause first, unless memory was refused.
-        ensures refused { IfErr result (λ refusal. (rules : List RuleText) (records : List Record) → Agrees self.old rules records → IsRefusalBehind rules records entry refusal) }
+        ensures refused { IfErr result (λ refusal. (rules : RuleSet) (records : List Record) → Agrees self.old rules records → IsRefusalBehind rules records entry refusal) }
         // The refusal is answered for good, and then nothing changes.
         ensures stopped { IfErr result (Stopped self.new) }
         ensures again { IfSome (refusal_of self.old) (λ refusal. (result ≡ Err refusal) × (self.new ≡ self.old)) }
@@ -97,7 +97,7 @@ impl Auditor {
     }
 
     /// The rules by which it judges.
-    pub(crate) fn rules(&self) -> &[Rule]
+    pub(crate) fn rules(&self) -> &RuleSet
         ensures { result.now ≡ rules_of self.now }
     {
         &self.rules
@@ -106,12 +106,12 @@ impl Auditor {
     /// Takes a record that is lent. What it keeps of those before stands as it stood where a clause refuses this one.
     pub(crate) fn follow(&mut self, entry: &Record) -> Result<(), Refusal>
         requires { (tally_by self.old).records < MOST_RECORDS }
-        ensures met { OnOk result ((rules : List RuleText) (records : List Record) → Agrees self.old rules records → broken_behind rules records entry.now ≡ None) }
-        ensures taken { OnOk result ((rules : List RuleText) (records : List Record) → Agrees self.old rules records → Agrees self.new rules (records ++ entry.now ∷ [])) }
-        ensures refused { IfErr result (λ refusal. (rules : List RuleText) (records : List Record) → Agrees self.old rules records → IsRefusalBehind rules records entry.now refusal) }
+        ensures met { OnOk result ((rules : RuleSet) (records : List Record) → Agrees self.old rules records → broken_behind rules records entry.now ≡ None) }
+        ensures taken { OnOk result ((rules : RuleSet) (records : List Record) → Agrees self.old rules records → Agrees self.new rules (records ++ entry.now ∷ [])) }
+        ensures refused { IfErr result (λ refusal. (rules : RuleSet) (records : List Record) → Agrees self.old rules records → IsRefusalBehind rules records entry.now refusal) }
         ensures stopped { IfErr result (Stopped self.new) }
         ensures again { IfSome (refusal_of self.old) (λ refusal. (result ≡ Err refusal) × (self.new ≡ self.old)) }
-        ensures stands { IfErr result (λ refusal. refusal ≢ Memory → (rules : List RuleText) (records : List Record) → StandsFor self.old rules records → StandsFor self.new rules records) }
+        ensures stands { IfErr result (λ refusal. refusal ≢ Memory → (rules : RuleSet) (records : List Record) → StandsFor self.old rules records → StandsFor self.new rules records) }
     {
         if let Some(refusal) = self.refusal {
             return Err(refusal);
@@ -124,9 +124,9 @@ impl Auditor {
     /// Enters the record behind those that it took, if it meets the law.
     fn judge(&mut self, entry: &Record) -> Result<(), Refusal>
         requires { (tally_by self.old).records < MOST_RECORDS }
-        ensures met { OnOk result ((rules : List RuleText) (records : List Record) → Agrees self.old rules records → broken_behind rules records entry.now ≡ None) }
-        ensures taken { OnOk result ((rules : List RuleText) (records : List Record) → Agrees self.old rules records → Agrees self.new rules (records ++ entry.now ∷ [])) }
-        ensures refused { IfErr result (λ refusal. (rules : List RuleText) (records : List Record) → Agrees self.old rules records → IsRefusalBehind rules records entry.now refusal) }
+        ensures met { OnOk result ((rules : RuleSet) (records : List Record) → Agrees self.old rules records → broken_behind rules records entry.now ≡ None) }
+        ensures taken { OnOk result ((rules : RuleSet) (records : List Record) → Agrees self.old rules records → Agrees self.new rules (records ++ entry.now ∷ [])) }
+        ensures refused { IfErr result (λ refusal. (rules : RuleSet) (records : List Record) → Agrees self.old rules records → IsRefusalBehind rules records entry.now refusal) }
         ensures same { IfErr result (λ refusal. refusal ≢ Memory → self.new ≡ self.old) }
     {
         let number = self.tally().records;

@@ -11,8 +11,7 @@ ghost use Rattle.audit_core.specs.Verdict.{Answers, AnswersCapture, IsKept, answ
 ghost use Rattle.audit_core.specs.Stops.{StopsAudit, stop_of, stops_within, refusal_on, verdict_on};
 
 use crate::auditor::Auditor;
-use crate::copying::copy_of_rules;
-use crate::lengths::{HEAD, offset_of_record};
+use crate::lengths::{offset_of_record, offset_of_rules};
 use crate::verdict::{Refusal, Verdict};
 use capture_form::{Capture, FormFault, FormKind, Reading, read_whole_records};
 use std::alloc::Global;
@@ -89,7 +88,7 @@ impl Stop {
     {
         match self {
             Stop::Broken(number, clause) => Verdict::Refused(number, clause),
-            Stop::AtRules => Verdict::NoMemory(HEAD),
+            Stop::AtRules => Verdict::NoMemory(offset_of_rules(capture.rules().form())),
             Stop::AtRecord(number) => Verdict::NoMemory(offset_of_record(capture, number)),
         }
     }
@@ -100,7 +99,7 @@ fn audit_records(alloc: Global, capture: &Capture) -> Result<Tally, Stop>
     ensures accepted { IfOk result (λ tally. answer_of capture.now ≡ Ok tally) }
     ensures stopped { IfErr result (StopsAudit capture.now) }
 {
-    let Ok(rules) = copy_of_rules(alloc, capture.rules()) else {
+    let Ok(rules) = capture.rules().copied(alloc) else {
         return Err(Stop::AtRules);
     };
     let mut auditor = Auditor::new(alloc, rules);

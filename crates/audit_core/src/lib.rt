@@ -8,13 +8,12 @@
 //!
 //! - `verdict`: what is answered;
 //! - `auditor`: records, taken one after the other;
-//! - `judging`: a capture, and its text, with `copying` and `lengths`;
+//! - `judging`: a capture, and its text, with `lengths`;
 //! - `streaming`: a text that a reader gives, with `watching`: those that are told of it on its way;
 //! - `laws`: that of any octets exactly one verdict holds, and that the text of a lawful capture is accepted.
 #![tactic(auto)]
 
 mod auditor;
-mod copying;
 mod judging;
 mod laws;
 mod lengths;

@@ -2,21 +2,22 @@
 
 ghost use Rattle.std.specs.Prelude.{◌≡◌, ◌≢◌, ◌<◌, ◌++◌, ◌∷◌, ℕ, List, [], length, IfErr, IfSome, None, OnOk};
 ghost use Rattle.capture_form.specs.declared.records.Record.{Record};
-ghost use Rattle.capture_form.specs.Rules.{AreRules, RuleText};
-ghost use Rattle.capture_form.specs.Reader.{left_of, offset_of, fault_of, text_of_head, IsNew, IsUnreadable};
+ghost use Rattle.capture_form.specs.Rules.{AreRules, RuleSet};
+ghost use Rattle.capture_form.specs.Reader.{left_of, offset_of, fault_of, IsNew, IsUnreadable};
 ghost use Rattle.trace_clauses.specs.declared.tally.Tally.{Tally};
 ghost use Rattle.audit_core.specs.declared.verdict.Verdict.TheVariants.{Accepted, Unreadable};
 ghost use Rattle.audit_core.specs.declared.verdict.Refusal.TheVariants.{Memory};
 ghost use Rattle.audit_core.specs.declared.auditor.TheConstants.{MOST_RECORDS};
 ghost use Rattle.audit_core.specs.Auditor.{Agrees, IsRefusalBehind, rules_of, tally_by};
 ghost use Rattle.audit_core.specs.Verdict.{AnswersRead, IsKept, verdict_of_fault, verdict_of_refusal};
+ghost use Rattle.capture_form.specs.Text.{head_text};
 ghost use Rattle.audit_core.specs.Watching.{Watched};
 
 use crate::auditor::Auditor;
 use crate::lengths::{len_of_head, len_of_record};
 use crate::verdict::{Refusal, Verdict};
 use crate::watching::{Unwatched, Watcher};
-use capture_form::{FormFault, FormKind, MOST_READS, Reader, Record, Rule};
+use capture_form::{FormFault, FormKind, MOST_READS, Reader, Record, RuleSet};
 use std::alloc::{AllocError, Global};
 use std::io::Read;
 
@@ -41,7 +42,7 @@ where
     ensures kept { IfSome (R.remaining reader) (λ octets. (tally : Tally) → result ≡ Accepted tally → IsKept octets) }
     // A watcher that had seen none saw, at `Accepted`, all records; at `Refused`, the refused one behind the others; at
     // `Malformed`, those in front of the fault.
-    ensures watched { ((rules : List RuleText) → W.saw watcher.old watcher.old rules []) → IfSome (R.remaining reader) (λ octets. Watched (W.saw watcher.old) (W.saw_refused watcher.old) watcher.new octets result) }
+    ensures watched { ((rules : RuleSet) → W.saw watcher.old watcher.old rules []) → IfSome (R.remaining reader) (λ octets. Watched (W.saw watcher.old) (W.saw_refused watcher.old) watcher.new octets result) }
 {
     match Reader::within(alloc, reader, MOST_READS) {
         Ok(mut text) => audit_text(alloc, &mut text, watcher),
@@ -59,7 +60,7 @@ pub fn audit_text<R: Read, W: Watcher>(
     requires { IsNew text.old }
     ensures answers { IfSome (left_of R.remaining text.old) (λ octets. AnswersRead octets result) }
     ensures kept { IfSome (left_of R.remaining text.old) (λ octets. (tally : Tally) → result ≡ Accepted tally → IsKept octets) }
-    ensures watched { ((rules : List RuleText) → W.saw watcher.old watcher.old rules []) → IfSome (left_of R.remaining text.old) (λ octets. Watched (W.saw watcher.old) (W.saw_refused watcher.old) watcher.new octets result) }
+    ensures watched { ((rules : RuleSet) → W.saw watcher.old watcher.old rules []) → IfSome (left_of R.remaining text.old) (λ octets. Watched (W.saw watcher.old) (W.saw_refused watcher.old) watcher.new octets result) }
     ensures unreadable { (offset : ℕ) → result ≡ Unreadable offset → IsUnreadable text.new }
 {
     match text.read_head() {
@@ -71,15 +72,15 @@ pub fn audit_text<R: Read, W: Watcher>(
 /// The verdict of a text with these rules, whose records are read.
 fn audit_read<R: Read, W: Watcher>(
     alloc: Global,
-    rules: Vec<Rule>,
+    rules: RuleSet,
     records: &mut Reader<R>,
     watcher: &mut W,
 ) -> Verdict
-    requires rules { AreRules rules.items }
-    requires place { offset_of records.old ≡ length (text_of_head rules.items) }
+    requires rules { AreRules rules }
+    requires place { offset_of records.old ≡ length (head_text rules) }
     requires runs { fault_of records.old ≡ None }
-    ensures answers { IfSome (left_of R.remaining records.old) (λ left. AnswersRead (text_of_head rules.items ++ left) result) }
-    ensures watched { W.saw watcher.old watcher.old rules.items [] → IfSome (left_of R.remaining records.old) (λ left. Watched (W.saw watcher.old) (W.saw_refused watcher.old) watcher.new (text_of_head rules.items ++ left) result) }
+    ensures answers { IfSome (left_of R.remaining records.old) (λ left. AnswersRead (head_text rules ++ left) result) }
+    ensures watched { W.saw watcher.old watcher.old rules [] → IfSome (left_of R.remaining records.old) (λ left. Watched (W.saw watcher.old) (W.saw_refused watcher.old) watcher.new (head_text rules ++ left) result) }
     ensures unreadable { (offset : ℕ) → result ≡ Unreadable offset → IsUnreadable records.new }
 {
     let offset = len_of_head(&rules);
@@ -97,11 +98,11 @@ fn follow_read<R: Read, W: Watcher>(
 ) -> Verdict
     requires rules { AreRules (rules_of auditor.old) }
     requires agrees { Agrees auditor.old (rules_of auditor.old) [] }
-    requires head { offset ≡ length (text_of_head (rules_of auditor.old)) }
-    requires place { offset_of records.old ≡ length (text_of_head (rules_of auditor.old)) }
+    requires head { offset ≡ length (head_text (rules_of auditor.old)) }
+    requires place { offset_of records.old ≡ length (head_text (rules_of auditor.old)) }
     requires runs { fault_of records.old ≡ None }
-    ensures answers { IfSome (left_of R.remaining records.old) (λ left. AnswersRead (text_of_head (rules_of auditor.old) ++ left) result) }
-    ensures watched { W.saw watcher.old watcher.old (rules_of auditor.old) [] → IfSome (left_of R.remaining records.old) (λ left. Watched (W.saw watcher.old) (W.saw_refused watcher.old) watcher.new (text_of_head (rules_of auditor.old) ++ left) result) }
+    ensures answers { IfSome (left_of R.remaining records.old) (λ left. AnswersRead (head_text (rules_of auditor.old) ++ left) result) }
+    ensures watched { W.saw watcher.old watcher.old (rules_of auditor.old) [] → IfSome (left_of R.remaining records.old) (λ left. Watched (W.saw watcher.old) (W.saw_refused watcher.old) watcher.new (head_text (rules_of auditor.old) ++ left) result) }
     ensures unreadable { (number : ℕ) → result ≡ Unreadable number → IsUnreadable records.new }
 {
     let mut offset = offset;
@@ -132,10 +133,10 @@ fn take_watched<W: Watcher>(
 ) -> Result<(), Refusal>
     requires few { (tally_by auditor.old).records < MOST_RECORDS }
     requires agrees { (records : List Record) × Agrees auditor.old (rules_of auditor.old) records }
-    ensures taken { OnOk result ((rules : List RuleText) (records : List Record) → Agrees auditor.old rules records → Agrees auditor.new rules (records ++ entry ∷ [])) }
-    ensures refused { IfErr result (λ refusal. (rules : List RuleText) (records : List Record) → Agrees auditor.old rules records → IsRefusalBehind rules records entry refusal) }
-    ensures seen { OnOk result ((first : W) (rules : List RuleText) (records : List Record) → Agrees auditor.old rules records → W.saw first watcher.old rules records → W.saw first watcher.new rules (records ++ entry ∷ [])) }
-    ensures explained { IfErr result (λ refusal. refusal ≢ Memory → (first : W) (rules : List RuleText) (records : List Record) → Agrees auditor.old rules records → W.saw first watcher.old rules records → W.saw_refused first watcher.new rules records entry) }
+    ensures taken { OnOk result ((rules : RuleSet) (records : List Record) → Agrees auditor.old rules records → Agrees auditor.new rules (records ++ entry ∷ [])) }
+    ensures refused { IfErr result (λ refusal. (rules : RuleSet) (records : List Record) → Agrees auditor.old rules records → IsRefusalBehind rules records entry refusal) }
+    ensures seen { OnOk result ((first : W) (rules : RuleSet) (records : List Record) → Agrees auditor.old rules records → W.saw first watcher.old rules records → W.saw first watcher.new rules (records ++ entry ∷ [])) }
+    ensures explained { IfErr result (λ refusal. refusal ≢ Memory → (first : W) (rules : RuleSet) (records : List Record) → Agrees auditor.old rules records → W.saw first watcher.old rules records → W.saw_refused first watcher.new rules records entry) }
 {
     match auditor.follow(&entry) {
         Ok(()) => match watcher.taken(auditor.ledger(), auditor.rules(), &entry) {

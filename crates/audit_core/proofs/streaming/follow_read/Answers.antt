@@ -1,7 +1,7 @@
 use Rattle.std.proofs.Common.{refl, sym, subst, ◌∙◌, length, None, Some, arith}
 use Rattle.std.specs.Prelude.{[], IfSome, ◌++◌}
-use Rattle.capture_form.specs.Reader.{left_of, text_of_head}
-use Rattle.capture_form.specs.Text.{record_text}
+use Rattle.capture_form.specs.Reader.{left_of}
+use Rattle.capture_form.specs.Text.{record_text, head_text}
 use Rattle.capture_form.proofs.TextLemmas.{long_record}
 use Rattle.audit_core.specs.Auditor.{Agrees, rules_of}
 use Rattle.audit_core.specs.Verdict.{AnswersRead}
@@ -33,7 +33,7 @@ returns-in-Err-take_watched-clause-answers g c =
     let rules = rules_of c.args.auditor.now in
     let next = found_so _ _ some.field-0 (Some some.entry) some.field-0-is some.ensures.next in
     let fits = fits_so some.field-0 some.entry some.field-0-is some.ensures.bounds in
-    subst (λ v. IfSome (left_of g.R.Read.remaining c.args.records.now) (λ left. AnswersRead (text_of_head rules ++ left) v)) (sym c.verdict_of_refusal.ensures)
+    subst (λ v. IfSome (left_of g.R.Read.remaining c.args.records.now) (λ left. AnswersRead (head_text rules ++ left) v)) (sym c.verdict_of_refusal.ensures)
     (refuses g.R.Read.remaining rules _ c.records.records c.records.auditor c.records.offset _ c.records.invariant some.entry _ c.in-Err-take_watched.refusal fits next c.in-Err-take_watched.ensures.refused)
 
 pub records-smaller : goal.records-smaller
@@ -59,7 +59,7 @@ returns-in-Ok-None-clause-answers g c =
 pub returns-in-Err-clause-answers : goal.returns-in-Err-clause-answers
 returns-in-Err-clause-answers g c =
     let rules = rules_of c.args.auditor.now in
-    subst (λ v. IfSome (left_of g.R.Read.remaining c.args.records.now) (λ left. AnswersRead (text_of_head rules ++ left) v)) (sym c.verdict_of_fault.ensures)
+    subst (λ v. IfSome (left_of g.R.Read.remaining c.args.records.now) (λ left. AnswersRead (head_text rules ++ left) v)) (sym c.verdict_of_fault.ensures)
     (stops g.R.Read.remaining rules _ c.records.records c.records.auditor c.records.offset _ c.records.invariant c.in-Err.fault c.in-Err.ensures.place c.in-Err.ensures.exact)
 
 pub returns-in-Ok-None-clause-watched : goal.returns-in-Ok-None-clause-watched
@@ -74,7 +74,7 @@ returns-in-Err-clause-watched g c =
     λ unseen.
     let rules = rules_of c.args.auditor.now in
     let so_far = seen_by g.R.Read.remaining rules _ c.records.records c.records.auditor c.records.offset (g.W.Watcher.saw c.args.watcher.now c.args.watcher.now (rules_of c.args.auditor.now) []) (g.W.Watcher.saw c.args.watcher.now c.records.watcher (rules_of c.args.auditor.now)) c.records.invariant unseen in
-    subst (λ v. IfSome (left_of g.R.Read.remaining c.args.records.now) (λ left. Watched (g.W.Watcher.saw c.args.watcher.now) (g.W.Watcher.saw_refused c.args.watcher.now) c.records.watcher (text_of_head rules ++ left) v)) (sym c.verdict_of_fault.ensures)
+    subst (λ v. IfSome (left_of g.R.Read.remaining c.args.records.now) (λ left. Watched (g.W.Watcher.saw c.args.watcher.now) (g.W.Watcher.saw_refused c.args.watcher.now) c.records.watcher (head_text rules ++ left) v)) (sym c.verdict_of_fault.ensures)
     (stops_seen (g.W.Watcher.saw c.args.watcher.now) (g.W.Watcher.saw_refused c.args.watcher.now) g.R.Read.remaining rules _ c.records.records c.records.auditor c.records.offset c.records.watcher so_far c.in-Err.fault c.in-Err.ensures.exact)
 
 pub returns-in-Err-take_watched-clause-watched : goal.returns-in-Err-take_watched-clause-watched
@@ -86,7 +86,7 @@ returns-in-Err-take_watched-clause-watched g c =
     let refusal = c.in-Err-take_watched.refusal in
     let next = found_so _ _ some.field-0 (Some some.entry) some.field-0-is some.ensures.next in
     let fits = fits_so some.field-0 some.entry some.field-0-is some.ensures.bounds in
-    subst (λ v. IfSome (left_of g.R.Read.remaining c.args.records.now) (λ left. Watched (g.W.Watcher.saw c.args.watcher.now) (g.W.Watcher.saw_refused c.args.watcher.now) c.take_watched.new.watcher (text_of_head rules ++ left) v)) (sym c.verdict_of_refusal.ensures)
+    subst (λ v. IfSome (left_of g.R.Read.remaining c.args.records.now) (λ left. Watched (g.W.Watcher.saw c.args.watcher.now) (g.W.Watcher.saw_refused c.args.watcher.now) c.take_watched.new.watcher (head_text rules ++ left) v)) (sym c.verdict_of_refusal.ensures)
     (refuses_seen (g.W.Watcher.saw c.args.watcher.now) (g.W.Watcher.saw_refused c.args.watcher.now) g.R.Read.remaining rules _ c.records.records c.records.auditor c.records.offset c.records.watcher so_far c.take_watched.new.watcher some.entry fits refusal _ next
     (c.in-Err-take_watched.ensures.refused rules so_far.records so_far.agrees) (λ no. c.in-Err-take_watched.ensures.explained no c.args.watcher.now rules so_far.records so_far.agrees so_far.seen))
 

@@ -5,14 +5,14 @@ use Rattle.audit_core.proofs.auditor.Auditor.judge.Goals as goal
 
 pub returns-in-Ok-clause-met : goal.returns-in-Ok-clause-met
 returns-in-Ok-clause-met c = λ rules records agrees.
-    met rules records c.args.entry.now c.args.self.now agrees _ c.deref.ensures.value (c.in-Ok.ensures.met records)
+    met rules records c.args.entry.now c.args.self.now agrees _ refl (c.in-Ok.ensures.met records)
 
 pub returns-in-Ok-clause-taken : goal.returns-in-Ok-clause-taken
 returns-in-Ok-clause-taken c = λ rules records agrees.
-    let unbroken = met rules records c.args.entry.now c.args.self.now agrees _ c.deref.ensures.value (c.in-Ok.ensures.met records) in
-    longer rules records c.args.entry.now c.args.self.now agrees _ c.deref.ensures.value _ refl refl unbroken (c.in-Ok.ensures.entered records)
+    let unbroken = met rules records c.args.entry.now c.args.self.now agrees _ refl (c.in-Ok.ensures.met records) in
+    longer rules records c.args.entry.now c.args.self.now agrees _ refl _ refl refl unbroken (c.in-Ok.ensures.entered records)
 
 pub returns-in-Err-clause-refused : goal.returns-in-Err-clause-refused
 returns-in-Err-clause-refused c = λ rules records agrees.
     subst (λ r. IsRefusalBehind rules records c.args.entry.now r) (sym c.refusal_at.ensures)
-    (refused rules records c.args.entry.now c.args.self.now agrees _ c.deref.ensures.value c.tally-number.result c.tally-number.ensures c.in-Err.why (c.in-Err.ensures.reason records))
+    (refused rules records c.args.entry.now c.args.self.now agrees _ refl c.tally-number.result c.tally-number.ensures c.in-Err.why (c.in-Err.ensures.reason records))
