@@ -1,6 +1,7 @@
 pub mod Lists
 pub mod Best
 pub mod RuleTests
+pub mod ServedExamples
 pub mod Histories
 pub mod Ordered
 pub mod Apart

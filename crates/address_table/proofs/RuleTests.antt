@@ -6,7 +6,7 @@ use Rattle.std.specs.List.{AllByRecursion, IsDistinct}
 use Rattle.std.specs.Str.{bytes_eq}
 use Rattle.std.specs.Option.{option_or}
 use Rattle.flow_counts.specs.declared.profile.TheConstants.{MAX_PREFIX, MAX_RULES}
-use Rattle.capture_form.specs.Rules.{RuleText, IsRule, AreRules, prefixes}
+use Rattle.capture_form.specs.Rules.{RuleText, RuleSet, IsRule, AreRules, prefixes}
 use Rattle.capture_form.specs.Reading.{has_prefix}
 use Rattle.capture_form.proofs.RuleLemmas.{distinct_push, is_new_there}
 use Rattle.address_table.specs.declared.fault.RulesFault.{RulesFault}
@@ -80,6 +80,6 @@ none_first earlier (rule ∷ rules) each distinct =
     ap (λ f. option_or f (first_fault (earlier ++ rule ∷ []) rules)) none
     ∙ none_first (earlier ++ rule ∷ []) rules each.1 (subst (λ (rs : List RuleText). IsDistinct bytes_eq (prefixes rs)) (sym (append_assoc earlier (rule ∷ []) rules)) distinct)
 
-pub none_refused : (rules : List RuleText) → AreRules rules → rules_fault rules ≡ None
+pub none_refused : (rules : RuleSet) → AreRules rules → rules_fault rules.list ≡ None
 none_refused rules are =
-    ap (λ b. cond b (Some TooMany) (first_fault [] rules)) (le-ltb MAX_RULES (length rules) are.few) ∙ none_first [] rules are.each are.distinct
+    ap (λ b. cond b (Some TooMany) (first_fault [] rules.list)) (le-ltb MAX_RULES (length rules.list) are.few) ∙ none_first [] rules.list are.each are.distinct

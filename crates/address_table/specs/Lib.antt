@@ -1,4 +1,5 @@
 pub mod Refusals
+pub mod Served
 pub mod Picking
 pub mod Lineups
 pub mod Links
