@@ -1,8 +1,8 @@
 -- What the words ask the router to serve, and what is wrong with them.
-use Rattle.std.specs.Prelude.{◌≡◌, ℕ, ◌++◌, List, map, Any, Some, codes, decimal}
+use Rattle.std.specs.Prelude.{◌≡◌, ℕ, ◌++◌, false, List, map, Any, Some, codes, decimal}
 use Rattle.std.specs.declared.net.socket_addr.SocketAddrV4.{SocketAddrV4}
 use Rattle.std.specs.Net.Grammar.{IsSocketV4Text}
-use Rattle.capture_form.specs.Rules.{RuleText}
+use Rattle.capture_form.specs.Rules.{RuleText, serves_anonymous}
 use Rattle.address_table.specs.Refusals.{fault_number, rules_fault}
 use Rattle.address_table.specs.declared.fault.RulesFault.{RulesFault}
 use Rattle.address_table.specs.declared.fault.RulesFault.TheVariants.{Memory}
@@ -26,7 +26,8 @@ pub record IsServiceOf (words : Words) (service : Service) : Type 0 where
   pub capture : service.capture.now ≡ words.capture.now
   pub workers : service.workers ≡ words.workers
   pub connections : service.connections ≡ words.connections
-  pub rules : AreSpelled words service.rules
+  pub rules : AreSpelled words service.rules.list
+  pub anonymous : serves_anonymous service.rules ≡ false
 
 -- each fault comes only for its cause, in this order (own format)
 abbrev pub IsFaultOf : Words → WordsFault → Type 0
