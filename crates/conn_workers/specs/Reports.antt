@@ -1,8 +1,9 @@
 -- What a run reports.
 use Rattle.std.specs.Prelude.{◌≡◌, ℕ, ◌+◌, Bool, true, List, [], ◌∷◌, ◌++◌, length}
 use Rattle.capture_form.specs.declared.records.Record.{Record}
-use Rattle.capture_form.specs.Rules.{RuleText}
+use Rattle.capture_form.specs.Rules.{RuleSet}
 use Rattle.capture_form.specs.Text.{Trace}
+use Rattle.address_table.specs.Served.{AreSameRules}
 use Rattle.core_exchange.specs.Captures.{IsOfCore}
 use Rattle.core_exchange.specs.Seats.{Begins, inputs_on, outs_on, owned_below}
 use Rattle.conn_workers.specs.declared.report.ConnReport.{ConnReport}
@@ -32,9 +33,9 @@ module _ {G : Type 0} (gates : List G) (Follows : G → G → Type 0) (Delivered
   AreReported records k (report ∷ reports) = IsReported records k report × AreReported records (k + 1) reports
 
   -- one report for each gate, in order, no other inputs, and a capture of a core of these rules
-  pub record IsRun (rules : List RuleText) (capture : Trace) (conns : List (ConnReport G)) : Type 0 where
+  pub record IsRun (rules : RuleSet) (capture : Trace) (conns : List (ConnReport G)) : Type 0 where
     pub count : length conns ≡ length gates
     pub each : AreReported capture.records 0 conns
     pub owned : owned_below (length conns) capture.records ≡ true
-    pub rules_are : capture.rules ≡ rules
+    pub rules_are : AreSameRules capture.rules rules
     pub core : IsOfCore capture

@@ -3,8 +3,9 @@ use Rattle.std.specs.Prelude.{◌≡◌, ℕ, ◌+◌, Bool, true, ◌&&◌, ◌
 use Rattle.std.specs.List.{list_all}
 use Rattle.capture_form.specs.declared.records.What.{What}
 use Rattle.capture_form.specs.declared.records.Record.{Record}
-use Rattle.capture_form.specs.Rules.{RuleText}
+use Rattle.capture_form.specs.Rules.{RuleSet}
 use Rattle.capture_form.specs.Text.{Trace, frame_of}
+use Rattle.address_table.specs.Served.{AreSameRules}
 use Rattle.route_items.specs.Inputs.{is_output}
 use Rattle.route_items.specs.Outs.{writes_on}
 use Rattle.core_exchange.specs.declared.seat.Seat.{Seat}
@@ -49,7 +50,7 @@ SeatsAgree records k [] = Unit {0}
 SeatsAgree records k (seat ∷ seats) = SeatAgrees records k seat × SeatsAgree records (k + 1) seats
 
 -- seat k is connection k's, there are no other inputs, and the rules are these
-pub record Agrees (rules : List RuleText) (capture : Trace) (seats : List Seat) : Type 0 where
-  pub rules_are : capture.rules ≡ rules
+pub record Agrees (rules : RuleSet) (capture : Trace) (seats : List Seat) : Type 0 where
+  pub rules_are : AreSameRules capture.rules rules
   pub each : SeatsAgree capture.records 0 seats
   pub owned : owned_below (length seats) capture.records ≡ true

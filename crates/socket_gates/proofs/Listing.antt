@@ -1,7 +1,7 @@
 -- What stands in a run's report of its lists.
 use Rattle.std.proofs.Common.{◌≡◌, ℕ, ◌+◌, Bool, true, List, [], ◌∷◌, length, ◌∙◌, subst}
 use Rattle.capture_form.specs.declared.records.Record.{Record}
-use Rattle.capture_form.specs.Rules.{RuleText}
+use Rattle.capture_form.specs.Rules.{RuleSet}
 use Rattle.capture_form.specs.Text.{Trace}
 use Rattle.conn_workers.specs.Seats.{owned_below}
 use Rattle.conn_workers.specs.declared.report.ConnReport.{ConnReport}
@@ -30,7 +30,7 @@ module _ {G : Type 0} (gates : List G) (Follows : G → G → Type 0) (Delivered
     are_listed records (k + 1) reports told.1,
   )
 
-  pub served_run : (rules : List RuleText) (connections : ℕ) (capture : Trace) (conns : List (ConnReport G)) → length gates ≡ connections
+  pub served_run : (rules : RuleSet) (connections : ℕ) (capture : Trace) (conns : List (ConnReport G)) → length gates ≡ connections
       → IsRun gates Follows Delivered Took ended rules capture conns → IsServedRun rules connections capture conns
   served_run rules connections capture conns many run = record {
     count = run.count ∙ many;

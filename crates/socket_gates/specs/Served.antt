@@ -3,8 +3,9 @@
 use Rattle.std.specs.Prelude.{◌≡◌, ℕ, ◌+◌, true, List, [], ◌∷◌, ◌++◌, length}
 use Rattle.capture_form.specs.declared.records.Record.{Record}
 use Rattle.capture_form.specs.declared.records.What.{What}
-use Rattle.capture_form.specs.Rules.{RuleText}
+use Rattle.capture_form.specs.Rules.{RuleSet}
 use Rattle.capture_form.specs.Text.{Trace}
+use Rattle.address_table.specs.Served.{AreSameRules}
 use Rattle.conn_workers.specs.Captures.{IsOfCore}
 use Rattle.conn_workers.specs.Seats.{inputs_on, outs_on, owned_below}
 use Rattle.stream_reading.specs.Steps.{Ahead}
@@ -35,9 +36,9 @@ module _ {G : Type 0} where
   AreListed records k (report ∷ reports) = IsListed records k report × AreListed records (k + 1) reports
 
   -- one report for each connection, in order, no other inputs, and a capture of a core of these rules
-  pub record IsServedRun (rules : List RuleText) (connections : ℕ) (capture : Trace) (conns : List (ConnReport G)) : Type 0 where
+  pub record IsServedRun (rules : RuleSet) (connections : ℕ) (capture : Trace) (conns : List (ConnReport G)) : Type 0 where
     pub count : length conns ≡ connections
     pub each : AreListed capture.records 0 conns
     pub owned : owned_below connections capture.records ≡ true
-    pub rules_are : capture.rules ≡ rules
+    pub rules_are : AreSameRules capture.rules rules
     pub core : IsOfCore capture
