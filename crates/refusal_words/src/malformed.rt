@@ -22,16 +22,17 @@ pub struct Malformed<'a> {
 /// What is expected where a fault of this kind is.
 pub fn expected(kind: FormKind) -> &'static str {
     match kind {
-        FormKind::Magic => "the eight octets \"AMQPCAP1\", with which a capture begins",
+        FormKind::Magic =>
+            "the eight octets \"AMQPCAP1\" or \"AMQPCAP2\", with which a capture begins",
         FormKind::Rules =>
-            "at most 64 rules, each a distribution (0 closest, 1 balanced, 2 multicast) and a prefix of 1 to 160 octets of text, each prefix once",
+            "behind \"AMQPCAP2\" a mark of 0 or 1, and at most 64 rules, each a distribution (0 closest, 1 balanced, 2 multicast) and a prefix of 1 to 160 octets of text, each prefix once",
         FormKind::Kind => "a record whose kind is one of the five: opened, in, out, lost, broken",
         FormKind::Note =>
             "a note of 0 to 7, with an index only where it names a delivery, and only on a frame of the router",
         FormKind::Length =>
             "a frame of at most 16384 octets in an in or out, and of none elsewhere",
         FormKind::Truncated =>
-            "more octets: the capture ends within the number of rules, a rule or a record",
+            "more octets: the capture ends within the mark, the number of rules, a rule or a record",
         FormKind::Memory => "memory for a rule or a record, which was refused",
         FormKind::Read => "more octets, which could not be read",
     }
