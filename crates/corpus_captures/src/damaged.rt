@@ -4,13 +4,15 @@
 ghost use Rattle.std.specs.Prelude.{◌<◌, ◌≤◌, length, IfSome};
 
 use audit_core::{Refusal, Tally, audit};
-use capture_form::{Capture, Reader, Reading, Rule, read_whole_records};
+use capture_form::{Capture, Form, Reader, Reading, RuleSet, read_whole_records};
 use kit_clients::Chance;
 use std::alloc::{AllocError, Global};
 use trace_law::{slow_check, tally_capture};
 
-/// Where the rules begin.
+/// Where the rules begin, in form One and in form Two.
 const RULES_AT: usize = 10;
+
+const RULES_BEHIND_MARK: usize = 11;
 
 /// The octets of a record in front of its frame, and where the frame's length stands in them.
 const RECORD_HEAD: usize = 18;
@@ -41,7 +43,7 @@ impl Damage {
         let Ok((rules, _)) = Reader::start(alloc, text) else {
             return Ok(often);
         };
-        let head = len_of_head(rules.as_slice());
+        let head = len_of_head(&rules);
         let mut otherwise: u32 = 0;
         for _ in 0..often {
             let damaged = self.damaged(alloc, text, head)?;
@@ -101,10 +103,13 @@ impl Damage {
     }
 }
 
-/// How long the magic, the number of rules and these rules are.
-fn len_of_head(rules: &[Rule]) -> usize {
-    let mut len = RULES_AT;
-    for rule in rules {
+/// How long what tells the form, the number of rules and these rules are.
+fn len_of_head(rules: &RuleSet) -> usize {
+    let mut len = match rules.form() {
+        Form::One => RULES_AT,
+        Form::Two { .. } => RULES_BEHIND_MARK,
+    };
+    for rule in rules.list() {
         len = len.saturating_add(rule.prefix.len()).saturating_add(3);
     }
     len
