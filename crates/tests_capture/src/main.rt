@@ -27,18 +27,20 @@ use words::Subject;
 
 fn main(rt: HostRuntime) -> io::Result<()> {
     let alloc = rt.alloc();
-    tell_cases(&rt, "reading", &mut Texts::new(alloc))?;
-    tell_cases(&rt, "writing", &mut Texts::new(alloc))?;
-    tell_cases(&rt, "packing", &mut Texts::new(alloc))?;
-    tell_cases(&rt, "records", &mut Records::new(alloc))
+    tell_cases(&rt, "reading", Texts::new(alloc))?;
+    tell_cases(&rt, "writing", Texts::new(alloc))?;
+    tell_cases(&rt, "packing", Texts::new(alloc))?;
+    tell_cases(&rt, "records", Records::new(alloc))
 }
 
 /// Tells what comes of each case of a subject, in their order.
-fn tell_cases<S: Subject>(rt: &HostRuntime, name: &str, subject: &mut S) -> io::Result<()> {
+///
+/// It takes the subject itself: in `main` the drop of each would be proved on each way out of it.
+fn tell_cases<S: Subject + Drop>(rt: &HostRuntime, name: &str, mut subject: S) -> io::Result<()> {
     let cases = fs::read_to_string(rt, format!(in rt.alloc(); "{name}.cases")?)?;
     println!(rt; "== {name}")?;
     for line in cases.lines() {
-        tell_case(rt, line, subject)?;
+        tell_case(rt, line, &mut subject)?;
     }
     Ok(())
 }

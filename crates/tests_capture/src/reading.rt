@@ -3,14 +3,16 @@
 use crate::fakes::Pieces;
 use crate::runs::Runs;
 use crate::words::{Answer, count};
-use capture_form::{FormFault, Reader, Record, Rule, What, read_capture, read_whole_records};
+use capture_form::{
+    Form, FormFault, Reader, Record, Rule, RuleSet, What, read_capture, read_whole_records,
+};
 use std::alloc::{AllocError, Global};
 use std::io::Read;
 
 /// What was read of a text: its rules, the whole records before its first fault, and the fault.
 #[derive(Drop)]
 pub struct Found {
-    pub rules: Vec<Rule>,
+    pub rules: RuleSet,
     pub records: Vec<Record>,
     pub fault: Option<FormFault>,
     /// Whether the fault was answered once more.
@@ -21,7 +23,7 @@ impl Found {
     /// Nothing but a fault.
     fn fault(alloc: Global, fault: FormFault) -> Found {
         Found {
-            rules: Vec::new(alloc),
+            rules: RuleSet::new(Form::One, Vec::new(alloc)),
             records: Vec::new(alloc),
             fault: Some(fault),
             is_kept: true,
@@ -33,7 +35,12 @@ impl Found {
         if !self.is_kept {
             return "another answer behind the fault".to_string(alloc);
         }
-        in_words(alloc, self.rules.len(), self.records.len(), self.fault)
+        in_words(
+            alloc,
+            self.rules.list().len(),
+            self.records.len(),
+            self.fault,
+        )
     }
 }
 
@@ -61,7 +68,12 @@ pub fn read_in_words(alloc: Global, octets: &[u8]) -> Result<String, AllocError>
         return format!(in alloc; "{fault:?} and {:?}", read.fault);
     }
     let capture = &read.capture;
-    in_words(alloc, capture.rules().len(), capture.records().len(), fault)
+    in_words(
+        alloc,
+        capture.rules().list().len(),
+        capture.records().len(),
+        fault,
+    )
 }
 
 /// What is read of the first octets of a text, for each number of octets.
@@ -78,7 +90,7 @@ pub fn read_cuts(alloc: Global, octets: &[u8]) -> Answer {
 /// Reads record by record, up to the first fault.
 pub fn found_in<R: Read>(
     alloc: Global,
-    started: Result<(Vec<Rule>, Reader<R>), FormFault>,
+    started: Result<(RuleSet, Reader<R>), FormFault>,
 ) -> Result<Found, AllocError>
 where
     R: Drop,
@@ -133,12 +145,7 @@ fn is_read_as_whole(alloc: Global, octets: &[u8], size: usize) -> Result<bool, A
     Ok(
         found.is_kept
             && found.fault == whole.fault
-            && found.rules.len() == rules.len()
-            && found
-                .rules
-                .iter()
-                .zip(rules)
-                .all(|(one, other)| is_same_rule(one, other))
+            && are_same_rules(&found.rules, rules)
             && found.records.len() == records.len()
             && found
                 .records
@@ -146,6 +153,16 @@ fn is_read_as_whole(alloc: Global, octets: &[u8], size: usize) -> Result<bool, A
                 .zip(records)
                 .all(|(one, other)| is_same_record(one, other)),
     )
+}
+
+fn are_same_rules(these: &RuleSet, others: &RuleSet) -> bool {
+    let (list, other_list) = (these.list(), others.list());
+    these.form() == others.form()
+        && list.len() == other_list.len()
+        && list
+            .iter()
+            .zip(other_list)
+            .all(|(one, other)| is_same_rule(one, other))
 }
 
 fn is_same_rule(one: &Rule, other: &Rule) -> bool {
@@ -185,11 +202,15 @@ where
     found_in(alloc, started)?.in_words(alloc)
 }
 
-/// The rules and the records of a text, a line for each.
+/// The mark, where the form has one, the rules and the records of a text, a line for each.
 pub fn shown(alloc: Global, octets: &[u8]) -> Answer {
     let read = read_whole_records(alloc, octets);
     let mut lines = ":".to_string(alloc)?;
-    for rule in read.capture.rules() {
+    let rules = read.capture.rules();
+    if let Form::Two { anonymous } = rules.form() {
+        write!(lines, "\n    anonymous {anonymous}")?;
+    }
+    for rule in rules.list() {
         write!(lines, "\n    {:?} {}", rule.distribution, rule.prefix)?;
     }
     for record in read.capture.records() {
