@@ -2,7 +2,7 @@
 
 use crate::words::{Answer, Subject, behind, done, joined, number, parted, parts, told, word};
 use address_table::{AddressEvent, Rules, RulesFault, Table, table_after};
-use capture_form::{Distribution, Rule};
+use capture_form::{Distribution, Rule, read_capture};
 use std::alloc::{AllocError, Global};
 use std::cell::Cell;
 use std::mem;
@@ -39,6 +39,7 @@ impl Subject for Addresses {
             }
             "long-rules" => self.write_long(number(word(rest, 0)), number(word(rest, 1)))?,
             "rules" => return told(self.alloc, self.make_rules()),
+            "anonymous" => return self.serve_anonymous(),
             "keep" => return self.keep(),
             "links" => return self.table_answer(rest),
             _ => return self.rules_answer(verb, rest),
@@ -77,6 +78,15 @@ impl Addresses {
         Ok(())
     }
 
+    /// The router's rules say that anonymous senders are served.
+    fn serve_anonymous(&mut self) -> Answer {
+        let Some(rules) = self.rules.take() else {
+            return Ok(None);
+        };
+        self.rules = Some(rules.with_anonymous());
+        done(self.alloc)
+    }
+
     /// The router's rules are kept beside it.
     fn keep(&mut self) -> Answer {
         let Some(rules) = &self.rules else {
@@ -98,8 +108,11 @@ impl Addresses {
             }
             "empty-capture" => {
                 let capture = rules.empty_capture(self.alloc)?;
-                told(self.alloc, (capture.rules().len(), capture.records().len()))
+                let (form, list) = (capture.rules().form(), capture.rules().list());
+                told(self.alloc, (form, list.len(), capture.records().len()))
             }
+            "serves-anonymous" => told(self.alloc, rules.serves_anonymous()),
+            "are-of-form-one" => self.are_of_form_one(rules),
             "are-those-kept" => self.are_kept(rules),
             _ => Ok(None),
         }
@@ -113,6 +126,14 @@ impl Addresses {
         let are_of_kept = rules.are_of(&kept.empty_capture(self.alloc)?);
         let are_of_these = kept.are_of(&rules.empty_capture(self.alloc)?);
         told(self.alloc, (are_of_kept, are_of_these))
+    }
+
+    /// Whether the rules are those of a capture of form One without rules.
+    fn are_of_form_one(&self, rules: &Rules) -> Answer {
+        let Ok(capture) = read_capture(self.alloc, b"AMQPCAP1\x00\x00") else {
+            return Ok(None);
+        };
+        told(self.alloc, rules.are_of(&capture))
     }
 
     /// What comes of words about the links.

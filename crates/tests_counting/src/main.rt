@@ -28,20 +28,22 @@ use words::Subject;
 
 fn main(rt: HostRuntime) -> io::Result<()> {
     let alloc = rt.alloc();
-    tell_cases(&rt, "deliveries", &mut Deliveries::new(alloc))?;
-    tell_cases(&rt, "windows", &mut Windows::new(alloc))?;
-    tell_cases(&rt, "credits", &mut Credits::new(alloc))?;
-    tell_cases(&rt, "addresses", &mut Addresses::new(alloc))?;
-    tell_cases(&rt, "groups", &mut Keyed::new(alloc))?;
-    tell_cases(&rt, "notes", &mut Notes::new(alloc))
+    tell_cases(&rt, "deliveries", Deliveries::new(alloc))?;
+    tell_cases(&rt, "windows", Windows::new(alloc))?;
+    tell_cases(&rt, "credits", Credits::new(alloc))?;
+    tell_cases(&rt, "addresses", Addresses::new(alloc))?;
+    tell_cases(&rt, "groups", Keyed::new(alloc))?;
+    tell_cases(&rt, "notes", Notes::new(alloc))
 }
 
 /// Tells what comes of each case of a subject, in their order.
-fn tell_cases<S: Subject>(rt: &HostRuntime, name: &str, subject: &mut S) -> io::Result<()> {
+///
+/// It takes the subject itself: in `main` the drop of each would be proved on each way out of it.
+fn tell_cases<S: Subject + Drop>(rt: &HostRuntime, name: &str, mut subject: S) -> io::Result<()> {
     let cases = fs::read_to_string(rt, format!(in rt.alloc(); "{name}.cases")?)?;
     println!(rt; "== {name}")?;
     for line in cases.lines() {
-        tell_case(rt, line, subject)?;
+        tell_case(rt, line, &mut subject)?;
     }
     Ok(())
 }
