@@ -15,8 +15,14 @@ use bench::Bench;
 use std::io;
 
 fn main(rt: HostRuntime) -> io::Result<()> {
+    tell_lines(&rt, &mut Bench::new(rt.alloc()))
+}
+
+/// Tells of which lines something else came than they say.
+///
+/// It borrows the bench: owned here, its drop would be proved on each way out of the loop.
+fn tell_lines(rt: &HostRuntime, bench: &mut Bench) -> io::Result<()> {
     let alloc = rt.alloc();
-    let mut bench = Bench::new(alloc);
     let (mut told, mut others) = (0u64, 0u64);
     for line in rt.lines(alloc) {
         let line = line?;

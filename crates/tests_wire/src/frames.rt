@@ -35,25 +35,24 @@ fn read(alloc: Global, limit: u32, octets: &[u8]) -> Result<String, AllocError> 
     if FrameView::whole(octets, limit).is_some() {
         out.push_str("whole ")?;
     }
+    tell_front(&mut out, limit, octets)?;
+    Ok(out)
+}
+
+/// Tells the frame at the front of the octets.
+fn tell_front(out: &mut String, limit: u32, octets: &[u8]) -> Result<(), AllocError> {
     match FrameView::read(octets, limit) {
         Ok(Some((frame, length))) => {
+            let (kind, channel) = (frame.kind(), frame.channel());
+            let (all, body) = (Hex(frame.octets()), Hex(frame.body()));
             write!(
                 out,
-                "{:?} frame of {length} octets on channel {}",
-                frame.kind(),
-                frame.channel()
-            )?;
-            write!(
-                out,
-                "\n  {:?}\n  body {:?}",
-                Hex(frame.octets()),
-                Hex(frame.body())
-            )?;
+                "{kind:?} frame of {length} octets on channel {channel}\n  {all:?}\n  body {body:?}"
+            )
         }
-        Ok(None) => out.push_str("no whole frame yet")?,
-        Err(fault) => out.push_str(&fault_told(alloc, fault)?)?,
+        Ok(None) => out.push_str("no whole frame yet"),
+        Err(fault) => out.push_str(&fault_told(*out.allocator(), fault)?),
     }
-    Ok(out)
 }
 
 /// The frames of a stream that comes in these pieces, and the fault behind them.

@@ -78,10 +78,17 @@ fn tell_disposition(out: &mut String, disposition: &Disposition<'_>) -> Result<(
 /// Whether fields are those of the performative that has this code, or which fault there is. The list is of the short
 /// form.
 fn fits(alloc: Global, code: &str, fields: &[&str]) -> io::Result<String> {
-    let mut items = Vec::new(alloc);
-    for field in fields {
-        items.extend_from_slice(&octets(alloc, field)?)?;
+    let mut list = octets(alloc, code)?;
+    put_list(&mut list, fields)?;
+    match Performative::read(&list) {
+        Ok(_) => Ok("fits".to_string(alloc)?),
+        Err(fault) => Ok(fault_told(alloc, fault)?),
     }
+}
+
+/// Puts a list of the short form.
+fn put_list(out: &mut Vec<u8>, fields: &[&str]) -> io::Result<()> {
+    let items = joined(*out.allocator(), fields)?;
     let sizes = (
         u8::try_from(items.len().saturating_add(1)),
         u8::try_from(fields.len()),
@@ -89,11 +96,16 @@ fn fits(alloc: Global, code: &str, fields: &[&str]) -> io::Result<String> {
     let (Ok(size), Ok(count)) = sizes else {
         return Err(no_case());
     };
-    let mut list = octets(alloc, code)?;
-    list.extend_from_slice(&[0xC0, size, count])?;
-    list.extend_from_slice(&items)?;
-    match Performative::read(&list) {
-        Ok(_) => Ok("fits".to_string(alloc)?),
-        Err(fault) => Ok(fault_told(alloc, fault)?),
+    out.extend_from_slice(&[0xC0, size, count])?;
+    out.extend_from_slice(&items)?;
+    Ok(())
+}
+
+/// The octets of all words, one behind the other.
+fn joined(alloc: Global, words: &[&str]) -> io::Result<Vec<u8>> {
+    let mut all = Vec::new(alloc);
+    for word in words {
+        all.extend_from_slice(&octets(alloc, word)?)?;
     }
+    Ok(all)
 }

@@ -69,20 +69,30 @@ fn pieces_of<'a>(
 /// How many frames a stream of many is cut into that comes in pieces of these lengths, and whether they are those that
 /// were joined.
 fn in_pieces(alloc: Global, words: &[&str]) -> io::Result<String> {
+    let lengths = lengths_of(alloc, words)?;
+    Ok(cut_told(alloc, &many_frames(alloc)?, &lengths)?)
+}
+
+/// The lengths that words are.
+fn lengths_of(alloc: Global, words: &[&str]) -> io::Result<Vec<usize>> {
     let mut lengths = Vec::new(alloc);
     for word in words {
         lengths.push(number::<usize>(word)?)?;
     }
-    let frames = many_frames(alloc)?;
-    let stream = joined(alloc, &frames)?;
-    let pieces = pieces_of(alloc, &stream, &lengths)?;
+    Ok(lengths)
+}
+
+/// The same of these frames.
+fn cut_told(alloc: Global, frames: &[Vec<u8>], lengths: &[usize]) -> Result<String, AllocError> {
+    let stream = joined(alloc, frames)?;
+    let pieces = pieces_of(alloc, &stream, lengths)?;
     let cut = cut_stream(alloc, pieces.as_slice())?;
-    let same = cut.frames == frames;
-    Ok(format!(in alloc;
+    let same = cut.frames.as_slice() == frames;
+    format!(in alloc;
         "{} frames, as they were {same}, {:?}",
         cut.frames.len(),
         cut.fault
-    )?)
+    )
 }
 
 /// How many of so many frames are given back that come in one piece, and what is given behind them. Where a long stream
@@ -110,15 +120,31 @@ fn repeated(alloc: Global, count: u32, octets: &[u8]) -> Result<Vec<u8>, AllocEr
 /// How many of so many frames are given back that come one by one, and how many octets are kept then; and the same of
 /// further pieces.
 fn rounds(alloc: Global, count: u32, frame: &[u8], words: &[&str]) -> io::Result<String> {
-    let mut splitter = Splitter::new(alloc);
-    let given = one_by_one(&mut splitter, count, frame)?;
-    let mut out = format!(in alloc; "{given} given back, {:?} kept", kept(alloc, &splitter)?)?;
+    rounds_told(&mut Splitter::new(alloc), alloc, count, frame, words)
+}
+
+/// The same of a splitter that was given nothing.
+fn rounds_told(
+    splitter: &mut Splitter,
+    alloc: Global,
+    count: u32,
+    frame: &[u8],
+    words: &[&str],
+) -> io::Result<String> {
+    let given = one_by_one(splitter, count, frame)?;
+    let mut out = format!(in alloc; "{given} given back, {:?} kept", kept(alloc, splitter)?)?;
     for word in words {
-        splitter.feed(&octets(alloc, word)?)?;
-        let next = next_told(alloc, &mut splitter)?;
-        write!(out, "\n  {next}, {:?} kept", kept(alloc, &splitter)?)?;
+        tell_piece(&mut out, splitter, &octets(alloc, word)?)?;
     }
     Ok(out)
+}
+
+/// Tells what a splitter gives behind a further piece, and how many octets it keeps then.
+fn tell_piece(out: &mut String, splitter: &mut Splitter, piece: &[u8]) -> Result<(), AllocError> {
+    let alloc = *out.allocator();
+    splitter.feed(piece)?;
+    let next = next_told(alloc, splitter)?;
+    write!(out, "\n  {next}, {:?} kept", kept(alloc, splitter)?)
 }
 
 /// How many of so many frames are given back that come one by one.
