@@ -1,6 +1,6 @@
 //! What stood behind the records of captures, drawn as curves.
 
-use capture_form::{Capture, Record, Rule, read_capture};
+use capture_form::{Capture, Record, RuleSet, read_capture};
 use credit_chart::draw_levels;
 use credit_levels::{Levels, Pick, Place};
 use state_ledger::{Ledger, NotEntered};
@@ -77,7 +77,7 @@ fn levels_of<'p>(
 fn take(
     ledger: &mut Ledger,
     levels: &mut Levels<'_>,
-    rules: &[Rule],
+    rules: &RuleSet,
     entry: &Record,
 ) -> Result<bool, AllocError> {
     let number = ledger.tally().records;

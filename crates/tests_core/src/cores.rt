@@ -1,7 +1,7 @@
-//! Cores: their rules, and what is done to them.
+//! Cores: their rules, what is done to them, and the text of what they made.
 
 use address_table::Rules;
-use capture_form::{Distribution, Rule};
+use capture_form::{Capture, Distribution, Rule, append, append_head};
 use flow_counts::MAX_FRAME_SIZE;
 use kit_talks::Deed;
 use route_core::Core;
@@ -23,15 +23,44 @@ pub(crate) fn rule(
     })
 }
 
+/// No rules.
+pub(crate) fn no_rules(alloc: Global) -> Result<Rules, AllocError> {
+    Rules::new(Vec::new(alloc)).ok().ok_or(AllocError)
+}
+
 /// A core without rules.
 ///
 /// # Errors
 ///
 /// Where memory is refused.
 pub(crate) fn core_without_rules(alloc: Global) -> Result<Core, AllocError> {
-    match Rules::new(Vec::new(alloc)) {
-        Ok(rules) => Core::new(alloc, &rules, LIMIT),
-        Err(_) => Err(AllocError),
+    Core::new(alloc, &no_rules(alloc)?, LIMIT)
+}
+
+/// The text of what a core of these rules made, but in the form of a known capture: a core's own has form Two. There is none
+/// where one of both has other rules.
+///
+/// # Errors
+///
+/// Where memory is refused.
+pub(crate) fn text_in_form(
+    alloc: Global,
+    rules: &Rules,
+    known: &Capture,
+    made: &Capture,
+) -> Result<Option<Vec<u8>>, AllocError> {
+    if !rules.are_of(known) || !rules.are_of(made) {
+        return Ok(None);
+    }
+    let mut text = Vec::new(alloc);
+    let mut is_whole = append_head(&mut text, known.rules()).is_ok();
+    for entry in made.records() {
+        is_whole = is_whole && append(&mut text, entry).is_ok();
+    }
+    if is_whole {
+        Ok(Some(text))
+    } else {
+        Err(AllocError)
     }
 }
 

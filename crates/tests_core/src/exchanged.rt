@@ -20,9 +20,10 @@ mod talks;
 
 ghost use Rattle.std.specs.Prelude.{◌<◌};
 
+use crate::cores::{no_rules, text_in_form};
 use crate::{WORDS_FAULT, WRONG};
 use audit_core::{Verdict, audit_bytes};
-use capture_form::write_capture;
+use capture_form::{Capture, read_capture, write_capture};
 use exchange::exchanged;
 use kit_talks::{StreamCounts, are_served};
 use running::{Run, run_of_seed};
@@ -63,7 +64,7 @@ fn is_worked(rt: &HostRuntime, most: usize, worked: &[u8]) -> io::Result<bool>
         return Ok(false);
     };
     let text = write_capture(rt.alloc(), &capture)?;
-    let is_same = text.as_slice() == worked;
+    let is_same = is_made(rt.alloc(), &capture, worked)?;
     let name = if is_same {
         "the worked capture"
     } else {
@@ -77,6 +78,15 @@ fn is_worked(rt: &HostRuntime, most: usize, worked: &[u8]) -> io::Result<bool>
         _ => println!(rt; "pieces of {most}: {name}, not accepted")?,
     }
     Ok(is_same)
+}
+
+/// Whether the worked capture is what the core made, without rules.
+fn is_made(alloc: Global, made: &Capture, worked: &[u8]) -> Result<bool, AllocError> {
+    let Ok(known) = read_capture(alloc, worked) else {
+        return Ok(false);
+    };
+    let text = text_in_form(alloc, &no_rules(alloc)?, &known, made)?;
+    Ok(text.is_some_and(|text| text.as_slice() == worked))
 }
 
 /// Holds each talk, and answers whether all go as they were worked out.

@@ -2,8 +2,8 @@
 //!
 //! The captures are the files `replayed/NAME.cap`. For each, in the order of their names, the program prints the name and
 //! `same`, where the core made just these octets of the capture's inputs and rules, or from which octet on it made others; and
-//! the auditor's verdict of what the core holds, which it accepts whatever came in. `README.md` says which of them a core can't
-//! have written.
+//! the auditor's verdict of what the core holds, which it accepts whatever came in. A core's own capture has form Two; it is
+//! compared in the form of the file. `README.md` says which of them a core can't have written.
 //!
 //! Where memory is refused to the core, the capture has to be what it was before that input, the front of what stands there,
 //! and the core has to take nothing more.
@@ -13,11 +13,11 @@ ghost use Rattle.std.specs.List.{AllByRecursion};
 ghost use Rattle.route_items.specs.Items.{IsShort};
 
 use crate::WRONG;
-use crate::cores::{LIMIT, rule};
+use crate::cores::{LIMIT, text_in_form};
 use crate::names::names_in;
 use address_table::Rules;
 use audit_core::Verdict;
-use capture_form::{Capture, Reading, Record, Rule, What, read_whole_records, write_capture};
+use capture_form::{Capture, Reading, Record, What, read_whole_records};
 use core_verdict::audit_core_text;
 use route_core::Core;
 use route_items::{Item, StepFault};
@@ -80,18 +80,22 @@ fn replay(alloc: Global, octets: &[u8]) -> Result<Replayed, AllocError> {
     if fault.is_some() {
         return Ok(Replayed::Unread);
     }
-    let Ok(rules) = Rules::new(copies_of(alloc, capture.rules())?) else {
+    let Some(rules) = rules_of(alloc, &capture)? else {
         return Ok(Replayed::Refused(0));
     };
     let items = inputs_of(alloc, &capture)?;
     let core = Core::new(alloc, &rules, LIMIT)?;
     let (ran, again, verdict, made) = run(alloc, core, items.as_slice());
-    let text = write_capture(alloc, &made)?;
+    let text = text_in_form(alloc, &rules, &capture, &made)?;
     match ran {
-        Ok(()) => Ok(compared(text.as_slice(), octets, verdict?)),
+        Ok(()) => {
+            let text = text.unwrap_or(Vec::new(alloc));
+            Ok(compared(text.as_slice(), octets, verdict?))
+        }
         Err((place, StepFault::Memory)) => {
             let inputs = inputs_of(alloc, &made)?;
-            let stands = inputs.len() == place && octets.starts_with(text.as_slice());
+            let is_front = text.is_some_and(|text| octets.starts_with(text.as_slice()));
+            let stands = inputs.len() == place && is_front;
             Ok(if stands && again == Err(StepFault::Failed) {
                 Replayed::Stopped(place)
             } else {
@@ -127,13 +131,17 @@ fn run(
     (ran, again, verdict, core.into_capture())
 }
 
-/// The rules once more.
-fn copies_of(alloc: Global, rules: &[Rule]) -> Result<Vec<Rule>, AllocError> {
-    let mut copies = Vec::new(alloc);
-    for known in rules {
-        copies.push(rule(alloc, known.distribution, known.prefix.as_str())?)?;
-    }
-    Ok(copies)
+/// The rules of the capture, unless a router does not take them.
+fn rules_of(alloc: Global, capture: &Capture) -> Result<Option<Rules>, AllocError> {
+    let known = capture.rules();
+    let Ok(rules) = Rules::new(known.copied(alloc)?.into_list()) else {
+        return Ok(None);
+    };
+    Ok(Some(if known.serves_anonymous() {
+        rules.with_anonymous()
+    } else {
+        rules
+    }))
 }
 
 /// What happened to the router, in order.

@@ -50,7 +50,7 @@ fn play_seats<R: Wait + Print + AllocGlobal>(rt: &R, lie: &str) -> io::Result<()
     let (first, second) = two_seats(rt, &exchange)?;
     match exchange.close(told(alloc, lie, first, second)?) {
         Ok((capture, seats)) => {
-            let (records, rules) = (capture.records().len(), capture.rules().len());
+            let (records, rules) = (capture.records().len(), capture.rules().list().len());
             println!(rt; "{lie}: as in the capture, {records} records, {rules} rules")?;
             tell_seats(rt, seats.as_slice())
         }

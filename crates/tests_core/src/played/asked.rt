@@ -1,6 +1,6 @@
 //! What the auditor's tables answer behind the records so far, in the words of a scenario's questions.
 
-use capture_form::Rule;
+use capture_form::RuleSet;
 use kit_talks::{Names, Telling, Words};
 use state_incoming::HeldDelivery;
 use state_ledger::Ledger;
@@ -14,7 +14,7 @@ use trace_values::{Asking, Link};
 pub(crate) struct Tables<'t> {
     pub(crate) alloc: Global,
     pub(crate) ledger: &'t Ledger,
-    pub(crate) rules: &'t [Rule],
+    pub(crate) rules: &'t RuleSet,
     pub(crate) names: &'t Names,
 }
 
