@@ -70,24 +70,23 @@ string_descriptor = refl
 
 -- ---- what a section says
 
--- a header is a list, and no map
+-- a header is passed over, a list or a map, and so are annotations
 header_list : section_says Header (Nested kinds.List 0 []) ≡ Some None
 header_list = refl
 
-header_map : section_says Header (Nested kinds.Map 0 []) ≡ None
+header_map : section_says Header (Nested kinds.Map 0 []) ≡ Some None
 header_map = refl
 
--- annotations are a map, and no list
 delivery_annotations_map : section_says DeliveryAnnotations (Nested kinds.Map 0 []) ≡ Some None
 delivery_annotations_map = refl
 
-delivery_annotations_list : section_says DeliveryAnnotations (Nested kinds.List 0 []) ≡ None
+delivery_annotations_list : section_says DeliveryAnnotations (Nested kinds.List 0 []) ≡ Some None
 delivery_annotations_list = refl
 
 message_annotations_map : section_says MessageAnnotations (Nested kinds.Map 0 []) ≡ Some None
 message_annotations_map = refl
 
-message_annotations_list : section_says MessageAnnotations (Nested kinds.List 0 []) ≡ None
+message_annotations_list : section_says MessageAnnotations (Nested kinds.List 0 []) ≡ Some None
 message_annotations_list = refl
 
 -- properties are a list, and no map

@@ -1,12 +1,12 @@
 -- The address that a message is for, in its properties (part 3, section 3.2).
-use Rattle.std.specs.Prelude.{◌≡◌, ℕ, zero, suc, ◌&&◌, List, length, Option, Some, None, is_some, option_and_then, option_map, nat_le, codes, Ok, Err, ◌==◌, if◌then◌else◌}
+use Rattle.std.specs.Prelude.{◌≡◌, ℕ, zero, suc, ◌&&◌, List, length, Option, Some, None, option_and_then, option_map, nat_le, codes, Ok, Err, ◌==◌, if◌then◌else◌}
 use Rattle.std.specs.Str.{bytes_eq}
 use Rattle.flow_counts.specs.declared.profile.TheConstants.{MAX_ADDRESS, MAX_DEPTH}
 use Rattle.amqp_types.specs.Part.{Part, Seen}
 use Rattle.amqp_types.specs.Reading.{Read, seen_at}
 use Rattle.amqp_types.specs.Grammar.{IsFront}
 use Rattle.amqp_types.specs.Items.{descriptor_of, described_of}
-use Rattle.amqp_types.specs.Typed.{ulong_in, symbol_in, str_in, list_in, map_in}
+use Rattle.amqp_types.specs.Typed.{ulong_in, symbol_in, str_in, list_in}
 use Rattle.amqp_perf.specs.declared.message.Section.{Section}
 use Rattle.amqp_perf.specs.declared.message.Section.TheVariants.{Header, DeliveryAnnotations, MessageAnnotations, Properties}
 use Rattle.amqp_perf.specs.FieldPlaces.{field_at}
@@ -36,12 +36,12 @@ section_by None name = option_and_then section_of_name name
 abbrev pub section_named : Part → Option Section
 section_named part = section_by (ulong_in part) (symbol_in part)
 
--- what a section of this name says: the items of the properties, none where it is passed over. A header and the
--- properties are lists, annotations are maps (part 3, 3.2.1 to 3.2.4)
+-- what a section of this name says: the items of the properties, which are a list, and of any other none: it is passed over
+-- by its descriptor alone, whatever it describes (part 3, 3.2.1 to 3.2.4)
 abbrev pub section_says : Section → Part → Option (Option (List Seen))
-section_says Header part = if is_some (list_in part) then Some None else None
-section_says DeliveryAnnotations part = if is_some (map_in part) then Some None else None
-section_says MessageAnnotations part = if is_some (map_in part) then Some None else None
+section_says Header part = Some None
+section_says DeliveryAnnotations part = Some None
+section_says MessageAnnotations part = Some None
 section_says Properties part = option_map Some (list_in part)
 
 -- what a value says that its descriptor makes such a section

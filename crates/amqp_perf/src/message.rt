@@ -68,14 +68,7 @@ fn section_in(value: Value<'_>) -> Option<Option<Items<'_>>>
     let section = Section::of(value.descriptor()?)?;
     let described = value.described()?;
     match section {
-        Section::Header => {
-            described.as_list()?;
-            Some(None)
-        }
-        Section::DeliveryAnnotations | Section::MessageAnnotations => {
-            described.as_map()?;
-            Some(None)
-        }
+        Section::Header | Section::DeliveryAnnotations | Section::MessageAnnotations => Some(None),
         Section::Properties => Some(Some(described.as_list()?)),
     }
 }
@@ -119,7 +112,8 @@ fn find_address(payload: &[u8]) -> Option<&str>
 }
 
 /// The address that a message is for: the field `to` of its properties, on which it stays. A header and annotations
-/// in front of the properties are passed over, in any order and number; what is behind the properties is not read.
+/// in front of the properties are passed over by their descriptors, whatever they describe, in any order and number;
+/// what is behind the properties is not read.
 ///
 /// `None` where there is no such field, it is no string of 1 to `MAX_ADDRESS` octets, or what is in front of it is
 /// anything else.
