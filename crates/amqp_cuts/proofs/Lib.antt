@@ -1,0 +1,17 @@
+mod Tests
+mod Windows
+mod Characters
+mod Items
+mod Pieces
+mod Leaves
+mod LeavesItems
+mod LeavesArrays
+mod Passed
+mod Names
+mod Messages
+mod Behind
+mod Says
+mod Listed
+mod ToOf
+mod Slices
+mod Examples
