@@ -32,7 +32,7 @@ pub enum Taken {
 pub enum Ready {
     Yes,
     No,
-    /// A poll or a listener failed, or a connection could not be taken in.
+    /// A poll or a listener failed.
     Device,
 }
 

@@ -27,7 +27,7 @@ pub enum Status {
 pub enum Stop {
     /// Memory was refused outside the core.
     Memory,
-    /// A poll or a listener failed, or a connection could not be taken in.
+    /// A poll or a listener failed.
     Device,
     /// The core refused a step.
     Core,

@@ -69,7 +69,7 @@ pub struct RunReport<G> {
 pub enum RunFault {
     /// Memory was refused outside the core.
     Memory,
-    /// A poll or a listener failed, or a connection could not be taken in.
+    /// A poll or a listener failed, or the address could not be listened at.
     Device,
     /// What the ports took and gave, or the rules, are not what the capture has.
     Mismatch,
