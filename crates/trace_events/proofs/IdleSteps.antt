@@ -9,7 +9,7 @@ use Rattle.trace_events.specs.Event.{Event, Link, Incoming, Outgoing, Moment, Op
 use Rattle.trace_events.specs.declared.session.Session.{Session}
 use Rattle.trace_events.specs.Said.{as_transfer, as_disposition, in_transfer, out_transfer, in_disposition, out_disposition}
 use Rattle.trace_events.specs.Link.{is_live, own_link}
-use Rattle.trace_events.specs.Incoming.{completed_by, completes, is_complete, is_aborted, is_settled, is_told, incoming_begun, incoming_deliveries, incoming_at, settles_part, settles_id}
+use Rattle.trace_events.specs.Incoming.{address_of, completed_by, completes, is_complete, is_aborted, is_settled, is_told, incoming_begun, incoming_deliveries, incoming_at, settles_part, settles_id}
 use Rattle.trace_events.specs.Incoming as incoming
 use Rattle.trace_events.specs.Outgoing.{outgoing_begun, outgoing_deliveries, next_delivery_id, answering, noted, pairing, is_paired, is_named_on, is_sent, decision, is_settled_by_consumer, is_settled_by_router}
 use Rattle.trace_events.specs.Outgoing as outgoing
@@ -148,13 +148,13 @@ module _ (e : Event) (past : List Event) (idle : IsIdle e) (steady : IsSteady e)
 
 module _ (e : Event) (past : List Event) (idle : IsIdle e) (steady : IsSteady e) (none : own_link e ≡ None) where
   pub always_had_consumer-idle : (d : Incoming) → always_had_consumer d (e ∷ past) ≡ always_had_consumer d past
-  always_had_consumer-idle d = waits.always_had_consumer-same d e past (completes-idle e past idle d) (has_consumer-steady e past steady d.link.address none)
+  always_had_consumer-idle d = waits.always_had_consumer-same d e past (completes-idle e past idle d) (has_consumer-steady e past steady (address_of d past) none)
 
   pub is_waiting-idle : (rules : RuleSet) (d : Incoming) → is_waiting rules d (e ∷ past) ≡ is_waiting rules d past
-  is_waiting-idle rules d = waits.is_waiting-same d e past rules (is_complete-idle e past idle d) (is_paired-idle e past idle d) (always_had_consumer-idle d)
+  is_waiting-idle rules d = waits.is_waiting-same d e past rules (completes-idle e past idle d) (is_paired-idle e past idle d) (always_had_consumer-idle d)
 
   pub is_gone-idle : (rules : RuleSet) (d : Incoming) → is_gone rules d (e ∷ past) ≡ is_gone rules d past
-  is_gone-idle rules d = waits.is_gone-same d e past rules (is_complete-idle e past idle d) (is_paired-idle e past idle d) (always_had_consumer-idle d)
+  is_gone-idle rules d = waits.is_gone-same d e past rules (completes-idle e past idle d) (is_paired-idle e past idle d) (always_had_consumer-idle d)
 
   pub is_undecided-idle : (rules : RuleSet) (d : Incoming) → is_undecided rules d (e ∷ past) ≡ is_undecided rules d past
   is_undecided-idle rules d =
@@ -168,7 +168,7 @@ module _ (e : Event) (past : List Event) (idle : IsIdle e) (steady : IsSteady e)
   to_tell-idle rules s id = waits.to_tell-same rules e past s id (incoming_begun-idle e past idle) (is_undecided-idle rules)
 
   pub has_waiting-idle : (rules : RuleSet) (address : List ℕ) → has_waiting rules address (e ∷ past) ≡ has_waiting rules address past
-  has_waiting-idle rules address = waits.has_waiting-same rules e past address (incoming_begun-idle e past idle) (is_waiting-idle rules)
+  has_waiting-idle rules address = waits.has_waiting-same rules e past address (incoming_begun-idle e past idle) (completes-idle e past idle) (is_waiting-idle rules)
 
 -- ---- which events of a history are idle: neither transfers nor dispositions
 

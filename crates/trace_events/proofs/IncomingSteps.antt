@@ -1,11 +1,13 @@
 -- What one more event does to deliveries from clients.
-use Rattle.std.proofs.Common.{◌≡◌, refl, ap, ◌∙◌, ℕ, Bool, true, false, ◌&&◌, ◌||◌, List, ◌∷◌, ◌++◌, Some, None, option_map, find, if◌then◌else◌, ◌==◌}
+use Rattle.std.proofs.Common.{◌≡◌, refl, ap, ◌∙◌, ℕ, Bool, true, false, ◌&&◌, ◌||◌, List, [], ◌∷◌, ◌++◌, Some, None, option_map, unwrap_or, find, if◌then◌else◌, ◌==◌}
 use Rattle.std.specs.List.{cons_option}
 use Rattle.amqp_perf.specs.Meaning.{TransferFields, flag}
+use Rattle.amqp_perf.specs.Message.{to_of}
 use Rattle.trace_events.specs.Words.{is_some_and, is_number}
 use Rattle.trace_events.specs.Event.{Event, Link, Incoming}
+use Rattle.trace_events.specs.Link.{is_anonymous}
 use Rattle.trace_events.specs.Said.{in_spoken, in_transfer}
-use Rattle.trace_events.specs.Incoming.{goes_on, in_progress, is_part, part_payload, payload, completes, is_complete, completion, is_aborted, incoming_begun, incoming_deliveries, incoming_at, settles_id, settles_part, is_settled, is_told}
+use Rattle.trace_events.specs.Incoming.{goes_on, in_progress, is_part, part_payload, payload, completes, is_complete, message, message_address, address_of, completion, is_aborted, incoming_begun, incoming_deliveries, incoming_at, settles_id, settles_part, is_settled, is_told}
 use Rattle.trace_events.proofs.StepWords.{or-true}
 
 -- the event is a part of a delivery of the link; it gives the delivery up
@@ -44,6 +46,12 @@ module _ (e : Event) (past : List Event) where
 
   pub is_complete-same : (d : Incoming) → completes d e ≡ false → is_complete d (e ∷ past) ≡ is_complete d past
   is_complete-same d none = ap (λ b. b || is_complete d past) none
+
+  -- the address that it is for is told by the event that completes it, and by no other
+  pub address_of-same : (d : Incoming) → completes d e ≡ false → address_of d (e ∷ past) ≡ address_of d past
+  unfolding message_address
+  address_of-same d none =
+      ap (λ b. if is_anonymous d.link then (if b then unwrap_or (to_of (message d (e ∷ past))) [] else message_address d past) else d.link.address) none
 
   pub is_complete-here : (d : Incoming) → completes d e ≡ true → is_complete d (e ∷ past) ≡ true
   is_complete-here d here = ap (λ b. b || is_complete d past) here
@@ -123,6 +131,7 @@ pub ruleset incoming_steps = (
   in_progress-ends,
   payload-same,
   payload-more,
+  address_of-same,
   is_complete-same,
   is_complete-here,
   is_complete-stays,

@@ -13,6 +13,8 @@ use Rattle.trace_events.specs.Outgoing.{is_paired}
 use Rattle.trace_events.specs.Waiting.{is_of_multicast, always_had_consumer, is_waiting}
 use Rattle.trace_events.specs.Queue.{pairs, stays, completed_deliveries, waits_at, waiting_queue}
 use Rattle.trace_events.proofs.StepWords.{or-true}
+use Rattle.trace_events.proofs.IncomingSteps.{address_of-same}
+use Rattle.trace_events.proofs.WaitingSteps.{if-fails, is_of_multicast-same}
 use Rattle.trace_events.proofs.EveryStep.{is_paired-step}
 
 -- ---- a delivery that waits
@@ -49,22 +51,26 @@ waiting-bits true false true false false false false = refl
 
 -- what waited stays or not; what the event completes begins to wait or not
 pub is_waiting-step : (rules : RuleSet) (d : Incoming) (e : Event) (past : List Event)
-    → is_waiting rules d (e ∷ past) ≡ (if completes d e then not (is_of_multicast rules d) && not (is_paired d past) else is_waiting rules d past) && stays e past d
+    → is_waiting rules d (e ∷ past) ≡ (if completes d e then not (is_of_multicast rules d (e ∷ past)) && not (is_paired d past) else is_waiting rules d past) && stays e past d
 is_waiting-step rules d e past =
-    ap (λ b. not (is_of_multicast rules d) && is_complete d (e ∷ past) && not b && always_had_consumer d (e ∷ past)) (is_paired-step e past d)
-    ∙ waiting-bits (not (is_of_multicast rules d)) (completes d e) (is_complete d past) (is_paired d past) (pairs d e) (has_consumer (address_of d) (e ∷ past)) (always_had_consumer d past)
+    let now = not (is_of_multicast rules d (e ∷ past)) in
+    ap (λ b. now && is_complete d (e ∷ past) && not b && always_had_consumer d (e ∷ past)) (is_paired-step e past d)
+    ∙ (waiting-bits now (completes d e) (is_complete d past) (is_paired d past) (pairs d e) (has_consumer (address_of d (e ∷ past)) (e ∷ past)) (always_had_consumer d past)
+    ∙ ap (λ b. b && stays e past d)
+    (if-fails (completes d e) (now && not (is_paired d past)) (now && is_complete d past && not (is_paired d past) && always_had_consumer d past) (is_waiting rules d past)
+    (λ none. ap (λ b. not b && is_complete d past && not (is_paired d past) && always_had_consumer d past) (is_of_multicast-same d e past rules none))))
 
 pub is_waiting-stays : (rules : RuleSet) (d : Incoming) (e : Event) (past : List Event) → completes d e ≡ false
     → is_waiting rules d (e ∷ past) ≡ is_waiting rules d past && stays e past d
 is_waiting-stays rules d e past none =
     is_waiting-step rules d e past
-    ∙ ap (λ b. (if b then not (is_of_multicast rules d) && not (is_paired d past) else is_waiting rules d past) && stays e past d) none
+    ∙ ap (λ b. (if b then not (is_of_multicast rules d (e ∷ past)) && not (is_paired d past) else is_waiting rules d past) && stays e past d) none
 
 pub is_waiting-begins : (rules : RuleSet) (d : Incoming) (e : Event) (past : List Event) → completes d e ≡ true
-    → is_waiting rules d (e ∷ past) ≡ (not (is_of_multicast rules d) && not (is_paired d past)) && stays e past d
+    → is_waiting rules d (e ∷ past) ≡ (not (is_of_multicast rules d (e ∷ past)) && not (is_paired d past)) && stays e past d
 is_waiting-begins rules d e past here =
     is_waiting-step rules d e past
-    ∙ ap (λ b. (if b then not (is_of_multicast rules d) && not (is_paired d past) else is_waiting rules d past) && stays e past d) here
+    ∙ ap (λ b. (if b then not (is_of_multicast rules d (e ∷ past)) && not (is_paired d past) else is_waiting rules d past) && stays e past d) here
 
 -- ---- the queue of an address
 
@@ -140,6 +146,7 @@ waiting_queue-step rules address e past new =
     ∙ ap (λ xs. xs ++ added)
     (ap reverse (filter-each now (waits_at rules address past) (stays e past) (completed_deliveries past)
     (each-map (λ (d : Incoming). is_complete d past ≡ true) (λ d. now d ≡ waits_at rules address past d && stays e past d)
-    (λ d done. ap (λ b. bytes_eq (address_of d) address && b) (is_waiting-stays rules d e past (new d done)) ∙ and-again (bytes_eq (address_of d) address) (is_waiting rules d past) (stays e past d))
+    (λ d done. ap (λ a. bytes_eq a address && is_waiting rules d (e ∷ past)) (address_of-same e past d (new d done))
+    ∙ (ap (λ b. bytes_eq (address_of d past) address && b) (is_waiting-stays rules d e past (new d done)) ∙ and-again (bytes_eq (address_of d past) address) (is_waiting rules d past) (stays e past d)))
     (completed_deliveries past) (completed-complete past)))
     ∙ filter-reverse (stays e past) (filter (waits_at rules address past) (completed_deliveries past)))))

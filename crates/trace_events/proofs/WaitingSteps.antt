@@ -8,15 +8,15 @@ use Rattle.trace_events.specs.Words.{is_some_and, is_number}
 use Rattle.trace_events.specs.Event.{Event, Link, Incoming, Outgoing}
 use Rattle.trace_events.specs.declared.session.Session.{Session}
 use Rattle.trace_events.specs.Link.{is_live}
-use Rattle.trace_events.specs.Address.{has_consumer, is_consumer_of}
+use Rattle.trace_events.specs.Address.{has_multicast, has_consumer, is_consumer_of}
 use Rattle.trace_events.specs.Credit.{link_credit, begun_count}
-use Rattle.trace_events.specs.Incoming.{completed_by, completes, is_complete, is_aborted, is_settled, is_told, incoming_begun, incoming_deliveries, is_from}
+use Rattle.trace_events.specs.Incoming.{completed_by, completes, is_complete, address_of, is_aborted, is_settled, is_told, incoming_begun, incoming_deliveries, is_from}
 use Rattle.trace_events.specs.Outgoing.{outgoing_begun, outgoing_deliveries, is_paired, is_named_on, noted, decision, is_settled_by_consumer, is_settled_by_router}
 use Rattle.trace_events.specs.Waiting.{is_of_multicast, always_had_consumer, is_unpaired, is_waiting, is_gone, is_undecided, undecided_count, is_undecided_of, has_waiting}
 use Rattle.trace_events.specs.Due.{is_copied_to, makes_due, due_count, is_due, is_unsent, has_unsent}
 use Rattle.trace_events.specs.Settling.{is_closed, is_to_settle, to_settle, to_tell}
 use Rattle.trace_events.proofs.StepWords.{and-false, any-by, find-by, count-by, count-passes}
-use Rattle.trace_events.proofs.IncomingSteps.{incoming_deliveries-same, incoming_deliveries-begun}
+use Rattle.trace_events.proofs.IncomingSteps.{address_of-same, is_complete-same, incoming_deliveries-same, incoming_deliveries-begun}
 use Rattle.trace_events.proofs.OutgoingSteps.{outgoing_deliveries-same, names_on, is_named_on-here}
 
 and-twice : (b c : Bool) → b && (b && c) ≡ b && c
@@ -24,57 +24,68 @@ and-twice true c = refl
 and-twice false c = refl
 
 -- an address at which a delivery waits has a consumer
-always_had-has : (d : Incoming) (past : List Event) → has_consumer d.link.address past && always_had_consumer d past ≡ always_had_consumer d past
-always_had-has d [] = refl
-always_had-has d (e ∷ past) = and-twice (has_consumer d.link.address (e ∷ past)) (completes d e || always_had_consumer d past)
+always_had-has : (d : Incoming) (past : List Event) → has_consumer (address_of d past) past && always_had_consumer d past ≡ always_had_consumer d past
+always_had-has d [] = and-false (has_consumer (address_of d []) [])
+always_had-has d (e ∷ past) = and-twice (has_consumer (address_of d (e ∷ past)) (e ∷ past)) (completes d e || always_had_consumer d past)
+
+-- a value where something fails needs to be the same there alone
+pub if-fails : {A : Type 0} (b : Bool) (x y z : A) → (b ≡ false → y ≡ z) → (if b then x else y) ≡ (if b then x else z)
+if-fails true x y z same = refl
+if-fails false x y z same = same refl
 
 module _ (d : Incoming) (e : Event) (past : List Event) where
-  pub always_had_consumer-same : completes d e ≡ false → has_consumer d.link.address (e ∷ past) ≡ has_consumer d.link.address past
+  pub is_of_multicast-same : (rules : RuleSet) → completes d e ≡ false → is_of_multicast rules d (e ∷ past) ≡ is_of_multicast rules d past
+  is_of_multicast-same rules none = ap (has_multicast rules) (address_of-same e past d none)
+
+  pub always_had_consumer-same : completes d e ≡ false → has_consumer (address_of d past) (e ∷ past) ≡ has_consumer (address_of d past) past
       → always_had_consumer d (e ∷ past) ≡ always_had_consumer d past
   always_had_consumer-same none same =
-      ap (λ b. has_consumer d.link.address (e ∷ past) && (b || always_had_consumer d past)) none
-      ∙ (ap (λ b. b && always_had_consumer d past) same ∙ always_had-has d past)
+      ap (λ b. has_consumer (address_of d (e ∷ past)) (e ∷ past) && (b || always_had_consumer d past)) none
+      ∙ (ap (λ a. has_consumer a (e ∷ past) && always_had_consumer d past) (address_of-same e past d none)
+      ∙ (ap (λ b. b && always_had_consumer d past) same ∙ always_had-has d past))
 
-  pub always_had_consumer-has : completes d e ≡ false → has_consumer d.link.address (e ∷ past) ≡ true → always_had_consumer d (e ∷ past) ≡ always_had_consumer d past
+  pub always_had_consumer-has : completes d e ≡ false → has_consumer (address_of d (e ∷ past)) (e ∷ past) ≡ true → always_had_consumer d (e ∷ past) ≡ always_had_consumer d past
   always_had_consumer-has none has =
-      ap (λ b. has_consumer d.link.address (e ∷ past) && (b || always_had_consumer d past)) none ∙ ap (λ b. b && always_had_consumer d past) has
+      ap (λ b. has_consumer (address_of d (e ∷ past)) (e ∷ past) && (b || always_had_consumer d past)) none ∙ ap (λ b. b && always_had_consumer d past) has
 
-  pub always_had_consumer-lost : has_consumer d.link.address (e ∷ past) ≡ false → always_had_consumer d (e ∷ past) ≡ false
+  pub always_had_consumer-lost : has_consumer (address_of d (e ∷ past)) (e ∷ past) ≡ false → always_had_consumer d (e ∷ past) ≡ false
   always_had_consumer-lost lost = ap (λ b. b && (completes d e || always_had_consumer d past)) lost
 
-  pub always_had_consumer-here : completes d e ≡ true → always_had_consumer d (e ∷ past) ≡ has_consumer d.link.address (e ∷ past)
+  pub always_had_consumer-here : completes d e ≡ true → always_had_consumer d (e ∷ past) ≡ has_consumer (address_of d (e ∷ past)) (e ∷ past)
   always_had_consumer-here here =
-      ap (λ b. has_consumer d.link.address (e ∷ past) && (b || always_had_consumer d past)) here ∙ and-one (has_consumer d.link.address (e ∷ past))
+      ap (λ b. has_consumer (address_of d (e ∷ past)) (e ∷ past) && (b || always_had_consumer d past)) here ∙ and-one (has_consumer (address_of d (e ∷ past)) (e ∷ past))
     where
       and-one : (b : Bool) → b && true ≡ b
       and-one true = refl
       and-one false = refl
 
-  pub is_unpaired-same : (rules : RuleSet) → is_complete d (e ∷ past) ≡ is_complete d past → is_paired d (e ∷ past) ≡ is_paired d past
+  pub is_unpaired-same : (rules : RuleSet) → completes d e ≡ false → is_paired d (e ∷ past) ≡ is_paired d past
       → is_unpaired rules d (e ∷ past) ≡ is_unpaired rules d past
-  is_unpaired-same rules complete paired =
-      ap (λ b. not (is_of_multicast rules d) && b && not (is_paired d (e ∷ past))) complete
-      ∙ ap (λ b. not (is_of_multicast rules d) && is_complete d past && not b) paired
+  is_unpaired-same rules none paired =
+      ap (λ b. not b && is_complete d (e ∷ past) && not (is_paired d (e ∷ past))) (is_of_multicast-same rules none)
+      ∙ (ap (λ b. not (is_of_multicast rules d past) && b && not (is_paired d (e ∷ past))) (is_complete-same e past d none)
+      ∙ ap (λ b. not (is_of_multicast rules d past) && is_complete d past && not b) paired)
 
   pub is_unpaired-paired : (rules : RuleSet) → is_paired d (e ∷ past) ≡ true → is_unpaired rules d (e ∷ past) ≡ false
   is_unpaired-paired rules paired =
-      ap (λ b. not (is_of_multicast rules d) && is_complete d (e ∷ past) && not b) paired ∙ and-false (not (is_of_multicast rules d) && is_complete d (e ∷ past))
+      ap (λ b. not (is_of_multicast rules d (e ∷ past)) && is_complete d (e ∷ past) && not b) paired
+      ∙ and-false (not (is_of_multicast rules d (e ∷ past)) && is_complete d (e ∷ past))
 
-  pub is_waiting-same : (rules : RuleSet) → is_complete d (e ∷ past) ≡ is_complete d past → is_paired d (e ∷ past) ≡ is_paired d past
+  pub is_waiting-same : (rules : RuleSet) → completes d e ≡ false → is_paired d (e ∷ past) ≡ is_paired d past
       → always_had_consumer d (e ∷ past) ≡ always_had_consumer d past → is_waiting rules d (e ∷ past) ≡ is_waiting rules d past
-  is_waiting-same rules complete paired had =
-      ap (λ b. b && always_had_consumer d (e ∷ past)) (is_unpaired-same rules complete paired) ∙ ap (λ b. is_unpaired rules d past && b) had
+  is_waiting-same rules none paired had =
+      ap (λ b. b && always_had_consumer d (e ∷ past)) (is_unpaired-same rules none paired) ∙ ap (λ b. is_unpaired rules d past && b) had
 
   pub is_waiting-paired : (rules : RuleSet) → is_paired d (e ∷ past) ≡ true → is_waiting rules d (e ∷ past) ≡ false
   is_waiting-paired rules paired = ap (λ b. b && always_had_consumer d (e ∷ past)) (is_unpaired-paired rules paired)
 
-  pub is_waiting-lost : (rules : RuleSet) → has_consumer d.link.address (e ∷ past) ≡ false → is_waiting rules d (e ∷ past) ≡ false
+  pub is_waiting-lost : (rules : RuleSet) → has_consumer (address_of d (e ∷ past)) (e ∷ past) ≡ false → is_waiting rules d (e ∷ past) ≡ false
   is_waiting-lost rules lost = ap (λ b. is_unpaired rules d (e ∷ past) && b) (always_had_consumer-lost lost) ∙ and-false (is_unpaired rules d (e ∷ past))
 
-  pub is_gone-same : (rules : RuleSet) → is_complete d (e ∷ past) ≡ is_complete d past → is_paired d (e ∷ past) ≡ is_paired d past
+  pub is_gone-same : (rules : RuleSet) → completes d e ≡ false → is_paired d (e ∷ past) ≡ is_paired d past
       → always_had_consumer d (e ∷ past) ≡ always_had_consumer d past → is_gone rules d (e ∷ past) ≡ is_gone rules d past
-  is_gone-same rules complete paired had =
-      ap (λ b. b && not (always_had_consumer d (e ∷ past))) (is_unpaired-same rules complete paired) ∙ ap (λ b. is_unpaired rules d past && not b) had
+  is_gone-same rules none paired had =
+      ap (λ b. b && not (always_had_consumer d (e ∷ past))) (is_unpaired-same rules none paired) ∙ ap (λ b. is_unpaired rules d past && not b) had
 
   pub is_undecided-same : (rules : RuleSet) → is_live (e ∷ past) d.link ≡ is_live past d.link → is_aborted d (e ∷ past) ≡ is_aborted d past
       → is_complete d (e ∷ past) ≡ is_complete d past → is_waiting rules d (e ∷ past) ≡ is_waiting rules d past → is_settled d (e ∷ past) ≡ is_settled d past
@@ -123,19 +134,20 @@ module _ (rules : RuleSet) (e : Event) (past : List Event) where
       ap (find (is_undecided_of rules s id (e ∷ past))) (incoming_deliveries-same e past none)
       ∙ find-by (is_undecided_of rules s id (e ∷ past)) (is_undecided_of rules s id past) (λ d. is_undecided_of-same s id d (same d)) (incoming_deliveries past)
 
-  pub has_waiting-same : (address : List ℕ) → incoming_begun e ≡ None → ((d : Incoming) → is_waiting rules d (e ∷ past) ≡ is_waiting rules d past)
+  pub has_waiting-same : (address : List ℕ) → incoming_begun e ≡ None → ((d : Incoming) → completes d e ≡ false) → ((d : Incoming) → is_waiting rules d (e ∷ past) ≡ is_waiting rules d past)
       → has_waiting rules address (e ∷ past) ≡ has_waiting rules address past
-  has_waiting-same address none same =
-      ap (list_any (λ d. bytes_eq d.link.address address && is_waiting rules d (e ∷ past))) (incoming_deliveries-same e past none)
-      ∙ any-by (λ d. bytes_eq d.link.address address && is_waiting rules d (e ∷ past)) (λ d. bytes_eq d.link.address address && is_waiting rules d past) (λ d. ap (λ b. bytes_eq d.link.address address && b) (same d)) (incoming_deliveries past)
+  has_waiting-same address none apart same =
+      ap (list_any (λ d. bytes_eq (address_of d (e ∷ past)) address && is_waiting rules d (e ∷ past))) (incoming_deliveries-same e past none)
+      ∙ any-by (λ d. bytes_eq (address_of d (e ∷ past)) address && is_waiting rules d (e ∷ past)) (λ d. bytes_eq (address_of d past) address && is_waiting rules d past)
+      (λ d. ap (λ a. bytes_eq a address && is_waiting rules d (e ∷ past)) (address_of-same e past d (apart d)) ∙ ap (λ b. bytes_eq (address_of d past) address && b) (same d)) (incoming_deliveries past)
 
   -- ---- copies that are due
 
   pub is_copied_to-none : (l : Link) → completed_by e ≡ None → is_copied_to rules l e past ≡ false
-  is_copied_to-none l none = ap (λ o. is_some_and o (λ d. is_of_multicast rules d && is_consumer_of d.link.address past l)) none
+  is_copied_to-none l none = ap (λ o. is_some_and o (λ d. is_of_multicast rules d (e ∷ past) && is_consumer_of (address_of d (e ∷ past)) past l)) none
 
-  pub is_copied_to-is : (l : Link) (d : Incoming) → completed_by e ≡ Some d → is_copied_to rules l e past ≡ is_of_multicast rules d && is_consumer_of d.link.address past l
-  is_copied_to-is l d is = ap (λ o. is_some_and o (λ d. is_of_multicast rules d && is_consumer_of d.link.address past l)) is
+  pub is_copied_to-is : (l : Link) (d : Incoming) → completed_by e ≡ Some d → is_copied_to rules l e past ≡ is_of_multicast rules d (e ∷ past) && is_consumer_of (address_of d (e ∷ past)) past l
+  is_copied_to-is l d is = ap (λ o. is_some_and o (λ d. is_of_multicast rules d (e ∷ past) && is_consumer_of (address_of d (e ∷ past)) past l)) is
 
   pub makes_due-none : (l : Link) (due : ℕ) → is_copied_to rules l e past ≡ false → makes_due rules l e past due ≡ false
   makes_due-none l due none = ap (λ b. b && nat_lt (due - begun_count l past) (link_credit l past)) none
@@ -200,6 +212,7 @@ module _ (e : Event) (past : List Event) where
       (λ j. ap (λ b. j.link.session.number == s.number && is_number j.id id && b) (same j)) (reverse (outgoing_deliveries past))
 
 pub ruleset waiting_steps = (
+  is_of_multicast-same,
   always_had_consumer-same,
   always_had_consumer-has,
   always_had_consumer-lost,

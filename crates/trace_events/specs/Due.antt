@@ -13,7 +13,7 @@ use Rattle.trace_events.specs.Waiting.{is_of_multicast}
 -- the multicast delivery that this event completes is for the link: a consumer's of its address, live until then
 abbrev pub is_copied_to : RuleSet → Link → Event → List Event → Bool
 is_copied_to rules l e past =
-    is_some_and (completed_by e) (λ d. is_of_multicast rules d && is_consumer_of (address_of d) past l)
+    is_some_and (completed_by e) (λ d. is_of_multicast rules d (e ∷ past) && is_consumer_of (address_of d (e ∷ past)) past l)
 
 -- it is due where the link's credit exceeds the copies that are still to be sent, of `due` that were due before
 abbrev pub makes_due : RuleSet → Link → Event → List Event → ℕ → Bool

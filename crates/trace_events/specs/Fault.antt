@@ -9,7 +9,7 @@ use Rattle.amqp_perf.specs.declared.condition.ErrorCondition.TheVariants.{Framin
 use Rattle.amqp_perf.specs.Nested.{AddressFields, AText, AnOther, TerminusFields, TargetFields, ATerminus, ACoordinator}
 use Rattle.amqp_perf.specs.Meaning.{Meaning, AnOpen, ABegin, AnAttach, AFlow, ATransfer, ADisposition, ADetach, AnEnd, AClose, OpenFields, AttachFields, TransferFields, flag}
 use Rattle.amqp_perf.specs.Meaning as meanings
-use Rattle.capture_form.specs.Rules.{RuleSet}
+use Rattle.capture_form.specs.Rules.{RuleSet, serves_anonymous}
 use Rattle.flow_counts.specs.declared.profile.TheConstants.{MIN_MAX_FRAME_SIZE, CHANNEL_MAX, HANDLE_MAX, MAX_MESSAGE_SIZE, MAX_LINK_NAME, MAX_ADDRESS, MAX_DELIVERY_TAG}
 use Rattle.trace_events.specs.declared.fault.Fault.{Fault}
 use Rattle.trace_events.specs.declared.fault.Fault.TheVariants.{Close, End, Refuse, Detach}
@@ -33,16 +33,16 @@ address_fault (AText []) = Some (Refuse InvalidField)
 address_fault (AText (octet ∷ rest)) =
     if nat_lt MAX_ADDRESS (length (octet ∷ rest)) then Some (Refuse ResourceLimitExceeded) else None
 
--- a target without address is an anonymous one
-abbrev pub target_address_fault : Option AddressFields → Option Fault
-target_address_fault None = Some (Refuse NotImplemented)
-target_address_fault (Some address) = address_fault address
+-- a target without address is that of an anonymous sender, which is served or not
+abbrev pub target_address_fault : RuleSet → Option AddressFields → Option Fault
+target_address_fault rules None = if serves_anonymous rules then None else Some (Refuse NotImplemented)
+target_address_fault rules (Some address) = address_fault address
 
-abbrev pub target_fault : Option TargetFields → Option Fault
-target_fault (Some ACoordinator) = Some (Refuse NotImplemented)
-target_fault (Some (ATerminus target)) =
-    if flag target.dynamic then Some (Refuse NotImplemented) else target_address_fault target.address
-target_fault None = Some (Refuse InvalidField)
+abbrev pub target_fault : RuleSet → Option TargetFields → Option Fault
+target_fault rules (Some ACoordinator) = Some (Refuse NotImplemented)
+target_fault rules (Some (ATerminus target)) =
+    if flag target.dynamic then Some (Refuse NotImplemented) else target_address_fault rules target.address
+target_fault rules None = Some (Refuse InvalidField)
 
 abbrev pub source_address_fault : Option AddressFields → Option Fault
 source_address_fault None = Some (Refuse InvalidField)
@@ -52,20 +52,20 @@ abbrev pub source_fault : Option TerminusFields → Option Fault
 source_fault None = Some (Refuse InvalidField)
 source_fault (Some source) = if flag source.dynamic then None else source_address_fault source.address
 
-abbrev pub terminus_fault : AttachFields → Role → Option Fault
-terminus_fault fields Sender =
-    if is_none fields.initial_delivery_count then Some (Refuse InvalidField) else target_fault fields.target
-terminus_fault fields Receiver = source_fault fields.source
+abbrev pub terminus_fault : RuleSet → AttachFields → Role → Option Fault
+terminus_fault rules fields Sender =
+    if is_none fields.initial_delivery_count then Some (Refuse InvalidField) else target_fault rules fields.target
+terminus_fault rules fields Receiver = source_fault fields.source
 
 abbrev pub is_handle_in_use : Session → ℕ → List Event → Bool
 is_handle_in_use s handle past = is_some (session_link s handle past) || awaits_detach s handle past
 
-abbrev pub attach_fault : Session → AttachFields → List Event → Option Fault
-attach_fault s fields past =
+abbrev pub attach_fault : RuleSet → Session → AttachFields → List Event → Option Fault
+attach_fault rules s fields past =
     if nat_lt HANDLE_MAX fields.handle then Some (Close FramingError)
     else if is_handle_in_use s fields.handle past then Some (Close HandleInUse)
     else if nat_lt MAX_LINK_NAME (length fields.name) then Some (End ResourceLimitExceeded)
-    else terminus_fault fields fields.role
+    else terminus_fault rules fields fields.role
 
 -- ---- transfers
 
@@ -115,7 +115,7 @@ abbrev pub handle_fault : Event → Option Fault
 handle_fault e = if is_none e.link then Some (End UnattachedHandle) else None
 
 abbrev pub session_fault : RuleSet → Session → Event → Spoken → Meaning → List Event → Option Fault
-session_fault rules s e spoken (AnAttach fields) past = attach_fault s fields past
+session_fault rules s e spoken (AnAttach fields) past = attach_fault rules s fields past
 session_fault rules s e spoken (ATransfer fields) past = transfer_fault rules s e fields spoken.payload past
 session_fault rules s e spoken (AFlow flow) past = if is_some flow.handle then handle_fault e else None
 session_fault rules s e spoken (ADetach fields) past = handle_fault e

@@ -1,19 +1,17 @@
 -- Deliveries from clients: their parts, and whether their producer has settled them (part 2 of the standard, sections
 -- 2.6.12 and 2.6.14).
-use Rattle.std.specs.Prelude.{ℕ, Bool, ◌&&◌, ◌||◌, not, List, [], ◌∷◌, Option, Some, None, option_map, filter_map, find, nat_lt, ◌==◌, if◌then◌else◌}
+use Rattle.std.specs.Prelude.{ℕ, Bool, ◌&&◌, ◌||◌, not, List, [], ◌∷◌, Option, Some, None, option_map, unwrap_or, take, filter_map, find, nat_lt, ◌==◌, if◌then◌else◌}
 use Rattle.std.specs.List.{list_any}
 use Rattle.amqp_perf.specs.Meaning.{TransferFields, flag}
+use Rattle.amqp_perf.specs.Message.{to_of}
+use Rattle.flow_counts.specs.declared.profile.TheConstants.{MAX_MESSAGE_SIZE}
 use Rattle.flow_counts.specs.Parts.{joined_payload}
 use Rattle.trace_events.specs.Words.{is_some_and, is_number, where_passes}
 use Rattle.trace_events.specs.Frame.{Spoken}
 use Rattle.trace_events.specs.Event.{Event, Link, Incoming, is_on_session}
 use Rattle.trace_events.specs.Said.{in_spoken, in_transfer, in_disposition}
-use Rattle.trace_events.specs.Link.{is_sender}
+use Rattle.trace_events.specs.Link.{is_sender, is_anonymous}
 use Rattle.trace_events.specs.Disposition.{covers_id}
-
--- the address that it is for: its link's (own rule)
-abbrev pub address_of : Incoming → List ℕ
-address_of d = d.link.address
 
 -- a delivery goes on after a transfer with more that isn't aborted (2.7.5)
 abbrev pub goes_on : TransferFields → Bool
@@ -53,6 +51,20 @@ completes d e = is_some_and (completed_by e) (λ other. other.number == d.number
 
 abbrev pub is_complete : Incoming → List Event → Bool
 is_complete d past = list_any (completes d) past
+
+-- its message, once it is complete: no longer than a message may be, else a transfer of it was at fault
+abbrev pub message : Incoming → List Event → List ℕ
+message d past = take MAX_MESSAGE_SIZE (payload d past)
+
+-- the address in its message, told by the event that completes it (part 3, section 3.2.4); empty where there is none
+unfoldable pub message_address : Incoming → List Event → List ℕ
+message_address d [] = []
+message_address d (e ∷ past) =
+    let earlier = message_address d past in if completes d e then unwrap_or (to_of (message d (e ∷ past))) [] else earlier
+
+-- the address that it is for: its link's, or on a link without one its message's, from its completion on (own rule)
+abbrev pub address_of : Incoming → List Event → List ℕ
+address_of d past = if is_anonymous d.link then message_address d past else d.link.address
 
 -- the record that completed it
 abbrev pub completion : Incoming → List Event → Option ℕ

@@ -1,5 +1,5 @@
 -- The link of a handle (part 2 of the standard, section 2.6).
-use Rattle.std.specs.Prelude.{ℕ, Bool, true, false, ◌&&◌, ◌||◌, List, [], ◌∷◌, Option, Some, None, IfSome, is_some, is_none, option_map, option_and_then, unwrap_or, find, filter, filter_map, ◌==◌, ◌≡◌, if◌then◌else◌}
+use Rattle.std.specs.Prelude.{ℕ, Bool, true, false, ◌&&◌, ◌||◌, List, [], ◌∷◌, length, Option, Some, None, IfSome, is_some, is_none, option_map, option_and_then, unwrap_or, find, filter, filter_map, ◌==◌, ◌≡◌, if◌then◌else◌}
 use Rattle.amqp_perf.specs.declared.attach.Role.{Role}
 use Rattle.amqp_perf.specs.declared.attach.Role.TheVariants.{Sender, Receiver}
 use Rattle.amqp_perf.specs.declared.attach.SenderSettleMode.{SenderSettleMode}
@@ -11,6 +11,10 @@ use Rattle.trace_events.specs.Event.{Event, Link, is_on_session}
 use Rattle.trace_events.specs.declared.session.Session.{Session}
 use Rattle.trace_events.specs.Said.{in_attach, out_attach, in_detach, out_detach}
 use Rattle.trace_events.specs.Session.{live_session, IsLiveOn}
+
+-- a link without address: each delivery on it is for the address in its message (own rule)
+abbrev pub is_anonymous : Link → Bool
+is_anonymous l = length l.address == 0
 
 abbrev pub is_sender : Role → Bool
 is_sender Sender = true

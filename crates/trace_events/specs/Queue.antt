@@ -14,14 +14,14 @@ pairs d e = is_some_and (outgoing_begun e) (λ j. names d.number j.note)
 
 -- behind the event its address still has a consumer, and the event doesn't pair it
 abbrev pub stays : Event → List Event → Incoming → Bool
-stays e past d = has_consumer (address_of d) (e ∷ past) && not (pairs d e)
+stays e past d = has_consumer (address_of d (e ∷ past)) (e ∷ past) && not (pairs d e)
 
 -- all that are complete, the last completed first
 abbrev pub completed_deliveries : List Event → List Incoming
 completed_deliveries past = filter_map completed_by past
 
 abbrev pub waits_at : RuleSet → List ℕ → List Event → Incoming → Bool
-waits_at rules address past d = bytes_eq (address_of d) address && is_waiting rules d past
+waits_at rules address past d = bytes_eq (address_of d past) address && is_waiting rules d past
 
 -- those that wait at the address, in the order in which they were completed
 abbrev pub waiting_queue : RuleSet → List ℕ → List Event → List Incoming

@@ -10,18 +10,19 @@ use Rattle.trace_events.specs.Address.{has_multicast, has_consumer}
 use Rattle.trace_events.specs.Incoming.{address_of, incoming_deliveries, completes, is_complete, is_aborted, is_settled, is_told, is_from}
 use Rattle.trace_events.specs.Outgoing.{is_paired}
 
-abbrev pub is_of_multicast : RuleSet → Incoming → Bool
-is_of_multicast rules d = has_multicast rules (address_of d)
+-- asked of complete deliveries
+abbrev pub is_of_multicast : RuleSet → Incoming → List Event → Bool
+is_of_multicast rules d past = has_multicast rules (address_of d past)
 
 -- at each moment since the delivery's completion its address had a consumer
 abbrev pub always_had_consumer : Incoming → List Event → Bool
 always_had_consumer d [] = false
 always_had_consumer d (e ∷ past) =
-    let earlier = always_had_consumer d past in has_consumer (address_of d) (e ∷ past) && (completes d e || earlier)
+    let earlier = always_had_consumer d past in has_consumer (address_of d (e ∷ past)) (e ∷ past) && (completes d e || earlier)
 
 -- an anycast delivery that is complete, and that went to no consumer
 abbrev pub is_unpaired : RuleSet → Incoming → List Event → Bool
-is_unpaired rules d past = not (is_of_multicast rules d) && is_complete d past && not (is_paired d past)
+is_unpaired rules d past = not (is_of_multicast rules d past) && is_complete d past && not (is_paired d past)
 
 -- it waits for a consumer that may be sent it
 abbrev pub is_waiting : RuleSet → Incoming → List Event → Bool
@@ -47,4 +48,4 @@ is_undecided_of rules s id past d = d.link.session.number == s.number && is_numb
 -- a delivery waits at the address
 abbrev pub has_waiting : RuleSet → List ℕ → List Event → Bool
 has_waiting rules address past =
-    list_any (λ d. bytes_eq (address_of d) address && is_waiting rules d past) (incoming_deliveries past)
+    list_any (λ d. bytes_eq (address_of d past) address && is_waiting rules d past) (incoming_deliveries past)
