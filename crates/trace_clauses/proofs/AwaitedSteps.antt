@@ -26,6 +26,7 @@ use Rattle.trace_clauses.specs.CopyVerdict.{copy_on, sent_verdict, begun_verdict
 use Rattle.trace_clauses.specs.BestVerdict.{is_same_outcome, is_verdict, has_verdict, has_all_verdicts}
 use Rattle.trace_events.proofs.Along.{and_first, and_last, and_then_some, some_passes}
 use Rattle.trace_events.proofs.Judged.{AreJudged}
+use Rattle.trace_events.proofs.WaitingSteps.{is_of_multicast-same}
 use Rattle.trace_events.proofs.LinkLives.{judged-stands}
 use Rattle.trace_events.proofs.LinkNumbers.{links-found, own_link-number}
 use Rattle.trace_events.proofs.SessionNumbers.{last_session-known}
@@ -59,9 +60,9 @@ lives_below rules past are l is =
 comes_due-live : (rules : RuleSet) (l : Link) (e : Event) (past : List Event) → comes_due rules l e past ≡ true → is_live past l ≡ true
 comes_due-live rules l e past is =
     let copied : is_copied_to rules l e past ≡ true = and_first (is_copied_to rules l e past) _ is in
-    let d = some_passes (λ d. is_of_multicast rules d && is_consumer_of (address_of d) past l) (completed_by e) copied in
-    let mine : is_consumer_of (address_of d.0) past l ≡ true = and_last (is_of_multicast rules d.0) (is_consumer_of (address_of d.0) past l) d.2 in
-    and_last (is_consumer l && bytes_eq l.address (address_of d.0)) (is_live past l) mine
+    let d = some_passes (λ d. is_of_multicast rules d (e ∷ past) && is_consumer_of (address_of d (e ∷ past)) past l) (completed_by e) copied in
+    let mine : is_consumer_of (address_of d.0 (e ∷ past)) past l ≡ true = and_last (is_of_multicast rules d.0 (e ∷ past)) (is_consumer_of (address_of d.0 (e ∷ past)) past l) d.2 in
+    and_last (is_consumer l && bytes_eq l.address (address_of d.0 (e ∷ past))) (is_live past l) mine
 
 pub due_below : (rules : RuleSet) (past : List Event) → AreJudged rules past → (d : Incoming) (l : Link) → is_due rules d l past ≡ true → l.number < length past
 due_below rules [] are d l due = absurd cc
@@ -77,25 +78,25 @@ same_some : {A : Type 0} (a b : A) → Some a ≡ Some b → a ≡ b
 same_some a b is = cc
 
 comes_due-many : (rules : RuleSet) (e : Event) (past : List Event) → AreJudged rules (e ∷ past) → (d : Incoming) → incoming_at d.number (e ∷ past) ≡ Some d → (l : Link) → completes d e ≡ true
-    → comes_due rules l e past ≡ true → is_of_multicast rules d ≡ true
+    → comes_due rules l e past ≡ true → is_of_multicast rules d (e ∷ past) ≡ true
 comes_due-many rules e past are d found l here is =
-    let x = some_passes (λ x. is_of_multicast rules x && is_consumer_of (address_of x) past l) (completed_by e) (and_first (is_copied_to rules l e past) _ is) in
+    let x = some_passes (λ x. is_of_multicast rules x (e ∷ past) && is_consumer_of (address_of x (e ∷ past)) past l) (completed_by e) (and_first (is_copied_to rules l e past) _ is) in
     let own = some_passes (λ (x : Incoming). x.number == d.number) (completed_by e) here in
     let both : x.0 ≡ own.0 = same_some x.0 own.0 (sym x.1 ∙ own.1) in
     let listed : Contains (completed_deliveries (e ∷ past)) own.0 = subst (λ o. Contains (cons_option o (completed_deliveries past)) own.0) (sym own.1) (contains_first own.0 (completed_deliveries past)) in
     let all = judged-kept rules (e ∷ past) are in
     let kept = all_contained (IsKept (e ∷ past)) (completed_deliveries (e ∷ past)) own.0 (each_completed (IsKept (e ∷ past)) (e ∷ past) all.each) listed in
     let same : own.0 ≡ d = same_some own.0 d (sym kept.at ∙ (ap (λ n. incoming_at n (e ∷ past)) (eqb-true own.0.number d.number own.2) ∙ found)) in
-    ap (is_of_multicast rules) (sym same ∙ sym both) ∙ and_first (is_of_multicast rules x.0) (is_consumer_of (address_of x.0) past l) x.2
+    ap (λ y. is_of_multicast rules y (e ∷ past)) (sym same ∙ sym both) ∙ and_first (is_of_multicast rules x.0 (e ∷ past)) (is_consumer_of (address_of x.0 (e ∷ past)) past l) x.2
 
-pub due-many : (rules : RuleSet) (past : List Event) → AreJudged rules past → (d : Incoming) → incoming_at d.number past ≡ Some d → (l : Link) → is_due rules d l past ≡ true → is_of_multicast rules d ≡ true
+pub due-many : (rules : RuleSet) (past : List Event) → AreJudged rules past → (d : Incoming) → incoming_at d.number past ≡ Some d → (l : Link) → is_due rules d l past ≡ true → is_of_multicast rules d past ≡ true
 due-many rules [] are d found l due = absurd cc
 due-many rules (e ∷ past) are d found l due = by (completes d e) refl (λ old is. due-many rules past are.1 d old l is) due
   where
-    by : (b : Bool) → completes d e ≡ b → (incoming_at d.number past ≡ Some d → is_due rules d l past ≡ true → is_of_multicast rules d ≡ true) → (if b then comes_due rules l e past else is_due rules d l past) ≡ true → is_of_multicast rules d ≡ true
+    by : (b : Bool) → completes d e ≡ b → (incoming_at d.number past ≡ Some d → is_due rules d l past ≡ true → is_of_multicast rules d past ≡ true) → (if b then comes_due rules l e past else is_due rules d l past) ≡ true → is_of_multicast rules d (e ∷ past) ≡ true
     by true here earlier is = comes_due-many rules e past are d found l here is
     by false other earlier is = elim (found-at rules e past are d.number d (incoming_begun e) refl found) [
-      | inl old ↦ earlier old is
+      | inl old ↦ is_of_multicast-same d e past rules other ∙ earlier old is
       | inr new ↦
           let never : is_complete d past ≡ false = (judged-sound rules past are.1).fresh d (omega (arith, new)) in
           let done : is_complete d past ≡ true = due_complete rules past d l is in
@@ -229,7 +230,7 @@ module _ (rules : RuleSet) (e : Event) (past : List Event) (are : AreJudged rule
       now_still : awaits_now rules e past d l ≡ awaits_verdict rules d past l
       now_still = ap (λ b. if b then comes_due rules l e past else awaits_verdict rules d past l) other
 
-      awaits_other : is_of_multicast rules d ≡ true → awaits_verdict rules d (e ∷ past) l ≡ awaits_now rules e past d l && is_none (verdict_by e past d l)
+      awaits_other : is_of_multicast rules d past ≡ true → awaits_verdict rules d (e ∷ past) l ≡ awaits_now rules e past d l && is_none (verdict_by e past d l)
       awaits_other many =
           ap (λ b. b && is_none (copy_verdict d l (e ∷ past))) due_still
           ∙ (elim (found-at rules e past are d.number d (incoming_begun e) refl found) [
@@ -240,7 +241,7 @@ module _ (rules : RuleSet) (e : Event) (past : List Event) (are : AreJudged rule
           ]
           ∙ sym (ap (λ b. b && is_none (verdict_by e past d l)) now_still))
 
-      such_other : is_of_multicast rules d ≡ true → (outcome : Outcome) → is_verdict rules d (e ∷ past) outcome l
+      such_other : is_of_multicast rules d past ≡ true → (outcome : Outcome) → is_verdict rules d (e ∷ past) outcome l
           ≡ is_verdict rules d past outcome l || awaits_now rules e past d l && is_some_and (verdict_by e past d l) (is_same_outcome outcome)
       such_other many outcome =
           ap (λ b. b && is_some_and (copy_verdict d l (e ∷ past)) (is_same_outcome outcome)) due_still
@@ -253,7 +254,7 @@ module _ (rules : RuleSet) (e : Event) (past : List Event) (are : AreJudged rule
           ∙ sym (ap (λ b. is_verdict rules d past outcome l || b && is_some_and (verdict_by e past d l) (is_same_outcome outcome)) now_still))
 
     -- one of anycast has no copies
-    module _ (one : is_of_multicast rules d ≡ false) where
+    module _ (one : is_of_multicast rules d (e ∷ past) ≡ false) where
       undue_then : is_due rules d l (e ∷ past) ≡ false
       undue_then = by (is_due rules d l (e ∷ past)) refl
         where
@@ -287,23 +288,23 @@ module _ (rules : RuleSet) (e : Event) (past : List Event) (are : AreJudged rule
 
     -- a copy awaits its verdict behind the event where it does with it, and the event gives it none
     pub awaits_verdict_moves : awaits_verdict rules d (e ∷ past) l ≡ awaits_now rules e past d l && is_none (verdict_by e past d l)
-    awaits_verdict_moves = by (is_of_multicast rules d) refl (completes d e) refl
+    awaits_verdict_moves = by (is_of_multicast rules d (e ∷ past)) refl (completes d e) refl
       where
-        by : (many : Bool) → is_of_multicast rules d ≡ many → (b : Bool) → completes d e ≡ b → awaits_verdict rules d (e ∷ past) l ≡ awaits_now rules e past d l && is_none (verdict_by e past d l)
+        by : (many : Bool) → is_of_multicast rules d (e ∷ past) ≡ many → (b : Bool) → completes d e ≡ b → awaits_verdict rules d (e ∷ past) l ≡ awaits_now rules e past d l && is_none (verdict_by e past d l)
         by false one b is = awaits_one one
         by true many true here = awaits_here here
-        by true many false other = awaits_other other many
+        by true many false other = awaits_other other (sym (is_of_multicast-same d e past rules other) ∙ many)
 
     -- and has a verdict where it had it, or awaited one that the event gives
     pub is_verdict_moves : (outcome : Outcome) → is_verdict rules d (e ∷ past) outcome l
         ≡ is_verdict rules d past outcome l || awaits_now rules e past d l && is_some_and (verdict_by e past d l) (is_same_outcome outcome)
-    is_verdict_moves outcome = by (is_of_multicast rules d) refl (completes d e) refl
+    is_verdict_moves outcome = by (is_of_multicast rules d (e ∷ past)) refl (completes d e) refl
       where
-        by : (many : Bool) → is_of_multicast rules d ≡ many → (b : Bool) → completes d e ≡ b → is_verdict rules d (e ∷ past) outcome l
+        by : (many : Bool) → is_of_multicast rules d (e ∷ past) ≡ many → (b : Bool) → completes d e ≡ b → is_verdict rules d (e ∷ past) outcome l
             ≡ is_verdict rules d past outcome l || awaits_now rules e past d l && is_some_and (verdict_by e past d l) (is_same_outcome outcome)
         by false one b is = such_one one outcome
         by true many true here = such_here here outcome
-        by true many false other = such_other other many outcome
+        by true many false other = such_other other (sym (is_of_multicast-same d e past rules other) ∙ many) outcome
 
     -- while a copy awaits its verdict its link lives
     pub awaits_now-live : awaits_now rules e past d l ≡ true → is_live past l ≡ true

@@ -33,6 +33,7 @@ use Rattle.trace_clauses.proofs.LiveLinks.{placed-names}
 use Rattle.trace_clauses.proofs.OutgoingProgress.{IsPartOf, judged-outgoing_part, judged-carrying, noted_pair}
 use Rattle.trace_clauses.proofs.Parts.{IsKept, AllOf, all_such, found_holds, kept_still, delivery_kept}
 use Rattle.trace_clauses.proofs.Undecided.{link_of_session}
+use Rattle.trace_clauses.proofs.WaitingQueue.{address_stays}
 
 pub record IsBegun (past : List Event) (j : Outgoing) : Type 0 where
   pub below : j.number < length past
@@ -41,7 +42,7 @@ pub record IsBegun (past : List Event) (j : Outgoing) : Type 0 where
   pub named : j.note ≡ notes.Pair delivery.number
   pub kept : IsKept past delivery
   pub complete : is_complete delivery past ≡ true
-  pub address : j.link.address ≡ address_of delivery
+  pub address : j.link.address ≡ address_of delivery past
   pub named_on : is_named_on delivery j.link past ≡ true
 
 -- its note names the delivery that it carries
@@ -71,7 +72,7 @@ module _ (rules : RuleSet) (e : Event) (past : List Event) (are : AreJudged rule
         named = b.named;
         kept = kept-later b.delivery b.kept;
         complete = complete-stays b.delivery e past b.complete;
-        address = b.address;
+        address = b.address ∙ sym (address_stays rules e past are b.delivery b.complete);
         named_on = is_named_on-stays e past b.delivery j.link b.named_on;
       }
 
@@ -171,7 +172,7 @@ module _ (rules : RuleSet) (e : Event) (past : List Event) (are : AreJudged rule
       pub named : e.note ≡ notes.Pair delivery.number
       pub kept : IsKept past delivery
       pub complete : is_complete delivery past ≡ true
-      pub address : j.link.address ≡ address_of delivery
+      pub address : j.link.address ≡ address_of delivery past
 
     pub begun-carries : Carries
     begun-carries =
@@ -187,7 +188,7 @@ module _ (rules : RuleSet) (e : Event) (past : List Event) (are : AreJudged rule
           named = pair.0;
           kept = delivery_kept rules past d.0.number d.0 (judged-kept rules past are.1) pair.2;
           complete = all.0;
-          address = known_and (λ (m : Link). m.address ≡ d.0.link.address) e.link j.link begun-own.1 on;
+          address = known_and (λ (m : Link). m.address ≡ address_of d.0 past) e.link j.link begun-own.1 on;
         }
 
     pub begun-noted_now : noted j.note (e ∷ past) ≡ Some begun-carries.delivery
@@ -218,7 +219,7 @@ module _ (rules : RuleSet) (e : Event) (past : List Event) (are : AreJudged rule
           named = begun-own.0 ∙ c.named;
           kept = kept-later c.delivery c.kept;
           complete = complete-stays c.delivery e past c.complete;
-          address = c.address;
+          address = c.address ∙ sym (address_stays rules e past are c.delivery c.complete);
           named_on = is_named_on-here e past c.delivery j.link (begun-names c.delivery ∙ eq-eqb c.delivery.number c.delivery.number refl);
         }
 

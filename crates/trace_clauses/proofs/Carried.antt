@@ -10,7 +10,7 @@ use Rattle.trace_events.specs.Words.{is_some_and}
 use Rattle.trace_events.specs.Frame.{Frame, Spoken, spoken_in}
 use Rattle.trace_events.specs.Event.{Event, Link, Incoming, Outgoing, Out, out_frame}
 use Rattle.trace_events.specs.Said.{as_transfer, out_spoken}
-use Rattle.trace_events.specs.Incoming.{is_complete, part_payload}
+use Rattle.trace_events.specs.Incoming.{address_of, is_complete, part_payload}
 use Rattle.trace_events.specs.Incoming as incoming
 use Rattle.trace_events.specs.Outgoing.{noted}
 use Rattle.trace_events.specs.Outgoing as outgoing
@@ -39,14 +39,14 @@ module _ (rules : RuleSet) (e : Event) (past : List Event) (lawful : first_broke
   eight = sym (ap (λ m. meaning_meets rules e spoken past m L8) means) ∙ met rules e past lawful frame written spoken says L8
 
   -- the link that the transfer names has the address of the delivery
-  addressed : IsSomeAnd (noted e.note past) (λ d. IsSomeAnd e.link (λ l. l.address ≡ d.link.address))
+  addressed : IsSomeAnd (noted e.note past) (λ d. IsSomeAnd e.link (λ l. l.address ≡ address_of d past))
   addressed =
       let l = some-and e.link (names_carried rules e fields past) seven in
-      let d = some-and (to_carry rules e.note past) (is_alike e l.0 fields) l.2 in
+      let d = some-and (to_carry rules e.note past) (is_alike e l.0 fields past) l.2 in
       let is = passes-some _ (noted e.note past) d.0 d.1 in
-      let here : l.0.address ≡ d.0.link.address = sym ((bytes_decides d.0.link.address l.0.address).0 (and-left _ _ d.2)) in
-      subst (λ o. IsSomeAnd o (λ (d : Incoming). IsSomeAnd e.link (λ l. l.address ≡ d.link.address))) (sym is.0)
-      (subst (λ o. IsSomeAnd o (λ (m : Link). m.address ≡ d.0.link.address)) (sym l.1) here)
+      let here : l.0.address ≡ address_of d.0 past = sym ((bytes_decides (address_of d.0 past) l.0.address).0 (and-left _ _ d.2)) in
+      subst (λ o. IsSomeAnd o (λ (d : Incoming). IsSomeAnd e.link (λ l. l.address ≡ address_of d past))) (sym is.0)
+      (subst (λ o. IsSomeAnd o (λ (m : Link). m.address ≡ address_of d.0 past)) (sym l.1) here)
 
   joined : (j : Outgoing) → e.outgoing ≡ Some j → outgoing.payload j (e ∷ past) ≡ outgoing.payload j past ++ spoken.payload
   joined j is =
@@ -85,7 +85,7 @@ module _ (rules : RuleSet) (e : Event) (past : List Event) (lawful : first_broke
   has-carried = of_written as_transfer e Carried means-carried
 
   abbrev Addressed : TransferFields → Type 0
-  Addressed fields = IsSomeAnd (noted e.note past) (λ d. IsSomeAnd e.link (λ l. l.address ≡ d.link.address))
+  Addressed fields = IsSomeAnd (noted e.note past) (λ d. IsSomeAnd e.link (λ l. l.address ≡ address_of d past))
 
   means-addressed : (frame : Frame) (spoken : Spoken) → e.moment ≡ Out frame → spoken_in frame.body ≡ Some spoken → IfSome (as_transfer spoken.meaning) Addressed
   means-addressed frame spoken written says =

@@ -1,5 +1,5 @@
 -- For each clause captures that break it, and nothing else; and such that are lawful though they look like it.
-use Rattle.std.specs.Prelude.{◌≡◌, List, true, false, [], ◌∷◌, ◌++◌, replicate, codes, Some, None, refl}
+use Rattle.std.specs.Prelude.{◌≡◌, ℕ, List, true, false, [], ◌∷◌, ◌++◌, replicate, codes, Some, None, refl}
 use Rattle.amqp_perf.specs.declared.attach.Role.TheVariants.{Sender, Receiver}
 use Rattle.amqp_perf.specs.declared.attach.SenderSettleMode.TheVariants.{Settled, Mixed}
 use Rattle.amqp_perf.specs.declared.attach.ReceiverSettleMode.TheVariants.{First}
@@ -7,6 +7,8 @@ use Rattle.amqp_perf.specs.Meaning.{AnAttach, AFlow, ATransfer, ADisposition, An
 use Rattle.pairing_cert.specs.declared.note.Why.TheVariants.{C, Z, N}
 use Rattle.capture_form.specs.declared.records.Record.{Record}
 use Rattle.capture_form.specs.declared.rules.Distribution.TheVariants.{Multicast}
+use Rattle.capture_form.specs.Rules.{RuleText}
+use Rattle.trace_clauses.specs.declared.clause.Clause.{Clause}
 use Rattle.trace_clauses.specs.declared.clause.Clause.TheVariants.{L1, L2, L3, L4, L5, L6, L7, L8, L9, L10, L11, L12, L13, L14}
 use Rattle.trace_clauses.specs.Written.{spoken_octets, written_open, written_begin, written_close, written_end, written_detach, written_settling}
 use Rattle.trace_clauses.proofs.Captures.{rule, opened, lost, broken, router, paired, broken_of}
@@ -413,3 +415,22 @@ begin_with_note = refl
 settling_with_note : broken_of [] (decided ++ (tell 0 C (disposes Receiver 0 true accepted) ∷ paired 1 16 (spoken_octets (written_settling 0 0)) ∷ [])) ≡ Some (20, L14)
 unfolding broken_of
 settling_with_note = refl
+
+-- ---- each clause
+
+-- each is broken by one of these captures: a clause of which no table has a row would be met by all, and have no line here
+each_breaks : (clause : Clause) → (rules : List RuleText) × (records : List Record) × (number : ℕ) × (broken_of rules records ≡ Some (number, clause))
+each_breaks L1 = (_, _, _, not_opened)
+each_breaks L2 = (_, _, _, begin_unasked)
+each_breaks L3 = (_, _, _, attach_unasked)
+each_breaks L4 = (_, _, _, transfer_without_link)
+each_breaks L5 = (_, _, _, transfer_without_credit)
+each_breaks L6 = (_, _, _, next_of_other_note)
+each_breaks L7 = (_, _, _, transfer_without_note)
+each_breaks L8 = (_, _, _, transfer_of_other_payload)
+each_breaks L9 = (_, _, _, second_consumer)
+each_breaks L10 = (_, _, _, flow_without_session)
+each_breaks L11 = (_, _, _, outcome_invented)
+each_breaks L12 = (_, _, _, settled_undecided)
+each_breaks L13 = (_, _, _, detached_twice)
+each_breaks L14 = (_, _, _, begin_with_note)

@@ -126,11 +126,11 @@ module _ (rules : RuleSet) (past : List Event) (are : AreJudged rules past) (l :
   unborn : is_live past l ≡ false
   unborn = unborn_by (is_live past l) refl
 
-not_copied : (rules : RuleSet) (l : Link) (past : List Event) (o : Option Incoming) → is_live past l ≡ false → is_some_and o (λ d. is_of_multicast rules d && is_consumer_of (address_of d) past l) ≡ false
-not_copied rules l past None over = refl
-not_copied rules l past (Some d) over =
-    ap (λ b. is_of_multicast rules d && (is_consumer l && bytes_eq l.address (address_of d) && b)) over
-    ∙ (ap (λ b. is_of_multicast rules d && b) (and-false (is_consumer l && bytes_eq l.address (address_of d))) ∙ and-false (is_of_multicast rules d))
+not_copied : (rules : RuleSet) (l : Link) (e : Event) (past : List Event) (o : Option Incoming) → is_live past l ≡ false → is_some_and o (λ d. is_of_multicast rules d (e ∷ past) && is_consumer_of (address_of d (e ∷ past)) past l) ≡ false
+not_copied rules l e past None over = refl
+not_copied rules l e past (Some d) over =
+    ap (λ b. is_of_multicast rules d (e ∷ past) && (is_consumer l && bytes_eq l.address (address_of d (e ∷ past)) && b)) over
+    ∙ (ap (λ b. is_of_multicast rules d (e ∷ past) && b) (and-false (is_consumer l && bytes_eq l.address (address_of d (e ∷ past)))) ∙ and-false (is_of_multicast rules d (e ∷ past)))
 
 -- nothing was due to it
 none_due : (rules : RuleSet) (past : List Event) → AreJudged rules past → (l : Link) → length past ≤ suc l.number → (due_count rules l past ≡ 0) × ((d : Incoming) → is_due rules d l past ≡ false)
@@ -139,7 +139,7 @@ none_due rules (e ∷ past) are l later =
     let before = none_due rules past are.1 l (omega (arith, later)) in
     let over : is_live past l ≡ false = unborn rules past are.1 l (omega (arith, later)) in
     let none : comes_due rules l e past ≡ false =
-    ap (λ b. b && nat_lt (due_count rules l past - begun_count l past) (link_credit l past)) (not_copied rules l past (completed_by e) over) in (
+    ap (λ b. b && nat_lt (due_count rules l past - begun_count l past) (link_credit l past)) (not_copied rules l e past (completed_by e) over) in (
       ap (λ b. if b then suc (due_count rules l past) else due_count rules l past) none ∙ before.0,
       λ d. ap (λ b. if completes d e then b else is_due rules d l past) none ∙ (ap (λ b. if completes d e then false else b) (before.1 d) ∙ both-off (completes d e)),
     )
@@ -245,8 +245,8 @@ module _ (rules : RuleSet) (e : Event) (past : List Event) (are : AreJudged rule
         let c = begun-carries rules e past are lawful j begun in
         let one : d.0 ≡ c.delivery = same_some d.0 c.delivery (sym (passes-some _ (noted e.note past) d.0 d.1).0 ∙ c.is) in
         let first : is_first_to rules l past c.delivery ≡ true = subst (λ (x : Incoming). is_first_to rules l past x ≡ true) one (and_first (is_first_to rules l past d.0) (is_in_order l past d.0) d.2) in
-        let multicast : is_of_multicast rules c.delivery ≡ true = ap (has_multicast rules) (sym c.address ∙ ap (λ (m : Link). m.address) own_link_is) ∙ many in
-        turned (is_of_multicast rules c.delivery) (is_named_on c.delivery l past) (is_due rules c.delivery l past) (not (is_paired c.delivery past)) multicast first
+        let multicast : is_of_multicast rules c.delivery past ≡ true = ap (has_multicast rules) (sym c.address ∙ ap (λ (m : Link). m.address) own_link_is) ∙ many in
+        turned (is_of_multicast rules c.delivery past) (is_named_on c.delivery l past) (is_due rules c.delivery l past) (not (is_paired c.delivery past)) multicast first
       where
         turned : (many named due alone : Bool) → many ≡ true → (if many then not named && due else alone) ≡ true → due && not named ≡ true
         turned true false true alone is first = refl
@@ -376,7 +376,7 @@ module _ (rules : RuleSet) (e : Event) (past : List Event) (are : AreJudged rule
     (l : Link) (known : links.IsKnown past l) (consumer : is_consumer l ≡ true) (many : has_multicast rules l.address ≡ true) where
   one-added : (o : Option Incoming) → completed_by e ≡ o → length (if comes_due rules l e past then cons_option o [] else []) ≡ cond (comes_due rules l e past) 1 0
   one-added None is = none-added (comes_due rules l e past)
-      (ap (λ o. is_some_and o (λ d. is_of_multicast rules d && is_consumer_of (address_of d) past l) && nat_lt (due_count rules l past - begun_count l past) (link_credit l past)) is)
+      (ap (λ o. is_some_and o (λ d. is_of_multicast rules d (e ∷ past) && is_consumer_of (address_of d (e ∷ past)) past l) && nat_lt (due_count rules l past - begun_count l past) (link_credit l past)) is)
     where
       empty : List Incoming
       empty = []
@@ -477,11 +477,11 @@ comes_due_listed rules e past are lawful l at = by (is_copied_to rules l e past)
     by false is =
         ap (λ b. b && nat_lt (due_count rules l past - begun_count l past) (link_credit l past)) is ∙ sym (ap (λ b. b && nat_lt (length (unsent_copies rules l past)) (link_credit l past)) is)
     by true is =
-        let d = some-and (completed_by e) (λ d. is_of_multicast rules d && is_consumer_of (address_of d) past l) is in
-        let of = and_last (is_of_multicast rules d.0) (is_consumer_of (address_of d.0) past l) d.2 in
-        let both = and_first (is_consumer l && bytes_eq l.address (address_of d.0)) (is_live past l) of in
-        let same : l.address ≡ address_of d.0 = (bytes_eq-Decides l.address (address_of d.0)).0 (and_last (is_consumer l) (bytes_eq l.address (address_of d.0)) both) in
-        let many : has_multicast rules l.address ≡ true = ap (has_multicast rules) same ∙ and_first (is_of_multicast rules d.0) (is_consumer_of (address_of d.0) past l) d.2 in
+        let d = some-and (completed_by e) (λ d. is_of_multicast rules d (e ∷ past) && is_consumer_of (address_of d (e ∷ past)) past l) is in
+        let of = and_last (is_of_multicast rules d.0 (e ∷ past)) (is_consumer_of (address_of d.0 (e ∷ past)) past l) d.2 in
+        let both = and_first (is_consumer l && bytes_eq l.address (address_of d.0 (e ∷ past))) (is_live past l) of in
+        let same : l.address ≡ address_of d.0 (e ∷ past) = (bytes_eq-Decides l.address (address_of d.0 (e ∷ past))).0 (and_last (is_consumer l) (bytes_eq l.address (address_of d.0 (e ∷ past))) both) in
+        let many : has_multicast rules l.address ≡ true = ap (has_multicast rules) same ∙ and_first (is_of_multicast rules d.0 (e ∷ past)) (is_consumer_of (address_of d.0 (e ∷ past)) past l) d.2 in
         ap (λ n. is_copied_to rules l e past && nat_lt n (link_credit l past))
-        (ap (λ n. n - begun_count l past) (copies_counted rules past are lawful l at (and_first (is_consumer l) (bytes_eq l.address (address_of d.0)) both) many)
+        (ap (λ n. n - begun_count l past) (copies_counted rules past are lawful l at (and_first (is_consumer l) (bytes_eq l.address (address_of d.0 (e ∷ past))) both) many)
         ∙ rest (begun_count l past) (length (unsent_copies rules l past)))

@@ -11,7 +11,7 @@ use Rattle.capture_form.specs.Rules.{RuleSet}
 use Rattle.trace_events.specs.Words.{is_number, is_some_and, are_same_octets}
 use Rattle.trace_events.specs.Event.{Event, Incoming, Outgoing}
 use Rattle.trace_events.specs.Link.{is_live}
-use Rattle.trace_events.specs.Incoming.{incoming_at, incoming_begun, is_complete, is_told, is_settled, is_aborted}
+use Rattle.trace_events.specs.Incoming.{completes, incoming_at, incoming_begun, is_complete, is_told, is_settled, is_aborted}
 use Rattle.trace_events.specs.Outgoing.{outgoing_begun, outgoing_deliveries, names, pairing, is_paired}
 use Rattle.trace_events.specs.Waiting.{is_of_multicast, is_unpaired, is_waiting, is_gone, is_undecided, always_had_consumer}
 use Rattle.trace_clauses.specs.Outcome.{row, anycast_row, may_be_told}
@@ -22,7 +22,8 @@ use Rattle.trace_clauses.proofs.ClausesMet.{lawful-past}
 use Rattle.trace_events.proofs.Judged.{AreJudged, judged-number, history-judged}
 use Rattle.trace_clauses.proofs.OneConsumer.{some-and, and-left, incoming_at-is, found-at}
 use Rattle.trace_clauses.proofs.OneOutcome.{outcome, eleven, and-right, number-some}
-use Rattle.trace_clauses.proofs.Incomings.{judged-part, judged-sound, lost-stays}
+use Rattle.trace_events.proofs.WaitingSteps.{is_of_multicast-same}
+use Rattle.trace_clauses.proofs.Incomings.{judged-part, judged-sound, not-again, lost-stays}
 use Rattle.trace_events.proofs.Fates.{not_both, complete-stays}
 
 -- ---- what is told does not wait
@@ -35,8 +36,8 @@ unpaired-off false complete false (inl h) = absurd cc
 unpaired-off false complete false (inr h) = absurd cc
 
 -- of multicast, or paired, it does not wait
-not-waiting : (rules : RuleSet) (d : Incoming) (past : List Event) → (is_of_multicast rules d ≡ true) ⊎ (is_paired d past ≡ true) → is_waiting rules d past ≡ false
-not-waiting rules d past h = ap (λ b. b && always_had_consumer d past) (unpaired-off (is_of_multicast rules d) (is_complete d past) (is_paired d past) h)
+not-waiting : (rules : RuleSet) (d : Incoming) (past : List Event) → (is_of_multicast rules d past ≡ true) ⊎ (is_paired d past ≡ true) → is_waiting rules d past ≡ false
+not-waiting rules d past h = ap (λ b. b && always_had_consumer d past) (unpaired-off (is_of_multicast rules d past) (is_complete d past) (is_paired d past) h)
 
 and-not : (a b : Bool) → a && b ≡ false → b ≡ true → a ≡ false
 and-not true true e is = e
@@ -63,13 +64,13 @@ row-paired d past why None test e = absurd cc
 row-paired d past why (Some j) test e = refl
 
 paired-by : (rules : RuleSet) (d : Incoming) (past : List Event) (why : Why) (test : Option (List ℕ) → Bool)
-    → is_some_and (if is_of_multicast rules d then None else anycast_row d past why (pairing d past)) test ≡ true → is_waiting rules d past ≡ false
+    → is_some_and (if is_of_multicast rules d past then None else anycast_row d past why (pairing d past)) test ≡ true → is_waiting rules d past ≡ false
 paired-by rules d past why test e =
-    not-waiting rules d past (inr (anycast-paired (is_of_multicast rules d) (anycast_row d past why (pairing d past)) test (is_paired d past) (row-paired d past why (pairing d past) test) e))
+    not-waiting rules d past (inr (anycast-paired (is_of_multicast rules d past) (anycast_row d past why (pairing d past)) test (is_paired d past) (row-paired d past why (pairing d past) test) e))
 
 by-row : (rules : RuleSet) (d : Incoming) (past : List Event) (why : Why) (test : Option (List ℕ) → Bool) → is_some_and (row rules d past why) test ≡ true → is_waiting rules d past ≡ false
 by-row rules d past N test e = gone-apart rules d past (if-then (is_gone rules d past) _ test e)
-by-row rules d past M test e = not-waiting rules d past (inl (if-some (is_of_multicast rules d) _ test e))
+by-row rules d past M test e = not-waiting rules d past (inl (if-some (is_of_multicast rules d past) _ test e))
 by-row rules d past C test e = paired-by rules d past C test e
 by-row rules d past Z test e = paired-by rules d past Z test e
 by-row rules d past S test e = paired-by rules d past S test e
@@ -102,9 +103,11 @@ and-off true c e = e
 and-off false c e = refl
 
 module _ (rules : RuleSet) (e : Event) (past : List Event) (are : AreJudged rules (e ∷ past)) (d : Incoming) where
-  quiet-by : (multicast paired always : Bool) → is_of_multicast rules d ≡ multicast → is_paired d past ≡ paired → always_had_consumer d past ≡ always
+  quiet-by : (multicast paired always : Bool) → is_of_multicast rules d past ≡ multicast → is_paired d past ≡ paired → always_had_consumer d past ≡ always
       → is_complete d past ≡ true → not multicast && true && not paired && always ≡ false → is_waiting rules d (e ∷ past) ≡ false
-  quiet-by true paired always m p a done h = not-waiting rules d (e ∷ past) (inl m)
+  quiet-by true paired always m p a done h =
+      let none : completes d e ≡ false = not-again e past (judged-number rules e past are) (judged-part rules e past are) (judged-sound rules past are.1) d done in
+      not-waiting rules d (e ∷ past) (inl (is_of_multicast-same d e past rules none ∙ m))
   quiet-by false true always m p a done h = not-waiting rules d (e ∷ past) (inr (paired-stays d e past p))
   quiet-by false false true m p a done h = absurd cc
   quiet-by false false false m p a done h =
@@ -113,11 +116,11 @@ module _ (rules : RuleSet) (e : Event) (past : List Event) (are : AreJudged rule
 
   pub done-stays : IsDone rules d past → IsDone rules d (e ∷ past)
   done-stays is =
-      let same : not (is_of_multicast rules d) && true && not (is_paired d past) && always_had_consumer d past ≡ false =
-      ap (λ c. not (is_of_multicast rules d) && c && not (is_paired d past) && always_had_consumer d past) (sym is.complete) ∙ is.quiet in
+      let same : not (is_of_multicast rules d past) && true && not (is_paired d past) && always_had_consumer d past ≡ false =
+      ap (λ c. not (is_of_multicast rules d past) && c && not (is_paired d past) && always_had_consumer d past) (sym is.complete) ∙ is.quiet in
       record {
         complete = complete-stays d e past is.complete;
-        quiet = quiet-by (is_of_multicast rules d) (is_paired d past) (always_had_consumer d past) refl refl refl is.complete same;
+        quiet = quiet-by (is_of_multicast rules d past) (is_paired d past) (always_had_consumer d past) refl refl refl is.complete same;
       }
 
 -- ---- the event that tells

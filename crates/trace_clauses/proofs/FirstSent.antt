@@ -17,7 +17,9 @@ use Rattle.trace_events.specs.Waiting.{is_of_multicast, is_waiting, is_gone, alw
 use Rattle.trace_events.specs.Due.{is_copied_to, due_count, is_due, is_unsent}
 use Rattle.trace_events.specs.Work.{comes_due}
 use Rattle.trace_events.proofs.Along.{and_first, and_last}
+use Rattle.trace_events.proofs.IncomingSteps.{address_of-same}
 use Rattle.trace_events.proofs.Judged.{AreJudged}
+use Rattle.trace_events.proofs.WaitingSteps.{is_of_multicast-same}
 use Rattle.trace_clauses.specs.TransferClause.{is_first_to, is_in_order, may_go_to}
 use Rattle.trace_clauses.proofs.IncomingProgress.{judged-kept}
 use Rattle.trace_clauses.proofs.Incomings.{judged-sound}
@@ -28,9 +30,9 @@ use Rattle.trace_clauses.proofs.UnsentCopies.{due_complete}
 -- ---- a copy that is due
 
 -- its delivery is of multicast, and of the link's address
-pub record IsCopy (rules : RuleSet) (l : Link) (d : Incoming) : Type 0 where
-  pub multicast : is_of_multicast rules d ≡ true
-  pub address : address_of d ≡ l.address
+pub record IsCopy (rules : RuleSet) (l : Link) (past : List Event) (d : Incoming) : Type 0 where
+  pub multicast : is_of_multicast rules d past ≡ true
+  pub address : address_of d past ≡ l.address
 
 same_some : {A : Type 0} (a b : A) → Some a ≡ Some b → a ≡ b
 same_some a b is = cc
@@ -40,20 +42,20 @@ completed_part true o d is = is
 completed_part false o d is = absurd cc
 
 module _ (rules : RuleSet) (e : Event) (past : List Event) (are : AreJudged rules (e ∷ past)) (l : Link) (d : Incoming) (found : incoming_at d.number (e ∷ past) ≡ Some d) where
-  due_here : completes d e ≡ true → comes_due rules l e past ≡ true → IsCopy rules l d
+  due_here : completes d e ≡ true → comes_due rules l e past ≡ true → IsCopy rules l (e ∷ past) d
   due_here here comes =
       let copied : is_copied_to rules l e past ≡ true = and_first (is_copied_to rules l e past) (nat_lt (due_count rules l past - begun_count l past) (link_credit l past)) comes in
-      let x = some-and (completed_by e) (λ x. is_of_multicast rules x && is_consumer_of (address_of x) past l) copied in
+      let x = some-and (completed_by e) (λ x. is_of_multicast rules x (e ∷ past) && is_consumer_of (address_of x (e ∷ past)) past l) copied in
       let same : (x.0.number == d.number) ≡ true = sym (ap (λ o. is_some_and o (λ (other : Incoming). other.number == d.number)) x.1) ∙ here in
       let part = completed_part (is_some_and (in_transfer e) is_last_part) e.incoming x.0 x.1 in
       let kept = holds_some (IsKept (e ∷ past)) e.incoming x.0 part (judged-kept rules (e ∷ past) are).each.0 in
       let one : x.0 ≡ d = same_some x.0 d (sym kept.at ∙ (ap (λ n. incoming_at n (e ∷ past)) (eqb-true x.0.number d.number same) ∙ found)) in
-      let of = and_last (is_of_multicast rules x.0) (is_consumer_of (address_of x.0) past l) x.2 in
-      let both = and_first (is_consumer l && bytes_eq l.address (address_of x.0)) (is_live past l) of in
-      subst (IsCopy rules l) one
+      let of = and_last (is_of_multicast rules x.0 (e ∷ past)) (is_consumer_of (address_of x.0 (e ∷ past)) past l) x.2 in
+      let both = and_first (is_consumer l && bytes_eq l.address (address_of x.0 (e ∷ past))) (is_live past l) of in
+      subst (IsCopy rules l (e ∷ past)) one
       (record {
-        multicast = and_first (is_of_multicast rules x.0) (is_consumer_of (address_of x.0) past l) x.2;
-        address = sym ((bytes_eq-Decides l.address (address_of x.0)).0 (and_last (is_consumer l) (bytes_eq l.address (address_of x.0)) both));
+        multicast = and_first (is_of_multicast rules x.0 (e ∷ past)) (is_consumer_of (address_of x.0 (e ∷ past)) past l) x.2;
+        address = sym ((bytes_eq-Decides l.address (address_of x.0 (e ∷ past))).0 (and_last (is_consumer l) (bytes_eq l.address (address_of x.0 (e ∷ past))) both));
       })
 
   known_before : is_complete d past ≡ true → incoming_at d.number past ≡ Some d
@@ -62,13 +64,15 @@ module _ (rules : RuleSet) (e : Event) (past : List Event) (are : AreJudged rule
     | inr new ↦ let none : is_complete d past ≡ false = (judged-sound rules past are.1).fresh d (omega (arith, new)) in absurd cc
   ]
 
-pub due_copy : (rules : RuleSet) (past : List Event) → AreJudged rules past → (l : Link) (d : Incoming) → incoming_at d.number past ≡ Some d → is_due rules d l past ≡ true → IsCopy rules l d
+pub due_copy : (rules : RuleSet) (past : List Event) → AreJudged rules past → (l : Link) (d : Incoming) → incoming_at d.number past ≡ Some d → is_due rules d l past ≡ true → IsCopy rules l past d
 due_copy rules [] are l d found due = absurd cc
 due_copy rules (e ∷ past) are l d found due = by (completes d e) refl due (due_copy rules past are.1 l d)
   where
-    by : (b : Bool) → completes d e ≡ b → (if b then comes_due rules l e past else is_due rules d l past) ≡ true → (incoming_at d.number past ≡ Some d → is_due rules d l past ≡ true → IsCopy rules l d) → IsCopy rules l d
+    by : (b : Bool) → completes d e ≡ b → (if b then comes_due rules l e past else is_due rules d l past) ≡ true → (incoming_at d.number past ≡ Some d → is_due rules d l past ≡ true → IsCopy rules l past d) → IsCopy rules l (e ∷ past) d
     by true here due earlier = due_here rules e past are l d found here due
-    by false none due earlier = earlier (known_before rules e past are l d found (due_complete rules past d l due)) due
+    by false none due earlier =
+        let copy = earlier (known_before rules e past are l d found (due_complete rules past d l due)) due in
+        record { multicast = is_of_multicast-same d e past rules none ∙ copy.multicast; address = address_of-same e past d none ∙ copy.address }
 
 -- ---- what may begin
 
@@ -94,8 +98,8 @@ copy_goes_first rules past are l d found unsent =
     let copy = due_copy rules past are l d found due in
     record {
       complete = due_complete rules past d l due;
-      whole = never_gone (is_of_multicast rules d) (is_complete d past) (is_paired d past) (always_had_consumer d past) copy.multicast;
-      first = due_first (is_of_multicast rules d) (is_due rules d l past) (is_named_on d l past) (not (is_paired d past)) copy.multicast unsent;
+      whole = never_gone (is_of_multicast rules d past) (is_complete d past) (is_paired d past) (always_had_consumer d past) copy.multicast;
+      first = due_first (is_of_multicast rules d past) (is_due rules d l past) (is_named_on d l past) (not (is_paired d past)) copy.multicast unsent;
     }
 
 waits-complete : (many complete paired had : Bool) → not many && complete && not paired && had ≡ true → complete ≡ true
@@ -118,9 +122,9 @@ waits-first true complete paired had due is = absurd cc
 
 pub waiting_goes_first : (rules : RuleSet) (past : List Event) (l : Link) (d : Incoming) → is_waiting rules d past ≡ true → GoesFirst rules l past d
 waiting_goes_first rules past l d waits = record {
-  complete = waits-complete (is_of_multicast rules d) (is_complete d past) (is_paired d past) (always_had_consumer d past) waits;
-  whole = waits-whole (is_of_multicast rules d) (is_complete d past) (is_paired d past) (always_had_consumer d past) waits;
-  first = waits-first (is_of_multicast rules d) (is_complete d past) (is_paired d past) (always_had_consumer d past) (not (is_named_on d l past) && is_due rules d l past) waits;
+  complete = waits-complete (is_of_multicast rules d past) (is_complete d past) (is_paired d past) (always_had_consumer d past) waits;
+  whole = waits-whole (is_of_multicast rules d past) (is_complete d past) (is_paired d past) (always_had_consumer d past) waits;
+  first = waits-first (is_of_multicast rules d past) (is_complete d past) (is_paired d past) (always_had_consumer d past) (not (is_named_on d l past) && is_due rules d l past) waits;
 }
 
 -- ---- so it may go, where it is in order

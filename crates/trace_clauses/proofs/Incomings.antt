@@ -9,7 +9,7 @@ use Rattle.trace_events.specs.Words.{is_some_and, or_else, where_passes}
 use Rattle.trace_events.specs.Frame.{Frame, Spoken, spoken_in}
 use Rattle.trace_events.specs.Event.{Event, Link, Incoming, Moment, Opened, In, Out, Lost, Broken}
 use Rattle.trace_events.specs.Said.{in_transfer, in_spoken}
-use Rattle.trace_events.specs.Incoming.{goes_on, in_progress, is_part, is_last_part, completed_by, completes, is_complete, payload, part_payload, incoming_begun, incoming_deliveries, incoming_at}
+use Rattle.trace_events.specs.Incoming.{address_of, goes_on, in_progress, is_part, is_last_part, completed_by, completes, is_complete, payload, part_payload, incoming_begun, incoming_deliveries, incoming_at}
 use Rattle.trace_events.specs.Address.{has_consumer}
 use Rattle.trace_events.specs.Outgoing.{is_paired}
 use Rattle.trace_events.specs.Waiting.{always_had_consumer, is_of_multicast, is_unpaired, is_waiting, is_gone}
@@ -265,8 +265,8 @@ module _ (e : Event) (past : List Event) (number : e.number ≡ length past) (pa
 
   pub lost-stays : always_had_consumer d past ≡ false → always_had_consumer d (e ∷ past) ≡ false
   lost-stays lost =
-      ap (λ b. has_consumer d.link.address (e ∷ past) && (b || always_had_consumer d past)) not-again
-      ∙ (ap (λ b. has_consumer d.link.address (e ∷ past) && b) lost ∙ and-none (has_consumer d.link.address (e ∷ past)))
+      ap (λ b. has_consumer (address_of d (e ∷ past)) (e ∷ past) && (b || always_had_consumer d past)) not-again
+      ∙ (ap (λ b. has_consumer (address_of d (e ∷ past)) (e ∷ past) && b) lost ∙ and-none (has_consumer (address_of d (e ∷ past)) (e ∷ past)))
 
 lost-continued : (rules : RuleSet) (past : List Event) (rs : List Record) → AreJudged rules past → (d : Incoming) → is_complete d past ≡ true
     → always_had_consumer d past ≡ false → always_had_consumer d (continued rules past rs) ≡ false
@@ -297,7 +297,7 @@ pub gone-for-good : (rules : RuleSet) (rs qs : List Record) (d : Incoming) → i
     → is_waiting rules d (history rules (rs ++ qs)) ≡ false
 gone-for-good rules rs qs d gone =
     let past = history rules rs in
-    let done : is_complete d past ≡ true = and-two (not (is_of_multicast rules d)) _ (and-one _ (not (is_paired d past)) (and-one _ (not (always_had_consumer d past)) gone)) in
+    let done : is_complete d past ≡ true = and-two (not (is_of_multicast rules d past)) _ (and-one _ (not (is_paired d past)) (and-one _ (not (always_had_consumer d past)) gone)) in
     let lost : always_had_consumer d past ≡ false = not-yes (always_had_consumer d past) (and-two _ _ gone) in
     let later : always_had_consumer d (history rules (rs ++ qs)) ≡ false =
     ap (always_had_consumer d) (continued-append rules [] rs qs) ∙ lost-continued rules past qs (history-judged rules rs) d done lost in

@@ -7,7 +7,7 @@ use Rattle.trace_clauses.specs.Clauses.{first_broken}
 use Rattle.trace_clauses.specs.Kept.{Keeps}
 use Rattle.trace_clauses.proofs.Within.{lawful-stood-within, lawful-of-row}
 use Rattle.trace_clauses.proofs.Carried.{lawful-addressed, lawful-carried}
-use Rattle.trace_clauses.proofs.OneConsumer.{lawful-reaches-one}
+use Rattle.trace_clauses.proofs.ReachesOne.{lawful-reaches-one}
 use Rattle.trace_clauses.proofs.OneOutcome.{lawful-told-once}
 
 pub lawful-keeps : (rules : RuleSet) (rs : List Record) → first_broken rules (history rules rs) ≡ None → Keeps rules (history rules rs)

@@ -9,7 +9,9 @@ pub mod Carried
 pub mod Keeping
 pub mod LiveLinks
 pub mod Incomings
+mod ReachesOne
 pub mod Parts
+pub mod JoinedParts
 pub mod PartsCounted
 pub mod Decided
 pub mod Undecided
@@ -44,6 +46,7 @@ pub mod AwaitedSteps
 pub mod OneCopy
 mod ClauseExamples
 mod FaultExamples
+mod AnonymousExamples
 mod ReadingExamples
 mod PartsExamples
 mod EndExamples

@@ -8,7 +8,7 @@ use Rattle.trace_events.specs.Event.{Event, Link, Incoming, Outgoing}
 use Rattle.trace_events.specs.Link as all
 use Rattle.trace_events.specs.Link.{own_link, link_at}
 use Rattle.trace_events.specs.Credit.{begins_outgoing}
-use Rattle.trace_events.specs.Incoming.{completes, is_complete, completed_before}
+use Rattle.trace_events.specs.Incoming.{address_of, completes, is_complete, completed_before}
 use Rattle.trace_events.specs.Outgoing.{outgoing_begun, outgoing_deliveries, is_on, noted}
 use Rattle.trace_events.proofs.Along.{and_then_some}
 use Rattle.trace_events.proofs.Judged.{AreJudged}
@@ -55,7 +55,7 @@ pub record BeginsWith (e : Event) (past : List Event) (l : Link) (b : Incoming) 
   pub named : e.note ≡ notes.Pair b.number
   pub is : noted e.note past ≡ Some b
   pub complete : is_complete b past ≡ true
-  pub address : delivery.link.address ≡ b.link.address
+  pub address : delivery.link.address ≡ address_of b past
 
 module _ (rules : RuleSet) (e : Event) (past : List Event) (are : AreJudged rules (e ∷ past)) (lawful : first_broken rules (e ∷ past) ≡ None) (l : Link) (b : Incoming) where
   -- of one that began before, what it carries is what it carried
@@ -85,7 +85,7 @@ module _ (rules : RuleSet) (e : Event) (past : List Event) (are : AreJudged rule
         named = c.named ∙ ap (λ (x : Incoming). notes.Pair x.number) one;
         is = c.is ∙ ap Some one;
         complete = subst (λ (x : Incoming). is_complete x past ≡ true) one c.complete;
-        address = c.address ∙ ap (λ (x : Incoming). x.link.address) one;
+        address = c.address ∙ ap (λ (x : Incoming). address_of x past) one;
       })
   begun_by j begun false on is = inr (earlier_by is)
 
@@ -113,7 +113,7 @@ module _ (rules : RuleSet) (e : Event) (past : List Event) (are : AreJudged rule
       let j = here.delivery in
       same_some j.link l (sym here.linked.at ∙ (ap (λ n. link_at n (e ∷ past)) (eqb-true j.link.number l.number here.on) ∙ at))
 
-  pub begins-address : l.address ≡ b.link.address
+  pub begins-address : l.address ≡ address_of b past
   begins-address = ap (λ (m : Link). m.address) (sym begins-link) ∙ here.address
 
   pub begins-on : e.link ≡ Some l

@@ -1,4 +1,4 @@
--- In a lawful capture each anycast delivery reaches at most one consumer.
+-- In a lawful capture a transfer that begins a delivery carries one that is complete, and an anycast one for the first time.
 use Rattle.std.proofs.Common.{◌≡◌, refl, sym, ap, ◌∙◌, subst, ℕ, suc, ◌<◌, ◌≤◌, ◌⊎◌, inl, inr, List, [], ◌∷◌, length, Bool, true, false, cond, not, ◌&&◌, ◌||◌, ◌==◌, Option, Some, None, IfSome, is_some, find, filter, arith, eqb-true}
 use Rattle.std.specs.Prelude.{if◌then◌else◌}
 use Rattle.std.specs.List.{cons_option}
@@ -10,13 +10,13 @@ use Rattle.trace_clauses.specs.declared.clause.Clause.TheVariants.{L9}
 use Rattle.trace_events.specs.Words.{is_some_and, where_passes}
 use Rattle.trace_events.specs.Event.{Event, Incoming, Outgoing}
 use Rattle.trace_events.specs.Credit.{begins_outgoing}
-use Rattle.trace_events.specs.Incoming.{incoming_begun, incoming_deliveries, incoming_at}
+use Rattle.trace_events.specs.Incoming.{completes, is_complete, incoming_begun, incoming_deliveries, incoming_at}
 use Rattle.trace_events.specs.Outgoing.{outgoing_begun, outgoing_deliveries, names, noted, pairing, is_paired}
-use Rattle.trace_events.specs.Waiting.{is_of_multicast}
+use Rattle.trace_events.specs.Waiting.{is_of_multicast, is_gone}
 use Rattle.trace_events.specs.History.{history}
 use Rattle.trace_clauses.specs.Clauses.{first_broken, meaning_meets}
 use Rattle.trace_clauses.specs.TransferClause.{may_go_to, to_carry, is_first_to, is_in_order}
-use Rattle.trace_clauses.specs.Kept.{carriers, ReachesOne}
+use Rattle.trace_clauses.specs.Kept.{carriers}
 use Rattle.trace_clauses.proofs.ClausesMet.{met, lawful-past}
 use Rattle.trace_events.proofs.Judged.{AreJudged, IsTransfer, IsBorn, history-judged, judged-born, judged-number, judged-transfer}
 
@@ -49,11 +49,11 @@ none-kept : {A : Type 0} (test : A → Bool) (x : A) (xs : List A) (b : Bool) �
 none-kept test x xs true is e later = absurd cc
 none-kept test x xs false is e later = later e
 
-none-found : {A : Type 0} (test : A → Bool) (xs : List A) → find test xs ≡ None → filter test xs ≡ []
+pub none-found : {A : Type 0} (test : A → Bool) (xs : List A) → find test xs ≡ None → filter test xs ≡ []
 none-found test [] e = refl
 none-found test (x ∷ xs) e = none-kept test x xs (test x) refl e (none-found test xs)
 
-not-some : {A : Type 0} (o : Option A) → is_some o ≡ false → o ≡ None
+pub not-some : {A : Type 0} (o : Option A) → is_some o ≡ false → o ≡ None
 not-some None e = refl
 not-some (Some x) e = absurd cc
 
@@ -115,7 +115,8 @@ pub record Begins (rules : RuleSet) (e : Event) (past : List Event) (j : Outgoin
   pub note : j.note ≡ e.note
   pub carried : Incoming
   pub is : noted e.note past ≡ Some carried
-  pub first : is_of_multicast rules carried ≡ false → is_paired carried past ≡ false
+  pub complete : is_complete carried past ≡ true
+  pub first : is_of_multicast rules carried past ≡ false → is_paired carried past ≡ false
 
 born-here : (n : ℕ) (note : Note) (j : Outgoing) → j.number ≡ n → IsBorn n note j → j.note ≡ note
 born-here n note j same (inl lt) = absurd (omega (arith, same, lt))
@@ -157,18 +158,19 @@ module _ (rules : RuleSet) (e : Event) (past : List Event) (are : AreJudged rule
         note = own-note;
         carried = d.0;
         is = (passes-some _ (noted e.note past) d.0 d.1).0;
+        complete = and-left (is_complete d.0 past) (not (is_gone rules d.0 past)) (passes-some (λ x. is_complete x past && not (is_gone rules x past)) (noted e.note past) d.0 d.1).1;
         first = λ anycast. not-true (is_paired d.0 past)
-            (otherwise (is_of_multicast rules d.0) _ (not (is_paired d.0 past)) anycast (and-left _ _ d.2));
+            (otherwise (is_of_multicast rules d.0 past) _ (not (is_paired d.0 past)) anycast (and-left _ _ d.2));
       }
 
   -- the delivery that it names was begun before
-  carried-at : (n : ℕ) → names n j.note ≡ true → (d : Incoming) × (incoming_at n past ≡ Some d) × (n < length past) × (d.number ≡ n) × (is_of_multicast rules d ≡ false → is_paired d past ≡ false)
+  pub carried-at : (n : ℕ) → names n j.note ≡ true → (d : Incoming) × (incoming_at n past ≡ Some d) × (n < length past) × (d.number ≡ n) × (is_of_multicast rules d past ≡ false → is_paired d past ≡ false) × (is_complete d past ≡ true)
   carried-at n named =
       let f = begun-facts in
       let note : e.note ≡ notes.Pair n = sym f.note ∙ names-pair n j.note named in
       let found : incoming_at n past ≡ Some f.carried = sym (ap (λ x. noted x past) note) ∙ f.is in
       let at = subst (λ (o : Option Incoming). IfSome o (λ d. (n < length past) × (d.number ≡ n))) found (incoming_at-is rules past n are.1) in
-      (f.carried, found, at.0, at.1, f.first)
+      (f.carried, found, at.0, at.1, f.first, f.complete)
 
 -- ---- nothing carries a delivery that hasn't begun
 
@@ -178,54 +180,11 @@ module _ (rules : RuleSet) (e : Event) (past : List Event) (are : AreJudged rule
   none-by j begun true named = let at = carried-at rules e past are lawful j begun n named in let lt = at.2 in absurd (omega (arith, lt, above))
   none-by j begun false named = before
 
-  none-at : (o : Option Outgoing) → outgoing_begun e ≡ o → filter (λ j. names n j.note) (cons_option o (outgoing_deliveries past)) ≡ []
+  pub none-at : (o : Option Outgoing) → outgoing_begun e ≡ o → filter (λ j. names n j.note) (cons_option o (outgoing_deliveries past)) ≡ []
   none-at None begun = before
   none-at (Some j) begun = none-by j begun (names n j.note) refl
 
-none-named : (rules : RuleSet) (past : List Event) → AreJudged rules past → first_broken rules past ≡ None → (n : ℕ) → length past ≤ n → carriers n past ≡ []
+pub none-named : (rules : RuleSet) (past : List Event) → AreJudged rules past → first_broken rules past ≡ None → (n : ℕ) → length past ≤ n → carriers n past ≡ []
 none-named rules [] are lawful n above = refl
 none-named rules (e ∷ past) are lawful n above =
     none-at rules e past are lawful n above (none-named rules past are.1 (lawful-past rules e past lawful) n (omega (arith, above))) (outgoing_begun e) refl
-
--- ---- one at most
-
-module _ (rules : RuleSet) (e : Event) (past : List Event) (are : AreJudged rules (e ∷ past)) (lawful : first_broken rules (e ∷ past) ≡ None)
-    (n : ℕ) (d : Incoming) (anycast : is_of_multicast rules d ≡ false) (before : ReachesOne rules past) where
-  few-before : (incoming_at n past ≡ Some d) ⊎ (n ≡ length past) → length (carriers n past) ≤ 1
-  few-before (inl found) = before n d found anycast
-  few-before (inr same) =
-      let none : carriers n past ≡ [] = none-named rules past are.1 (lawful-past rules e past lawful) n (omega (arith, same)) in
-      rw none (omega arith)
-
-  -- the one that begins finds none before it
-  first-of : (j : Outgoing) → outgoing_begun e ≡ Some j → names n j.note ≡ true → (incoming_at n past ≡ Some d) ⊎ (n ≡ length past) → carriers n past ≡ []
-  first-of j begun named (inr same) =
-      let at = carried-at rules e past are lawful j begun n named in let lt = at.2 in absurd (omega (arith, lt, same))
-  first-of j begun named (inl found) =
-      let at = carried-at rules e past are lawful j begun n named in
-      let both : ◌≡◌ {A = Option Incoming} (Some at.0) (Some d) = sym at.1 ∙ found in
-      let same : at.0 ≡ d = cc in
-      let unpaired : is_paired at.0 past ≡ false = at.4 (ap (is_of_multicast rules) same ∙ anycast) in
-      let none : filter (λ k. names at.0.number k.note) (outgoing_deliveries past) ≡ [] =
-      none-found (λ (k : Outgoing). names at.0.number k.note) (outgoing_deliveries past) (not-some (pairing at.0 past) unpaired) in
-      sym (ap (λ m. carriers m past) at.3) ∙ none
-
-  few-by : (j : Outgoing) → outgoing_begun e ≡ Some j → (incoming_at n past ≡ Some d) ⊎ (n ≡ length past) → (b : Bool) → names n j.note ≡ b
-      → length (cond b (j ∷ carriers n past) (carriers n past)) ≤ 1
-  few-by j begun found true named = rw (first-of j begun named found) (omega arith)
-  few-by j begun found false named = few-before found
-
-  few-at : (o : Option Outgoing) → outgoing_begun e ≡ o → (incoming_at n past ≡ Some d) ⊎ (n ≡ length past)
-      → length (filter (λ j. names n j.note) (cons_option o (outgoing_deliveries past))) ≤ 1
-  few-at None begun found = few-before found
-  few-at (Some j) begun found = few-by j begun found (names n j.note) refl
-
-reaches_one : (rules : RuleSet) (past : List Event) → AreJudged rules past → first_broken rules past ≡ None → ReachesOne rules past
-reaches_one rules [] are lawful n d found anycast = omega arith
-reaches_one rules (e ∷ past) are lawful n d found anycast =
-    few-at rules e past are lawful n d anycast (reaches_one rules past are.1 (lawful-past rules e past lawful)) (outgoing_begun e) refl
-    (found-at rules e past are n d (incoming_begun e) refl found)
-
--- the law of a capture
-pub lawful-reaches-one : (rules : RuleSet) (rs : List Record) → first_broken rules (history rules rs) ≡ None → ReachesOne rules (history rules rs)
-lawful-reaches-one rules rs lawful = reaches_one rules (history rules rs) (history-judged rules rs) lawful

@@ -8,7 +8,7 @@ use Rattle.capture_form.specs.Rules.{RuleSet}
 use Rattle.trace_events.specs.Words.{or_else}
 use Rattle.trace_events.specs.Event.{Event, Link, Incoming, Outgoing}
 use Rattle.trace_events.specs.Link.{is_live, link_at}
-use Rattle.trace_events.specs.Incoming.{completes, incoming_at}
+use Rattle.trace_events.specs.Incoming.{completes, is_complete, incoming_at}
 use Rattle.trace_events.specs.Outgoing.{outgoing_begun, outgoing_deliveries, names, is_named_on}
 use Rattle.trace_events.specs.Waiting.{is_of_multicast}
 use Rattle.trace_events.specs.Due.{is_due}
@@ -23,6 +23,7 @@ use Rattle.trace_clauses.proofs.OutgoingProgress.{outgoing_at}
 use Rattle.trace_clauses.proofs.Parts.{IsKept}
 use Rattle.trace_clauses.proofs.VerdictSteps.{not_named_before}
 use Rattle.trace_clauses.proofs.AwaitedSteps.{completed-uncopied, due-many}
+use Rattle.trace_clauses.proofs.WaitingQueue.{multicast_stays}
 
 same_some : {A : Type 0} (a b : A) → Some a ≡ Some b → a ≡ b
 same_some a b is = cc
@@ -47,8 +48,14 @@ module _ (rules : RuleSet) (e : Event) (past : List Event) (are : AreJudged rule
   kept_before : IsKept past d
   kept_before = subst (λ (x : Incoming). IsKept past x) carries_it begun_before.kept
 
+  -- it was of multicast, where it is
+  was_many : is_of_multicast rules d (e ∷ past) ≡ true → is_of_multicast rules d past ≡ true
+  was_many many =
+      let done : is_complete d past ≡ true = subst (λ (x : Incoming). is_complete x past ≡ true) carries_it begun_before.complete in
+      sym (multicast_stays rules e past are d done) ∙ many
+
   -- so no other begins there
-  no_other : is_of_multicast rules d ≡ true → (k : Outgoing) → outgoing_begun e ≡ Some k → is_copy link d.number k ≡ false
+  no_other : is_of_multicast rules d past ≡ true → (k : Outgoing) → outgoing_begun e ≡ Some k → is_copy link d.number k ≡ false
   no_other many k begun = by (is_copy link d.number k) refl
     where
       by : (b : Bool) → is_copy link d.number k ≡ b → b ≡ false
@@ -66,12 +73,12 @@ module _ (rules : RuleSet) (e : Event) (past : List Event) (are : AreJudged rule
           absurd cc
 
 -- the one that is found there is each that there is
-pub one-copy : (rules : RuleSet) (past : List Event) → AreJudged rules past → first_broken rules past ≡ None → (d : Incoming) → incoming_at d.number past ≡ Some d → is_of_multicast rules d ≡ true
+pub one-copy : (rules : RuleSet) (past : List Event) → AreJudged rules past → first_broken rules past ≡ None → (d : Incoming) → incoming_at d.number past ≡ Some d → is_of_multicast rules d past ≡ true
     → (link : ℕ) (j : Outgoing) → is_copy link d.number j ≡ true → outgoing_at j.number past ≡ Some j → find (is_copy link d.number) (outgoing_deliveries past) ≡ Some j
 one-copy rules [] are lawful d found many link j is at = absurd cc
 one-copy rules (e ∷ past) are lawful d found many link j is at =
     by (outgoing_begun e) refl
-    (λ old. one-copy rules past are.1 (lawful-past rules e past lawful) d (kept_before rules e past are lawful d found link j is old).at many link j is old) at
+    (λ old. one-copy rules past are.1 (lawful-past rules e past lawful) d (kept_before rules e past are lawful d found link j is old).at (was_many rules e past are lawful d found link j is old many) link j is old) at
   where
     test : Outgoing → Bool
     test = is_copy link d.number
@@ -84,7 +91,7 @@ one-copy rules (e ∷ past) are lawful d found many link j is at =
         which : (b : Bool) → (if b then Some k else outgoing_at j.number past) ≡ Some j → (if test k then Some k else find test (outgoing_deliveries past)) ≡ Some j
         which true at = ap (λ b. if b then Some k else find test (outgoing_deliveries past)) (ap test (same_some k j at) ∙ is) ∙ at
         which false old =
-            ap (λ b. if b then Some k else find test (outgoing_deliveries past)) (no_other rules e past are lawful d found link j is old many k begun) ∙ earlier old
+            ap (λ b. if b then Some k else find test (outgoing_deliveries past)) (no_other rules e past are lawful d found link j is old (was_many rules e past are lawful d found link j is old many) k begun) ∙ earlier old
 
 -- ---- one that awaits its verdict
 
@@ -104,7 +111,7 @@ module _ (rules : RuleSet) (e : Event) (past : List Event) (are : AreJudged rule
       by false is = and_first (is_due rules d l past) _ is
 
   -- so it is of a multicast delivery
-  pub awaits-many : is_of_multicast rules d ≡ true
+  pub awaits-many : is_of_multicast rules d (e ∷ past) ≡ true
   awaits-many = due-many rules (e ∷ past) are d found l awaits-due
 
   -- it begins with the event, or had no verdict before

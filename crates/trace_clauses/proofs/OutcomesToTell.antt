@@ -47,7 +47,7 @@ use Rattle.trace_clauses.proofs.LinkEnds.{is_live-next}
 use Rattle.trace_clauses.proofs.OneConsumer.{some-and, passes-some, or-right}
 use Rattle.trace_clauses.proofs.Pairs.{paired-not_gone, pairing-stays}
 use Rattle.trace_clauses.proofs.Parts.{IsKept, AllOf, each_delivery}
-use Rattle.trace_clauses.proofs.WaitingQueue.{completed_once, in_filter, filter_has, in_reverse, reverse_has}
+use Rattle.trace_clauses.proofs.WaitingQueue.{completed_once, multicast_stays, in_filter, filter_has, in_reverse, reverse_has}
 
 same_some : {A : Type 0} (a b : A) → Some a ≡ Some b → a ≡ b
 same_some a b is = cc
@@ -112,9 +112,9 @@ rows-by d past false k p h all told (Some j) = paired-rows d j past (decision j 
 -- it has an outcome, and something is still to be told of it
 pub is_to_tell-parts : (rules : RuleSet) (past : List Event) (d : Incoming) → is_to_tell rules past d ≡ has_outcome rules past d && not (is_closed past d)
 is_to_tell-parts rules past d =
-    ap (λ b. may_be_told d past && b) (rows-by d past (is_of_multicast rules d) (is_complete d past) (is_paired d past) (always_had_consumer d past)
+    ap (λ b. may_be_told d past && b) (rows-by d past (is_of_multicast rules d past) (is_complete d past) (is_paired d past) (always_had_consumer d past)
     (has_all_verdicts rules d past) (best_verdict rules d past) (pairing d past))
-    ∙ tell-bits (is_complete d past) (is_settled d past) (is_told d past) (is_live past d.link) (if is_of_multicast rules d then has_all_verdicts rules d past else is_gone rules d past || is_some_and (pairing d past) (is_answered past))
+    ∙ tell-bits (is_complete d past) (is_settled d past) (is_told d past) (is_live past d.link) (if is_of_multicast rules d past then has_all_verdicts rules d past else is_gone rules d past || is_some_and (pairing d past) (is_answered past))
 
 -- ---- what an event does to a delivery to a client
 
@@ -160,16 +160,20 @@ is_answered-step e past j live =
 -- ---- what an event does to a delivery from a client
 
 -- k: completed by the event, c: complete before, h: its address has a consumer, a: it always had one before
-nothing-carries : (k c h a : Bool) → (c ≡ true → k ≡ false)
-    → (k || c) && ((true && (k || c) && true && not (h && (k || a))) || false) ≡ c && ((true && c && true && not a) || false) || (k && not h || true && c && true && a && not h && true || false)
-nothing-carries true true h a once = absurd (let never : true ≡ false = once refl in cc)
-nothing-carries true false true a once = refl
-nothing-carries true false false a once = refl
-nothing-carries false true true true once = refl
-nothing-carries false true true false once = refl
-nothing-carries false true false true once = refl
-nothing-carries false true false false once = refl
-nothing-carries false false h a once = refl
+nothing-carries : (was_many k c h a : Bool) → (c ≡ true → was_many ≡ false) → (c ≡ true → k ≡ false)
+    → (k || c) && ((true && (k || c) && true && not (h && (k || a))) || false) ≡ c && ((not was_many && c && true && not a) || false) || (k && not h || not was_many && c && true && a && not h && true || false)
+nothing-carries true k true h a same once = absurd (let never : true ≡ false = same refl in cc)
+nothing-carries false true true h a same once = absurd (let never : true ≡ false = once refl in cc)
+nothing-carries true true false true a same once = refl
+nothing-carries true true false false a same once = refl
+nothing-carries false true false true a same once = refl
+nothing-carries false true false false a same once = refl
+nothing-carries false false true true true same once = refl
+nothing-carries false false true true false same once = refl
+nothing-carries false false true false true same once = refl
+nothing-carries false false true false false same once = refl
+nothing-carries true false false h a same once = refl
+nothing-carries false false false h a same once = refl
 
 module _ (rules : RuleSet) (e : Event) (past : List Event) (are : AreJudged rules (e ∷ past)) (lawful : first_broken rules (e ∷ past) ≡ None) where
   before : first_broken rules past ≡ None
@@ -213,7 +217,7 @@ module _ (rules : RuleSet) (e : Event) (past : List Event) (are : AreJudged rule
 -- what a transfer that begins a delivery carries is not gone, and not paired where it is anycast
 pub record IsFirst (rules : RuleSet) (past : List Event) (d : Incoming) : Type 0 where
   pub whole : is_gone rules d past ≡ false
-  pub alone : is_of_multicast rules d ≡ false → is_paired d past ≡ false
+  pub alone : is_of_multicast rules d past ≡ false → is_paired d past ≡ false
 
 off : (b : Bool) → not b ≡ true → b ≡ false
 off false is = refl
@@ -235,7 +239,7 @@ module _ (rules : RuleSet) (e : Event) (past : List Event) (are : AreJudged rule
       subst (IsFirst rules past) one
       (record {
         whole = off (is_gone rules d.0 past) (and_last (is_complete d.0 past) (not (is_gone rules d.0 past)) noted_is.1);
-        alone = λ anycast. alone_by (is_of_multicast rules d.0) (not (is_named_on d.0 l.0 past) && is_due rules d.0 l.0 past) (is_paired d.0 past) anycast (and_first (is_first_to rules l.0 past d.0) (is_in_order l.0 past d.0) d.2);
+        alone = λ anycast. alone_by (is_of_multicast rules d.0 past) (not (is_named_on d.0 l.0 past) && is_due rules d.0 l.0 past) (is_paired d.0 past) anycast (and_first (is_first_to rules l.0 past d.0) (is_in_order l.0 past d.0) d.2);
       })
     where
       alone_by : (many due paired : Bool) → many ≡ false → (if many then due else not paired) ≡ true → paired ≡ false
@@ -279,11 +283,17 @@ begun-bits many completed complete a b gone gone_now true now true unpaired last
 begun-bits many completed complete a b gone gone_now true now false unpaired last is c e f g h = rw (is, c, e, f, g) refl
 begun-bits many completed complete a b gone gone_now false now without unpaired last is c e f g h = rw (is, c, e, f, g) refl
 
-none-bits : (before after test : Outgoing → Bool) (many : Bool) (was is : Option Outgoing) (pairs_it k c h a all all_now last : Bool) → many ≡ false → was ≡ None → is ≡ None → pairs_it ≡ false → (c ≡ true → k ≡ false)
+none-bits : (before after test : Outgoing → Bool) (many was_many : Bool) (was is : Option Outgoing) (pairs_it k c h a all all_now last : Bool) → many ≡ false → (c ≡ true → was_many ≡ false) → was ≡ None → is ≡ None
+    → pairs_it ≡ false → (c ≡ true → k ≡ false)
     → (k || c) && (if many then all_now else (not many && (k || c) && not (is_some is) && not (h && (k || a))) || is_some_and is after)
-    ≡ c && (if many then all else (not many && c && not (is_some was) && not a) || is_some_and was before)
-    || (if many then last else k && not h || not many && c && not (is_some was) && a && not h && not pairs_it || is_some_and is test)
-none-bits before after test many was is pairs_it k c h a all all_now last m w i p once = rw (m, w, i, p) (nothing-carries k c h a once)
+    ≡ c && (if many then all else (not was_many && c && not (is_some was) && not a) || is_some_and was before)
+    || (if many then last else k && not h || not was_many && c && not (is_some was) && a && not h && not pairs_it || is_some_and is test)
+none-bits before after test many was_many was is pairs_it k c h a all all_now last m o w i p once = rw (m, w, i, p) (nothing-carries was_many k c h a o once)
+
+-- a value behind a test that holds needs to be the same there alone
+kind-bits : (c m n x y : Bool) → (c ≡ true → m ≡ n) → c && (if m then x else y) ≡ c && (if n then x else y)
+kind-bits false m n x y same = refl
+kind-bits true m n x y same = ap (λ b. if b then x else y) (same refl)
 
 module _ (rules : RuleSet) (e : Event) (past : List Event) (are : AreJudged rules (e ∷ past)) (lawful : first_broken rules (e ∷ past) ≡ None) (d : Incoming) (kept : IsKept past d) where
   was_lawful : first_broken rules past ≡ None
@@ -292,26 +302,37 @@ module _ (rules : RuleSet) (e : Event) (past : List Event) (are : AreJudged rule
   by_number : (c : Incoming) → c.number ≡ d.number → is_complete c past ≡ true → is_complete d past ≡ true
   by_number c same done = ap (λ (n : ℕ). list_any (λ (y : Event). is_some_and (completed_by y) (λ other. other.number == n)) past) (sym same) ∙ done
 
+  -- it was of multicast already, where it was complete
+  was_kind : is_complete d past ≡ true → is_of_multicast rules d past ≡ is_of_multicast rules d (e ∷ past)
+  was_kind done = sym (multicast_stays rules e past are d done)
+
+  -- so whether it had an outcome can be asked by what it is of now
+  abbrev had_outcome : Bool
+  had_outcome = is_complete d past && (if is_of_multicast rules d (e ∷ past) then has_all_verdicts rules d past else is_gone rules d past || is_some_and (pairing d past) (is_answered past))
+
+  had-outcome : has_outcome rules past d ≡ had_outcome
+  had-outcome = kind-bits (is_complete d past) (is_of_multicast rules d past) (is_of_multicast rules d (e ∷ past)) (has_all_verdicts rules d past) (is_gone rules d past || is_some_and (pairing d past) (is_answered past)) was_kind
+
   abbrev Moves : Type 0
-  Moves = has_outcome rules (e ∷ past) d ≡ has_outcome rules past d || gets_outcome rules e past d
+  Moves = has_outcome rules (e ∷ past) d ≡ had_outcome || gets_outcome rules e past d
 
   -- what carries it goes on
-  step_paired : is_of_multicast rules d ≡ false → (j : Outgoing) → pairing d past ≡ Some j → Moves
+  step_paired : is_of_multicast rules d (e ∷ past) ≡ false → (j : Outgoing) → pairing d past ≡ Some j → Moves
   step_paired anycast j is =
       let b = found-begun rules past are.1 was_lawful (λ (x : Outgoing). names d.number x.note) j is in
       let named : (b.delivery.number == d.number) ≡ true = sym (ap (names d.number) b.named) ∙ found-passes (λ (x : Outgoing). names d.number x.note) (outgoing_deliveries past) j is in
       let complete = by_number b.delivery (eqb-true b.delivery.number d.number named) b.complete in
       let still = pairing-stays rules e past are lawful d.number d kept.at anycast j is in
       let paired : is_paired d past ≡ true = ap is_some is in
-      ap (λ o. is_complete d (e ∷ past) && (if is_of_multicast rules d then has_all_verdicts rules d (e ∷ past) else is_gone rules d (e ∷ past) || is_some_and o (is_answered (e ∷ past)))) still
-      ∙ (ap (λ x. is_complete d (e ∷ past) && (if is_of_multicast rules d then has_all_verdicts rules d (e ∷ past) else is_gone rules d (e ∷ past) || x)) (answered-later rules e past are lawful j b)
-      ∙ (paired-bits (is_of_multicast rules d) (completes d e) (is_complete d past) (has_all_verdicts rules d past) (has_all_verdicts rules d (e ∷ past)) (is_gone rules d past) (is_gone rules d (e ∷ past)) (is_waiting rules d past) (is_answered past j) (answers_now e past j)
-      (not (has_consumer (address_of d) (e ∷ past))) (not (pairs d e)) (gets_last_verdict rules e past d) anycast (completed_once rules e past are d complete) complete
-      (paired-not_gone rules d past paired) (paired-not_gone rules d (e ∷ past) (ap is_some still)) (waits_not (is_of_multicast rules d) (is_complete d past) (is_paired d past) (always_had_consumer d past) paired)
-      ∙ sym (ap (λ o. is_complete d past && (if is_of_multicast rules d then has_all_verdicts rules d past else is_gone rules d past || is_some_and o (is_answered past)) || gets_outcome rules e past d) is
-      ∙ ap (λ o. is_complete d past && (if is_of_multicast rules d then has_all_verdicts rules d past else is_gone rules d past || is_answered past j)
-      || (if is_of_multicast rules d then gets_last_verdict rules e past d else completes d e && not (has_consumer (address_of d) (e ∷ past))
-      || is_waiting rules d past && not (has_consumer (address_of d) (e ∷ past)) && not (pairs d e) || is_some_and o (answers_now e past))) still)))
+      ap (λ o. is_complete d (e ∷ past) && (if is_of_multicast rules d (e ∷ past) then has_all_verdicts rules d (e ∷ past) else is_gone rules d (e ∷ past) || is_some_and o (is_answered (e ∷ past)))) still
+      ∙ (ap (λ x. is_complete d (e ∷ past) && (if is_of_multicast rules d (e ∷ past) then has_all_verdicts rules d (e ∷ past) else is_gone rules d (e ∷ past) || x)) (answered-later rules e past are lawful j b)
+      ∙ (paired-bits (is_of_multicast rules d (e ∷ past)) (completes d e) (is_complete d past) (has_all_verdicts rules d past) (has_all_verdicts rules d (e ∷ past)) (is_gone rules d past) (is_gone rules d (e ∷ past)) (is_waiting rules d past) (is_answered past j) (answers_now e past j)
+      (not (has_consumer (address_of d (e ∷ past)) (e ∷ past))) (not (pairs d e)) (gets_last_verdict rules e past d) anycast (completed_once rules e past are d complete) complete
+      (paired-not_gone rules d past paired) (paired-not_gone rules d (e ∷ past) (ap is_some still)) (waits_not (is_of_multicast rules d past) (is_complete d past) (is_paired d past) (always_had_consumer d past) paired)
+      ∙ sym (ap (λ o. is_complete d past && (if is_of_multicast rules d (e ∷ past) then has_all_verdicts rules d past else is_gone rules d past || is_some_and o (is_answered past)) || gets_outcome rules e past d) is
+      ∙ ap (λ o. is_complete d past && (if is_of_multicast rules d (e ∷ past) then has_all_verdicts rules d past else is_gone rules d past || is_answered past j)
+      || (if is_of_multicast rules d (e ∷ past) then gets_last_verdict rules e past d else completes d e && not (has_consumer (address_of d (e ∷ past)) (e ∷ past))
+      || is_waiting rules d past && not (has_consumer (address_of d (e ∷ past)) (e ∷ past)) && not (pairs d e) || is_some_and o (answers_now e past))) still)))
     where
       waits_not : (many complete paired had : Bool) → paired ≡ true → not many && complete && not paired && had ≡ false
       waits_not true complete paired had is = refl
@@ -320,7 +341,7 @@ module _ (rules : RuleSet) (e : Event) (past : List Event) (are : AreJudged rule
       waits_not false true false had is = absurd cc
 
   -- what carries it begins
-  step_begun : is_of_multicast rules d ≡ false → (j : Outgoing) → outgoing_begun e ≡ Some j → names d.number j.note ≡ true → Moves
+  step_begun : is_of_multicast rules d (e ∷ past) ≡ false → (j : Outgoing) → outgoing_begun e ≡ Some j → names d.number j.note ≡ true → Moves
   step_begun anycast j begun named =
       let c = begun-carries rules e past are lawful j begun in
       let own = begun-own rules e past are lawful j begun in
@@ -329,33 +350,33 @@ module _ (rules : RuleSet) (e : Event) (past : List Event) (are : AreJudged rule
       let first = subst (IsFirst rules past) one (carries_first rules e past are lawful j begun) in
       let complete = by_number c.delivery number c.complete in
       let now : pairing d (e ∷ past) ≡ Some j = pairing-begun e past d j begun named in
-      let none : pairing d past ≡ None = none_is (pairing d past) (first.alone anycast) in
+      let none : pairing d past ≡ None = none_is (pairing d past) (first.alone (was_kind complete ∙ anycast)) in
       let pairs_it : pairs d e ≡ true = ap (λ o. is_some_and o (λ (x : Outgoing). names d.number x.note)) begun ∙ named in
-      ap (λ o. is_complete d (e ∷ past) && (if is_of_multicast rules d then has_all_verdicts rules d (e ∷ past) else is_gone rules d (e ∷ past) || is_some_and o (is_answered (e ∷ past)))) now
-      ∙ (ap (λ x. is_complete d (e ∷ past) && (if is_of_multicast rules d then has_all_verdicts rules d (e ∷ past) else is_gone rules d (e ∷ past) || x)) (answered-begun rules e past are lawful j begun)
-      ∙ (begun-bits (is_of_multicast rules d) (completes d e) (is_complete d past) (has_all_verdicts rules d past) (has_all_verdicts rules d (e ∷ past)) (is_gone rules d past) (is_gone rules d (e ∷ past)) (is_waiting rules d past) (answers_now e past j)
-      (not (has_consumer (address_of d) (e ∷ past))) (not (pairs d e)) (gets_last_verdict rules e past d) anycast (completed_once rules e past are d complete) complete
+      ap (λ o. is_complete d (e ∷ past) && (if is_of_multicast rules d (e ∷ past) then has_all_verdicts rules d (e ∷ past) else is_gone rules d (e ∷ past) || is_some_and o (is_answered (e ∷ past)))) now
+      ∙ (ap (λ x. is_complete d (e ∷ past) && (if is_of_multicast rules d (e ∷ past) then has_all_verdicts rules d (e ∷ past) else is_gone rules d (e ∷ past) || x)) (answered-begun rules e past are lawful j begun)
+      ∙ (begun-bits (is_of_multicast rules d (e ∷ past)) (completes d e) (is_complete d past) (has_all_verdicts rules d past) (has_all_verdicts rules d (e ∷ past)) (is_gone rules d past) (is_gone rules d (e ∷ past)) (is_waiting rules d past) (answers_now e past j)
+      (not (has_consumer (address_of d (e ∷ past)) (e ∷ past))) (not (pairs d e)) (gets_last_verdict rules e past d) anycast (completed_once rules e past are d complete) complete
       first.whole (paired-not_gone rules d (e ∷ past) (ap is_some now)) (ap not pairs_it)
-      ∙ sym (ap (λ o. is_complete d past && (if is_of_multicast rules d then has_all_verdicts rules d past else is_gone rules d past || is_some_and o (is_answered past)) || gets_outcome rules e past d) none
-      ∙ ap (λ o. is_complete d past && (if is_of_multicast rules d then has_all_verdicts rules d past else is_gone rules d past || false)
-      || (if is_of_multicast rules d then gets_last_verdict rules e past d else completes d e && not (has_consumer (address_of d) (e ∷ past))
-      || is_waiting rules d past && not (has_consumer (address_of d) (e ∷ past)) && not (pairs d e) || is_some_and o (answers_now e past))) now)))
+      ∙ sym (ap (λ o. is_complete d past && (if is_of_multicast rules d (e ∷ past) then has_all_verdicts rules d past else is_gone rules d past || is_some_and o (is_answered past)) || gets_outcome rules e past d) none
+      ∙ ap (λ o. is_complete d past && (if is_of_multicast rules d (e ∷ past) then has_all_verdicts rules d past else is_gone rules d past || false)
+      || (if is_of_multicast rules d (e ∷ past) then gets_last_verdict rules e past d else completes d e && not (has_consumer (address_of d (e ∷ past)) (e ∷ past))
+      || is_waiting rules d past && not (has_consumer (address_of d (e ∷ past)) (e ∷ past)) && not (pairs d e) || is_some_and o (answers_now e past))) now)))
     where
       none_is : (o : Option Outgoing) → is_some o ≡ false → o ≡ None
       none_is None is = refl
       none_is (Some x) is = absurd cc
 
   -- nothing carries it
-  step_none : is_of_multicast rules d ≡ false → pairing d past ≡ None → pairs d e ≡ false → Moves
+  step_none : is_of_multicast rules d (e ∷ past) ≡ false → pairing d past ≡ None → pairs d e ≡ false → Moves
   step_none anycast none apart =
-      none-bits (is_answered past) (is_answered (e ∷ past)) (answers_now e past) (is_of_multicast rules d) (pairing d past) (pairing d (e ∷ past)) (pairs d e) (completes d e) (is_complete d past)
-      (has_consumer (address_of d) (e ∷ past)) (always_had_consumer d past) (has_all_verdicts rules d past) (has_all_verdicts rules d (e ∷ past)) (gets_last_verdict rules e past d) anycast none (still_none (outgoing_begun e) refl) apart (completed_once rules e past are d)
+      none-bits (is_answered past) (is_answered (e ∷ past)) (answers_now e past) (is_of_multicast rules d (e ∷ past)) (is_of_multicast rules d past) (pairing d past) (pairing d (e ∷ past)) (pairs d e) (completes d e) (is_complete d past)
+      (has_consumer (address_of d (e ∷ past)) (e ∷ past)) (always_had_consumer d past) (has_all_verdicts rules d past) (has_all_verdicts rules d (e ∷ past)) (gets_last_verdict rules e past d) anycast (λ done. was_kind done ∙ anycast) none (still_none (outgoing_begun e) refl) apart (completed_once rules e past are d)
     where
       still_none : (o : Option Outgoing) → outgoing_begun e ≡ o → pairing d (e ∷ past) ≡ None
       still_none None is = pairing-same e past d is ∙ none
       still_none (Some j) is = pairing-another e past d j is (sym (ap (λ o. is_some_and o (λ (x : Outgoing). names d.number x.note)) is) ∙ apart) ∙ none
 
-  by_pairs : is_of_multicast rules d ≡ false → pairing d past ≡ None → (o : Option Outgoing) → outgoing_begun e ≡ o → Moves
+  by_pairs : is_of_multicast rules d (e ∷ past) ≡ false → pairing d past ≡ None → (o : Option Outgoing) → outgoing_begun e ≡ o → Moves
   by_pairs anycast none None is = step_none anycast none (ap (λ o. is_some_and o (λ (x : Outgoing). names d.number x.note)) is)
   by_pairs anycast none (Some j) is = named (names d.number j.note) refl
     where
@@ -363,13 +384,13 @@ module _ (rules : RuleSet) (e : Event) (past : List Event) (are : AreJudged rule
       named true this = step_begun anycast j is this
       named false another = step_none anycast none (ap (λ o. is_some_and o (λ (x : Outgoing). names d.number x.note)) is ∙ another)
 
-  by_pairing : is_of_multicast rules d ≡ false → (o : Option Outgoing) → pairing d past ≡ o → Moves
+  by_pairing : is_of_multicast rules d (e ∷ past) ≡ false → (o : Option Outgoing) → pairing d past ≡ o → Moves
   by_pairing anycast (Some j) is = step_paired anycast j is
   by_pairing anycast None is = by_pairs anycast is (outgoing_begun e) refl
 
-  by_kind : (b : Bool) → is_of_multicast rules d ≡ b → Moves
+  by_kind : (b : Bool) → is_of_multicast rules d (e ∷ past) ≡ b → Moves
   by_kind true many =
-      many-bits (is_of_multicast rules d) (completes d e) (is_complete d past) (has_all_verdicts rules d past) (has_all_verdicts rules d (e ∷ past))
+      many-bits (is_of_multicast rules d (e ∷ past)) (completes d e) (is_complete d past) (has_all_verdicts rules d past) (has_all_verdicts rules d (e ∷ past))
       (is_gone rules d past || is_some_and (pairing d past) (is_answered past)) (is_gone rules d (e ∷ past) || is_some_and (pairing d (e ∷ past)) (is_answered (e ∷ past))) _ many
       (has_all-stays rules e past are lawful d still)
     where
@@ -379,7 +400,7 @@ module _ (rules : RuleSet) (e : Event) (past : List Event) (are : AreJudged rule
 
   -- one that had an outcome has it still, and gets one by the event
   pub has_outcome_moves : has_outcome rules (e ∷ past) d ≡ has_outcome rules past d || gets_outcome rules e past d
-  has_outcome_moves = by_kind (is_of_multicast rules d) refl
+  has_outcome_moves = by_kind (is_of_multicast rules d (e ∷ past)) refl ∙ ap (λ b. b || gets_outcome rules e past d) (sym had-outcome)
 
   step-bits : (has gets closed closes : Bool) → (has || gets) && not (closed || closes) ≡ (has && not closed || gets && not closed) && not closes
   step-bits true true true closes = refl

@@ -15,7 +15,7 @@ use Rattle.trace_events.specs.Said.{as_attach, as_transfer, out_spoken, out_tran
 use Rattle.trace_events.specs.Credit.{begins_outgoing}
 use Rattle.trace_events.specs.Link.{is_consumer, link_at}
 use Rattle.trace_events.specs.Incoming as incoming
-use Rattle.trace_events.specs.Incoming.{incoming_at, is_complete, part_payload}
+use Rattle.trace_events.specs.Incoming.{address_of, incoming_at, is_complete, part_payload}
 use Rattle.trace_events.specs.Outgoing as outgoing
 use Rattle.trace_events.specs.Outgoing.{in_progress, is_part, outgoing_begun, outgoing_deliveries, names, noted, is_paired}
 use Rattle.trace_events.specs.Waiting.{is_gone}
@@ -32,6 +32,7 @@ use Rattle.trace_events.proofs.Links.{attach_in, passing}
 use Rattle.trace_events.proofs.LinkLives.{judged-stands}
 use Rattle.trace_events.proofs.Opens.{opened-link}
 use Rattle.trace_clauses.proofs.ClausesMet.{met, lawful-past}
+use Rattle.trace_clauses.proofs.WaitingQueue.{address_stays}
 use Rattle.trace_clauses.proofs.Incomings.{complete-payload, judged-part, judged-sound, at-step}
 use Rattle.trace_clauses.proofs.OneConsumer.{incoming_at-is}
 use Rattle.trace_clauses.proofs.JudgedHistories.{judged-keeps}
@@ -108,7 +109,7 @@ pub record IsCarrying (past : List Event) (j : Outgoing) : Type 0 where
   pub found : incoming_at delivery.number past ≡ Some delivery
   pub complete : is_complete delivery past ≡ true
   pub paired : is_paired delivery past ≡ true
-  pub address : j.link.address ≡ delivery.link.address
+  pub address : j.link.address ≡ address_of delivery past
   pub carried : AreFirst (outgoing.payload j past) (incoming.payload delivery past)
 
 abbrev pub AreCarrying : List Event → Type 0
@@ -207,7 +208,7 @@ module _ (rules : RuleSet) (e : Event) (past : List Event) (are : AreJudged rule
           found = incoming_at-step c.delivery.number c.before ∙ c.found;
           complete = complete-stays c.delivery e past c.complete;
           paired = is_paired-stays c.delivery e past c.paired;
-          address = c.address;
+          address = c.address ∙ sym (address_stays rules e past are c.delivery c.complete);
           carried = subst (λ xs. AreFirst xs (incoming.payload c.delivery (e ∷ past))) (sym same) (subst (λ xs. AreFirst (outgoing.payload j past) xs) (sym whole) c.carried);
         },
       )
@@ -228,7 +229,7 @@ module _ (rules : RuleSet) (e : Event) (past : List Event) (are : AreJudged rule
     is : noted e.note past ≡ Some delivery
     complete : is_complete delivery past ≡ true
     first : AreFirst (outgoing.payload j (e ∷ past)) (incoming.payload delivery past)
-    address : (l : Link) → e.link ≡ Some l → l.address ≡ delivery.link.address
+    address : (l : Link) → e.link ≡ Some l → l.address ≡ address_of delivery past
 
   is_carried : (j : Outgoing) → e.outgoing ≡ Some j → IsCarried j
   is_carried j is =
@@ -237,7 +238,7 @@ module _ (rules : RuleSet) (e : Event) (past : List Event) (are : AreJudged rule
       let d = some_such _ (noted e.note past) (known _ (out_transfer e) t.fields (fields_of t) keeps.carried.0) in
       let all = known_and _ e.outgoing j is d.2 in
       let on = known_and _ (noted e.note past) d.0 d.1 (known _ (out_transfer e) t.fields (fields_of t) keeps.addressed.0) in
-      record { delivery = d.0; is = d.1; complete = all.0; first = all.1; address = λ l named. known_and (λ (m : Link). m.address ≡ d.0.link.address) e.link l named on }
+      record { delivery = d.0; is = d.1; complete = all.0; first = all.1; address = λ l named. known_and (λ (m : Link). m.address ≡ address_of d.0 past) e.link l named on }
 
   six : (j : Outgoing) (is : e.outgoing ≡ Some j) → begins_outgoing e || is_some_and e.outgoing (λ k. goes_on_with k e.note (transfer j is).fields) ≡ true
   six j is =
@@ -276,7 +277,7 @@ module _ (rules : RuleSet) (e : Event) (past : List Event) (are : AreJudged rule
         found = incoming_at-step c.delivery.number c.before ∙ c.found;
         complete = complete-stays c.delivery e past c.complete;
         paired = is_paired-stays c.delivery e past c.paired;
-        address = c.address;
+        address = c.address ∙ sym (address_stays rules e past are c.delivery c.complete);
         carried = subst (λ xs. AreFirst (outgoing.payload j (e ∷ past)) xs) (sym whole) first;
       }
 
@@ -302,7 +303,7 @@ module _ (rules : RuleSet) (e : Event) (past : List Event) (are : AreJudged rule
         complete = complete-stays d e past k.complete;
         paired = ap (λ (o : Option Outgoing). is_some (find (λ x. names d.number x.note) (cons_option o (outgoing_deliveries past)))) begun
             ∙ ap (λ b. is_some (cond b (Some j) (outgoing.pairing d past))) names_it;
-        address = k.address j.link on;
+        address = k.address j.link on ∙ sym (address_stays rules e past are d k.complete);
         carried = subst (λ xs. AreFirst (outgoing.payload j (e ∷ past)) xs) (sym whole) k.first;
       }
 

@@ -38,7 +38,7 @@ none_gone false true true had is = refl
 none_gone false true false had is = absurd cc
 
 pub paired-not_gone : (rules : RuleSet) (d : Incoming) (past : List Event) → is_paired d past ≡ true → is_gone rules d past ≡ false
-paired-not_gone rules d past is = none_gone (is_of_multicast rules d) (is_complete d past) (is_paired d past) (always_had_consumer d past) is
+paired-not_gone rules d past is = none_gone (is_of_multicast rules d past) (is_complete d past) (is_paired d past) (always_had_consumer d past) is
 
 pub paired-never_gone : (rules : RuleSet) (d : Incoming) (past : List Event) (rs : List Record) → is_paired d past ≡ true → is_gone rules d (continued rules past rs) ≡ false
 paired-never_gone rules d past [] is = paired-not_gone rules d past is
@@ -106,21 +106,21 @@ module _ (rules : RuleSet) (past : List Event) (are : AreJudged rules past) (law
   own_number : (n : ℕ) (d : Incoming) → incoming_at n past ≡ Some d → (n < length past) × (d.number ≡ n)
   own_number n d found = subst (λ (o : Option Incoming). IfSome o (λ d. (n < length past) × (d.number ≡ n))) found (incoming_at-is rules past n are)
 
-  few_carriers : (n : ℕ) (d : Incoming) → incoming_at n past ≡ Some d → is_of_multicast rules d ≡ false → length (carriers d.number past) ≤ 1
+  few_carriers : (n : ℕ) (d : Incoming) → incoming_at n past ≡ Some d → is_of_multicast rules d past ≡ false → length (carriers d.number past) ≤ 1
   few_carriers n d found anycast = subst (λ m. length (carriers m past) ≤ 1) (sym (own_number n d found).1) (judged-reaches_one n d found anycast)
 
   -- all that carry it are its pair, if it has one
-  pub carriers-pairing : (n : ℕ) (d : Incoming) → incoming_at n past ≡ Some d → is_of_multicast rules d ≡ false → carriers d.number past ≡ cons_option (pairing d past) []
+  pub carriers-pairing : (n : ℕ) (d : Incoming) → incoming_at n past ≡ Some d → is_of_multicast rules d past ≡ false → carriers d.number past ≡ cons_option (pairing d past) []
   carriers-pairing n d found anycast = one_found (λ (j : Outgoing). names d.number j.note) (outgoing_deliveries past) (few_carriers n d found anycast)
 
   -- each delivery to a client whose note names it is its pair
-  pub carries-pairing : (n : ℕ) (d : Incoming) → incoming_at n past ≡ Some d → is_of_multicast rules d ≡ false
+  pub carries-pairing : (n : ℕ) (d : Incoming) → incoming_at n past ≡ Some d → is_of_multicast rules d past ≡ false
       → AllByRecursion (λ j. names d.number j.note ≡ true → pairing d past ≡ Some j) (outgoing_deliveries past)
   carries-pairing n d found anycast = each_one (λ (j : Outgoing). names d.number j.note) (pairing d past) (outgoing_deliveries past) (carriers-pairing n d found anycast)
 
 -- the pair stays
 pub pairing-stays : (rules : RuleSet) (e : Event) (past : List Event) → AreJudged rules (e ∷ past) → first_broken rules (e ∷ past) ≡ None → (n : ℕ) (d : Incoming) → incoming_at n past ≡ Some d
-    → is_of_multicast rules d ≡ false → (j : Outgoing) → pairing d past ≡ Some j → pairing d (e ∷ past) ≡ Some j
+    → is_of_multicast rules d (e ∷ past) ≡ false → (j : Outgoing) → pairing d past ≡ Some j → pairing d (e ∷ past) ≡ Some j
 pairing-stays rules e past are lawful n d found anycast j is =
     let at = own_number rules past are.1 (lawful-past rules e past lawful) n d found in
     let now : incoming_at n (e ∷ past) ≡ Some d = at-step e past (judged-number rules e past are) (judged-part rules e past are) (judged-sound rules past are.1) n at.0 ∙ found in

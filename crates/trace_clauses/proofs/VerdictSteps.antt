@@ -240,24 +240,24 @@ module _ (rules : RuleSet) (e : Event) (past : List Event) (are : AreJudged rule
           let number : c.delivery.number ≡ d.number = eqb-true c.delivery.number d.number (sym (ap (names d.number) (own.0 ∙ c.named)) ∙ named) in
           same_some c.delivery d (sym c.kept.at ∙ (ap (λ n. incoming_at n past) number ∙ kept.at))
 
-      multicast_first : is_of_multicast rules d ≡ true → not (is_named_on d j.link past) && is_due rules d j.link past ≡ true
+      multicast_first : is_of_multicast rules d past ≡ true → not (is_named_on d j.link past) && is_due rules d j.link past ≡ true
       multicast_first many =
           ap (λ b. if b then not (is_named_on d j.link past) && is_due rules d j.link past else not (is_paired d past)) (sym many)
           ∙ subst (λ (x : Incoming). is_first_to rules j.link past x ≡ true) carries_it first_on
 
-      pub not_named_before : is_of_multicast rules d ≡ true → is_named_on d j.link past ≡ false
+      pub not_named_before : is_of_multicast rules d past ≡ true → is_named_on d j.link past ≡ false
       not_named_before many = off (is_named_on d j.link past) (and_first (not (is_named_on d j.link past)) (is_due rules d j.link past) (multicast_first many))
         where
           off : (b : Bool) → not b ≡ true → b ≡ false
           off false is = refl
           off true is = absurd cc
 
-      pub due_before : is_of_multicast rules d ≡ true → is_due rules d j.link past ≡ true
+      pub due_before : is_of_multicast rules d past ≡ true → is_due rules d j.link past ≡ true
       due_before many = and_last (not (is_named_on d j.link past)) (is_due rules d j.link past) (multicast_first many)
 
   -- ---- the verdict of a copy
 
-  module _ (d : Incoming) (kept : IsKept past d) (many : is_of_multicast rules d ≡ true) (l : Link) (at : link_at l.number past ≡ Some l) where
+  module _ (d : Incoming) (kept : IsKept past d) (many : is_of_multicast rules d past ≡ true) (l : Link) (at : link_at l.number past ≡ Some l) where
     abbrev is_copy : Outgoing → Bool
     is_copy j = is_on l j && names d.number j.note
 

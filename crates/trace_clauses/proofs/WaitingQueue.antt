@@ -13,13 +13,14 @@ use Rattle.trace_events.specs.Words.{is_some_and}
 use Rattle.trace_events.specs.Event.{Event, Incoming}
 use Rattle.trace_events.specs.Said.{in_transfer}
 use Rattle.trace_events.specs.Incoming.{address_of, is_last_part, completed_by, completes, is_complete, completion, completed_before, incoming_deliveries, incoming_at}
+use Rattle.trace_events.specs.Address.{has_multicast}
 use Rattle.trace_events.specs.Outgoing.{is_paired}
 use Rattle.trace_events.specs.Waiting.{is_of_multicast, always_had_consumer}
 use Rattle.trace_events.specs.Queue.{stays, completed_deliveries, waits_at, waiting_queue}
 use Rattle.trace_events.specs.History.{history}
 use Rattle.trace_events.proofs.Judged.{AreJudged, judged-number, history-judged}
 use Rattle.trace_events.proofs.QueueSteps.{Each, completed-complete, filter-reverse, waiting_queue-step}
-use Rattle.trace_events.proofs.IncomingSteps.{completion-same, completion-here}
+use Rattle.trace_events.proofs.IncomingSteps.{address_of-same, completion-same, completion-here}
 use Rattle.trace_clauses.proofs.OneConsumer.{some-and}
 use Rattle.trace_clauses.proofs.Incomings.{judged-part, judged-sound, not-again}
 use Rattle.trace_clauses.proofs.Parts.{EachPart, IsKept, AreKept, history_kept, AllOf, each_delivery, holds_some}
@@ -29,6 +30,14 @@ use Rattle.trace_clauses.proofs.Parts.{EachPart, IsKept, AreKept, history_kept, 
 -- no delivery is completed twice
 pub completed_once : (rules : RuleSet) (e : Event) (past : List Event) → AreJudged rules (e ∷ past) → (d : Incoming) → is_complete d past ≡ true → completes d e ≡ false
 completed_once rules e past are d done = not-again e past (judged-number rules e past are) (judged-part rules e past are) (judged-sound rules past are.1) d done
+
+-- so one that is complete is for the same address and as many consumers behind any event
+pub address_stays : (rules : RuleSet) (e : Event) (past : List Event) → AreJudged rules (e ∷ past) → (d : Incoming) → is_complete d past ≡ true → address_of d (e ∷ past) ≡ address_of d past
+address_stays rules e past are d done = address_of-same e past d (completed_once rules e past are d done)
+
+pub multicast_stays : (rules : RuleSet) (e : Event) (past : List Event) → AreJudged rules (e ∷ past) → (d : Incoming) → is_complete d past ≡ true
+    → is_of_multicast rules d (e ∷ past) ≡ is_of_multicast rules d past
+multicast_stays rules e past are d done = ap (has_multicast rules) (address_stays rules e past are d done)
 
 -- those that stay, and behind them the one that the event completes, if it waits there
 pub waiting_queue_moves : (rules : RuleSet) (address : List ℕ) (e : Event) (past : List Event) → AreJudged rules (e ∷ past)
@@ -161,7 +170,7 @@ module _ (rules : RuleSet) (address : List ℕ) (past : List Event) (all : AreKe
   pub waits_queued : Contains (incoming_deliveries past) d → waits_at rules address past d ≡ true → Contains (waiting_queue rules address past) d
   waits_queued known waits =
       let kept = all_contained (IsKept past) (incoming_deliveries past) d (each_delivery (IsKept past) past all.each) known in
-      let done : is_complete d past ≡ true = waits_complete (bytes_eq (address_of d) address) (is_of_multicast rules d) (is_complete d past) (is_paired d past) (always_had_consumer d past) waits in
+      let done : is_complete d past ≡ true = waits_complete (bytes_eq (address_of d past) address) (is_of_multicast rules d past) (is_complete d past) (is_paired d past) (always_had_consumer d past) waits in
       let one = completed_numbered d.number past done in
       let other = all_contained (IsKept past) (completed_deliveries past) one.0 (each_completed (IsKept past) past all.each) one.1 in
       let both : ◌≡◌ {A = Option Incoming} (Some one.0) (Some d) = sym other.at ∙ (ap (λ n. incoming_at n past) one.2 ∙ kept.at) in

@@ -56,4 +56,4 @@ whole_verdict rules d past = if has_all_verdicts rules d past then Some (best_ve
 -- the row of a multicast delivery: the state that tells its verdict
 abbrev pub multicast_row : RuleSet → Incoming → List Event → Option (Option (List ℕ))
 multicast_row rules d past =
-    if is_of_multicast rules d then option_map (λ outcome. Some (told_octets outcome)) (whole_verdict rules d past) else None
+    if is_of_multicast rules d past then option_map (λ outcome. Some (told_octets outcome)) (whole_verdict rules d past) else None

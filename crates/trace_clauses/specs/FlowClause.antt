@@ -9,7 +9,7 @@ use Rattle.flow_counts.specs.declared.profile.TheConstants.{OUTGOING_WINDOW, INC
 use Rattle.trace_events.specs.Words.{is_some_and, is_number}
 use Rattle.trace_events.specs.Event.{Event, Link}
 use Rattle.trace_events.specs.declared.session.Session.{Session}
-use Rattle.trace_events.specs.Link.{is_consumer}
+use Rattle.trace_events.specs.Link.{is_anonymous, is_consumer}
 use Rattle.trace_events.specs.Window.{next_outgoing_id, next_incoming_id}
 use Rattle.trace_events.specs.Credit.{link_credit, delivery_count, is_draining, given_credit, received_count}
 use Rattle.trace_events.specs.Address.{has_multicast, has_consumer}
@@ -24,11 +24,11 @@ has_session_numbers flow past s =
 -- ---- a producer's link
 
 -- its credit and undecided deliveries have come down so far that it is to be given more, and someone may take its
--- deliveries (own rule)
+-- deliveries, or an anonymous sender's deliveries say for whom they are (own rule)
 abbrev pub may_be_topped_up : RuleSet → List Event → Link → Bool
 may_be_topped_up rules past l =
     nat_le (given_credit l past + undecided_count rules l past) LOW_MARK
-    && (has_multicast rules l.address || has_consumer l.address past)
+    && (is_anonymous l || has_multicast rules l.address || has_consumer l.address past)
 
 -- the credit that fills it up
 abbrev pub full_credit : RuleSet → List Event → Link → ℕ

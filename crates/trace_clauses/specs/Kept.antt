@@ -35,7 +35,7 @@ carriers n past = filter (λ j. names n j.note) (outgoing_deliveries past)
 -- each anycast delivery reached at most one consumer
 abbrev pub ReachesOne : RuleSet → List Event → Type 0
 ReachesOne rules past =
-    (n : ℕ) (d : Incoming) → incoming_at n past ≡ Some d → is_of_multicast rules d ≡ false → length (carriers n past) ≤ 1
+    (n : ℕ) (d : Incoming) → incoming_at n past ≡ Some d → is_of_multicast rules d past ≡ false → length (carriers n past) ≤ 1
 
 -- what told the outcome of the delivery of this number
 abbrev pub tellings : ℕ → List Event → List Event
@@ -55,7 +55,7 @@ StoodWithin e past =
 -- a transfer went to a link of the address of the delivery that its note names
 abbrev pub WentToAddress : Event → List Event → Type 0
 WentToAddress e past =
-    IfSome (out_transfer e) (λ fields. IsSomeAnd (noted e.note past) (λ d. IsSomeAnd e.link (λ l. l.address ≡ address_of d)))
+    IfSome (out_transfer e) (λ fields. IsSomeAnd (noted e.note past) (λ d. IsSomeAnd e.link (λ l. l.address ≡ address_of d past)))
 
 -- octets are the first ones of others
 abbrev pub AreFirst : List ℕ → List ℕ → Type 0

@@ -1,11 +1,12 @@
 -- L3 and L13: attaches and detaches that the router writes.
-use Rattle.std.specs.Prelude.{ℕ, Bool, true, false, ◌&&◌, ◌||◌, List, ◌++◌, Option, Some, None, is_some, is_none, option_and_then, option_map, bytes_eq, codes, decimal, if◌then◌else◌}
+use Rattle.std.specs.Prelude.{ℕ, Bool, true, false, ◌&&◌, ◌||◌, List, [], ◌++◌, Option, Some, None, is_some, is_none, option_and_then, option_map, bytes_eq, codes, decimal, if◌then◌else◌}
 use Rattle.amqp_perf.specs.declared.attach.Role.{Role}
 use Rattle.amqp_perf.specs.declared.attach.Role.TheVariants.{Sender, Receiver}
 use Rattle.amqp_perf.specs.declared.attach.SenderSettleMode.{SenderSettleMode}
 use Rattle.amqp_perf.specs.declared.attach.SenderSettleMode.TheVariants.{Unsettled, Settled, Mixed}
 use Rattle.amqp_perf.specs.declared.attach.ReceiverSettleMode.{ReceiverSettleMode}
 use Rattle.amqp_perf.specs.declared.attach.ReceiverSettleMode.TheVariants.{First, Second}
+use Rattle.amqp_perf.specs.Nested.{TargetFields, ATerminus, ACoordinator}
 use Rattle.amqp_perf.specs.Meaning.{AttachFields, DetachFields, flag, sender_mode, receiver_mode}
 use Rattle.trace_events.specs.declared.fault.Fault.{Fault}
 use Rattle.trace_events.specs.declared.fault.Fault.TheVariants.{Close, End, Refuse, Detach}
@@ -74,9 +75,19 @@ asked_by e fields = record {
 abbrev pub asking : Session → ℕ → List Event → Option Asking
 asking s handle past = option_and_then (λ e. option_map (asked_by e) (in_attach e)) (unanswered_attach s handle past)
 
+-- a target without address, as an anonymous sender has it; a coordinator has none either
+abbrev pub is_without_address : TargetFields → Bool
+is_without_address (ATerminus target) = is_none target.address
+is_without_address ACoordinator = false
+
+-- the address that was asked for; none, where an anonymous sender asks for none
+abbrev pub has_address : List ℕ → AttachFields → Bool
+has_address asked ours =
+    if bytes_eq [] asked then is_some_and ours.target is_without_address else bytes_eq (address_at ours.role ours) asked
+
 abbrev pub accepts : Asking → AttachFields → Bool
 accepts asked ours =
-    opens_link ours && bytes_eq (address_at ours.role ours) asked.address
+    opens_link ours && has_address asked.address ours
     && is_same_sender_mode (sender_mode ours) asked.sender_mode
     && is_same_receiver_mode (receiver_mode ours) (answering_receiver_mode asked.receiver_mode asked.role)
 

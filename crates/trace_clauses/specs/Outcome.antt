@@ -64,7 +64,7 @@ anycast_row d past why (Some j) = paired_row d j past (decision j past) why
 abbrev pub row : RuleSet → Incoming → List Event → Why → Option (Option (List ℕ))
 row rules d past N = if is_gone rules d past then Some (Some (bare_octets Released)) else None
 row rules d past M = multicast_row rules d past
-row rules d past why = if is_of_multicast rules d then None else anycast_row d past why (pairing d past)
+row rules d past why = if is_of_multicast rules d past then None else anycast_row d past why (pairing d past)
 
 -- it may be told: complete, of a live link, neither settled nor told
 abbrev pub may_be_told : Incoming → List Event → Bool

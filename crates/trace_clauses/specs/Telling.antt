@@ -30,7 +30,7 @@ is_answered past j = is_some (decision j past) || is_sent_settled j past || not 
 abbrev pub has_outcome : RuleSet → List Event → Incoming → Bool
 has_outcome rules past d =
     is_complete d past
-    && (if is_of_multicast rules d then has_all_verdicts rules d past
+    && (if is_of_multicast rules d past then has_all_verdicts rules d past
     else is_gone rules d past || is_some_and (pairing d past) (is_answered past))
 
 -- the event answers a delivery to a client: its consumer decides it, or it is the last part on a pre-settled link, or the
@@ -49,7 +49,7 @@ gets_last_verdict rules e past d =
 -- consumer; it leaves one that waits without a consumer; or it answers what carries it
 abbrev pub gets_outcome : RuleSet → Event → List Event → Incoming → Bool
 gets_outcome rules e past d =
-    if is_of_multicast rules d then gets_last_verdict rules e past d
-    else completes d e && not (has_consumer (address_of d) (e ∷ past))
-    || is_waiting rules d past && not (has_consumer (address_of d) (e ∷ past)) && not (pairs d e)
+    if is_of_multicast rules d (e ∷ past) then gets_last_verdict rules e past d
+    else completes d e && not (has_consumer (address_of d (e ∷ past)) (e ∷ past))
+    || is_waiting rules d past && not (has_consumer (address_of d (e ∷ past)) (e ∷ past)) && not (pairs d e)
     || is_some_and (pairing d (e ∷ past)) (answers_now e past)

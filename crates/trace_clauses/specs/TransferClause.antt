@@ -59,11 +59,11 @@ abbrev pub has_form : Incoming → Link → TransferFields → Bool
 has_form d l fields = unwrap_or fields.message_format 0 == d.format && beq (flag fields.settled) l.is_pre_settled
 
 -- it has the link's address, and where it begins there its form
-abbrev pub is_alike : Event → Link → TransferFields → Incoming → Bool
-is_alike e l fields d = bytes_eq (address_of d) l.address && (not (begins_outgoing e) || has_form d l fields)
+abbrev pub is_alike : Event → Link → TransferFields → List Event → Incoming → Bool
+is_alike e l fields past d = bytes_eq (address_of d past) l.address && (not (begins_outgoing e) || has_form d l fields)
 
 abbrev pub names_carried : RuleSet → Event → TransferFields → List Event → Link → Bool
-names_carried rules e fields past l = is_some_and (to_carry rules e.note past) (is_alike e l fields)
+names_carried rules e fields past l = is_some_and (to_carry rules e.note past) (is_alike e l fields past)
 
 -- ---- L8: the payloads so far are the first octets of that delivery's payload, and at the last transfer all of it
 
@@ -86,7 +86,7 @@ carried_before l past = option_and_then (λ j. noted j.note past) (find (is_on l
 
 abbrev pub is_first_to : RuleSet → Link → List Event → Incoming → Bool
 is_first_to rules l past d =
-    if is_of_multicast rules d then not (is_named_on d l past) && is_due rules d l past else not (is_paired d past)
+    if is_of_multicast rules d past then not (is_named_on d l past) && is_due rules d l past else not (is_paired d past)
 
 abbrev pub is_in_order : Link → List Event → Incoming → Bool
 is_in_order l past d = is_none_or (carried_before l past) (λ before. completed_before before d past)

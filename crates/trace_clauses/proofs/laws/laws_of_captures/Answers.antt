@@ -2,7 +2,7 @@ use Rattle.trace_clauses.proofs.Lawful.{unbroken-of, lawful-before, broken-stays
 use Rattle.trace_clauses.proofs.Within.{lawful-stood-within, lawful-of-row}
 use Rattle.trace_clauses.proofs.Carried.{lawful-carried, lawful-addressed}
 use Rattle.trace_clauses.proofs.Incomings.{payload-stays, gone-for-good}
-use Rattle.trace_clauses.proofs.OneConsumer.{lawful-reaches-one}
+use Rattle.trace_clauses.proofs.ReachesOne.{lawful-reaches-one}
 use Rattle.trace_clauses.proofs.OneOutcome.{lawful-told-once}
 use Rattle.trace_clauses.proofs.Decided.{told-decided}
 use Rattle.trace_events.proofs.Elsewhere.{live_session-other, session_link-other}
