@@ -15,6 +15,7 @@ use Rattle.trace_events.specs.Incoming.{address_of, completes, is_complete, comp
 use Rattle.trace_events.specs.Outgoing.{names, noted, is_paired}
 use Rattle.trace_events.specs.Queue.{pairs, stays, waits_at, waiting_queue}
 use Rattle.trace_events.specs.Waiting.{is_of_multicast, is_waiting, always_had_consumer}
+use Rattle.trace_events.proofs.IncomingSteps.{address_of-same}
 use Rattle.trace_events.proofs.Along.{and_first, and_last}
 use Rattle.trace_events.proofs.Judged.{AreJudged, IsTransfer, judged-transfer}
 use Rattle.trace_events.proofs.QueueSteps.{is_waiting-stays}
@@ -42,7 +43,7 @@ keeps_picked rules e past are keeps = by e.outgoing refl (judged-transfer rules 
   where
     by : (o : Option Outgoing) → e.outgoing ≡ o → IfSome o (λ j. IsTransfer e.moment) → is_picked rules e past ≡ true
     by None none transfer =
-        not_begun (begins_outgoing e) (is_none_or (noted e.note past) (λ d. is_of_multicast rules d || is_next_waiting rules past d && is_some_and e.link (is_picked_link rules past d)))
+        not_begun (begins_outgoing e) (is_none_or (noted e.note past) (λ d. is_of_multicast rules d past || is_next_waiting rules past d && is_some_and e.link (is_picked_link rules past d)))
         (ap (λ o. is_some_and o (λ (j : Outgoing). j.number == e.number)) none)
     by (Some j) is t = and_first (is_picked rules e past) (is_due_frame rules e t.frame past) (sym (ap (moment_keeps rules e past) t.written) ∙ keeps)
 
@@ -82,34 +83,34 @@ otherwise true rest is all = absurd cc
 -- ---- an event that begins a delivery on a link, to which another waits
 
 module _ (rules : RuleSet) (e : Event) (past : List Event) (are : AreJudged rules (e ∷ past)) (lawful : first_broken rules (e ∷ past) ≡ None) (picked : is_picked rules e past ≡ true)
-    (l : Link) (at : link_at l.number (e ∷ past) ≡ Some l) (d : Incoming) (known : incoming_at d.number past ≡ Some d) (address : address_of d ≡ l.address)
+    (l : Link) (at : link_at l.number (e ∷ past) ≡ Some l) (d : Incoming) (known : incoming_at d.number past ≡ Some d) (address : address_of d past ≡ l.address)
     (waits : is_waiting rules d past ≡ true) (unpaired : pairs d e ≡ false) where
-  anycast : is_of_multicast rules d ≡ false
-  anycast = waits-anycast (is_of_multicast rules d) (is_complete d past) (is_paired d past) (always_had_consumer d past) waits
+  anycast : is_of_multicast rules d past ≡ false
+  anycast = waits-anycast (is_of_multicast rules d past) (is_complete d past) (is_paired d past) (always_had_consumer d past) waits
 
   complete : is_complete d past ≡ true
-  complete = waits-complete (is_of_multicast rules d) (is_complete d past) (is_paired d past) (always_had_consumer d past) waits
+  complete = waits-complete (is_of_multicast rules d past) (is_complete d past) (is_paired d past) (always_had_consumer d past) waits
 
   module _ (b : Incoming) (here : BeginsWith e past l b) where
-    same_address : address_of b ≡ address_of d
+    same_address : address_of b past ≡ address_of d past
     same_address = sym (begins-address rules e past are lawful l b at here) ∙ sym address
 
     -- it was the next of its address
     was_next : is_next_waiting rules past b ≡ true
     was_next =
-        let test = λ (x : Incoming). is_of_multicast rules x || is_next_waiting rules past x && is_some_and e.link (is_picked_link rules past x) in
+        let test = λ (x : Incoming). is_of_multicast rules x past || is_next_waiting rules past x && is_some_and e.link (is_picked_link rules past x) in
         let any : is_none_or (noted e.note past) test ≡ true = or-right (begins_outgoing e) (is_none_or (noted e.note past) test) (begins rules e past are lawful l b at here) picked in
         let it : test b ≡ true = sym (ap (λ o. is_none_or o test) here.is) ∙ any in
         and_first (is_next_waiting rules past b) (is_some_and e.link (is_picked_link rules past b))
-        (otherwise (is_of_multicast rules b) _ (ap (has_multicast rules) same_address ∙ anycast) it)
+        (otherwise (is_of_multicast rules b past) _ (ap (has_multicast rules) same_address ∙ anycast) it)
 
     not_before : completed_before d b past ≡ false
     not_before =
-        let test = λ (x : Incoming). bytes_eq (address_of x) (address_of b) && is_waiting rules x past && completed_before x b past in
+        let test = λ (x : Incoming). bytes_eq (address_of x past) (address_of b past) && is_waiting rules x past && completed_before x b past in
         let none : list_any test (incoming_deliveries past) ≡ false =
         not-true (list_any test (incoming_deliveries past)) (and_last (is_waiting rules b past) (not (list_any test (incoming_deliveries past))) was_next) in
         let there : Contains (incoming_deliveries past) d = find_has (λ (x : Incoming). x.number == d.number) (incoming_deliveries past) d known in
-        sym (ap (λ c. c && is_waiting rules d past && completed_before d b past) ((bytes_eq-Decides (address_of d) (address_of b)).1 (sym same_address))
+        sym (ap (λ c. c && is_waiting rules d past && completed_before d b past) ((bytes_eq-Decides (address_of d past) (address_of b past)).1 (sym same_address))
         ∙ ap (λ c. c && completed_before d b past) waits) ∙ none-passes test (incoming_deliveries past) d none there
 
     apart : (b.number == d.number) ≡ false
@@ -129,7 +130,7 @@ no-pair false pair is = absurd cc
 
 abbrev IsInOrder : RuleSet → List Event → Link → Incoming → Type 0
 IsInOrder rules past l d =
-    link_at l.number past ≡ Some l → incoming_at d.number past ≡ Some d → address_of d ≡ l.address → is_waiting rules d past ≡ true → is_in_order l past d ≡ true
+    link_at l.number past ≡ Some l → incoming_at d.number past ≡ Some d → address_of d past ≡ l.address → is_waiting rules d past ≡ true → is_in_order l past d ≡ true
 
 module _ (rules : RuleSet) (e : Event) (past : List Event) (are : AreJudged rules (e ∷ past)) (lawful : first_broken rules (e ∷ past) ≡ None) (picked : is_picked rules e past ≡ true)
     (l : Link) (d : Incoming) (earlier : IsInOrder rules past l d) where
@@ -140,16 +141,17 @@ module _ (rules : RuleSet) (e : Event) (past : List Event) (are : AreJudged rule
     | inr new ↦ let none : is_complete d past ≡ false = (judged-sound rules past are.1).fresh d (omega (arith, new)) in absurd cc
   ]
 
-  old_link : link_at l.number past ≡ Some l → link_at l.number (e ∷ past) ≡ Some l → incoming_at d.number (e ∷ past) ≡ Some d → address_of d ≡ l.address → is_waiting rules d (e ∷ past) ≡ true
+  old_link : link_at l.number past ≡ Some l → link_at l.number (e ∷ past) ≡ Some l → incoming_at d.number (e ∷ past) ≡ Some d → address_of d (e ∷ past) ≡ l.address → is_waiting rules d (e ∷ past) ≡ true
       → (b : Bool) → completes d e ≡ b → is_in_order l (e ∷ past) d ≡ true
   old_link old at found address waits true here = in_order-completed rules e past are lawful l d here
   old_link old at found address waits false none =
       let both : is_waiting rules d past && stays e past d ≡ true = sym (is_waiting-stays rules d e past none) ∙ waits in
       let waited = and_first (is_waiting rules d past) (stays e past d) both in
-      let unpaired = no-pair (has_consumer (address_of d) (e ∷ past)) (pairs d e) (and_last (is_waiting rules d past) (stays e past d) both) in
-      let known = known_before (waits-complete (is_of_multicast rules d) (is_complete d past) (is_paired d past) (always_had_consumer d past) waited) found in
-      in_order-stays rules e past are lawful l d (earlier old known address waited)
-      (λ b here. picked-before rules e past are lawful picked l at d known address waited unpaired b here)
+      let unpaired = no-pair (has_consumer (address_of d (e ∷ past)) (e ∷ past)) (pairs d e) (and_last (is_waiting rules d past) (stays e past d) both) in
+      let known = known_before (waits-complete (is_of_multicast rules d past) (is_complete d past) (is_paired d past) (always_had_consumer d past) waited) found in
+      let address_was : address_of d past ≡ l.address = sym (address_of-same e past d none) ∙ address in
+      in_order-stays rules e past are lawful l d (earlier old known address_was waited)
+      (λ b here. picked-before rules e past are lawful picked l at d known address_was waited unpaired b here)
 
   order_step : IsInOrder rules (e ∷ past) l d
   order_step at found address waits = elim (link-cases rules e past are l at) [
@@ -159,14 +161,14 @@ module _ (rules : RuleSet) (e : Event) (past : List Event) (are : AreJudged rule
 
 -- an anycast delivery that waits is in order on each link of its address
 pub waiting_in_order : (rules : RuleSet) (past : List Event) → AreJudged rules past → first_broken rules past ≡ None → AtEach (λ e past. is_picked rules e past ≡ true) past
-    → (l : Link) (d : Incoming) → link_at l.number past ≡ Some l → incoming_at d.number past ≡ Some d → address_of d ≡ l.address → is_waiting rules d past ≡ true → is_in_order l past d ≡ true
+    → (l : Link) (d : Incoming) → link_at l.number past ≡ Some l → incoming_at d.number past ≡ Some d → address_of d past ≡ l.address → is_waiting rules d past ≡ true → is_in_order l past d ≡ true
 waiting_in_order rules [] are lawful picked l d = λ at known address waits. refl
 waiting_in_order rules (e ∷ past) are lawful picked l d =
     order_step rules e past are lawful picked.0 l d (waiting_in_order rules past are.1 (lawful-past rules e past lawful) picked.1 l d)
 
 -- where each event kept the router's duties
 pub kept_in_order : (rules : RuleSet) (past : List Event) → AreJudged rules past → first_broken rules past ≡ None → all_keep rules past ≡ true
-    → (l : Link) (d : Incoming) → link_at l.number past ≡ Some l → incoming_at d.number past ≡ Some d → address_of d ≡ l.address → is_waiting rules d past ≡ true → is_in_order l past d ≡ true
+    → (l : Link) (d : Incoming) → link_at l.number past ≡ Some l → incoming_at d.number past ≡ Some d → address_of d past ≡ l.address → is_waiting rules d past ≡ true → is_in_order l past d ≡ true
 kept_in_order rules past are lawful keeps = waiting_in_order rules past are lawful (all_picked rules past are keeps)
 
 -- ---- the first of an address's queue is the next of those that wait there
@@ -181,19 +183,19 @@ none-before test (x ∷ xs) none = ap (λ b. b || list_any test xs) (none x (con
 pub first_waiting-next : (rules : RuleSet) (past : List Event) → AreJudged rules past → (address : List ℕ) (d : Incoming) (ds : List Incoming) → waiting_queue rules address past ≡ d ∷ ds → is_next_waiting rules past d ≡ true
 first_waiting-next rules past are address d ds is =
     ap (λ b. b && not (list_any earlier (incoming_deliveries past))) waits
-    ∙ ap not (none-before earlier (incoming_deliveries past) (λ x there. by x there (bytes_eq (address_of x) (address_of d)) refl (is_waiting rules x past) refl))
+    ∙ ap not (none-before earlier (incoming_deliveries past) (λ x there. by x there (bytes_eq (address_of x past) (address_of d past)) refl (is_waiting rules x past) refl))
   where
     earlier : Incoming → Bool
-    earlier x = bytes_eq (address_of x) (address_of d) && is_waiting rules x past && completed_before x d past
+    earlier x = bytes_eq (address_of x past) (address_of d past) && is_waiting rules x past && completed_before x d past
 
     here : waits_at rules address past d ≡ true
     here = (queued_waits rules address past (judged-kept rules past are) d (subst (λ xs. Contains xs d) (sym is) (contains_first d ds))).1
 
     waits : is_waiting rules d past ≡ true
-    waits = and_last (bytes_eq (address_of d) address) (is_waiting rules d past) here
+    waits = and_last (bytes_eq (address_of d past) address) (is_waiting rules d past) here
 
-    same : address_of d ≡ address
-    same = (bytes_eq-Decides (address_of d) address).0 (and_first (bytes_eq (address_of d) address) (is_waiting rules d past) here)
+    same : address_of d past ≡ address
+    same = (bytes_eq-Decides (address_of d past) address).0 (and_first (bytes_eq (address_of d past) address) (is_waiting rules d past) here)
 
     order : AllPairs (λ a b. completed_before a b past ≡ true) (d ∷ ds)
     order = subst (AllPairs (λ a b. completed_before a b past ≡ true)) is (queued_in_order rules address past are)
@@ -204,13 +206,13 @@ first_waiting-next rules past are address d ds is =
       | inr later ↦ before-one_way past d x (first-pair (λ a b. completed_before a b past ≡ true) d ds x order later)
     ]
 
-    queued : (x : Incoming) → Contains (incoming_deliveries past) x → bytes_eq (address_of x) (address_of d) ≡ true → is_waiting rules x past ≡ true → Contains (d ∷ ds) x
+    queued : (x : Incoming) → Contains (incoming_deliveries past) x → bytes_eq (address_of x past) (address_of d past) ≡ true → is_waiting rules x past ≡ true → Contains (d ∷ ds) x
     queued x there at waits_too =
-        let of : address_of x ≡ address = (bytes_eq-Decides (address_of x) (address_of d)).0 at ∙ same in
-        let both : waits_at rules address past x ≡ true = ap (λ b. b && is_waiting rules x past) ((bytes_eq-Decides (address_of x) address).1 of) ∙ waits_too in
+        let of : address_of x past ≡ address = (bytes_eq-Decides (address_of x past) (address_of d past)).0 at ∙ same in
+        let both : waits_at rules address past x ≡ true = ap (λ b. b && is_waiting rules x past) ((bytes_eq-Decides (address_of x past) address).1 of) ∙ waits_too in
         subst (λ xs. Contains xs x) is (waits_queued rules address past (judged-kept rules past are) x there both)
 
-    by : (x : Incoming) → Contains (incoming_deliveries past) x → (a : Bool) → bytes_eq (address_of x) (address_of d) ≡ a → (b : Bool) → is_waiting rules x past ≡ b → a && b && completed_before x d past ≡ false
+    by : (x : Incoming) → Contains (incoming_deliveries past) x → (a : Bool) → bytes_eq (address_of x past) (address_of d past) ≡ a → (b : Bool) → is_waiting rules x past ≡ b → a && b && completed_before x d past ≡ false
     by x there false at b waits_too = refl
     by x there true at false waits_too = refl
     by x there true at true waits_too = not_before x (queued x there at waits_too)

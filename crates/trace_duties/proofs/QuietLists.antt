@@ -114,17 +114,17 @@ module _ (rules : RuleSet) (past : List Event) where
 
   -- all addresses at which a delivery waits are among these
   pub quiet-queues : AreJudged rules past → (addresses : List (List ℕ))
-      → ((d : Incoming) → Contains (incoming_deliveries past) d → is_waiting rules d past ≡ true → Contains addresses (address_of d))
+      → ((d : Incoming) → Contains (incoming_deliveries past) d → is_waiting rules d past ≡ true → Contains addresses (address_of d past))
       → list_all waits_not addresses ≡ true → none_waits_in_vain rules past ≡ true
-  quiet-queues are addresses has all = all-each (λ d. not (is_waiting rules d past) || length (eligible (address_of d) past) == 0) (incoming_deliveries past) (λ d there. by d there (is_waiting rules d past) refl)
+  quiet-queues are addresses has all = all-each (λ d. not (is_waiting rules d past) || length (eligible (address_of d past) past) == 0) (incoming_deliveries past) (λ d there. by d there (is_waiting rules d past) refl)
     where
-      by : (d : Incoming) → Contains (incoming_deliveries past) d → (b : Bool) → is_waiting rules d past ≡ b → not b || length (eligible (address_of d) past) == 0 ≡ true
+      by : (d : Incoming) → Contains (incoming_deliveries past) d → (b : Bool) → is_waiting rules d past ≡ b → not b || length (eligible (address_of d past) past) == 0 ≡ true
       by d there false is = refl
       by d there true is =
-          let at : waits_not (address_of d) ≡ true = each-all waits_not addresses all (address_of d) (has d there is) in
-          let here : bytes_eq (address_of d) (address_of d) && is_waiting rules d past ≡ true = ap (λ b. b && is_waiting rules d past) ((bytes_eq-Decides (address_of d) (address_of d)).1 refl) ∙ is in
-          let queued = waits_queued rules (address_of d) past (judged-kept rules past are) d there here in
-          sym (ap (λ b. b || length (eligible (address_of d) past) == 0) (not-empty d (waiting_queue rules (address_of d) past) queued)) ∙ at
+          let at : waits_not (address_of d past) ≡ true = each-all waits_not addresses all (address_of d past) (has d there is) in
+          let here : bytes_eq (address_of d past) (address_of d past) && is_waiting rules d past ≡ true = ap (λ b. b && is_waiting rules d past) ((bytes_eq-Decides (address_of d past) (address_of d past)).1 refl) ∙ is in
+          let queued = waits_queued rules (address_of d past) past (judged-kept rules past are) d there here in
+          sym (ap (λ b. b || length (eligible (address_of d past) past) == 0) (not-empty d (waiting_queue rules (address_of d past) past) queued)) ∙ at
 
   -- ---- copies: of each link none is unsent, or nothing may be sent on it
 

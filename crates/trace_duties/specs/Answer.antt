@@ -6,10 +6,12 @@ use Rattle.amqp_perf.specs.declared.condition.ErrorCondition.{ErrorCondition}
 use Rattle.amqp_perf.specs.declared.condition.ErrorCondition.TheVariants.{FramingError}
 use Rattle.amqp_perf.specs.declared.flow.Flow.{Flow}
 use Rattle.amqp_perf.specs.Meaning.{Meaning, AnOpen, ABegin, AnAttach, AFlow, ATransfer, ADisposition, ADetach, AnEnd, AClose, AttachFields, flag, sender_mode}
-use Rattle.amqp_perf.specs.Router.{attach_to_producer, attach_to_consumer, attach_refused}
+use Rattle.amqp_perf.specs.Nested.{ATerminus}
+use Rattle.amqp_perf.specs.Router.{bare_terminus, attach_to_producer, attach_to_consumer, attach_refused}
 use Rattle.capture_form.specs.Rules.{RuleSet}
 use Rattle.trace_events.specs.declared.fault.Fault.{Fault}
 use Rattle.trace_events.specs.declared.fault.Fault.TheVariants.{Close, End, Refuse, Detach}
+use Rattle.trace_events.specs.Words.{is_some_and}
 use Rattle.trace_events.specs.Frame.{Body, Says, Spoken}
 use Rattle.trace_events.specs.Event.{Event, Link, Moment, In, Broken}
 use Rattle.trace_events.specs.declared.session.Session.{Session}
@@ -18,7 +20,7 @@ use Rattle.trace_events.specs.Connection.{has_out_open, has_out_close}
 use Rattle.trace_events.specs.Link.{is_consumer}
 use Rattle.trace_events.specs.Credit.{delivery_count, link_credit, given_credit}
 use Rattle.trace_clauses.specs.Written.{says, written_open, written_close, written_begin, written_end, written_detach, written_session_flow, written_credit, written_count}
-use Rattle.trace_clauses.specs.LinkClause.{has_dynamic_source, asked_address}
+use Rattle.trace_clauses.specs.LinkClause.{has_dynamic_source, is_without_address, asked_address}
 
 -- `past` has the event that is answered at its head.
 
@@ -29,8 +31,13 @@ closing c condition past =
 
 -- ---- of a frame without fault
 
+-- to an anonymous sender: as to any producer, with a target without address
+abbrev pub attach_to_anonymous : AttachFields → AttachFields
+attach_to_anonymous theirs = record (attach_to_producer theirs []) { target = Some (ATerminus bare_terminus) }
+
 abbrev pub attach_answer : ℕ → AttachFields → Role → AttachFields
-attach_answer number theirs Sender = attach_to_producer theirs (asked_address number theirs)
+attach_answer number theirs Sender =
+    if is_some_and theirs.target is_without_address then attach_to_anonymous theirs else attach_to_producer theirs (asked_address number theirs)
 attach_answer number theirs Receiver =
     attach_to_consumer theirs (asked_address number theirs) (has_dynamic_source theirs) (sender_mode theirs)
 

@@ -69,16 +69,16 @@ is_answered rules past = begin_with (up_to_input past) (last_answer rules past) 
 abbrev pub is_next_waiting : RuleSet → List Event → Incoming → Bool
 is_next_waiting rules past d =
     is_waiting rules d past
-    && not (list_any (λ other. bytes_eq (address_of other) (address_of d) && is_waiting rules other past && completed_before other d past) (incoming_deliveries past))
+    && not (list_any (λ other. bytes_eq (address_of other past) (address_of d past) && is_waiting rules other past && completed_before other d past) (incoming_deliveries past))
 
 abbrev pub is_picked_link : RuleSet → List Event → Incoming → Link → Bool
-is_picked_link rules past d l = is_number (pick rules (address_of d) past) l.number
+is_picked_link rules past d l = is_number (pick rules (address_of d past) past) l.number
 
 -- an anycast delivery that begins carries the next waiting one of its address, on the link that is picked
 abbrev pub is_picked : RuleSet → Event → List Event → Bool
 is_picked rules e past =
     not (begins_outgoing e)
-    || is_none_or (noted e.note past) (λ d. is_of_multicast rules d
+    || is_none_or (noted e.note past) (λ d. is_of_multicast rules d past
     || is_next_waiting rules past d && is_some_and e.link (is_picked_link rules past d))
 
 -- what of the incoming delivery is still to be carried

@@ -22,7 +22,7 @@ use Rattle.trace_duties.specs.Pick.{eligible}
 -- no delivery waits at an address with a link that may be sent it
 abbrev pub none_waits_in_vain : RuleSet → List Event → Bool
 none_waits_in_vain rules past =
-    list_all (λ d. not (is_waiting rules d past) || length (eligible (address_of d) past) == 0) (incoming_deliveries past)
+    list_all (λ d. not (is_waiting rules d past) || length (eligible (address_of d past) past) == 0) (incoming_deliveries past)
 
 -- no delivery to a consumer is in progress on a session with window
 abbrev pub stands_still : List Event → Link → Bool

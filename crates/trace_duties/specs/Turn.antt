@@ -50,13 +50,13 @@ disposition_in_turn rules past Sender = none_is_untold rules past
 -- no delivery that waits and may begin was completed before this one
 abbrev pub is_first_to_begin : RuleSet → List Event → Incoming → Bool
 is_first_to_begin rules past d =
-    list_all (λ other. not (is_waiting rules other past) || length (eligible (address_of other) past) == 0 || not (completed_before other d past))
+    list_all (λ other. not (is_waiting rules other past) || length (eligible (address_of other past) past) == 0 || not (completed_before other d past))
     (incoming_deliveries past)
 
 -- where no delivery in progress may go on, one begins: a copy, or the first of those that wait
 abbrev pub begins_in_turn : RuleSet → Event → List Event → Bool
 begins_in_turn rules e past =
-    none_stands_still past && is_none_or (noted e.note past) (λ d. is_of_multicast rules d || is_first_to_begin rules past d)
+    none_stands_still past && is_none_or (noted e.note past) (λ d. is_of_multicast rules d past || is_first_to_begin rules past d)
 
 -- then transfers: deliveries in progress go on before others begin
 abbrev pub transfer_in_turn : RuleSet → Event → List Event → Bool
