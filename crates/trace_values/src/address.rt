@@ -2,10 +2,7 @@
 
 ghost use Rattle.std.specs.Prelude.{◌≡◌};
 ghost use Rattle.trace_events.specs.Address as law;
-ghost use Rattle.trace_events.specs.Waiting as waiting;
-ghost use Rattle.trace_values.specs.View.{incoming_view};
 
-use crate::event::Incoming;
 use capture_form::{Distribution, RuleSet, distribution_of};
 
 /// Each delivery of the address goes to all its consumers, and not to one.
@@ -13,11 +10,4 @@ pub fn has_multicast(rules: &RuleSet, address: &[u8]) -> bool
     ensures { result ≡ law.has_multicast rules.now address.now }
 {
     matches!(distribution_of(rules, address), Distribution::Multicast)
-}
-
-/// Its address goes to all its consumers.
-pub fn is_of_multicast(rules: &RuleSet, delivery: &Incoming) -> bool
-    ensures { result ≡ waiting.is_of_multicast rules.now (incoming_view delivery.now) }
-{
-    has_multicast(rules, delivery.address())
 }

@@ -1,13 +1,15 @@
 //! What a client's attach asks for, and which answers fit (part 2 of the standard, section 2.6.3; made up addresses: part 3, section
 //! 3.5.3).
 
-ghost use Rattle.std.specs.Prelude.{◌≡◌, decimal, codes, ◌++◌, bytes_eq};
+ghost use Rattle.std.specs.Prelude.{◌≡◌, decimal, codes, ◌++◌, bytes_eq, option_map};
 ghost use Rattle.amqp_perf.specs.View.{attach_fields};
+ghost use Rattle.amqp_perf.specs.NestedViews.{target_view};
 ghost use Rattle.trace_clauses.specs.LinkClause as law;
+ghost use Rattle.trace_events.specs.Words.{is_some_and};
 
 use crate::event::Event;
 use crate::link::{address_at, opens_link};
-use amqp_perf::{Attach, ReceiverSettleMode, Role, SenderSettleMode};
+use amqp_perf::{Attach, ReceiverSettleMode, Role, SenderSettleMode, Target};
 use trace_events::Fault;
 
 /// What the address of a dynamic source begins with; the number of the attach's record follows.
@@ -75,6 +77,16 @@ fn is_dynamic_address(address: &[u8], number: u64) -> bool
     match address.strip_prefix(DYNAMIC) {
         Some(digits) => is_decimal(digits, number),
         None => false,
+    }
+}
+
+/// A target without address, as an anonymous sender has it; a coordinator has none either.
+fn is_without_address(target: &Option<Target>) -> bool
+    ensures { result ≡ is_some_and (option_map target_view target.now) law.is_without_address }
+{
+    match target {
+        Some(Target::Terminus(terminus)) => terminus.address.is_none(),
+        _ => false,
     }
 }
 
@@ -156,12 +168,23 @@ impl<'a> Asking<'a> {
         }
     }
 
+    /// The answer has the address that is asked for; none, where an anonymous sender asks for none.
+    fn has_address(&self, ours: &Attach) -> bool
+        ensures { result ≡ law.has_address (asking_view self.now).address (attach_fields ours.now) }
+    {
+        if self.address.is(&[]) {
+            is_without_address(&ours.target)
+        } else {
+            self.address.is(address_at(ours.role, ours))
+        }
+    }
+
     /// The answer opens the link that is asked for.
     fn is_accepted(&self, ours: &Attach) -> bool
         ensures { result ≡ law.accepts (asking_view self.now) (attach_fields ours.now) }
     {
         opens_link(ours)
-            && self.address.is(address_at(ours.role, ours))
+            && self.has_address(ours)
             && is_same_sender_mode(ours.sender_mode(), self.sender_mode)
             && is_same_receiver_mode(ours.receiver_mode(), self.answering_receiver_mode())
     }

@@ -22,19 +22,6 @@ fn is_last_part(transfer: &Transfer) -> bool
     !transfer.has_more() && !transfer.is_aborted()
 }
 
-impl<'a> Incoming<'a> {
-    ghost use Rattle.std.specs.Prelude.{◌≡◌};
-    ghost use Rattle.trace_events.specs.Incoming as law;
-    ghost use Rattle.trace_values.specs.View.{incoming_view};
-
-    /// The address that it is for: its link's.
-    pub fn address(&self) -> &'a [u8]
-        ensures { result.now ≡ law.address_of (incoming_view self.now) }
-    {
-        self.link.address
-    }
-}
-
 impl<'a, 'm> Event<'a, 'm> {
     ghost use Rattle.std.specs.Prelude.{◌≡◌, ◌&&◌, option_map};
     ghost use Rattle.amqp_perf.specs.Meaning.{flag};

@@ -27,7 +27,7 @@ mod said;
 mod session;
 mod window;
 
-pub use address::{has_multicast, is_of_multicast};
+pub use address::has_multicast;
 pub use asking::{AskedAddress, Asking};
 pub use credit::{LinkEvent, is_drain_answer};
 pub use disposition::{Decision, is_decisive};

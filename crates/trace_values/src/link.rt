@@ -87,7 +87,7 @@ fn is_settled_mode(mode: SenderSettleMode) -> bool
 impl<'a> Link<'a> {
     ghost use Rattle.std.specs.Prelude.{◌≡◌};
     ghost use Rattle.amqp_perf.specs.View.{attach_fields};
-    ghost use Rattle.trace_events.specs.Link.{is_producer, is_consumer};
+    ghost use Rattle.trace_events.specs.Link.{is_anonymous, is_producer, is_consumer};
     ghost use Rattle.trace_values.specs.Answering.{link_answering};
     ghost use Rattle.trace_values.specs.View.{link_view};
 
@@ -105,6 +105,13 @@ impl<'a> Link<'a> {
             our_first_count: first_count(ours),
             their_first_count,
         }
+    }
+
+    /// It has no address: each delivery on it is for the one in its message.
+    pub fn is_anonymous(&self) -> bool
+        ensures { result ≡ is_anonymous (link_view self.now) }
+    {
+        self.address.is_empty()
     }
 
     /// Deliveries come from the client.
