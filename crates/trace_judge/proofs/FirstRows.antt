@@ -35,11 +35,11 @@ module _ (rules : RuleSet) (d : Incoming) (past : List Event) where
       (ap is_some untold)
 
   -- one of anycast has no row of multicast, nor has one of multicast that lacks a verdict
-  pub anycast-untold : false ≡ is_of_multicast rules d → multicast_row rules d past ≡ None
+  pub anycast-untold : false ≡ is_of_multicast rules d past → multicast_row rules d past ≡ None
   anycast-untold anycast = ap (λ b. if b then option_map (λ outcome. Some (told_octets outcome)) (whole_verdict rules d past) else None) (sym anycast)
 
   pub whole-untold : None ≡ option_map (λ outcome. Some (told_octets outcome)) (whole_verdict rules d past) → multicast_row rules d past ≡ None
-  whole-untold none = by (is_of_multicast rules d)
+  whole-untold none = by (is_of_multicast rules d past)
     where
       by : (b : Bool) → (if b then option_map (λ outcome. Some (told_octets outcome)) (whole_verdict rules d past) else None) ≡ None
       by true = sym none

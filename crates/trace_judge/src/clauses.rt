@@ -60,7 +60,7 @@ fn first_broken(clause: Clause, is_met: bool, note: Note) -> Option<Clause>
 
 // The first clause that is broken, by what is written.
 
-fn broken_by_transfer<'a, P: Counts + Carriage<'a>>(
+fn broken_by_transfer<'a, P: Counts + Carriage<'a> + Outcomes<'a>>(
     past: &P,
     rules: &RuleSet,
     event: &Event,
@@ -89,7 +89,7 @@ fn broken_by_transfer<'a, P: Counts + Carriage<'a>>(
     let Some(delivery) = past.to_carry(rules, event.note) else {
         return Some(Clause::L7);
     };
-    if !is_alike(event, &link, transfer, &delivery) {
+    if !is_alike(past, event, &link, transfer, &delivery) {
         return Some(Clause::L7);
     }
     if !carries(past, event, transfer, payload, &delivery) {

@@ -19,7 +19,7 @@ use crate::questions::Outcomes;
 use amqp_perf::{Outcome, State};
 use capture_form::RuleSet;
 use pairing_cert::Why;
-use trace_values::{Decision, Incoming, Outgoing, is_of_multicast};
+use trace_values::{Decision, Incoming, Outgoing};
 
 /// The state that is told of a delivery.
 #[derive(Clone, Copy)]
@@ -217,9 +217,9 @@ pub fn row<'a, P: Outcomes<'a>>(
     match why {
         Why::N if past.is_gone(rules, delivery) => Some(Told::Bare(Outcome::Released)),
         Why::N => None,
-        Why::M if is_of_multicast(rules, delivery) => whole_told(past, rules, delivery),
+        Why::M if past.is_of_multicast(rules, delivery) => whole_told(past, rules, delivery),
         Why::M => None,
-        _ if is_of_multicast(rules, delivery) => None,
+        _ if past.is_of_multicast(rules, delivery) => None,
         _ => anycast_row(past, delivery, why),
     }
 }
@@ -281,10 +281,10 @@ fn first_anycast_row<'a, P: Outcomes<'a>>(
     delivery: &Incoming,
 ) -> Option<(Why, Told<'a>)>
     ensures tells { (history : Events) (rules : RuleSet) → P.stands_for past.now rules history → P.knows_incoming past.now (incoming_view delivery.now) history →
-        is_multicast ≡ waiting.is_of_multicast rules (incoming_view delivery.now) →
+        is_multicast ≡ waiting.is_of_multicast rules (incoming_view delivery.now) history →
         IfSome result (λ x. rows.row rules (incoming_view delivery.now) history x.0 ≡ Some (told_view x.1)) }
     ensures none { (history : Events) (rules : RuleSet) → P.stands_for past.now rules history → P.knows_incoming past.now (incoming_view delivery.now) history →
-        is_multicast ≡ waiting.is_of_multicast rules (incoming_view delivery.now) →
+        is_multicast ≡ waiting.is_of_multicast rules (incoming_view delivery.now) history →
         result ≡ None → (why : Why) → asks_pairing why ≡ true → rows.row rules (incoming_view delivery.now) history why ≡ None }
 {
     if is_multicast {
@@ -306,7 +306,7 @@ pub fn first_row<'a, P: Outcomes<'a>>(
     ensures none { (history : Events) → P.stands_for past.now rules.now history → P.knows_incoming past.now (incoming_view delivery.now) history →
         result ≡ None → list_any (λ why. is_some (rows.row rules.now (incoming_view delivery.now) history why)) rows.reasons ≡ false }
 {
-    let is_multicast = is_of_multicast(rules, delivery);
+    let is_multicast = past.is_of_multicast(rules, delivery);
     match first_anycast_row(past, is_multicast, delivery) {
         Some(first) => Some(first),
         None if past.is_gone(rules, delivery) => Some((Why::N, Told::Bare(Outcome::Released))),

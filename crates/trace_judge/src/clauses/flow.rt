@@ -26,7 +26,7 @@ fn has_session_numbers<P: Counts>(past: &P, flow: &Flow, session: Session) -> bo
 }
 
 /// A producer's link may be given more credit: its given credit and its undecided deliveries together have come down to the
-/// low mark, and its address is multicast or has a consumer.
+/// low mark, and its address is multicast or has a consumer, or it has none.
 pub fn may_be_topped_up<'a, P: Inputs<'a> + Counts>(past: &P, rules: &RuleSet, link: &Link) -> bool
     requires few { P.is_short past.now }
     ensures { (history : Events) → P.stands_for past.now rules.now history → IsLiveLink (link_view link.now) history →
@@ -34,7 +34,9 @@ pub fn may_be_topped_up<'a, P: Inputs<'a> + Counts>(past: &P, rules: &RuleSet, l
 {
     let given = u64::from(past.given_credit(link));
     given.saturating_add(past.undecided_count(rules, link)) <= u64::from(LOW_MARK)
-        && (has_multicast(rules, link.address) || past.has_consumer(link.address))
+        && (link.is_anonymous()
+            || has_multicast(rules, link.address)
+            || past.has_consumer(link.address))
 }
 
 /// The credit that fills a producer's live link up.

@@ -10,11 +10,11 @@ ghost use Rattle.trace_values.specs.View.{event_view, incoming_view, link_view, 
 ghost use Rattle.trace_clauses.specs.TransferClause as law;
 ghost use Rattle.trace_events.specs.Words.{is_some_and};
 
-use crate::questions::{Carriage, Counts};
+use crate::questions::{Carriage, Counts, Outcomes};
 use amqp_perf::Transfer;
 use capture_form::RuleSet;
 use pairing_cert::Note;
-use trace_values::{Event, Incoming, Link, Outgoing, is_of_multicast};
+use trace_values::{Event, Incoming, Link, Outgoing};
 
 /// They name the same delivery or the same reason, or are both none.
 fn is_same_note(note: Note, other: Note) -> bool
@@ -53,10 +53,17 @@ fn has_form(delivery: &Incoming, link: &Link, fields: &Transfer) -> bool
 }
 
 /// It has the link's address, and its form where it begins.
-pub(crate) fn is_alike(event: &Event, link: &Link, fields: &Transfer, delivery: &Incoming) -> bool
-    ensures { result ≡ law.is_alike (event_view event.now) (link_view link.now) (transfer_fields fields.now) (incoming_view delivery.now) }
+pub(crate) fn is_alike<'a, P: Carriage<'a>>(
+    past: &P,
+    event: &Event,
+    link: &Link,
+    fields: &Transfer,
+    delivery: &Incoming,
+) -> bool
+    ensures { (rules : RuleSet) (history : Events) → P.stands_for past.now rules history → P.knows_incoming past.now (incoming_view delivery.now) history →
+        (result ≡ law.is_alike (event_view event.now) (link_view link.now) (transfer_fields fields.now) history (incoming_view delivery.now)) }
 {
-    delivery.address() == link.address
+    past.is_for(delivery, link.address)
         && (!event.begins_outgoing() || has_form(delivery, link, fields))
 }
 
@@ -107,7 +114,7 @@ pub(crate) fn carries<'a, P: Carriage<'a>>(
     }
 }
 
-fn is_first_to<'a, P: Carriage<'a>>(
+fn is_first_to<'a, P: Carriage<'a> + Outcomes<'a>>(
     past: &P,
     rules: &RuleSet,
     link: &Link,
@@ -117,7 +124,7 @@ fn is_first_to<'a, P: Carriage<'a>>(
     ensures { (history : Events) → P.stands_for past.now rules.now history → IsLiveLink (link_view link.now) history → P.knows_incoming past.now (incoming_view delivery.now) history →
         (result ≡ law.is_first_to rules.now (link_view link.now) history (incoming_view delivery.now)) }
 {
-    if is_of_multicast(rules, delivery) {
+    if past.is_of_multicast(rules, delivery) {
         past.is_unsent(rules, delivery, link)
     } else {
         !past.is_paired(delivery)
@@ -136,7 +143,7 @@ fn is_in_order<'a, P: Carriage<'a>>(past: &P, link: &Link, delivery: &Incoming) 
 
 /// L9: an anycast delivery goes to one consumer, a multicast one once to each that it is due to; on each link in the
 /// order of completion.
-pub(crate) fn may_go_to<'a, P: Carriage<'a>>(
+pub(crate) fn may_go_to<'a, P: Carriage<'a> + Outcomes<'a>>(
     past: &P,
     rules: &RuleSet,
     link: &Link,

@@ -40,21 +40,23 @@ fn address_fault(address: &Address) -> Option<Fault>
     }
 }
 
-/// A target without address is an anonymous one.
-fn target_address_fault(address: &Option<Address>) -> Option<Fault>
-    ensures { result ≡ law.target_address_fault (option_map address_view address.now) }
+/// A target without address is that of an anonymous sender, which is served or not.
+fn target_address_fault(rules: &RuleSet, address: &Option<Address>) -> Option<Fault>
+    ensures { result ≡ law.target_address_fault rules.now (option_map address_view address.now) }
 {
     match address {
         Some(address) => address_fault(address),
+        None if rules.serves_anonymous() => None,
         None => Some(Fault::Refuse(ErrorCondition::NotImplemented)),
     }
 }
 
-fn target_fault(target: &Option<Target>) -> Option<Fault>
-    ensures { result ≡ law.target_fault (option_map target_view target.now) }
+fn target_fault(rules: &RuleSet, target: &Option<Target>) -> Option<Fault>
+    ensures { result ≡ law.target_fault rules.now (option_map target_view target.now) }
 {
     match target {
         Some(Target::Terminus(terminus)) if !terminus.is_dynamic() => target_address_fault(
+            rules,
             &terminus.address,
         ),
         Some(_) => Some(Fault::Refuse(ErrorCondition::NotImplemented)),
@@ -82,14 +84,14 @@ fn source_fault(source: &Option<Terminus>) -> Option<Fault>
 }
 
 /// Of the terminus at the router's end of the link: a sender's target, a receiver's source.
-fn terminus_fault(attach: &Attach) -> Option<Fault>
-    ensures { result ≡ law.terminus_fault (attach_fields attach.now) attach.now.role }
+fn terminus_fault(rules: &RuleSet, attach: &Attach) -> Option<Fault>
+    ensures { result ≡ law.terminus_fault rules.now (attach_fields attach.now) attach.now.role }
 {
     match attach.role {
         Role::Sender if attach.initial_delivery_count.is_none() => Some(Fault::Refuse(
             ErrorCondition::InvalidField,
         )),
-        Role::Sender => target_fault(&attach.target),
+        Role::Sender => target_fault(rules, &attach.target),
         Role::Receiver => source_fault(&attach.source),
     }
 }
@@ -150,9 +152,14 @@ fn is_handle_in_use<'a, P: Inputs<'a>>(past: &P, session: Session, handle: u32) 
     past.session_link(session, handle).is_some() || past.awaits_detach(session, handle)
 }
 
-fn attach_fault<'a, P: Inputs<'a>>(past: &P, session: Session, attach: &Attach) -> Option<Fault>
-    ensures { (rules : RuleSet) (history : Events) → P.stands_for past.now rules history → IsLiveOn session history →
-        (result ≡ law.attach_fault session (attach_fields attach.now) history) }
+fn attach_fault<'a, P: Inputs<'a>>(
+    past: &P,
+    rules: &RuleSet,
+    session: Session,
+    attach: &Attach,
+) -> Option<Fault>
+    ensures { (history : Events) → P.stands_for past.now rules.now history → IsLiveOn session history →
+        (result ≡ law.attach_fault rules.now session (attach_fields attach.now) history) }
 {
     if attach.handle > HANDLE_MAX {
         return Some(Fault::Close(ErrorCondition::FramingError));
@@ -163,7 +170,7 @@ fn attach_fault<'a, P: Inputs<'a>>(past: &P, session: Session, attach: &Attach) 
     if attach.name.len() > MAX_LINK_NAME {
         return Some(Fault::End(ErrorCondition::ResourceLimitExceeded));
     }
-    terminus_fault(attach)
+    terminus_fault(rules, attach)
 }
 
 /// Of the first transfer of a delivery: it has an id that no undecided one has, and the link has credit for it.
@@ -268,7 +275,7 @@ fn session_fault<'a, P: Inputs<'a>>(
         (result ≡ law.session_fault rules.now session (event_view event.now) (spoken_view spoken.now) (view spoken.now.performative) history) }
 {
     match &spoken.performative {
-        Performative::Attach(attach) => attach_fault(past, session, attach),
+        Performative::Attach(attach) => attach_fault(past, rules, session, attach),
         Performative::Transfer(fields) => transfer_fault(
             past,
             rules,

@@ -10,7 +10,7 @@ use trace_values::{Incoming, Link, Outgoing};
 /// What takes a link is asked of a live one alone, and what takes a delivery of one that is known.
 pub trait Carriage<'a>: History {
     ghost use Rattle.capture_form.specs.Rules.{RuleSet};
-    ghost use Rattle.std.specs.Prelude.{List, ◌≡◌, ◌++◌, IfSome, option_map};
+    ghost use Rattle.std.specs.Prelude.{List, ◌≡◌, ◌++◌, IfSome, bytes_eq, option_map};
     ghost use Rattle.trace_events.specs.Due as due;
     ghost use Rattle.trace_events.specs.Incoming as received;
     ghost use Rattle.trace_events.specs.Outgoing as sent;
@@ -30,6 +30,11 @@ pub trait Carriage<'a>: History {
             (option_map incoming_view result ≡ transfers.to_carry rules.now note history) }
         ensures known { (history : Events) → Self.stands_for self.now rules.now history →
             IfSome (option_map incoming_view result) (λ d. Self.knows_incoming self.now d history) };
+
+    /// It is for this address: its link's, or where that has none its message's.
+    fn is_for(&self, delivery: &Incoming, address: &[u8]) -> bool
+        ensures { (rules : RuleSet) (history : Events) → Self.stands_for self.now rules history → Self.knows_incoming self.now (incoming_view delivery.now) history →
+            (result ≡ bytes_eq (received.address_of (incoming_view delivery.now) history) address.now) };
 
     /// The incoming delivery that the last one begun on the link carries.
     fn carried_before(&self, link: &Link) -> Option<Incoming<'a>>

@@ -45,6 +45,11 @@ pub trait Outcomes<'a>: History {
         ensures { (rules : RuleSet) (history : Events) → Self.stands_for self.now rules history → Self.knows_incoming self.now (incoming_view delivery.now) history →
             (result ≡ received.is_complete (incoming_view delivery.now) history) };
 
+    /// Its address is of multicast: it goes to all consumers of that, and not to one.
+    fn is_of_multicast(&self, rules: &RuleSet, delivery: &Incoming) -> bool
+        ensures { (history : Events) → Self.stands_for self.now rules.now history → Self.knows_incoming self.now (incoming_view delivery.now) history →
+            (result ≡ waiting.is_of_multicast rules.now (incoming_view delivery.now) history) };
+
     /// Nothing more is to be told of it: it is told, settled by its producer, or of a link that is over.
     fn is_closed(&self, delivery: &Incoming) -> bool
         ensures { (rules : RuleSet) (history : Events) → Self.stands_for self.now rules history → Self.knows_incoming self.now (incoming_view delivery.now) history →
