@@ -1,5 +1,6 @@
 pub mod Checking
 pub mod Payloads
+pub mod Messages
 mod Copies
 mod Counted
 mod KnownAll

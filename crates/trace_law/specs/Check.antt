@@ -54,7 +54,7 @@ waits rules n past = is_some_and (incoming_at n past) (λ d. is_waiting rules d 
 -- what the producer of a multicast delivery is told: once it is complete and each copy has its verdict, the best
 abbrev pub told_of : RuleSet → List Event → Incoming → Option Outcome
 told_of rules past d =
-    if is_of_multicast rules d && is_complete d past then whole_verdict rules d past else None
+    if is_of_multicast rules d past && is_complete d past then whole_verdict rules d past else None
 
 -- of the delivery that begins in the record of this number
 abbrev pub best_at : RuleSet → ℕ → List Event → Option Outcome

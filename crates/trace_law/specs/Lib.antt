@@ -1,3 +1,5 @@
 pub mod Check
+pub mod Copied
 pub mod OnStack
 pub mod Payloads
+pub mod Messages

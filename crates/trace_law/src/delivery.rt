@@ -2,6 +2,7 @@
 
 mod due;
 mod incoming;
+mod message;
 mod outgoing;
 mod payload;
 mod settling;

@@ -100,6 +100,10 @@ impl<'p, 'a> Outcomes<'a> for Past<'p, 'a> {
         self.is_closed(delivery)
     }
 
+    fn is_of_multicast(&self, rules: &RuleSet, delivery: &Incoming) -> bool {
+        self.is_of_multicast(rules, delivery)
+    }
+
     fn is_gone(&self, rules: &RuleSet, delivery: &Incoming) -> bool {
         self.is_gone(rules, delivery)
     }
@@ -228,6 +232,10 @@ impl<'p, 'a> Carriage<'a> for Past<'p, 'a> {
 
     fn to_carry(&self, rules: &RuleSet, note: Note) -> Option<Incoming<'a>> {
         self.to_carry(rules, note)
+    }
+
+    fn is_for(&self, delivery: &Incoming, address: &[u8]) -> bool {
+        self.is_for(delivery, address)
     }
 
     fn carried_before(&self, link: &Link) -> Option<Incoming<'a>> {

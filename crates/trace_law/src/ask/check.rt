@@ -221,8 +221,6 @@ pub fn waiting_at<'a>(capture: &'a Capture, i: usize, d: u64) -> bool
 /// What the producer of the multicast delivery that begins in record `d` would be told, by the records below this number (by
 /// all, where there are fewer): the best of the verdicts of its copies, once it is complete and each that is due has one;
 /// `None` before, and of another delivery. It takes stack as `slow_check` does, and no other memory.
-///
-/// The law does not ask for it yet: by its row M a producer is told accepted at once.
 pub fn best_verdict_at<'a>(capture: &'a Capture, i: usize, d: u64) -> Option<Outcome>
     ensures { result ≡ checked.best_at capture.now.rules d (checked.events_below i capture.now) }
 {

@@ -2,35 +2,40 @@
 
 use crate::past::Past;
 use capture_form::RuleSet;
-use trace_values::{Event, Incoming, Link, has_multicast};
+use trace_values::{Incoming, Link, has_multicast};
 
 impl<'p, 'a> Past<'p, 'a> {
     ghost use Rattle.std.specs.Prelude.{◌≡◌, ◌<◌, ◌^◌, length};
     ghost use Rattle.trace_events.specs.Due as law;
+    ghost use Rattle.trace_law.specs.Copied.{copied_at, due_at};
     ghost use Rattle.trace_law.specs.OnStack.{events};
-    ghost use Rattle.trace_values.specs.View.{event_view, link_view, incoming_view};
+    ghost use Rattle.trace_values.specs.View.{link_view, incoming_view};
 
-    /// The multicast delivery that this event completes is for the link: a live one of a consumer of its address.
-    fn is_copied_to(&self, rules: &RuleSet, link: &Link, event: &Event) -> bool
-        ensures { result ≡ law.is_copied_to rules.now (link_view link.now) (event_view event.now) (events self.now) }
+    /// The multicast delivery that the last event completes is for the link: one of a consumer of its address, live before it.
+    fn is_copied_to(&self, rules: &RuleSet, link: &Link) -> bool
+        ensures { result ≡ copied_at rules.now (link_view link.now) (events self.now) }
     {
-        match event.completed_by() {
-            Some(delivery) => {
-                let address = delivery.address();
-                has_multicast(rules, address) && self.is_consumer_of(address, link)
-            }
-            None => false,
-        }
+        let Past::After(event, earlier) = self else {
+            return false;
+        };
+        let Some(delivery) = event.completed_by() else {
+            return false;
+        };
+        let address = self.address_of(&delivery);
+        has_multicast(rules, address.octets()) && earlier.is_consumer_of(address.octets(), link)
     }
 
-    /// A copy of that delivery is due: the link's credit exceeds the copies that are still to be sent, of `due` that
-    /// were due before.
-    fn makes_due(&self, rules: &RuleSet, link: &Link, event: &Event, due: u64) -> bool
+    /// A copy of that delivery is due: the link's credit before the event exceeds the copies that are still to be sent, of `due`
+    /// that were due before.
+    fn makes_due(&self, rules: &RuleSet, link: &Link, due: u64) -> bool
         requires few { length (events self.now) < 2 ^ 64 }
-        ensures { result ≡ law.makes_due rules.now (link_view link.now) (event_view event.now) (events self.now) due }
+        ensures { result ≡ due_at rules.now (link_view link.now) (events self.now) due }
     {
-        self.is_copied_to(rules, link, event)
-            && due.saturating_sub(self.begun_count(link)) < u64::from(self.link_credit(link))
+        let Past::After(_, earlier) = self else {
+            return false;
+        };
+        self.is_copied_to(rules, link)
+            && due.saturating_sub(earlier.begun_count(link)) < u64::from(earlier.link_credit(link))
     }
 
     /// How many copies were due to the link.
@@ -41,9 +46,9 @@ impl<'p, 'a> Past<'p, 'a> {
     {
         match self {
             Past::Start => 0,
-            Past::After(event, earlier) => {
+            Past::After(_, earlier) => {
                 let before = earlier.due_count(rules, link);
-                if earlier.makes_due(rules, link, event, before) {
+                if self.makes_due(rules, link, before) {
                     before + 1
                 } else {
                     before
@@ -61,7 +66,7 @@ impl<'p, 'a> Past<'p, 'a> {
         while let Past::After(event, earlier) = rest {
             if event.completes(delivery) {
                 let before = earlier.due_count(rules, link);
-                return earlier.makes_due(rules, link, event, before);
+                return rest.makes_due(rules, link, before);
             }
             rest = *earlier;
         }

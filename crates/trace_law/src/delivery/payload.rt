@@ -6,7 +6,7 @@ use trace_values::{Event, Incoming, Outgoing};
 
 /// A delivery, by its direction and its number.
 #[derive(Clone, Copy)]
-enum Delivery {
+pub(crate) enum Delivery {
     Incoming(u64),
     Outgoing(u64),
 }
@@ -25,7 +25,7 @@ impl Delivery {
     ghost use Rattle.trace_values.specs.View.{event_view};
 
     /// What an event adds to the delivery's payload.
-    fn part<'a>(self, event: &Event<'a, 'a>) -> &'a [u8]
+    pub(crate) fn part<'a>(self, event: &Event<'a, 'a>) -> &'a [u8]
         ensures { result.now ≡ part_of self (event_view event.now) }
     {
         let spoken = match (self, event.incoming, event.outgoing) {

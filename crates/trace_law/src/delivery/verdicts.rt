@@ -9,7 +9,7 @@ ghost use Rattle.trace_clauses.specs.CopyVerdict as copies;
 use crate::past::Past;
 use amqp_perf::{Disposition, Outcome};
 use capture_form::RuleSet;
-use trace_values::{Decision, Incoming, Link, Outgoing, is_of_multicast, names};
+use trace_values::{Decision, Incoming, Link, Outgoing, names};
 
 impl<'p, 'a> Past<'p, 'a> {
     ghost use Rattle.std.specs.Prelude.{◌≡◌, ◌<◌, ◌^◌, length, option_map};
@@ -187,7 +187,7 @@ impl<'p, 'a> Past<'p, 'a> {
         requires few { length (events self.now) < 2 ^ 64 }
         ensures { result ≡ told_of rules.now (events self.now) (incoming_view delivery.now) }
     {
-        if is_of_multicast(rules, delivery) && self.is_complete(delivery) {
+        if self.is_of_multicast(rules, delivery) && self.is_complete(delivery) {
             self.whole_verdict(rules, delivery)
         } else {
             None

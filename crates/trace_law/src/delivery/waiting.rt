@@ -4,7 +4,7 @@ use crate::past::Past;
 use capture_form::RuleSet;
 use pairing_cert::Note;
 use trace_events::Session;
-use trace_values::{Incoming, Link, is_of_multicast};
+use trace_values::{Incoming, Link};
 
 impl<'p, 'a> Past<'p, 'a> {
     ghost use Rattle.std.specs.Prelude.{◌≡◌, ◌<◌, ◌^◌, ◌&&◌, length, bytes_eq, option_map};
@@ -21,7 +21,7 @@ impl<'p, 'a> Past<'p, 'a> {
     {
         let mut rest = self;
         while let Past::After(event, earlier) = rest {
-            if !rest.has_consumer(delivery.address()) {
+            if !rest.has_consumer(rest.address_of(delivery).octets()) {
                 return false;
             }
             if event.completes(delivery) {
@@ -36,7 +36,9 @@ impl<'p, 'a> Past<'p, 'a> {
     fn is_unpaired(&self, rules: &RuleSet, delivery: &Incoming) -> bool
         ensures { result ≡ law.is_unpaired rules.now (incoming_view delivery.now) (events self.now) }
     {
-        !is_of_multicast(rules, delivery) && !self.is_paired(delivery) && self.is_complete(delivery)
+        !self.is_of_multicast(rules, delivery)
+            && !self.is_paired(delivery)
+            && self.is_complete(delivery)
     }
 
     /// It waits for a consumer that may be sent it.
@@ -113,10 +115,10 @@ impl<'p, 'a> Past<'p, 'a> {
 
     /// The delivery waits, and at this address.
     fn is_waiting_at(&self, rules: &RuleSet, address: &[u8], delivery: &Incoming) -> bool
-        ensures { result ≡ (bytes_eq (address_of (incoming_view delivery.now)) address.now
+        ensures { result ≡ (bytes_eq (address_of (incoming_view delivery.now) (events self.now)) address.now
             && law.is_waiting rules.now (incoming_view delivery.now) (events self.now)) }
     {
-        delivery.address() == address && self.is_waiting(rules, delivery)
+        self.is_for(delivery, address) && self.is_waiting(rules, delivery)
     }
 
     /// A delivery waits at the address.
