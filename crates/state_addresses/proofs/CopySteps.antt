@@ -7,10 +7,10 @@ use Rattle.trace_events.specs.Words.{is_some_and, where_passes}
 use Rattle.trace_events.specs.Event.{Event, Link, Incoming, is_on_link}
 use Rattle.trace_events.specs.declared.session.Session.{Session}
 use Rattle.trace_events.specs.Said.{out_transfer}
-use Rattle.trace_events.specs.Address.{is_consumer_of}
+use Rattle.trace_events.specs.Address.{has_multicast, is_consumer_of}
 use Rattle.trace_events.specs.Connection.{is_over}
 use Rattle.trace_events.specs.Credit.{link_credit, begun_count}
-use Rattle.trace_events.specs.Due.{due_count, is_due, is_unsent}
+use Rattle.trace_events.specs.Due.{is_copied_to, due_count, is_due, is_unsent}
 use Rattle.trace_events.specs.Ends.{ends_link}
 use Rattle.trace_events.specs.Incoming.{address_of, completed_by, completes}
 use Rattle.trace_events.specs.Link.{is_consumer, is_live, live_link, session_link, link_at, own_link, IsLiveLink}
@@ -37,6 +37,7 @@ use Rattle.trace_clauses.proofs.Undecided.{link_of_session}
 use Rattle.trace_clauses.proofs.UnsentCopies.{completes-written_none, unsent_copies_move}
 use Rattle.trace_clauses.proofs.WaitingQueue.{contains_first, contains_later, contains_cases, contains_none}
 use Rattle.number_groups.specs.Numbers.{is_among}
+use Rattle.state_addresses.specs.Addressed.{IsAddressed}
 use Rattle.state_addresses.specs.Copies.{copies_on, copies_at, has_number, copied_by, AreReceiversOf, AreReceivers, has_room, comes_to, names_at, is_ended}
 use Rattle.state_addresses.specs.declared.copies.Receiver.{Receiver}
 use Rattle.state_addresses.proofs.CopyNumbers.{and_false, and_true, or_false, number-left, number-join, numbers-counted}
@@ -155,12 +156,12 @@ none-due rules (e ∷ past) are l later d =
     over : is_live past l ≡ false
     over = unborn rules past are.1 l (omega (arith, later))
 
-    off : (o : Option Incoming) → is_some_and o (λ d. is_of_multicast rules d && is_consumer_of (address_of d) past l) && nat_lt (due_count rules l past - begun_count l past) (link_credit l past) ≡ false
+    off : (o : Option Incoming) → is_some_and o (λ d. is_of_multicast rules d (e ∷ past) && is_consumer_of (address_of d (e ∷ past)) past l) && nat_lt (due_count rules l past - begun_count l past) (link_credit l past) ≡ false
     off None = refl
     off (Some d) =
-        ap (λ b. (is_of_multicast rules d && (is_consumer l && bytes_eq l.address (address_of d) && b)) && nat_lt (due_count rules l past - begun_count l past) (link_credit l past)) over
-        ∙ (ap (λ b. (is_of_multicast rules d && b) && nat_lt (due_count rules l past - begun_count l past) (link_credit l past)) (and_false (is_consumer l && bytes_eq l.address (address_of d)))
-        ∙ ap (λ b. b && nat_lt (due_count rules l past - begun_count l past) (link_credit l past)) (and_false (is_of_multicast rules d)))
+        ap (λ b. (is_of_multicast rules d (e ∷ past) && (is_consumer l && bytes_eq l.address (address_of d (e ∷ past)) && b)) && nat_lt (due_count rules l past - begun_count l past) (link_credit l past)) over
+        ∙ (ap (λ b. (is_of_multicast rules d (e ∷ past) && b) && nat_lt (due_count rules l past - begun_count l past) (link_credit l past)) (and_false (is_consumer l && bytes_eq l.address (address_of d (e ∷ past))))
+        ∙ ap (λ b. b && nat_lt (due_count rules l past - begun_count l past) (link_credit l past)) (and_false (is_of_multicast rules d (e ∷ past))))
 
 filter-nothing : (p : Incoming → Bool) (xs : List Incoming) → ((x : Incoming) → p x ≡ false) → filter p xs ≡ []
 filter-nothing p [] off = refl
@@ -238,40 +239,50 @@ module _ (rules : RuleSet) (e : Event) (past : List Event) (are : AreJudged rule
 
   -- ---- what comes due
 
-  module _ (receivers : List Receiver) (given : AreReceivers rules e past receivers) where
-    comes-none : (count link n : ℕ) → link_at link past ≡ None → comes_to rules e receivers count link n ≡ false
-    comes-none count link n none = by (copied_by rules e) given
-      where
-        by : (o : Option Incoming) → IfSome o (λ d. AreReceiversOf (address_of d) past receivers) → is_some_and o (λ d. n == d.number && has_room receivers link count) ≡ false
-        by None of = refl
-        by (Some d) of = ap (λ b. n == d.number && b) (room-none (address_of d) past receivers of link count none) ∙ and_false (n == d.number)
+  module _ (address : List ℕ) (addressed : IsAddressed e past address) (receivers : List Receiver) (given : AreReceivers rules address e past receivers) where
+    -- what the event completes is for this address
+    by-address : (l : Link) (o : Option Incoming) → IfSome o (λ d. address_of d (e ∷ past) ≡ address)
+        → is_some_and o (λ d. is_of_multicast rules d (e ∷ past) && is_consumer_of (address_of d (e ∷ past)) past l) ≡ is_some_and o (λ d. has_multicast rules address && is_consumer_of address past l)
+    by-address l None for = refl
+    by-address l (Some d) for = ap (λ a. has_multicast rules a && is_consumer_of a past l) for
 
-    comes-over : (count link n : ℕ) (l : Link) → link_at link past ≡ Some l → is_live past l ≡ false → comes_to rules e receivers count link n ≡ false
-    comes-over count link n l at over = by (copied_by rules e) given
+    copied-by : (l : Link) → is_copied_to rules l e past ≡ is_some_and (completed_by e) (λ d. has_multicast rules address && is_consumer_of address past l)
+    copied-by l = by-address l (completed_by e) addressed
+
+    comes-none : (count link n : ℕ) → link_at link past ≡ None → comes_to rules address e receivers count link n ≡ false
+    comes-none count link n none = by (copied_by rules address e) given
       where
-        by : (o : Option Incoming) → IfSome o (λ d. AreReceiversOf (address_of d) past receivers) → is_some_and o (λ d. n == d.number && has_room receivers link count) ≡ false
+        by : (o : Option Incoming) → IfSome o (λ d. AreReceiversOf address past receivers) → is_some_and o (λ d. n == d.number && has_room receivers link count) ≡ false
+        by None of = refl
+        by (Some d) of = ap (λ b. n == d.number && b) (room-none address past receivers of link count none) ∙ and_false (n == d.number)
+
+    comes-over : (count link n : ℕ) (l : Link) → link_at link past ≡ Some l → is_live past l ≡ false → comes_to rules address e receivers count link n ≡ false
+    comes-over count link n l at over = by (copied_by rules address e) given
+      where
+        by : (o : Option Incoming) → IfSome o (λ d. AreReceiversOf address past receivers) → is_some_and o (λ d. n == d.number && has_room receivers link count) ≡ false
         by None of = refl
         by (Some d) of =
             ap (λ b. n == d.number && b)
-            (room-is (address_of d) past receivers of link count l at
-            ∙ (ap (λ b. is_consumer l && bytes_eq l.address (address_of d) && b && nat_lt count (link_credit l past)) over
-            ∙ ap (λ b. b && nat_lt count (link_credit l past)) (and_false (is_consumer l && bytes_eq l.address (address_of d)))))
+            (room-is address past receivers of link count l at
+            ∙ (ap (λ b. is_consumer l && bytes_eq l.address address && b && nat_lt count (link_credit l past)) over
+            ∙ ap (λ b. b && nat_lt count (link_credit l past)) (and_false (is_consumer l && bytes_eq l.address address))))
             ∙ and_false (n == d.number)
 
     -- of a link that was known, what the law adds to its list
     comes-added : (l : Link) (link n : ℕ) → l.number ≡ link → link_at link past ≡ Some l
-        → has_number n (if comes_due rules l e past then cons_option (completed_by e) [] else []) ≡ comes_to rules e receivers (length (unsent_copies rules l past)) link n
+        → has_number n (if comes_due rules l e past then cons_option (completed_by e) [] else []) ≡ comes_to rules address e receivers (length (unsent_copies rules l past)) link n
     comes-added l link n own at =
-        ap (λ b. has_number n (if b then cons_option (completed_by e) [] else [])) (comes_due_listed rules e past are.1 (lawful-past rules e past lawful) l (ap (λ k. link_at k past) own ∙ at))
+        ap (λ b. has_number n (if b then cons_option (completed_by e) [] else [])) (comes_due_listed rules e past are.1 (lawful-past rules e past lawful) l (ap (λ k. link_at k past) own ∙ at)
+        ∙ ap (λ b. b && nat_lt (length (unsent_copies rules l past)) (link_credit l past)) (copied-by l))
         ∙ by (length (unsent_copies rules l past)) (completed_by e) given
       where
-        of_one : (count : ℕ) (d : Incoming) (many : Bool) → IfSome (if many then Some d else None) (λ d. AreReceiversOf (address_of d) past receivers)
-            → has_number n (if (many && is_consumer_of (address_of d) past l) && nat_lt count (link_credit l past) then d ∷ [] else [])
+        of_one : (count : ℕ) (d : Incoming) (many : Bool) → IfSome (if many then Some d else None) (λ d. AreReceiversOf address past receivers)
+            → has_number n (if (many && is_consumer_of address past l) && nat_lt count (link_credit l past) then d ∷ [] else [])
             ≡ is_some_and (if many then Some d else None) (λ d. n == d.number && has_room receivers link count)
         of_one count d false of = refl
         of_one count d true of =
-            added (is_consumer_of (address_of d) past l && nat_lt count (link_credit l past))
-            ∙ sym (ap (λ b. n == d.number && b) (room-is (address_of d) past receivers of link count l at))
+            added (is_consumer_of address past l && nat_lt count (link_credit l past))
+            ∙ sym (ap (λ b. n == d.number && b) (room-is address past receivers of link count l at))
           where
             added : (b : Bool) → has_number n (if b then d ∷ [] else []) ≡ n == d.number && b
             added true = or_false (n == d.number) ∙ sym (and_true (n == d.number))
@@ -281,59 +292,60 @@ module _ (rules : RuleSet) (e : Event) (past : List Event) (are : AreJudged rule
         none true = refl
         none false = refl
 
-        by : (count : ℕ) (o : Option Incoming) → IfSome (where_passes (is_of_multicast rules) o) (λ d. AreReceiversOf (address_of d) past receivers)
-            → has_number n (if is_some_and o (λ d. is_of_multicast rules d && is_consumer_of (address_of d) past l) && nat_lt count (link_credit l past) then cons_option o [] else [])
-            ≡ is_some_and (where_passes (is_of_multicast rules) o) (λ d. n == d.number && has_room receivers link count)
+        by : (count : ℕ) (o : Option Incoming) → IfSome (where_passes (λ (d : Incoming). has_multicast rules address) o) (λ d. AreReceiversOf address past receivers)
+            → has_number n (if is_some_and o (λ d. has_multicast rules address && is_consumer_of address past l) && nat_lt count (link_credit l past) then cons_option o [] else [])
+            ≡ is_some_and (where_passes (λ (d : Incoming). has_multicast rules address) o) (λ d. n == d.number && has_room receivers link count)
         by count None of = refl
-        by count (Some d) of = of_one count d (is_of_multicast rules d) of
+        by count (Some d) of = of_one count d (has_multicast rules address) of
 
     -- just to those with room a copy comes due
     module _ (link : ℕ) (l : Link) (at : link_at link past ≡ Some l) where
-      room-one : (count : ℕ) (d : Incoming) (many : Bool) → IfSome (if many then Some d else None) (λ d. AreReceiversOf (address_of d) past receivers)
-          → is_some_and (if many then Some d else None) (λ d. has_room receivers link count) ≡ (many && is_consumer_of (address_of d) past l) && nat_lt count (link_credit l past)
+      room-one : (count : ℕ) (d : Incoming) (many : Bool) → IfSome (if many then Some d else None) (λ d. AreReceiversOf address past receivers)
+          → is_some_and (if many then Some d else None) (λ d. has_room receivers link count) ≡ (many && is_consumer_of address past l) && nat_lt count (link_credit l past)
       room-one count d false of = refl
-      room-one count d true of = room-is (address_of d) past receivers of link count l at
+      room-one count d true of = room-is address past receivers of link count l at
 
-      room-to : (count : ℕ) (o : Option Incoming) → IfSome (where_passes (is_of_multicast rules) o) (λ d. AreReceiversOf (address_of d) past receivers)
-          → is_some_and (where_passes (is_of_multicast rules) o) (λ d. has_room receivers link count)
-          ≡ is_some_and o (λ d. is_of_multicast rules d && is_consumer_of (address_of d) past l) && nat_lt count (link_credit l past)
+      room-to : (count : ℕ) (o : Option Incoming) → IfSome (where_passes (λ (d : Incoming). has_multicast rules address) o) (λ d. AreReceiversOf address past receivers)
+          → is_some_and (where_passes (λ (d : Incoming). has_multicast rules address) o) (λ d. has_room receivers link count)
+          ≡ is_some_and o (λ d. has_multicast rules address && is_consumer_of address past l) && nat_lt count (link_credit l past)
       room-to count None of = refl
-      room-to count (Some d) of = room-one count d (is_of_multicast rules d) of
+      room-to count (Some d) of = room-one count d (has_multicast rules address) of
 
-      due-listed : comes_due rules l e past ≡ is_some_and (completed_by e) (λ d. is_of_multicast rules d && is_consumer_of (address_of d) past l) && nat_lt (length (unsent_copies rules l past)) (link_credit l past)
+      due-listed : comes_due rules l e past ≡ is_some_and (completed_by e) (λ d. has_multicast rules address && is_consumer_of address past l) && nat_lt (length (unsent_copies rules l past)) (link_credit l past)
       due-listed = comes_due_listed rules e past are.1 (lawful-past rules e past lawful) l (ap (λ k. link_at k past) (judged-found rules past are.1 link l at).0 ∙ at)
+          ∙ ap (λ b. b && nat_lt (length (unsent_copies rules l past)) (link_credit l past)) (copied-by l)
 
-      due-over : is_live past l ≡ false → (o : Option Incoming) → is_some_and o (λ d. is_of_multicast rules d && is_consumer_of (address_of d) past l) ≡ false
+      due-over : is_live past l ≡ false → (o : Option Incoming) → is_some_and o (λ d. has_multicast rules address && is_consumer_of address past l) ≡ false
       due-over gone None = refl
       due-over gone (Some d) =
-          ap (λ b. is_of_multicast rules d && (is_consumer l && bytes_eq l.address (address_of d) && b)) gone
-          ∙ (ap (λ b. is_of_multicast rules d && b) (and_false (is_consumer l && bytes_eq l.address (address_of d))) ∙ and_false (is_of_multicast rules d))
+          ap (λ b. has_multicast rules address && (is_consumer l && bytes_eq l.address address && b)) gone
+          ∙ (ap (λ b. has_multicast rules address && b) (and_false (is_consumer l && bytes_eq l.address address)) ∙ and_false (has_multicast rules address))
 
       room-due : (live : Bool) → is_live past l ≡ live
-          → is_some_and (copied_by rules e) (λ d. has_room receivers link (length (copies_on rules past (if live then Some l else None)))) ≡ comes_due rules l e past
+          → is_some_and (copied_by rules address e) (λ d. has_room receivers link (length (copies_on rules past (if live then Some l else None)))) ≡ comes_due rules l e past
       room-due true live = room-to (length (unsent_copies rules l past)) (completed_by e) given ∙ sym due-listed
       room-due false gone =
           room-to 0 (completed_by e) given
           ∙ (ap (λ b. b && nat_lt 0 (link_credit l past)) (due-over gone (completed_by e))
           ∙ sym (due-listed ∙ ap (λ b. b && nat_lt (length (unsent_copies rules l past)) (link_credit l past)) (due-over gone (completed_by e))))
 
-    pub comes-room : (link : ℕ) → is_some_and (copied_by rules e) (λ d. has_room receivers link (length (copies_at rules link past))) ≡ is_some_and (link_at link past) (λ l. comes_due rules l e past)
+    pub comes-room : (link : ℕ) → is_some_and (copied_by rules address e) (λ d. has_room receivers link (length (copies_at rules link past))) ≡ is_some_and (link_at link past) (λ l. comes_due rules l e past)
     comes-room link = of_link (link_at link past) refl
       where
-        no_link : (count : ℕ) → link_at link past ≡ None → (o : Option Incoming) → IfSome o (λ d. AreReceiversOf (address_of d) past receivers) → is_some_and o (λ d. has_room receivers link count) ≡ false
+        no_link : (count : ℕ) → link_at link past ≡ None → (o : Option Incoming) → IfSome o (λ d. AreReceiversOf address past receivers) → is_some_and o (λ d. has_room receivers link count) ≡ false
         no_link count none None of = refl
-        no_link count none (Some d) of = room-none (address_of d) past receivers of link count none
+        no_link count none (Some d) of = room-none address past receivers of link count none
 
         of_link : (o : Option Link) → link_at link past ≡ o
-            → is_some_and (copied_by rules e) (λ d. has_room receivers link (length (copies_on rules past (where_passes (is_live past) o)))) ≡ is_some_and o (λ l. comes_due rules l e past)
-        of_link None none = no_link 0 none (copied_by rules e) given
+            → is_some_and (copied_by rules address e) (λ d. has_room receivers link (length (copies_on rules past (where_passes (is_live past) o)))) ≡ is_some_and o (λ l. comes_due rules l e past)
+        of_link None none = no_link 0 none (copied_by rules address e) given
         of_link (Some l) at = room-due link l at (is_live past l) refl
 
     -- what comes due is not named
-    comes-unnamed : (count link n : ℕ) → comes_to rules e receivers count link n ≡ true → names_at link n e ≡ false
+    comes-unnamed : (count link n : ℕ) → comes_to rules address e receivers count link n ≡ true → names_at link n e ≡ false
     comes-unnamed count link n comes =
-        let d = some_passes (λ (d : Incoming). n == d.number && has_room receivers link count) (copied_by rules e) comes in
-        names-none d.0 (passes-some (is_of_multicast rules) (completed_by e) d.0 d.1).0 link n
+        let d = some_passes (λ (d : Incoming). n == d.number && has_room receivers link count) (copied_by rules address e) comes in
+        names-none d.0 (passes-some (λ (d : Incoming). has_multicast rules address) (completed_by e) d.0 d.1).0 link n
 
     -- ---- what goes with its link
 
@@ -361,9 +373,9 @@ module _ (rules : RuleSet) (e : Event) (past : List Event) (are : AreJudged rule
       -- ---- all together
 
       abbrev now : ℕ → ℕ → ℕ → Bool → Bool
-      now count link n before = ((comes_to rules e receivers count link n || before) && not (names_at link n e)) && not (is_ended ended link)
+      now count link n before = ((comes_to rules address e receivers count link n || before) && not (names_at link n e)) && not (is_ended ended link)
 
-      quiet : (count link n : ℕ) → comes_to rules e receivers count link n ≡ false → now count link n false ≡ false
+      quiet : (count link n : ℕ) → comes_to rules address e receivers count link n ≡ false → now count link n false ≡ false
       quiet count link n none = ap (λ b. ((b || false) && not (names_at link n e)) && not (is_ended ended link)) none
 
       stayed : (l : Link) (link n : ℕ) → l.number ≡ link → link_at link past ≡ Some l → (live : Bool) → is_live past l ≡ live
@@ -375,15 +387,15 @@ module _ (rules : RuleSet) (e : Event) (past : List Event) (are : AreJudged rule
       stayed l link n own at true live =
           let found = ap (λ k. link_at k past) own ∙ at in
           let next : is_live (e ∷ past) l ≡ not (ends_link l e) = is_live-next rules e past are l found ∙ ap (λ b. b && not (ends_link l e)) live in
-          let moved : has_number n (unsent_copies rules l (e ∷ past)) ≡ has_number n (unsent_copies rules l past) && not (names_at link n e) || comes_to rules e receivers (length (unsent_copies rules l past)) link n =
+          let moved : has_number n (unsent_copies rules l (e ∷ past)) ≡ has_number n (unsent_copies rules l past) && not (names_at link n e) || comes_to rules address e receivers (length (unsent_copies rules l past)) link n =
           ap (has_number n) (unsent_copies_move rules l e past are (lawful-past rules e past lawful))
           ∙ (number-join n (filter (λ d. not (names_on d l e)) (unsent_copies rules l past)) (if comes_due rules l e past then cons_option (completed_by e) [] else [])
           ∙ (ap (λ b. b || has_number n (if comes_due rules l e past then cons_option (completed_by e) [] else []))
           (number-left (λ k. is_some (out_transfer e) && names k e.note && is_on_link l e) n (unsent_copies rules l past)
           ∙ ap (λ b. has_number n (unsent_copies rules l past) && not b) (names-is l link own found n))
           ∙ ap (λ b. has_number n (unsent_copies rules l past) && not (names_at link n e) || b) (comes-added l link n own at))) in
-          ap (λ b. ((comes_to rules e receivers (length (unsent_copies rules l past)) link n || has_number n (unsent_copies rules l past)) && not (names_at link n e)) && not b) (ended-is l link own at live)
-          ∙ (by (comes_to rules e receivers (length (unsent_copies rules l past)) link n) (has_number n (unsent_copies rules l past)) (names_at link n e) (ends_link l e)
+          ap (λ b. ((comes_to rules address e receivers (length (unsent_copies rules l past)) link n || has_number n (unsent_copies rules l past)) && not (names_at link n e)) && not b) (ended-is l link own at live)
+          ∙ (by (comes_to rules address e receivers (length (unsent_copies rules l past)) link n) (has_number n (unsent_copies rules l past)) (names_at link n e) (ends_link l e)
           (comes-unnamed (length (unsent_copies rules l past)) link n) moved
           ∙ sym (ap (λ b. has_number n (copies_on rules (e ∷ past) (if b then Some l else None))) next))
         where

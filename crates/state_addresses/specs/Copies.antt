@@ -8,12 +8,11 @@ use Rattle.number_groups.specs.Numbers.{is_among}
 use Rattle.trace_events.specs.Words.{is_some_and, where_passes}
 use Rattle.trace_events.specs.Event.{Event, Link, Incoming}
 use Rattle.trace_events.specs.Said.{out_transfer}
-use Rattle.trace_events.specs.Address.{is_consumer_of}
+use Rattle.trace_events.specs.Address.{has_multicast, is_consumer_of}
 use Rattle.trace_events.specs.Credit.{link_credit}
-use Rattle.trace_events.specs.Incoming.{address_of, completed_by}
+use Rattle.trace_events.specs.Incoming.{completed_by}
 use Rattle.trace_events.specs.Link.{is_live, link_at}
 use Rattle.trace_events.specs.Outgoing.{names}
-use Rattle.trace_events.specs.Waiting.{is_of_multicast}
 use Rattle.trace_events.specs.Work.{comes_due, unsent_copies}
 use Rattle.state_addresses.specs.declared.copies.Copies.{Copies}
 use Rattle.state_addresses.specs.declared.copies.Receiver.{Receiver}
@@ -46,9 +45,9 @@ AreCounted table counts = (link : ℕ) (ns : List ℕ) → IsDistinct nat_eq ns 
 
 -- ---- what an event does to it
 
--- the delivery of multicast that the event completes
-abbrev pub copied_by : RuleSet → Event → Option Incoming
-copied_by rules e = where_passes (is_of_multicast rules) (completed_by e)
+-- the delivery that the event completes, where the address that it is for is of multicast
+abbrev pub copied_by : RuleSet → List ℕ → Event → Option Incoming
+copied_by rules address e = where_passes (λ d. has_multicast rules address) (completed_by e)
 
 -- just the live links of the address's consumers, with their credit
 abbrev pub AreReceiversOf : List ℕ → List Event → List Receiver → Type 0
@@ -56,16 +55,16 @@ AreReceiversOf address past receivers = (link credit : ℕ) →
     list_any (λ x. x.link == link && (x.credit == credit)) receivers ≡ is_some_and (link_at link past) (λ l. is_consumer_of address past l && (link_credit l past == credit))
 
 -- where the event completes a delivery of multicast, those of its address
-abbrev pub AreReceivers : RuleSet → Event → List Event → List Receiver → Type 0
-AreReceivers rules e past receivers = IfSome (copied_by rules e) (λ d. AreReceiversOf (address_of d) past receivers)
+abbrev pub AreReceivers : RuleSet → List ℕ → Event → List Event → List Receiver → Type 0
+AreReceivers rules address e past receivers = IfSome (copied_by rules address e) (λ d. AreReceiversOf address past receivers)
 
 -- one of them has this link, and more credit than so many copies
 abbrev pub has_room : List Receiver → ℕ → ℕ → Bool
 has_room receivers link count = list_any (λ x. x.link == link && nat_lt count x.credit) receivers
 
 -- a copy of the delivery of this number comes due to the link, of which so many are to be sent
-abbrev pub comes_to : RuleSet → Event → List Receiver → ℕ → ℕ → ℕ → Bool
-comes_to rules e receivers count link n = is_some_and (copied_by rules e) (λ d. n == d.number && has_room receivers link count)
+abbrev pub comes_to : RuleSet → List ℕ → Event → List Receiver → ℕ → ℕ → ℕ → Bool
+comes_to rules address e receivers count link n = is_some_and (copied_by rules address e) (λ d. n == d.number && has_room receivers link count)
 
 -- just to these links a copy of what the event completes comes due
 abbrev pub AreDue : RuleSet → Event → List Event → List ℕ → Type 0

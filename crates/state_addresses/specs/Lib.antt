@@ -1,4 +1,5 @@
 pub mod Consumers
 pub mod ConsumerLinks
+pub mod Addressed
 pub mod Copies
 pub mod Receivers

@@ -15,6 +15,7 @@ ghost use Rattle.trace_events.specs.Words.{is_some_and};
 ghost use Rattle.trace_values.specs.View.{event_view, incoming_view, link_view};
 ghost use Rattle.state_tables.specs.Connections.{IsLawfulNext};
 ghost use Rattle.state_tables.specs.EndedLinks.{AreEnded, views};
+ghost use Rattle.state_addresses.specs.Addressed.{IsAddressed};
 ghost use Rattle.state_addresses.specs.Copies.{AreCopies, AreCounted, AreDue, AreReceivers, comes_to, copied_by, has_room, is_ended, names_at, stands};
 
 use capture_form::RuleSet;
@@ -45,12 +46,16 @@ impl Drop for Copies {
     }
 }
 
-/// The delivery of multicast that the event completes.
-pub(crate) fn copied<'a>(rules: &RuleSet, event: &Event<'a, '_>) -> Option<Incoming<'a>>
-    ensures { option_map incoming_view result ≡ copied_by rules.now (event_view event.now) }
+/// The delivery that the event completes, where the address that it is for is of multicast.
+pub(crate) fn copied<'a>(
+    rules: &RuleSet,
+    event: &Event<'a, '_>,
+    address: &[u8],
+) -> Option<Incoming<'a>>
+    ensures { option_map incoming_view result ≡ copied_by rules.now address.now (event_view event.now) }
 {
     match event.completed_by() {
-        Some(delivery) if has_multicast(rules, delivery.link.address) => Some(delivery),
+        Some(delivery) if has_multicast(rules, address) => Some(delivery),
         _ => None,
     }
 }
@@ -78,8 +83,8 @@ impl Copies {
         }
     }
 
-    /// The event follows those so far. These links live before it and end with it; of what it completes these are the live
-    /// links of its address's consumers, with their credit before it.
+    /// The event follows those so far. These links live before it and end with it; what it completes is for this address, of
+    /// which these are the live links of consumers, with their credit before it.
     ///
     /// # Errors
     ///
@@ -89,17 +94,19 @@ impl Copies {
         &mut self,
         rules: &RuleSet,
         event: &Event,
+        address: &[u8],
         ended: &[Link],
         receivers: &[Receiver],
     ) -> Result<(), AllocError>
         ensures kept { OnOk result ((records : List Record) (r : Record) → IsLawfulNext rules.now records r (event_view event.now) →
             AreCopies rules.now self.old (history rules.now records) →
             AreEnded (event_view event.now) (history rules.now records) (views ended.now) →
-            AreReceivers rules.now (event_view event.now) (history rules.now records) receivers.now →
+            IsAddressed (event_view event.now) (history rules.now records) address.now →
+            AreReceivers rules.now address.now (event_view event.now) (history rules.now records) receivers.now →
             AreCopies rules.now self.new (event_view event.now ∷ history rules.now records)) }
-        ensures refused { OnErr result (is_some (copied_by rules.now (event_view event.now)) ≡ true) }
+        ensures refused { OnErr result (is_some (copied_by rules.now address.now (event_view event.now)) ≡ true) }
     {
-        self.come(rules, event, receivers)?;
+        self.come(rules, event, address, receivers)?;
         self.send(event);
         self.end(ended);
         Ok(())
@@ -116,15 +123,17 @@ impl Copies {
         alloc: Global,
         rules: &RuleSet,
         event: &Event,
+        address: &[u8],
         receivers: &[Receiver],
     ) -> Result<Vec<u64>, AllocError>
         ensures known { IfOk result (λ due. (records : List Record) (r : Record) → IsLawfulNext rules.now records r (event_view event.now) →
             AreCopies rules.now self.now (history rules.now records) →
-            AreReceivers rules.now (event_view event.now) (history rules.now records) receivers.now →
+            IsAddressed (event_view event.now) (history rules.now records) address.now →
+            AreReceivers rules.now address.now (event_view event.now) (history rules.now records) receivers.now →
             AreDue rules.now (event_view event.now) (history rules.now records) due.items) }
-        ensures refused { OnErr result (is_some (copied_by rules.now (event_view event.now)) ≡ true) }
+        ensures refused { OnErr result (is_some (copied_by rules.now address.now (event_view event.now)) ≡ true) }
     {
-        match copied(rules, event) {
+        match copied(rules, event, address) {
             Some(_) => self.with_room(alloc, receivers),
             None => Ok(Vec::new(alloc)),
         }
@@ -149,13 +158,14 @@ impl Copies {
         &mut self,
         rules: &RuleSet,
         event: &Event,
+        address: &[u8],
         receivers: &[Receiver],
     ) -> Result<(), AllocError>
         ensures came { OnOk result ((counts : ℕ → ℕ) → AreCounted self.old counts → (link n : ℕ) →
-            stands self.new link n ≡ (comes_to rules.now (event_view event.now) receivers.now (counts link) link n || stands self.old link n)) }
-        ensures refused { OnErr result (is_some (copied_by rules.now (event_view event.now)) ≡ true) }
+            stands self.new link n ≡ (comes_to rules.now address.now (event_view event.now) receivers.now (counts link) link n || stands self.old link n)) }
+        ensures refused { OnErr result (is_some (copied_by rules.now address.now (event_view event.now)) ≡ true) }
     {
-        if let Some(delivery) = copied(rules, event) {
+        if let Some(delivery) = copied(rules, event, address) {
             self.add(delivery.number, receivers)?;
         }
         Ok(())

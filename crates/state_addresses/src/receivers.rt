@@ -18,8 +18,8 @@ use state_tables::Links;
 use std::alloc::{AllocError, Global};
 use trace_values::Event;
 
-/// Of the delivery of multicast that the event completes the live links of its address's consumers, with their credit; the
-/// tables have the records before the event. Of any other event none.
+/// The live links of the address's consumers, with their credit, where the event completes a delivery that is for it, and it is
+/// of multicast; the tables have the records before the event. Of any other event none.
 ///
 /// # Errors
 ///
@@ -28,21 +28,19 @@ pub fn receivers_of(
     alloc: Global,
     rules: &RuleSet,
     event: &Event,
+    address: &[u8],
     consumers: &Consumers,
     consumer_links: &ConsumerLinks,
     links: &Links,
 ) -> Result<Vec<Receiver>, AllocError>
     ensures known { IfOk result (λ receivers. (records : List Record) → AreConsumers consumers.now (history rules.now records) →
         AreConsumerLinks consumer_links.now (history rules.now records) → AreLinked links.now (history rules.now records) →
-        AreReceivers rules.now (event_view event.now) (history rules.now records) receivers.items) }
-    ensures none { copied_by rules.now (event_view event.now) ≡ None → IfOk result (λ receivers. receivers.items ≡ []) }
-    ensures refused { OnErr result (is_some (copied_by rules.now (event_view event.now)) ≡ true) }
+        AreReceivers rules.now address.now (event_view event.now) (history rules.now records) receivers.items) }
+    ensures none { copied_by rules.now address.now (event_view event.now) ≡ None → IfOk result (λ receivers. receivers.items ≡ []) }
+    ensures refused { OnErr result (is_some (copied_by rules.now address.now (event_view event.now)) ≡ true) }
 {
-    match copied(rules, event) {
-        Some(delivery) => {
-            let address = delivery.link.address;
-            address_receivers(alloc, address, consumers, consumer_links, links)
-        }
+    match copied(rules, event, address) {
+        Some(_) => address_receivers(alloc, address, consumers, consumer_links, links),
         None => Ok(Vec::new(alloc)),
     }
 }
