@@ -18,7 +18,7 @@ use Rattle.trace_clauses.proofs.WaitingQueue.{contains_none, contains_cases}
 use Rattle.state_incoming.specs.Held.{Held, held_at, says_waiting}
 use Rattle.state_incoming.specs.HeldTouched.{EndWith}
 use Rattle.state_incoming.specs.Touched.{AreEnded}
-use Rattle.state_incoming.proofs.HeldAnswers.{held-of, held-undecided, held-waiting}
+use Rattle.state_incoming.proofs.HeldAnswers.{held-of, held-address, held-undecided, held-waiting}
 
 and_both : (a b : Bool) → a && b ≡ true → (a ≡ true) × (b ≡ true)
 and_both true b is = (refl, is)
@@ -66,9 +66,9 @@ ended-by true behind true is was off = refl
 ended-by true behind false is was off = let never : false ≡ true = sym off ∙ is in absurd cc
 ended-by false behind ends is was off = absurd cc
 
-had-now : (d : Incoming) (past : List Event) → always_had_consumer d past ≡ true → has_consumer (address_of d) past ≡ true
+had-now : (d : Incoming) (past : List Event) → always_had_consumer d past ≡ true → has_consumer (address_of d past) past ≡ true
 had-now d [] is = absurd cc
-had-now d (e ∷ past) is = (and_both (has_consumer (address_of d) (e ∷ past)) _ is).0
+had-now d (e ∷ past) is = (and_both (has_consumer (address_of d (e ∷ past)) (e ∷ past)) _ is).0
 
 module _ (rules : RuleSet) (e : Event) (past : List Event) (are : AreJudged rules (e ∷ past)) (has : List ℕ → Bool) (same : (address : List ℕ) → has address ≡ has_consumer address (e ∷ past))
     (ended : List Link) (ends : EndWith past e ended) where
@@ -86,28 +86,30 @@ module _ (rules : RuleSet) (e : Event) (past : List Event) (are : AreJudged rule
       let live = and_both (is_live past d.link) (not (is_aborted d past)) (and_both (is_live past d.link && not (is_aborted d past)) (not (is_complete d past) || is_waiting rules d past || not (is_settled d past || is_told d past)) opens).0 in
       contained-any (λ (l : Link). l.number == d.link.number) ended d.link (ended-link d.link kept.link.at live.0 both.1) (eq-eqb d.link.number d.link.number refl)
 
-  consumers : (n : ℕ) (x : Held) → held_at rules n past ≡ Some x → says_waiting x.fate && not (has (address_of x.delivery)) ≡ true
-      → list_any (λ (l : Link). bytes_eq l.address (address_of x.delivery)) ended ≡ true
+  consumers : (n : ℕ) (x : Held) → held_at rules n past ≡ Some x → says_waiting x.fate && not (has x.address) ≡ true
+      → list_any (λ (l : Link). bytes_eq l.address x.address) ended ≡ true
   consumers n x entry is =
       let of = held-of rules n past x entry in
       let d = x.delivery in
-      let both = and_both (says_waiting x.fate) (not (has (address_of d))) is in
+      let address = x.address in
+      let both = and_both (says_waiting x.fate) (not (has address)) is in
       let waits : is_waiting rules d past ≡ true = held-waiting rules n past x of ∙ both.0 in
-      let had = had-now d past (and_both (is_unpaired rules d past) (always_had_consumer d past) waits).1 in
-      let lost : has_consumer (address_of d) (e ∷ past) ≡ false = sym (same (address_of d)) ∙ not-true (has (address_of d)) both.1 in
-      let gone : list_any (is_consumer_of (address_of d) (e ∷ past)) (links past) ≡ false = cons-none (is_consumer_of (address_of d) (e ∷ past)) (own_link e) (links past) lost in
-      let one = one-of (λ (l : Link). (link_at l.number past ≡ Some l) × (l.number < length past)) (is_consumer_of (address_of d) past) (is_consumer_of (address_of d) (e ∷ past)) (links past) (links-found rules past are.1) had gone in
+      let had : has_consumer address past ≡ true =
+      ap (λ a. has_consumer a past) (sym (held-address rules n past x of)) ∙ had-now d past (and_both (is_unpaired rules d past) (always_had_consumer d past) waits).1 in
+      let lost : has_consumer address (e ∷ past) ≡ false = sym (same address) ∙ not-true (has address) both.1 in
+      let gone : list_any (is_consumer_of address (e ∷ past)) (links past) ≡ false = cons-none (is_consumer_of address (e ∷ past)) (own_link e) (links past) lost in
+      let one = one-of (λ (l : Link). (link_at l.number past ≡ Some l) × (l.number < length past)) (is_consumer_of address past) (is_consumer_of address (e ∷ past)) (links past) (links-found rules past are.1) had gone in
       let l = one.0 in
-      let parts = and_both (is_consumer l && bytes_eq l.address (address_of d)) (is_live past l) one.2 in
+      let parts = and_both (is_consumer l && bytes_eq l.address address) (is_live past l) one.2 in
       let over : is_live (e ∷ past) l ≡ false = sym (ap (λ b. b && is_live (e ∷ past) l) parts.0) ∙ one.3 in
-      contained-any (λ (m : Link). bytes_eq m.address (address_of d)) ended l
+      contained-any (λ (m : Link). bytes_eq m.address address) ended l
       (ended-link l one.1.0 parts.1 (ended-by (is_live past l) (is_live (e ∷ past) l) (ends_link l e) (is_live-next rules e past are l one.1.0) parts.1 over))
-      (and_both (is_consumer l) (bytes_eq l.address (address_of d)) parts.0).1
+      (and_both (is_consumer l) (bytes_eq l.address address) parts.0).1
 
   pub are-ended : AreEnded e has ended (λ n. held_at rules n past)
   are-ended = record {
     producers = λ n. by (λ (x : Held). x.is_undecided && ends_link x.delivery.link e ≡ true → list_any (λ (l : Link). l.number == x.delivery.link.number) ended ≡ true) (held_at rules n past) (producers n);
-    consumers = λ n. by (λ (x : Held). says_waiting x.fate && not (has (address_of x.delivery)) ≡ true → list_any (λ (l : Link). bytes_eq l.address (address_of x.delivery)) ended ≡ true) (held_at rules n past) (consumers n);
+    consumers = λ n. by (λ (x : Held). says_waiting x.fate && not (has x.address) ≡ true → list_any (λ (l : Link). bytes_eq l.address x.address) ended ≡ true) (held_at rules n past) (consumers n);
   }
     where
       by : (P : Held → Type 0) (o : Option Held) → ((x : Held) → o ≡ Some x → P x) → IfSome o P
@@ -119,5 +121,5 @@ pub ended-of : (rules : RuleSet) (e : Event) (past : List Event) (has : List ℕ
     → AreEnded e has ended (λ n. held_at rules n past) → AreEnded e has ended kept
 ended-of rules e past has ended kept were are = record {
   producers = λ n. subst (λ (o : Option Held). IfSome o (λ (x : Held). x.is_undecided && ends_link x.delivery.link e ≡ true → list_any (λ (l : Link). l.number == x.delivery.link.number) ended ≡ true)) (sym (were n)) (are.producers n);
-  consumers = λ n. subst (λ (o : Option Held). IfSome o (λ (x : Held). says_waiting x.fate && not (has (address_of x.delivery)) ≡ true → list_any (λ (l : Link). bytes_eq l.address (address_of x.delivery)) ended ≡ true)) (sym (were n)) (are.consumers n);
+  consumers = λ n. subst (λ (o : Option Held). IfSome o (λ (x : Held). says_waiting x.fate && not (has x.address) ≡ true → list_any (λ (l : Link). bytes_eq l.address x.address) ended ≡ true)) (sym (were n)) (are.consumers n);
 }

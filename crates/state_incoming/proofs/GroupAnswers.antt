@@ -1,20 +1,21 @@
 -- What the groups answer of all the deliveries of a history.
-use Rattle.std.proofs.Common.{◌≡◌, refl, sym, ap, subst, ◌∙◌, ◌↔◌, ℕ, Bool, true, false, IsTrue, ◌&&◌, ◌||◌, not, List, [], ◌∷◌, Option, Some, None, option_map, if◌then◌else◌, ◌==◌, find, eqb-true, nat_eq, length, count_by, option_and_then, eq-eqb}
+use Rattle.std.proofs.Common.{◌≡◌, refl, sym, ap, subst, ◌∙◌, ◌↔◌, ℕ, Bool, true, false, IsTrue, ◌&&◌, ◌||◌, not, List, [], ◌∷◌, Option, Some, None, option_map, if◌then◌else◌, ◌==◌, find, eqb-true, nat_eq, bytes_eq, length, count_by, option_and_then, eq-eqb}
 use Rattle.std.specs.List.{list_any, slice_get, IsDistinct}
 use Rattle.capture_form.specs.Rules.{RuleSet}
 use Rattle.trace_events.specs.Words.{is_some_and, where_passes}
 use Rattle.trace_events.specs.Event.{Event, Incoming}
 use Rattle.trace_events.specs.declared.session.Session.{Session}
 use Rattle.trace_events.specs.Waiting.{is_undecided_of}
-use Rattle.trace_events.specs.Incoming.{incoming_at, incoming_deliveries}
+use Rattle.trace_events.specs.Incoming.{address_of, incoming_at, incoming_deliveries}
 use Rattle.trace_events.proofs.Along.{some_passes}
 use Rattle.trace_events.proofs.Judged.{AreJudged, history-judged}
 use Rattle.trace_clauses.proofs.IdsApart.{found_any, undecided_one}
 use Rattle.trace_clauses.proofs.IncomingProgress.{judged-kept}
 use Rattle.trace_clauses.proofs.Parts.{AllOf, IsKept, each_delivery, found_holds}
 use Rattle.state_incoming.specs.Held.{Held, held, is_held, held_at}
+use Rattle.state_incoming.specs.Grouped.{is_for}
 use Rattle.state_incoming.specs.HeldTables.{IsHistory}
-use Rattle.state_incoming.proofs.HeldAnswers.{held-of}
+use Rattle.state_incoming.proofs.HeldAnswers.{held-of, held-address}
 use Rattle.state_incoming.proofs.IncomingNumbers.{length-counted}
 
 -- they are judged
@@ -75,6 +76,15 @@ one-of {A = A} P test (x ∷ xs) all is = by (test x) refl is (one-of P test xs 
     by : (b : Bool) → test x ≡ b → b || list_any test xs ≡ true → (list_any test xs ≡ true → (y : A) × P y × (test y ≡ true)) → (y : A) × P y × (test y ≡ true)
     by true here is later = (x, all.0, here)
     by false here is later = later is
+
+-- the address of an entry is that of its delivery
+pub address-at : (rules : RuleSet) (past : List Event) (kept : ℕ → Option Held) → ((n : ℕ) → kept n ≡ held_at rules n past) → (address : List ℕ) (mark : Held → Bool) (n : ℕ)
+    → is_some_and (kept n) (λ x. is_for address x && mark x) ≡ is_some_and (kept n) (λ x. bytes_eq (address_of x.delivery past) address && mark x)
+address-at rules past kept were address mark n = by (kept n) refl
+  where
+    by : (o : Option Held) → kept n ≡ o → is_some_and o (λ x. is_for address x && mark x) ≡ is_some_and o (λ x. bytes_eq (address_of x.delivery past) address && mark x)
+    by None is = refl
+    by (Some x) is = ap (λ a. bytes_eq a address && mark x) (sym (held-address rules n past x (held-of rules n past x (sym (were n) ∙ is))))
 
 -- the tests of one group: of a delivery's key, of what the law says of it, and of what its entry says
 module _ (rules : RuleSet) (past : List Event) (are : AreJudged rules past) (kept : ℕ → Option Held) (were : (n : ℕ) → kept n ≡ held_at rules n past)

@@ -63,10 +63,10 @@ under_no_other_id = refl
 under_no_id : has_id 4 3 (delivery None) ≡ false
 under_no_id = refl
 
-for_its_address : is_for q (delivery (Some 3)) ≡ true
+for_its_address : is_for q (unbegun (delivery (Some 3))) ≡ true
 for_its_address = refl
 
-for_no_other_address : is_for (codes "other") (delivery (Some 3)) ≡ false
+for_no_other_address : is_for (codes "other") (unbegun (delivery (Some 3))) ≡ false
 for_no_other_address = refl
 
 -- ---- in which groups one stands

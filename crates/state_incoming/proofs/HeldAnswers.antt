@@ -6,7 +6,7 @@ use Rattle.capture_form.specs.Rules.{RuleSet}
 use Rattle.trace_events.specs.Words.{is_some_and, where_passes}
 use Rattle.trace_events.specs.Event.{Event, Incoming}
 use Rattle.trace_events.specs.Link.{is_live}
-use Rattle.trace_events.specs.Incoming.{payload, completion, completed_before, is_complete, is_aborted, is_settled, is_told, incoming_at}
+use Rattle.trace_events.specs.Incoming.{address_of, payload, completion, completed_before, is_complete, is_aborted, is_settled, is_told, incoming_at}
 use Rattle.trace_events.specs.Outgoing.{is_paired}
 use Rattle.trace_events.specs.Waiting.{is_of_multicast, always_had_consumer, is_waiting, is_gone, is_undecided}
 use Rattle.trace_events.specs.Settling.{is_closed}
@@ -43,6 +43,9 @@ held-of rules n past x found = by (incoming_at n past) refl found
     by (Some d) at found = kept d at (is_held rules past d) refl found
 
 module _ (rules : RuleSet) (n : ℕ) (past : List Event) (x : Held) (h : IsHeldOf rules n past x) where
+  pub held-address : address_of x.delivery past ≡ x.address
+  held-address = ap (λ (y : Held). y.address) h.is
+
   pub held-payload : payload x.delivery past ≡ x.payload
   held-payload = ap (λ (y : Held). y.payload) h.is
 
@@ -65,7 +68,7 @@ module _ (rules : RuleSet) (n : ℕ) (past : List Event) (x : Held) (h : IsHeldO
   held-gone = gone-fate rules x.delivery past ∙ ap (λ (y : Held). says_gone y.fate) h.is
 
   -- of anycast, in a lawful capture
-  pub held-paired : AreJudged rules past → first_broken rules past ≡ None → is_of_multicast rules x.delivery ≡ false → is_paired x.delivery past ≡ says_paired x.fate
+  pub held-paired : AreJudged rules past → first_broken rules past ≡ None → is_of_multicast rules x.delivery past ≡ false → is_paired x.delivery past ≡ says_paired x.fate
   held-paired are lawful anycast =
       paired-fate rules x.delivery past anycast (paired-complete rules past are lawful x.delivery) ∙ ap (λ (y : Held). says_paired y.fate) h.is
 
@@ -105,7 +108,7 @@ pub to_carry-held : (rules : RuleSet) (n : ℕ) (past : List Event)
     → to_carry rules (notes.Pair n) past ≡ option_map (λ (x : Held). x.delivery) (where_passes may_go (held_at rules n past))
 to_carry-held rules n past =
     test-kept rules past (λ d. is_complete d past && not (is_gone rules d past)) may_go
-    (λ d. carry-bits (is_complete d past) (is_of_multicast rules d) (is_paired d past) (always_had_consumer d past) (is_closed past d) (is_aborted d past) (is_live past d.link)) (incoming_at n past)
+    (λ d. carry-bits (is_complete d past) (is_of_multicast rules d past) (is_paired d past) (always_had_consumer d past) (is_closed past d) (is_aborted d past) (is_live past d.link)) (incoming_at n past)
 
 closed-off : (b c : Bool) → false ≡ b && (not c && false)
 closed-off true true = refl
@@ -141,7 +144,7 @@ pub may_be_told-held : (rules : RuleSet) (n : ℕ) (past : List Event)
     → where_passes (λ d. may_be_told d past) (incoming_at n past) ≡ option_map (λ (x : Held). x.delivery) (where_passes may_tell (held_at rules n past))
 may_be_told-held rules n past =
     test-kept rules past (λ d. may_be_told d past) may_tell
-    (λ d. told-bits (is_complete d past) (is_of_multicast rules d) (is_paired d past) (always_had_consumer d past) (is_settled d past) (is_told d past) (is_live past d.link) (is_aborted d past)) (incoming_at n past)
+    (λ d. told-bits (is_complete d past) (is_of_multicast rules d past) (is_paired d past) (always_had_consumer d past) (is_settled d past) (is_told d past) (is_live past d.link) (is_aborted d past)) (incoming_at n past)
 
 open-bits : (c m p a settled told live aborted : Bool)
     → live && not aborted && (not c || (not m && c && not p) && a || not (settled || told))
@@ -166,7 +169,7 @@ pub is_undecided-held : (rules : RuleSet) (n : ℕ) (past : List Event)
     → where_passes (λ d. is_undecided rules d past) (incoming_at n past) ≡ option_map (λ (x : Held). x.delivery) (where_passes (λ (x : Held). x.is_undecided) (held_at rules n past))
 is_undecided-held rules n past =
     test-kept rules past (λ d. is_undecided rules d past) (λ (x : Held). x.is_undecided)
-    (λ d. open-bits (is_complete d past) (is_of_multicast rules d) (is_paired d past) (always_had_consumer d past) (is_settled d past) (is_told d past) (is_live past d.link) (is_aborted d past)) (incoming_at n past)
+    (λ d. open-bits (is_complete d past) (is_of_multicast rules d past) (is_paired d past) (always_had_consumer d past) (is_settled d past) (is_told d past) (is_live past d.link) (is_aborted d past)) (incoming_at n past)
 
 implied : (u k : Bool) → u ≡ k && u → u ≡ true → k ≡ true
 implied true true same is = refl
@@ -189,9 +192,9 @@ module _ (rules : RuleSet) (past : List Event) (d : Incoming) where
   pub undecided-kept : is_undecided rules d past ≡ true → is_held rules past d ≡ true
   undecided-kept =
       implied (is_undecided rules d past) (is_held rules past d)
-      (open-bits (is_complete d past) (is_of_multicast rules d) (is_paired d past) (always_had_consumer d past) (is_settled d past) (is_told d past) (is_live past d.link) (is_aborted d past))
+      (open-bits (is_complete d past) (is_of_multicast rules d past) (is_paired d past) (always_had_consumer d past) (is_settled d past) (is_told d past) (is_live past d.link) (is_aborted d past))
 
   pub waiting-kept : is_waiting rules d past ≡ true → is_held rules past d ≡ true
   waiting-kept is =
       complete-only (is_complete d past) _ (not (is_aborted d past) && is_live past d.link)
-      (waiting-bits (is_complete d past) (is_of_multicast rules d) (is_paired d past) (always_had_consumer d past) (is_closed past d) is)
+      (waiting-bits (is_complete d past) (is_of_multicast rules d past) (is_paired d past) (always_had_consumer d past) (is_closed past d) is)

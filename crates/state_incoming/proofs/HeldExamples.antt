@@ -2,22 +2,28 @@
 use Rattle.std.specs.Prelude.{◌≡◌, ℕ, Bool, true, false, List, [], ◌∷◌, ◌++◌, Option, Some, None, option_map, option_and_then, refl}
 use Rattle.std.specs.Fmt.{digits}
 use Rattle.amqp_perf.specs.declared.attach.Role.TheVariants.{Sender, Receiver}
-use Rattle.amqp_perf.specs.Meaning.{TransferFields, AFlow, ATransfer, ADisposition}
+use Rattle.amqp_perf.specs.declared.attach.SenderSettleMode.TheVariants.{Mixed}
+use Rattle.amqp_perf.specs.declared.attach.ReceiverSettleMode.TheVariants.{First}
+use Rattle.amqp_perf.specs.Message.{section_of_code, address_within, to_of}
+use Rattle.amqp_perf.specs.Nested.{TerminusFields, ATerminus}
+use Rattle.amqp_perf.specs.Meaning.{AttachFields, TransferFields, AnAttach, AFlow, ATransfer, ADisposition}
+use Rattle.flow_counts.specs.declared.profile.TheConstants.{MAX_MESSAGE_SIZE}
 use Rattle.amqp_perf.proofs.Opened.{read, written}
 use Rattle.amqp_frames.specs.Writing.{frame_octets}
 use Rattle.amqp_frames.specs.Reading.{whole_frame, frame_at, sized_frame, headed_frame}
 use Rattle.pairing_cert.specs.declared.note.Why.TheVariants.{C, N}
 use Rattle.capture_form.specs.declared.records.Record.{Record}
 use Rattle.capture_form.specs.declared.rules.Distribution.TheVariants.{Multicast}
-use Rattle.capture_form.specs.Rules.{RuleText, no_rules}
+use Rattle.capture_form.specs.declared.rules.Form.TheVariants.{Two}
+use Rattle.capture_form.specs.Rules.{RuleSet, RuleText, no_rules}
 use Rattle.trace_events.specs.Frame.{frame_read}
 use Rattle.trace_events.specs.Words.{is_some_and}
 use Rattle.trace_events.specs.Address.{has_consumer}
-use Rattle.trace_events.specs.Incoming.{incoming_at}
+use Rattle.trace_events.specs.Incoming.{incoming_at, message_address}
 use Rattle.trace_events.specs.History.{history, judge}
 use Rattle.trace_clauses.specs.Written.{spoken_octets}
 use Rattle.trace_clauses.proofs.Captures.{rule, unmarked}
-use Rattle.trace_clauses.proofs.Made.{from, from_with, carry, tell, gives, first, next, with_more, as_settled, disposes, accepted, released, detach_of, q, hi, pair, sent}
+use Rattle.trace_clauses.proofs.Made.{from, from_with, to, join, consumer, terminus, bare, shows, carry, tell, gives, first, next, with_more, as_settled, disposes, accepted, released, detach_of, q, hi, pair, sent}
 use Rattle.state_incoming.specs.Held.{Held, held_at, gives_up, held_next, held_begun, begins_number, held_behind, stands_open, may_go, may_tell, comes_before}
 use Rattle.state_incoming.specs.HeldTouched.{is_touched, is_kept}
 use Rattle.state_incoming.specs.declared.held.Fate.{Fate}
@@ -37,18 +43,18 @@ held_in rules records n = option_map shown (held_at (unmarked rules) n (history 
 -- what one more record makes of it, where its address has a consumer or has none behind it
 unfoldable next_in : List RuleText → List Record → Record → Bool → ℕ → Option Shown
 unfolding frame_read whole_frame frame_at sized_frame headed_frame read digits spoken_octets frame_octets written
-next_in rules records r has n = let past = history (unmarked rules) records in option_map shown (option_and_then (held_next (unmarked rules) (judge (unmarked rules) past r) has) (held_at (unmarked rules) n past))
+next_in rules records r has n = let past = history (unmarked rules) records in option_map shown (option_and_then (held_next (unmarked rules) (judge (unmarked rules) past r) [] has) (held_at (unmarked rules) n past))
 
 unfoldable begun_in : List RuleText → List Record → Record → Bool → Option Shown
 unfolding frame_read whole_frame frame_at sized_frame headed_frame read digits spoken_octets frame_octets written
-begun_in rules records r has = option_map shown (held_begun (unmarked rules) (judge (unmarked rules) (history (unmarked rules) records) r) has)
+begun_in rules records r has = option_map shown (held_begun (unmarked rules) (judge (unmarked rules) (history (unmarked rules) records) r) [] has)
 
 unfoldable behind_in : List RuleText → List Record → Record → ℕ → Option Shown
 unfolding frame_read whole_frame frame_at sized_frame headed_frame read digits spoken_octets frame_octets written
 behind_in rules records r n =
     let past = history (unmarked rules) records in
     let e = judge (unmarked rules) past r in
-    option_map shown (held_behind (unmarked rules) e (λ address. has_consumer address (e ∷ past)) n (held_at (unmarked rules) n past))
+    option_map shown (held_behind (unmarked rules) e [] (λ address. has_consumer address (e ∷ past)) n (held_at (unmarked rules) n past))
 
 unfoldable gives_up_in : List RuleText → List Record → Record → ℕ → Bool
 unfolding frame_read whole_frame frame_at sized_frame headed_frame read digits spoken_octets frame_octets written
@@ -474,6 +480,7 @@ entry closed undecided fate = record {
     id = Some 0;
     format = 0;
   };
+  address = q;
   payload = [];
   completion = None;
   is_closed = closed;
@@ -498,3 +505,80 @@ not_decided_untold = refl
 
 not_undecided_closed : is_kept (entry true true Paired) ≡ false
 not_undecided_closed = refl
+
+-- ---- on a link without address
+
+-- such links are served
+abbrev serving : RuleSet
+serving = record { form = Two true; list = [] }
+
+-- a message for q, which comes in two parts: its properties, cut in front of their third
+abbrev front_half : List ℕ
+front_half = 0x00 ∷ 0x53 ∷ 0x73 ∷ 0xC0 ∷ 0x06 ∷ 0x03 ∷ 0x40 ∷ 0x40 ∷ []
+
+abbrev back_half : List ℕ
+back_half = 0xA1 ∷ 0x01 ∷ 0x71 ∷ []
+
+abbrev nowhere : TerminusFields
+nowhere = terminus None None
+
+abbrev asks_for_none : AttachFields
+asks_for_none = let fields = bare Sender (Some 0) in record fields { target = Some (ATerminus nowhere) }
+
+abbrev answers_none : AttachFields
+answers_none =
+    let fields = bare Receiver None in record fields {
+      snd_settle_mode = Some Mixed;
+      rcv_settle_mode = Some First;
+      source = Some nowhere;
+      target = Some (ATerminus nowhere);
+      max_message_size = Some MAX_MESSAGE_SIZE;
+    }
+
+-- 15 records: its producer on connection 0, which has credit, and a consumer of q on connection 1
+abbrev anonymous : List Record
+anonymous = join 0 ++ (from 0 (AnAttach asks_for_none) ∷ to 0 (AnAttach answers_none) ∷ []) ++ consumer 1 Mixed q ++ (to 0 (AFlow (shows 0 0 0 250)) ∷ [])
+
+abbrev front_comes : Record
+front_comes = from_with 0 (ATransfer (with_more (first 0))) front_half
+
+abbrev back_comes : Record
+back_comes = from_with 0 (ATransfer (next false)) back_half
+
+-- the address, and what has become of it
+abbrev addressed : Held → List ℕ × Fate
+addressed x = (x.address, x.fate)
+
+unfoldable for_in : List Record → ℕ → Option (List ℕ × Fate)
+unfolding frame_read whole_frame frame_at sized_frame headed_frame read digits spoken_octets frame_octets written message_address to_of address_within section_of_code
+for_in records n = option_map addressed (held_at serving n (history serving records))
+
+-- what one more record makes of it, where what that completes is for this address
+unfoldable for_next : List Record → Record → List ℕ → ℕ → Option (List ℕ × Fate)
+unfolding frame_read whole_frame frame_at sized_frame headed_frame read digits spoken_octets frame_octets written message_address to_of address_within section_of_code
+for_next records r to n =
+    let past = history serving records in
+    let e = judge serving past r in
+    option_map addressed (held_behind serving e to (λ address. has_consumer address (e ∷ past)) n (held_at serving n past))
+
+-- it is for none until it is complete, and then for the one in both parts
+for_none_yet : for_in (anonymous ++ (front_comes ∷ [])) 15 ≡ Some ([], Arriving)
+unfolding for_in
+for_none_yet = refl
+
+for_that_in_its_parts : for_in (anonymous ++ (front_comes ∷ back_comes ∷ [])) 15 ≡ Some (q, Waiting)
+unfolding for_in
+for_that_in_its_parts = refl
+
+becomes_for_it : for_next (anonymous ++ (front_comes ∷ [])) back_comes q 15 ≡ Some (q, Waiting)
+unfolding for_next
+becomes_for_it = refl
+
+-- its first part alone tells none; taken for that, it would be gone
+none_in_front : to_of front_half ≡ None
+unfolding read to_of address_within section_of_code
+none_in_front = refl
+
+gone_for_none : for_next (anonymous ++ (front_comes ∷ [])) back_comes [] 15 ≡ Some ([], Gone)
+unfolding for_next
+gone_for_none = refl

@@ -1,16 +1,16 @@
 -- A table of deliveries in which an event moved those that it touches has what the law keeps behind the event.
 use Rattle.std.proofs.Common.{◌≡◌, refl, sym, ap, subst, ◌∙◌, ◌⊎◌, ℕ, Bool, true, false, ◌&&◌, ◌||◌, not, List, ◌∷◌, Option, Some, None, IfSome, inl, inr, option_and_then, if◌then◌else◌}
 use Rattle.capture_form.specs.Rules.{RuleSet}
-use Rattle.trace_events.specs.Words.{is_some_and}
 use Rattle.trace_events.specs.Event.{Event}
 use Rattle.trace_events.specs.Address.{has_consumer}
-use Rattle.trace_events.specs.Incoming.{address_of, incoming_begun, is_complete, is_aborted, is_settled, is_told}
+use Rattle.trace_events.specs.Incoming.{is_complete, is_aborted, is_settled, is_told}
 use Rattle.trace_events.specs.Link.{is_live}
 use Rattle.trace_events.specs.Waiting.{always_had_consumer, is_of_multicast}
 use Rattle.trace_events.specs.Outgoing.{is_paired}
 use Rattle.trace_events.proofs.Judged.{AreJudged}
 use Rattle.trace_clauses.specs.Clauses.{first_broken}
-use Rattle.state_incoming.specs.Held.{Held, held_at, held_begun, held_next, held_behind, begins_number, says_arriving, says_gone, stands_open}
+use Rattle.state_addresses.specs.Addressed.{IsAddressed}
+use Rattle.state_incoming.specs.Held.{Held, held_at, address_behind, held_begun, is_begun_served, held_on, held_behind, begins_number, says_arriving, says_gone, stands_open}
 use Rattle.state_incoming.specs.HeldTouched.{is_touched, is_kept}
 use Rattle.state_incoming.proofs.FateSteps.{fate_by}
 use Rattle.state_incoming.proofs.HeldAnswers.{held-of}
@@ -66,31 +66,32 @@ entry-kept rules past are n x entry =
     let of = held-of rules n past x entry in
     let d = x.delivery in
     ap (λ (y : Held). is_kept y) (sym of.is)
-    ∙ kept_by (is_complete d past) (is_of_multicast rules d) (is_paired d past) (always_had_consumer d past) (is_settled d past) (is_told d past) (is_live past d.link) (is_aborted d past)
+    ∙ kept_by (is_complete d past) (is_of_multicast rules d past) (is_paired d past) (always_had_consumer d past) (is_settled d past) (is_told d past) (is_live past d.link) (is_aborted d past)
     (complete-whole rules past are d) of.kept
 
-module _ (rules : RuleSet) (e : Event) (past : List Event) (are : AreJudged rules (e ∷ past)) (lawful : first_broken rules (e ∷ past) ≡ None) where
+module _ (rules : RuleSet) (e : Event) (past : List Event) (are : AreJudged rules (e ∷ past)) (lawful : first_broken rules (e ∷ past) ≡ None)
+    (to : List ℕ) (addressed : IsAddressed e past to) where
   abbrev has : List ℕ → Bool
   has address = has_consumer address (e ∷ past)
 
   -- the event neither begins the delivery of this number nor touches it
   abbrev IsApart : ℕ → Option Held → Type 0
-  IsApart n o = (begins_number e n ≡ false) × IfSome o (λ (x : Held). is_touched e (has (address_of x.delivery)) x ≡ false)
+  IsApart n o = (begins_number e n ≡ false) × IfSome o (λ (x : Held). is_touched e (has (address_behind e to x)) x ≡ false)
 
   abbrev on : Held → Option Held
-  on x = held_next rules e (has (address_of x.delivery)) x
+  on x = held_on rules e to has x
 
-  apart-stays : (n : ℕ) → IsApart n (held_at rules n past) → held_behind rules e has n (held_at rules n past) ≡ held_at rules n past
-  apart-stays n off = ap (λ b. if b then held_begun rules e (is_some_and (incoming_begun e) (λ d. has (address_of d))) else option_and_then on (held_at rules n past)) off.0 ∙ by (held_at rules n past) refl off.1
+  apart-stays : (n : ℕ) → IsApart n (held_at rules n past) → held_behind rules e to has n (held_at rules n past) ≡ held_at rules n past
+  apart-stays n off = ap (λ b. if b then held_begun rules e to (is_begun_served e to has) else option_and_then on (held_at rules n past)) off.0 ∙ by (held_at rules n past) refl off.1
     where
-      by : (o : Option Held) → held_at rules n past ≡ o → IfSome o (λ (x : Held). is_touched e (has (address_of x.delivery)) x ≡ false) → option_and_then on o ≡ o
+      by : (o : Option Held) → held_at rules n past ≡ o → IfSome o (λ (x : Held). is_touched e (has (address_behind e to x)) x ≡ false) → option_and_then on o ≡ o
       by None found none = refl
-      by (Some x) found none = untouched rules e (has (address_of x.delivery)) x none (entry-kept rules past are.1 n x found)
+      by (Some x) found none = untouched rules e to (has (address_behind e to x)) x none (entry-kept rules past are.1 n x found)
 
   pub moved-held : (old new : ℕ → Option Held) → ((n : ℕ) → old n ≡ held_at rules n past)
-      → ((n : ℕ) → (new n ≡ held_behind rules e has n (old n)) ⊎ (IsApart n (old n) × (new n ≡ old n)))
+      → ((n : ℕ) → (new n ≡ held_behind rules e to has n (old n)) ⊎ (IsApart n (old n) × (new n ≡ old n)))
       → (n : ℕ) → new n ≡ held_at rules n (e ∷ past)
   moved-held old new were moved n = elim (moved n) [
-    | inl here ↦ here ∙ (ap (held_behind rules e has n) (were n) ∙ sym (held-behind rules e past are lawful n))
-    | inr apart ↦ apart.1 ∙ (were n ∙ (sym (apart-stays n (subst (IsApart n) (were n) apart.0)) ∙ sym (held-behind rules e past are lawful n)))
+    | inl here ↦ here ∙ (ap (held_behind rules e to has n) (were n) ∙ sym (held-behind rules e past are lawful to addressed n))
+    | inr apart ↦ apart.1 ∙ (were n ∙ (sym (apart-stays n (subst (IsApart n) (were n) apart.0)) ∙ sym (held-behind rules e past are lawful to addressed n)))
   ]

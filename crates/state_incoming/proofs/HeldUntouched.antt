@@ -6,10 +6,11 @@ use Rattle.trace_events.specs.Words.{is_number, is_some_and}
 use Rattle.trace_events.specs.Event.{Event, Incoming}
 use Rattle.trace_events.specs.Said.{in_spoken, in_transfer}
 use Rattle.trace_events.specs.Ends.{ends_link}
+use Rattle.trace_events.specs.Link.{is_anonymous}
 use Rattle.trace_events.specs.Incoming.{is_part, is_last_part, completes, settles_part, settles_id, part_payload}
 use Rattle.trace_events.specs.Work.{closes_incoming}
 use Rattle.trace_events.specs.Queue.{pairs}
-use Rattle.state_incoming.specs.Held.{Held, gives_up, stays_with, stays, moved, closed_next, undecided_next, stands_open, fate_completed, fate_next, held_next, says_arriving, says_gone, says_waiting}
+use Rattle.state_incoming.specs.Held.{Held, address_behind, gives_up, stays_with, stays, moved, closed_next, undecided_next, stands_open, fate_completed, fate_next, held_next, says_arriving, says_gone, says_waiting}
 use Rattle.state_incoming.specs.HeldTouched.{is_touched, is_kept}
 use Rattle.state_incoming.specs.declared.held.Fate.{Fate}
 use Rattle.state_incoming.specs.declared.held.Fate.TheVariants.{Arriving, Waiting, Gone, Paired, Copied}
@@ -23,7 +24,7 @@ and_first_false : (a b : Bool) → a ≡ false → a && b ≡ false
 and_first_false false b is = refl
 and_first_false true b is = absurd cc
 
-completes_none : (e : Event) (d : Incoming) (o : Option Incoming) → e.incoming ≡ o → is_some_and o (λ (x : Incoming). x.number == d.number) ≡ false → completes d e ≡ false
+pub completes_none : (e : Event) (d : Incoming) (o : Option Incoming) → e.incoming ≡ o → is_some_and o (λ (x : Incoming). x.number == d.number) ≡ false → completes d e ≡ false
 completes_none e d o is off = by (is_some_and (in_transfer e) is_last_part)
   where
     by : (b : Bool) → is_some_and (if b then e.incoming else None) (λ (x : Incoming). x.number == d.number) ≡ false
@@ -57,13 +58,13 @@ apart e d u w is =
       a.1,
     )
 
-fate_same : (rules : RuleSet) (e : Event) (has : Bool) (d : Incoming) (u : Bool) (f : Fate) → Apart e d u → says_waiting f && not has ≡ false → fate_next rules e has d f ≡ f
-fate_same rules e has d u Arriving is w = ap (λ b. if b then fate_completed rules d has else Arriving) is.completes_it
-fate_same rules e true d u Waiting is w = ap (λ b. if b then Paired else Waiting) is.pairs_it
-fate_same rules e false d u Waiting is w = absurd cc
-fate_same rules e has d u Gone is w = refl
-fate_same rules e has d u Paired is w = refl
-fate_same rules e has d u Copied is w = refl
+fate_same : (rules : RuleSet) (e : Event) (address : List ℕ) (has : Bool) (d : Incoming) (u : Bool) (f : Fate) → Apart e d u → says_waiting f && not has ≡ false → fate_next rules e address has d f ≡ f
+fate_same rules e address has d u Arriving is w = ap (λ b. if b then fate_completed rules address has else Arriving) is.completes_it
+fate_same rules e address true d u Waiting is w = ap (λ b. if b then Paired else Waiting) is.pairs_it
+fate_same rules e address false d u Waiting is w = absurd cc
+fate_same rules e address has d u Gone is w = refl
+fate_same rules e address has d u Paired is w = refl
+fate_same rules e address has d u Copied is w = refl
 
 -- of one that is undecided, or complete with nothing more to be told
 stays_same : (e : Event) (d : Incoming) (closed u : Bool) (f : Fate) → Apart e d u → not (says_gone f && closed) ≡ true → u || not (says_arriving f) && closed ≡ true → stays_with e d closed f ≡ true
@@ -96,25 +97,36 @@ undecided_same e d f closed false is opens = off (not (ends_link d.link e) && no
     off true c = refl
     off false c = refl
 
-abbrev made : Incoming → List ℕ → Option ℕ → Bool → Bool → Fate → Held
-made d p c o u f = record { delivery = d; payload = p; completion = c; is_closed = o; is_undecided = u; fate = f }
+abbrev made : Incoming → List ℕ → List ℕ → Option ℕ → Bool → Bool → Fate → Held
+made d a p c o u f = record { delivery = d; address = a; payload = p; completion = c; is_closed = o; is_undecided = u; fate = f }
 
-made-same : (d : Incoming) (p p' : List ℕ) (c c' : Option ℕ) (o o' u u' : Bool) (f f' : Fate) → p ≡ p' → c ≡ c' → o ≡ o' → u ≡ u' → f ≡ f' → made d p c o u f ≡ made d p' c' o' u' f'
-made-same d p p' c c' o o' u u' f f' q r v w x = rw (q, r, v, w, x) refl
+made-same : (d : Incoming) (a a' p p' : List ℕ) (c c' : Option ℕ) (o o' u u' : Bool) (f f' : Fate) → a ≡ a' → p ≡ p' → c ≡ c' → o ≡ o' → u ≡ u' → f ≡ f'
+    → made d a p c o u f ≡ made d a' p' c' o' u' f'
+made-same d a a' p p' c c' o o' u u' f f' b q r v w x = rw (b, q, r, v, w, x) refl
+
+-- what completes nothing tells no address
+pub address_same : (e : Event) (to : List ℕ) (x : Held) → completes x.delivery e ≡ false → address_behind e to x ≡ x.address
+address_same e to x off = ap (λ b. if is_anonymous x.delivery.link && (says_arriving x.fate && b) then to else x.address) off ∙ by (is_anonymous x.delivery.link) (says_arriving x.fate)
+  where
+    by : (a b : Bool) → (if a && (b && false) then to else x.address) ≡ x.address
+    by true true = refl
+    by true false = refl
+    by false b = refl
 
 and_both : (a b : Bool) → a && b ≡ true → (a ≡ true) × (b ≡ true)
 and_both true b is = (refl, is)
 and_both false b is = absurd cc
 
-pub untouched : (rules : RuleSet) (e : Event) (has : Bool) (x : Held) → is_touched e has x ≡ false → is_kept x ≡ true → held_next rules e has x ≡ Some x
-untouched rules e has x off kept =
+pub untouched : (rules : RuleSet) (e : Event) (to : List ℕ) (has : Bool) (x : Held) → is_touched e has x ≡ false → is_kept x ≡ true → held_next rules e to has x ≡ Some x
+untouched rules e to has x off kept =
     let is = apart e x.delivery x.is_undecided (says_waiting x.fate && not has) off in
     let k = and_both (not (says_gone x.fate && x.is_closed) && (x.is_undecided || not (says_arriving x.fate) && x.is_closed)) (not x.is_undecided || stands_open x.fate x.is_closed) kept in
     let m = and_both (not (says_gone x.fate && x.is_closed)) (x.is_undecided || not (says_arriving x.fate) && x.is_closed) k.0 in
     let closed = closed_same e x.delivery (says_arriving x.fate) x.is_closed x.is_undecided is.0 m.1 in
-    let fate = fate_same rules e has x.delivery x.is_undecided x.fate is.0 is.1 in
-    let same : moved rules e has x ≡ x =
-    made-same x.delivery _ _ _ _ _ _ _ _ _ _
+    let fate = fate_same rules e (address_behind e to x) has x.delivery x.is_undecided x.fate is.0 is.1 in
+    let same : moved rules e to has x ≡ x =
+    made-same x.delivery _ _ _ _ _ _ _ _ _ _ _ _
+    (address_same e to x is.0.completes_it)
     (ap (λ b. if b then x.payload ++ part_payload (in_spoken e) else x.payload) is.0.part)
     (ap (λ b. if b then Some e.number else x.completion) is.0.completes_it)
     closed

@@ -4,15 +4,15 @@ use Rattle.pairing_cert.specs.declared.note.Note.{Note}
 use Rattle.pairing_cert.specs.declared.note.Note.TheVariants as notes
 use Rattle.capture_form.specs.Rules.{RuleSet}
 use Rattle.trace_events.specs.Event.{Event, Incoming}
-use Rattle.trace_events.specs.Incoming.{payload, completed_before, is_complete, incoming_at, incoming_deliveries}
+use Rattle.trace_events.specs.Incoming.{address_of, payload, completed_before, is_complete, incoming_at, incoming_deliveries}
 use Rattle.trace_events.specs.Settling.{is_closed}
 use Rattle.trace_events.specs.Waiting.{is_gone}
 use Rattle.trace_clauses.specs.TransferClause.{to_carry}
 use Rattle.state_incoming.specs.Held.{Held, may_go}
 use Rattle.state_incoming.specs.HeldTables.{AreHeld, held_in}
-use Rattle.state_incoming.specs.EntryAnswers.{Knows, delivery_in, has_number, says_complete, says_closed, has_gone, payload_of, is_before, carried, carried_by}
+use Rattle.state_incoming.specs.EntryAnswers.{Knows, delivery_in, has_number, says_complete, says_closed, has_gone, address_in, payload_of, is_before, carried, carried_by}
 use Rattle.state_incoming.specs.declared.deliveries.Deliveries.{Deliveries}
-use Rattle.state_incoming.proofs.HeldAnswers.{IsHeldOf, held-of, held-payload, held-closed, held-complete, held-gone, held-before, to_carry-held}
+use Rattle.state_incoming.proofs.HeldAnswers.{IsHeldOf, held-of, held-address, held-payload, held-closed, held-complete, held-gone, held-before, to_carry-held}
 use Rattle.state_incoming.proofs.GroupAnswers.{found-passes}
 
 -- the entry of a delivery that the table can tell of
@@ -48,6 +48,11 @@ module _ (rules : RuleSet) (past : List Event) (table : Deliveries) (are : AreHe
   known-gone d knows =
       let k = known-as d knows in
       ap has_gone k.is ∙ (sym (held-gone rules d.number past k.entry k.of) ∙ ap (λ x. is_gone rules x past) k.same)
+
+  pub known-address : (d : Incoming) → Knows table d → address_in (held_in table d.number) ≡ address_of d past
+  known-address d knows =
+      let k = known-as d knows in
+      ap address_in k.is ∙ (sym (held-address rules d.number past k.entry k.of) ∙ ap (λ x. address_of x past) k.same)
 
   pub known-payload : (d : Incoming) → Knows table d → payload_of (held_in table d.number) ≡ payload d past
   known-payload d knows =

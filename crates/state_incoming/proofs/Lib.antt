@@ -4,6 +4,7 @@ mod HeldSteps
 mod HeldExamples
 pub mod HeldAnswers
 mod HeldKnown
+mod CompletedKnown
 mod HeldUntouched
 mod HeldSparse
 mod Regrouped

@@ -1,5 +1,5 @@
 -- The groups fit the deliveries again once the one that moved is put where it belongs.
-use Rattle.std.proofs.Common.{◌≡◌, refl, sym, ap, ◌∙◌, ℕ, Bool, true, false, ◌&&◌, Option, Some, None, IfSome, nat_eq, subst, if◌then◌else◌, ◌==◌, eqb-true}
+use Rattle.std.proofs.Common.{◌≡◌, refl, sym, ap, ◌∙◌, ℕ, Bool, true, false, ◌&&◌, List, Option, Some, None, IfSome, nat_eq, bytes_eq, subst, if◌then◌else◌, ◌==◌, eqb-true}
 use Rattle.number_groups.specs.Groups.{is_member}
 use Rattle.number_groups.specs.OctetGroups as octets
 use Rattle.trace_events.specs.Words.{is_some_and}
@@ -43,7 +43,54 @@ module _ (key : Incoming → Bool) (mark : Held → Bool) (d : Incoming) (old ne
       by true on false here = grouped
       by false off false here = grouped
 
-module _ (d : Incoming) (groups later : HeldGroups) (kept behind : ℕ → Option Held) (old new : Option Held) (was : IsOf d old) (is : IsOf d new) (at : kept d.number ≡ old)
+-- one that waits is for this address; so is what has become of it
+abbrev pub StandsAt : List ℕ → Option Held → Type 0
+StandsAt own o = IfSome o (λ (x : Held). says_waiting x.fate ≡ true → x.address ≡ own)
+
+-- the same tests, of the address
+module _ (address own : List ℕ) (old new : Option Held) (was : StandsAt own old) (is : StandsAt own new) where
+  abbrev waits_for : Held → Bool
+  waits_for x = is_for address x && says_waiting x.fate
+
+  abbrev waits : Held → Bool
+  waits x = says_waiting x.fate
+
+  elsewhere : bytes_eq own address ≡ false → (o : Option Held) → StandsAt own o → is_some_and o waits_for ≡ false
+  elsewhere off None at = refl
+  elsewhere off (Some x) at = by (says_waiting x.fate) refl
+    where
+      by : (w : Bool) → says_waiting x.fate ≡ w → waits_for x ≡ false
+      by true on = ap (λ a. bytes_eq a address && says_waiting x.fate) (at on) ∙ ap (λ b. b && says_waiting x.fate) off
+      by false none = ap (λ b. is_for address x && b) none ∙ off_last (is_for address x)
+        where
+          off_last : (b : Bool) → b && false ≡ false
+          off_last true = refl
+          off_last false = refl
+
+  here-at : bytes_eq own address ≡ true → (o : Option Held) → StandsAt own o → is_some_and o waits ≡ is_some_and o waits_for
+  here-at on None at = refl
+  here-at on (Some x) at = by (says_waiting x.fate) refl
+    where
+      by : (w : Bool) → says_waiting x.fate ≡ w → says_waiting x.fate ≡ waits_for x
+      by true waits = sym (ap (λ a. bytes_eq a address && says_waiting x.fate) (at waits) ∙ ap (λ b. b && says_waiting x.fate) on)
+      by false none = none ∙ sym (ap (λ b. is_for address x && b) none ∙ off_last (is_for address x))
+        where
+          off_last : (b : Bool) → b && false ≡ false
+          off_last true = refl
+          off_last false = refl
+
+  readdressed : (same : Bool) (o : Option Held) (g : Bool) → g ≡ is_some_and o waits_for → (same ≡ true → o ≡ old)
+      → (if bytes_eq own address && same then is_some_and new waits else g) ≡ is_some_and (if same then new else o) waits_for
+  readdressed same o g grouped here = by (bytes_eq own address) refl same here
+    where
+      by : (k : Bool) → bytes_eq own address ≡ k → (same : Bool) → (same ≡ true → o ≡ old) → (if k && same then is_some_and new waits else g) ≡ is_some_and (if same then new else o) waits_for
+      by true on true here = here-at on new is
+      by false off true here = grouped ∙ (ap (λ p. is_some_and p waits_for) (here refl) ∙ (elsewhere off old was ∙ sym (elsewhere off new is)))
+      by true on false here = grouped
+      by false off false here = grouped
+
+module _ (d : Incoming) (groups later : HeldGroups) (kept behind : ℕ → Option Held) (old new : Option Held) (was : IsOf d old) (is : IsOf d new)
+    (own : List ℕ) (stood : StandsAt own old) (stands : StandsAt own new) (at : kept d.number ≡ old)
     (moved : (n : ℕ) → behind n ≡ (if d.number == n then new else kept n)) where
   here : (n : ℕ) → (d.number == n) ≡ true → kept n ≡ old
   here n same = sym (ap kept (eqb-true d.number n same)) ∙ at
@@ -63,7 +110,7 @@ module _ (d : Incoming) (groups later : HeldGroups) (kept behind : ℕ → Optio
       by true same = of new is (eqb-true d.number n same)
       by false other = numbered
 
-  pub put-grouped : AreGrouped groups kept → IsPut d (marks new) groups later → AreGrouped later behind
+  pub put-grouped : AreGrouped groups kept → IsPut d own (marks new) groups later → AreGrouped later behind
   put-grouped grouped put = record {
     arriving = λ link n. put.arriving link n
         ∙ (ap (λ b. if is_of_link link d && (d.number == n) then b else is_member nat_eq groups.arriving link n) (marked (λ m. m.is_arriving) (λ x. says_arriving x.fate) refl (λ x. refl) new)
@@ -82,14 +129,14 @@ module _ (d : Incoming) (groups later : HeldGroups) (kept behind : ℕ → Optio
         ∙ (regrouped (has_id key.session key.id) (λ x. x.is_undecided) d old new was is (d.number == n) (kept n) _ (grouped.in_use key n) (here n)
         ∙ ap (λ o. is_some_and o (λ x. has_id key.session key.id x.delivery && x.is_undecided)) (sym (moved n))));
     waiting = λ address n. put.waiting address n
-        ∙ (ap (λ b. if is_for address d && (d.number == n) then b else octets.is_member groups.waiting address n) (marked (λ m. m.is_waiting) (λ x. says_waiting x.fate) refl (λ x. refl) new)
-        ∙ (regrouped (is_for address) (λ x. says_waiting x.fate) d old new was is (d.number == n) (kept n) _ (grouped.waiting address n) (here n)
-        ∙ ap (λ o. is_some_and o (λ x. is_for address x.delivery && says_waiting x.fate)) (sym (moved n))));
+        ∙ (ap (λ b. if bytes_eq own address && (d.number == n) then b else octets.is_member groups.waiting address n) (marked (λ m. m.is_waiting) (λ x. says_waiting x.fate) refl (λ x. refl) new)
+        ∙ (readdressed address own old new stood stands (d.number == n) (kept n) _ (grouped.waiting address n) (here n)
+        ∙ ap (λ o. is_some_and o (λ x. is_for address x && says_waiting x.fate)) (sym (moved n))));
     numbered = λ n. numbered-by n (grouped.numbered n);
   }
 
 -- what is kept of a delivery stands where its marks say
-module _ (d : Incoming) (groups : HeldGroups) (kept : ℕ → Option Held) (old : Option Held) (was : IsOf d old) (at : kept d.number ≡ old) where
+module _ (d : Incoming) (groups : HeldGroups) (kept : ℕ → Option Held) (old : Option Held) (was : IsOf d old) (own : List ℕ) (stood : StandsAt own old) (at : kept d.number ≡ old) where
   of-mark : (key : Incoming → Bool) (mark : Held → Bool) (f : Marks → Bool) → f unmarked ≡ false → ((x : Held) → f (marks_of x) ≡ mark x) → key d ≡ true
       → (g : Bool) → g ≡ is_some_and (kept d.number) (λ x. key x.delivery && mark x) → g ≡ f (marks old)
   of-mark key mark f none some on g is = is ∙ (ap (λ o. is_some_and o (λ x. key x.delivery && mark x)) at ∙ by old was)
@@ -98,11 +145,16 @@ module _ (d : Incoming) (groups : HeldGroups) (kept : ℕ → Option Held) (old 
       by None of = sym none
       by (Some x) of = ap (λ y. key y && mark x) of ∙ (ap (λ b. b && mark x) on ∙ sym (some x))
 
-  pub grouped-marked : AreGrouped groups kept → IsMarked d (marks old) groups
+  marked-waiting : (o : Option Held) → (marks o).is_waiting ≡ is_some_and o (λ x. says_waiting x.fate)
+  marked-waiting None = refl
+  marked-waiting (Some x) = refl
+
+  pub grouped-marked : AreGrouped groups kept → IsMarked d own (marks old) groups
   grouped-marked grouped = record {
     arriving = λ link on. of-mark (is_of_link link) (λ x. says_arriving x.fate) (λ m. m.is_arriving) refl (λ x. refl) on _ (grouped.arriving link d.number);
     undecided = λ link on. of-mark (is_of_link link) (λ x. x.is_undecided) (λ m. m.is_undecided) refl (λ x. refl) on _ (grouped.undecided link d.number);
     of_session = λ session on. of-mark (is_of_session session) (λ x. x.is_undecided) (λ m. m.is_undecided) refl (λ x. refl) on _ (grouped.of_session session d.number);
     in_use = λ key on. of-mark (has_id key.session key.id) (λ x. x.is_undecided) (λ m. m.is_undecided) refl (λ x. refl) on _ (grouped.in_use key d.number);
-    waiting = λ address on. of-mark (is_for address) (λ x. says_waiting x.fate) (λ m. m.is_waiting) refl (λ x. refl) on _ (grouped.waiting address d.number);
+    waiting = λ address on. grouped.waiting address d.number
+        ∙ (ap (λ o. is_some_and o (λ x. is_for address x && says_waiting x.fate)) at ∙ (sym (here-at address own old old stood stood on old stood) ∙ sym (marked-waiting old)));
   }

@@ -76,9 +76,9 @@ module _ (groups : HeldGroups) (has : List ℕ → Bool) (ended : List Link) (e 
       (n, ap (λ b. before || b) is ∙ or_true before)
 
 -- what an event begins is a delivery of its own
-pub begins-some : (rules : RuleSet) (e : Event) (has : Bool) (x : Held) → held_begun rules e has ≡ Some x → is_some (incoming_begun e) ≡ true
-begins-some rules e has x is = by (incoming_begun e) is
+pub begins-some : (rules : RuleSet) (e : Event) (to : List ℕ) (has : Bool) (x : Held) → held_begun rules e to has ≡ Some x → is_some (incoming_begun e) ≡ true
+begins-some rules e to has x is = by (incoming_begun e) is
   where
-    by : (o : Option Incoming) → option_and_then (λ d. held_next rules e has (unbegun d)) o ≡ Some x → is_some o ≡ true
+    by : (o : Option Incoming) → option_and_then (λ d. held_next rules e to has (unbegun d)) o ≡ Some x → is_some o ≡ true
     by None is = absurd cc
     by (Some d) is = refl

@@ -13,14 +13,15 @@ use Rattle.trace_events.specs.Disposition.{covers_id}
 use Rattle.trace_events.specs.Said.{in_disposition}
 use Rattle.trace_events.specs.Link.{is_sender}
 use Rattle.trace_events.specs.Ends.{ends_link}
-use Rattle.trace_events.specs.Incoming.{address_of, is_part, settles_id}
+use Rattle.trace_events.specs.Incoming.{is_part, settles_id}
 use Rattle.trace_events.specs.Outgoing.{names, outgoing_begun}
 use Rattle.trace_events.specs.Queue.{pairs}
 use Rattle.trace_events.specs.declared.session.Session.{Session}
-use Rattle.state_incoming.specs.Held.{Held, says_waiting}
+use Rattle.state_incoming.specs.Held.{Held, address_behind, says_waiting}
 use Rattle.state_incoming.specs.HeldTouched.{is_touched}
 use Rattle.state_incoming.specs.Grouped.{AreGrouped, is_of_session, is_of_link, is_for}
 use Rattle.state_incoming.specs.Touched.{AreEnded, part_number, named, carried_number, settled_session, is_left, may_touch}
+use Rattle.state_incoming.proofs.HeldUntouched.{completes_none, address_same}
 use Rattle.state_incoming.specs.declared.groups.HeldGroups.{HeldGroups}
 
 or_none : (a b : Bool) → a || b ≡ false → (a ≡ false) × (b ≡ false)
@@ -88,9 +89,9 @@ module _ (groups : HeldGroups) (kept : ℕ → Option Held) (grouped : AreGroupe
   on-link l same opens =
       grouped.undecided l n ∙ (ap (λ o. is_some_and o (λ (y : Held). is_of_link l y.delivery && y.is_undecided)) at ∙ (ap (λ b. b && x.is_undecided) same ∙ opens))
 
-  at-address : (address : List ℕ) → bytes_eq (address_of d) address ≡ true → says_waiting x.fate ≡ true → octets.is_member groups.waiting address n ≡ true
+  at-address : (address : List ℕ) → bytes_eq x.address address ≡ true → says_waiting x.fate ≡ true → octets.is_member groups.waiting address n ≡ true
   at-address address same waits =
-      grouped.waiting address n ∙ (ap (λ o. is_some_and o (λ (y : Held). is_for address y.delivery && says_waiting y.fate)) at ∙ (ap (λ b. b && says_waiting x.fate) same ∙ waits))
+      grouped.waiting address n ∙ (ap (λ o. is_some_and o (λ (y : Held). is_for address y && says_waiting y.fate)) at ∙ (ap (λ b. b && says_waiting x.fate) same ∙ waits))
 
   module _ (has : List ℕ → Bool) (ended : List Link) (e : Event) (are : AreEnded e has ended kept) where
     -- a disposition of its producer
@@ -119,24 +120,24 @@ module _ (groups : HeldGroups) (kept : ℕ → Option Held) (grouped : AreGroupe
         ended
         (subst (λ (o : Option Held). IfSome o (λ (y : Held). y.is_undecided && ends_link y.delivery.link e ≡ true → list_any (λ (l : Link). l.number == y.delivery.link.number) ended ≡ true)) at (are.producers n) is)
 
-    loses : says_waiting x.fate && not (has (address_of d)) ≡ true → list_any (is_left groups has n) ended ≡ true
+    loses : says_waiting x.fate && not (has x.address) ≡ true → list_any (is_left groups has n) ended ≡ true
     loses is =
-        any_of (λ (l : Link). bytes_eq l.address (address_of d)) (is_left groups has n) each ended
-        (subst (λ (o : Option Held). IfSome o (λ (y : Held). says_waiting y.fate && not (has (address_of y.delivery)) ≡ true → list_any (λ (l : Link). bytes_eq l.address (address_of y.delivery)) ended ≡ true)) at (are.consumers n) is)
+        any_of (λ (l : Link). bytes_eq l.address x.address) (is_left groups has n) each ended
+        (subst (λ (o : Option Held). IfSome o (λ (y : Held). says_waiting y.fate && not (has y.address) ≡ true → list_any (λ (l : Link). bytes_eq l.address y.address) ended ≡ true)) at (are.consumers n) is)
       where
-        each : (l : Link) → bytes_eq l.address (address_of d) ≡ true → is_left groups has n l ≡ true
+        each : (l : Link) → bytes_eq l.address x.address ≡ true → is_left groups has n l ≡ true
         each l same =
-            let one : l.address ≡ address_of d = (bytes_eq-Decides l.address (address_of d)).0 same in
-            let here = at-address l.address (subst (λ a. bytes_eq a l.address ≡ true) one ((bytes_eq-Decides l.address l.address).1 refl)) (and_first (says_waiting x.fate) (not (has (address_of d))) is) in
-            let none : not (has l.address) ≡ true = ap (λ a. not (has a)) one ∙ and_last (says_waiting x.fate) (not (has (address_of d))) is in
+            let one : l.address ≡ x.address = (bytes_eq-Decides l.address x.address).0 same in
+            let here = at-address l.address (subst (λ a. bytes_eq a l.address ≡ true) one ((bytes_eq-Decides l.address l.address).1 refl)) (and_first (says_waiting x.fate) (not (has x.address)) is) in
+            let none : not (has l.address) ≡ true = ap (λ a. not (has a)) one ∙ and_last (says_waiting x.fate) (not (has x.address)) is in
             last (is_member nat_eq groups.undecided l.number n) (ap (λ b. b && octets.is_member groups.waiting l.address n) none ∙ here)
           where
             last : (a : Bool) {b : Bool} → b ≡ true → a || b ≡ true
             last true is = refl
             last false is = is
 
-    pub found : may_touch groups has ended e n ≡ false → is_touched e (has (address_of d)) x ≡ false
-    found off =
+    pub found : (to : List ℕ) → may_touch groups has ended e n ≡ false → is_touched e (has (address_behind e to x)) x ≡ false
+    found to off =
         let a = or_none (is_number (part_number e) n || is_number e.told n || is_number (carried_number e) n || is_some_and (settled_session e) (λ session. is_member nat_eq groups.of_session session n)) (list_any (is_left groups has n) ended) off in
         let b = or_none (is_number (part_number e) n || is_number e.told n || is_number (carried_number e) n) (is_some_and (settled_session e) (λ session. is_member nat_eq groups.of_session session n)) a.0 in
         let c = or_none (is_number (part_number e) n || is_number e.told n) (is_number (carried_number e) n) b.0 in
@@ -146,7 +147,9 @@ module _ (groups : HeldGroups) (kept : ℕ → Option Held) (grouped : AreGroupe
         let pair : pairs d e ≡ false = ap (λ m. is_some_and (outgoing_begun e) (λ (j : Outgoing). names m j.note)) number ∙ pairs-none e.outgoing e.number n c.1 in
         let shut : x.is_undecided && (settles_id d e || ends_link d.link e) ≡ false =
         unless (x.is_undecided && (settles_id d e || ends_link d.link e)) (λ is. either is b.1 a.1) in
-        let waits : says_waiting x.fate && not (has (address_of d)) ≡ false = unless (says_waiting x.fate && not (has (address_of d))) (λ is. sym (loses is) ∙ a.1) in
+        let stood : address_behind e to x ≡ x.address = address_same e to x (completes_none e d e.incoming refl part) in
+        let waits : says_waiting x.fate && not (has (address_behind e to x)) ≡ false =
+        ap (λ a. says_waiting x.fate && not (has a)) stood ∙ unless (says_waiting x.fate && not (has x.address)) (λ is. sym (loses is) ∙ a.1) in
         rw (part, told, pair, shut, waits) refl
       where
         by : (u s l : Bool) → u && (s || l) ≡ true → (u ≡ true → s ≡ true → true ≡ false) → (u && l ≡ true → true ≡ false) → true ≡ false

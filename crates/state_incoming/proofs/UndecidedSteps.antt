@@ -13,7 +13,7 @@ use Rattle.trace_events.specs.Settling.{is_closed}
 use Rattle.trace_events.specs.Waiting.{is_of_multicast, always_had_consumer, is_waiting, is_undecided}
 use Rattle.trace_events.proofs.EveryStep.{is_paired-step}
 use Rattle.state_incoming.specs.Held.{fate_of, gives_up, says_arriving, undecided_next}
-use Rattle.state_incoming.proofs.FateSteps.{arriving-fate, waiting-fate}
+use Rattle.state_incoming.proofs.FateSteps.{arriving-fate, waiting-fate, unpaired-same, multicast-same}
 
 -- k: the event completes it, b: it pairs it; c: it was complete, p: paired, a: its address always had a consumer; h: it has one
 waits-bits : (c k m p b a h : Bool) → (c ≡ true → k ≡ false) → (not m && (k || c) && not (b || p)) && (h && (k || a)) ≡ true → not c || (not m && c && not p) && a ≡ true
@@ -30,8 +30,11 @@ waits-bits true false false false false true true once is = refl
 waited : (rules : RuleSet) (e : Event) (past : List Event) (d : Incoming) → (is_complete d past ≡ true → completes d e ≡ false) → is_waiting rules d (e ∷ past) ≡ true
     → not (is_complete d past) || is_waiting rules d past ≡ true
 waited rules e past d once is =
-    waits-bits (is_complete d past) (completes d e) (is_of_multicast rules d) (is_paired d past) (pairs d e) (always_had_consumer d past) (has_consumer (address_of d) (e ∷ past)) once
-    (sym (ap (λ p. (not (is_of_multicast rules d) && is_complete d (e ∷ past) && not p) && always_had_consumer d (e ∷ past)) (is_paired-step e past d)) ∙ is)
+    let now = is_of_multicast rules d (e ∷ past) in
+    ap (λ u. not (is_complete d past) || u && always_had_consumer d past)
+    (sym (unpaired-same (is_complete d past) (is_of_multicast rules d past) now (is_paired d past) (multicast-same rules d e past once)))
+    ∙ waits-bits (is_complete d past) (completes d e) now (is_paired d past) (pairs d e) (always_had_consumer d past) (has_consumer (address_of d (e ∷ past)) (e ∷ past)) once
+    (sym (ap (λ p. (not now && is_complete d (e ∷ past) && not p) && always_had_consumer d (e ∷ past)) (is_paired-step e past d)) ∙ is)
 
 either-bits : (x y : Bool) → not (x || y) ≡ not (y || x || false)
 either-bits true true = refl

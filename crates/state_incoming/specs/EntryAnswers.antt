@@ -34,6 +34,10 @@ has_gone o = is_some_and o (λ x. says_gone x.fate)
 abbrev pub payload_of : Option Held → List ℕ
 payload_of o = unwrap_or (option_map (λ x. x.payload) o) []
 
+-- the address that it is for
+abbrev pub address_in : Option Held → List ℕ
+address_in o = unwrap_or (option_map (λ x. x.address) o) []
+
 abbrev pub is_longer : ℕ → Option Held → ℕ → Bool
 is_longer limit o count = nat_lt limit (length (payload_of o) + count)
 

@@ -4,10 +4,10 @@ use Rattle.indexmap.specs.IndexMap.{get}
 use Rattle.capture_form.specs.Rules.{RuleSet}
 use Rattle.capture_form.specs.declared.records.Record.{Record}
 use Rattle.trace_events.specs.Event.{Event, Link}
-use Rattle.trace_events.specs.Incoming.{address_of, incoming_begun}
+use Rattle.trace_events.specs.Incoming.{incoming_begun}
 use Rattle.trace_events.specs.History.{history}
 use Rattle.state_incoming.specs.Grouped.{AreGrouped}
-use Rattle.state_incoming.specs.Held.{Held, held_at, held_next}
+use Rattle.state_incoming.specs.Held.{Held, held_at, held_on}
 use Rattle.state_incoming.specs.HeldViews.{held_view}
 use Rattle.state_incoming.specs.Touched.{may_touch}
 use Rattle.state_incoming.specs.declared.deliveries.Deliveries.{Deliveries}
@@ -41,6 +41,6 @@ abbrev pub MovesAt : ℕ → (Option Held → Option Held) → Deliveries → De
 MovesAt n step earlier later = (m : ℕ) → held_in later m ≡ (if n == m then step (held_in earlier m) else held_in earlier m)
 
 -- of the numbers that pass, the event moves the deliveries, and no other
-abbrev pub AreMovedBy : (ℕ → Bool) → RuleSet → Event → (List ℕ → Bool) → Deliveries → Deliveries → Type 0
-AreMovedBy passes rules e has earlier later = (n : ℕ) → held_in later n
-    ≡ (if passes n then option_and_then (λ x. held_next rules e (has (address_of x.delivery)) x) (held_in earlier n) else held_in earlier n)
+abbrev pub AreMovedBy : (ℕ → Bool) → RuleSet → Event → List ℕ → (List ℕ → Bool) → Deliveries → Deliveries → Type 0
+AreMovedBy passes rules e to has earlier later = (n : ℕ) → held_in later n
+    ≡ (if passes n then option_and_then (held_on rules e to has) (held_in earlier n) else held_in earlier n)

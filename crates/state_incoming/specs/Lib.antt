@@ -5,3 +5,4 @@ pub mod Grouped
 pub mod Touched
 pub mod HeldTables
 pub mod EntryAnswers
+pub mod Completed

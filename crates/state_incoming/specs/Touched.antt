@@ -10,7 +10,6 @@ use Rattle.trace_events.specs.Event.{Event, Link}
 use Rattle.trace_events.specs.Said.{in_disposition}
 use Rattle.trace_events.specs.Link.{is_sender}
 use Rattle.trace_events.specs.Ends.{ends_link}
-use Rattle.trace_events.specs.Incoming.{address_of}
 use Rattle.state_incoming.specs.Held.{Held, says_waiting}
 use Rattle.state_incoming.specs.declared.groups.HeldGroups.{HeldGroups}
 
@@ -46,5 +45,5 @@ may_touch groups has ended e n =
 -- one of them, and each that waits without a consumer is for the address of one
 pub record AreEnded (e : Event) (has : List ℕ → Bool) (ended : List Link) (kept : ℕ → Option Held) : Type 0 where
   pub producers : (n : ℕ) → IfSome (kept n) (λ x. x.is_undecided && ends_link x.delivery.link e ≡ true → list_any (λ l. l.number == x.delivery.link.number) ended ≡ true)
-  pub consumers : (n : ℕ) → IfSome (kept n) (λ x. says_waiting x.fate && not (has (address_of x.delivery)) ≡ true
-      → list_any (λ l. bytes_eq l.address (address_of x.delivery)) ended ≡ true)
+  pub consumers : (n : ℕ) → IfSome (kept n) (λ x. says_waiting x.fate && not (has x.address) ≡ true
+      → list_any (λ l. bytes_eq l.address x.address) ended ≡ true)

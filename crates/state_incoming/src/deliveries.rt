@@ -7,18 +7,19 @@ ghost use Rattle.capture_form.specs.Rules.{RuleSet};
 ghost use Rattle.capture_form.specs.declared.records.Record.{Record};
 ghost use Rattle.trace_events.specs.Address.{has_consumer};
 ghost use Rattle.trace_events.specs.History.{history};
-ghost use Rattle.trace_events.specs.Incoming.{address_of, incoming_begun};
+ghost use Rattle.trace_events.specs.Incoming.{incoming_begun};
 ghost use Rattle.trace_events.specs.Words.{is_some_and, or_else};
 ghost use Rattle.state_tables.specs.Connections.{IsLawfulNext};
 ghost use Rattle.state_incoming.specs.Grouped.{AreGrouped};
-ghost use Rattle.state_incoming.specs.Held.{held_begun, held_next};
+ghost use Rattle.state_addresses.specs.Addressed.{IsAddressed};
+ghost use Rattle.state_incoming.specs.Held.{address_behind, held_begun, held_next, is_begun_served};
 ghost use Rattle.state_incoming.specs.HeldTables.{AreMovedBy, BeginsOrTouches, IsTable, MovesAt, count_of, held_in};
 ghost use Rattle.state_incoming.specs.HeldTouched.{EndWith};
 ghost use Rattle.state_incoming.specs.HeldViews.{held_view};
 ghost use Rattle.trace_values.specs.View.{event_view, link_view};
 
 use crate::groups::{HeldGroups, Marks};
-use crate::held::HeldDelivery;
+use crate::held::{HeldDelivery, first_address};
 use capture_form::RuleSet;
 use number_groups::NumberSet;
 use number_map::NumberMap;
@@ -70,7 +71,8 @@ impl Deliveries {
         self.entries.len()
     }
 
-    /// The event follows those so far. These links live before it and end with it, and the addresses are those behind it.
+    /// The event follows those so far. What it completes is for this address, these links live before it and end with it, and
+    /// the addresses are those behind it.
     ///
     /// # Errors
     ///
@@ -80,24 +82,27 @@ impl Deliveries {
         &mut self,
         rules: &RuleSet,
         event: &Event,
+        address: &[u8],
         ended: &[Link],
         addresses: &A,
     ) -> Result<(), AllocError>
         ensures kept { OnOk result ((records : List Record) (r : Record) → IsLawfulNext rules.now records r (event_view event.now) →
             IsTable rules.now self.old (history rules.now records) →
+            IsAddressed (event_view event.now) (history rules.now records) address.now →
             ((address : List ℕ) → A.has_one addresses.now address ≡ has_consumer address (event_view event.now ∷ history rules.now records)) →
             EndWith (history rules.now records) (event_view event.now) (map link_view ended.now) →
             IsTable rules.now self.new (event_view event.now ∷ history rules.now records)) }
         ensures refused { OnErr result (BeginsOrTouches self.old (A.has_one addresses.now) (map link_view ended.now) (event_view event.now)) }
     {
         let touched = self.groups.touched(self.alloc, addresses, ended, event)?;
-        self.touch_all(touched, rules, event, addresses)?;
-        let has_consumer = begins_served(event, addresses);
-        self.begin(rules, event, has_consumer)?;
+        self.touch_all(touched, rules, event, address, addresses)?;
+        let has_consumer = begins_served(event, address, addresses);
+        self.begin(rules, event, address, has_consumer)?;
         Ok(())
     }
 
-    /// The event begins a delivery, or none; `has_consumer` says whether its address has one behind the event.
+    /// The event begins a delivery, or none. What it completes is for this address, and `has_consumer` says whether that of
+    /// the delivery has one behind the event.
     ///
     /// # Errors
     ///
@@ -106,24 +111,26 @@ impl Deliveries {
         &mut self,
         rules: &RuleSet,
         event: &Event,
+        address: &[u8],
         has_consumer: bool,
     ) -> Result<(), AllocError>
         ensures begun { OnOk result (MovesAt (event_view event.now).number
-            (or_else (held_begun rules.now (event_view event.now) has_consumer)) self.old self.new) }
+            (or_else (held_begun rules.now (event_view event.now) address.now has_consumer)) self.old self.new) }
         ensures grouped { OnOk result (AreGrouped self.old.groups (held_in self.old) → held_in self.old (event_view event.now).number ≡ None →
             AreGrouped self.new.groups (held_in self.new)) }
         ensures refused { OnErr result (is_some (incoming_begun (event_view event.now)) ≡ true) }
     {
-        if let Some(held) = HeldDelivery::begin(self.alloc, rules, event, has_consumer)? {
+        if let Some(held) = HeldDelivery::begin(self.alloc, rules, event, address, has_consumer)? {
+            let marks = Marks::of(&held, true);
             self.groups
-                .put(&held.delivery(), Marks::none(), Marks::of(&held, true))?;
+                .put(&held.delivery(), held.address(), Marks::none(), marks)?;
             self.entries.insert(event.number, held)?;
         }
         Ok(())
     }
 
-    /// The event touches the delivery of this number, if it is kept; `has_consumer` says whether its address has one behind
-    /// the event.
+    /// The event touches the delivery of this number, if it is kept. What it completes is for this address, and
+    /// `has_consumer` says whether that of the delivery has one behind the event.
     ///
     /// # Errors
     ///
@@ -133,61 +140,71 @@ impl Deliveries {
         number: u64,
         rules: &RuleSet,
         event: &Event,
+        address: &[u8],
         has_consumer: bool,
     ) -> Result<(), AllocError>
         ensures touched { OnOk result (MovesAt number
-            (option_and_then (held_next rules.now (event_view event.now) has_consumer)) self.old self.new) }
+            (option_and_then (held_next rules.now (event_view event.now) address.now has_consumer)) self.old self.new) }
         ensures grouped { OnOk result (AreGrouped self.old.groups (held_in self.old) → AreGrouped self.new.groups (held_in self.new)) }
     {
         let Some(held) = self.entries.get_mut(&number) else {
             return Ok(());
         };
         let before = Marks::of(held, true);
-        let stays = held.take(rules, event, has_consumer)?;
+        let stays = held.take(rules, event, address, has_consumer)?;
+        let marks = Marks::of(held, stays);
         self.groups
-            .put(&held.delivery(), before, Marks::of(held, stays))?;
+            .put(&held.delivery(), held.address(), before, marks)?;
         if !stays {
             self.entries.swap_remove(&number);
         }
         Ok(())
     }
 
-    /// The event touches each of these.
+    /// The event touches each of these; what it completes is for this address.
     fn touch_all<A: Addresses>(
         &mut self,
         mut touched: NumberSet,
         rules: &RuleSet,
         event: &Event,
+        address: &[u8],
         addresses: &A,
     ) -> Result<(), AllocError>
-        ensures touched { OnOk result (AreMovedBy (is_among touched) rules.now (event_view event.now) (A.has_one addresses.now) self.old self.new) }
+        ensures touched { OnOk result (AreMovedBy (is_among touched) rules.now (event_view event.now) address.now (A.has_one addresses.now) self.old self.new) }
         ensures grouped { OnOk result (AreGrouped self.old.groups (held_in self.old) → AreGrouped self.new.groups (held_in self.new)) }
         ensures refused { OnErr result ((n : ℕ) × (is_among touched n ≡ true)) }
     {
         while let Some(number) = touched.pop() {
-            let has_consumer = self.is_served(number, addresses);
-            self.touch(number, rules, event, has_consumer)?;
+            let has_consumer = self.is_served(number, event, address, addresses);
+            self.touch(number, rules, event, address, has_consumer)?;
         }
         Ok(())
     }
 
-    /// The address of the delivery has a consumer.
-    fn is_served<A: Addresses>(&self, number: u64, addresses: &A) -> bool
-        ensures { result ≡ is_some_and (held_in self.now number) (λ x. A.has_one addresses.now (address_of x.delivery)) }
+    /// The address that the delivery is for behind the event has a consumer; what that completes is for this one.
+    fn is_served<A: Addresses>(
+        &self,
+        number: u64,
+        event: &Event,
+        address: &[u8],
+        addresses: &A,
+    ) -> bool
+        ensures { result ≡ is_some_and (held_in self.now number)
+            (λ x. A.has_one addresses.now (address_behind (event_view event.now) address.now x)) }
     {
         match self.entries.get(&number) {
-            Some(held) => addresses.has_consumer(held.delivery().link.address),
+            Some(held) => addresses.has_consumer(held.address_behind(event, address)),
             None => false,
         }
     }
 }
 
-/// The address of the delivery that the event begins has a consumer.
-fn begins_served<A: Addresses>(event: &Event, addresses: &A) -> bool
-    ensures { result ≡ is_some_and (incoming_begun (event_view event.now)) (λ d. A.has_one addresses.now (address_of d)) }
+/// The address of the delivery that the event begins has a consumer; what that completes is for this one.
+fn begins_served<A: Addresses>(event: &Event, address: &[u8], addresses: &A) -> bool
+    ensures { result ≡ is_begun_served (event_view event.now) address.now (A.has_one addresses.now) }
 {
     match event.incoming_begun() {
-        Some(delivery) => addresses.has_consumer(delivery.link.address),
+        Some(delivery) => addresses.has_consumer(first_address(event, &delivery, address)),
         None => false,
     }
 }

@@ -1,6 +1,6 @@
 //! What the entries of the table answer, each of its delivery.
 
-ghost use Rattle.std.specs.Prelude.{◌≡◌, ◌+◌, List, true, IfSome, length, nat_lt, option_map};
+ghost use Rattle.std.specs.Prelude.{◌≡◌, ◌+◌, List, true, IfSome, bytes_eq, length, nat_lt, option_map};
 ghost use Rattle.capture_form.specs.Rules.{RuleSet};
 ghost use Rattle.trace_clauses.specs.TransferClause as transfers;
 ghost use Rattle.trace_events.specs.Incoming as received;
@@ -12,6 +12,8 @@ ghost use Rattle.state_incoming.specs.EntryAnswers.{Knows, delivery_in, has_numb
 ghost use Rattle.state_incoming.specs.HeldTables.{AreHeld, held_in};
 
 use crate::deliveries::Deliveries;
+use crate::held::is_multicast;
+use capture_form::RuleSet;
 use pairing_cert::Note;
 use trace_values::Incoming;
 
@@ -48,6 +50,30 @@ impl Deliveries {
             result ≡ waiting.is_gone rules (incoming_view delivery.now) history }
     {
         self.has_gone(delivery.number)
+    }
+
+    /// The address that it is for: its link's, or on a link without one its message's, from its completion on.
+    pub fn address(&self, delivery: &Incoming) -> &[u8]
+        ensures { (rules : RuleSet) (history : Events) → AreHeld rules self.now history → Knows self.now (incoming_view delivery.now) →
+            result.now ≡ received.address_of (incoming_view delivery.now) history }
+    {
+        self.held_for(delivery.number)
+    }
+
+    /// It is for this address.
+    pub fn is_for(&self, delivery: &Incoming, address: &[u8]) -> bool
+        ensures { (rules : RuleSet) (history : Events) → AreHeld rules self.now history → Knows self.now (incoming_view delivery.now) →
+            result ≡ bytes_eq (received.address_of (incoming_view delivery.now) history) address.now }
+    {
+        self.held_for(delivery.number) == address
+    }
+
+    /// Its address is of multicast: it goes to all consumers of that, and not to one.
+    pub fn is_of_multicast(&self, rules: &RuleSet, delivery: &Incoming) -> bool
+        ensures { (history : Events) → AreHeld rules.now self.now history → Knows self.now (incoming_view delivery.now) →
+            result ≡ waiting.is_of_multicast rules.now (incoming_view delivery.now) history }
+    {
+        is_multicast(rules, self.held_for(delivery.number))
     }
 
     /// What has come of its payload.
@@ -124,7 +150,16 @@ impl Deliveries {
         }
     }
 
-    fn octets(&self, number: u64) -> &[u8]
+    fn held_for(&self, number: u64) -> &[u8]
+        ensures { result.now ≡ entries.address_in (held_in self.now number) }
+    {
+        match self.get(number) {
+            Some(held) => held.address(),
+            None => &[],
+        }
+    }
+
+    pub(crate) fn octets(&self, number: u64) -> &[u8]
         ensures { result.now ≡ entries.payload_of (held_in self.now number) }
     {
         match self.get(number) {

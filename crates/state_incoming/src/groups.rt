@@ -139,7 +139,7 @@ impl HeldGroups {
         }
     }
 
-    /// The delivery, which stood where the marks before say, stands where these say.
+    /// The delivery, which is for this address and stood where the marks before say, stands where these say.
     ///
     /// # Errors
     ///
@@ -147,10 +147,12 @@ impl HeldGroups {
     pub(crate) fn put(
         &mut self,
         delivery: &Incoming,
+        address: &[u8],
         before: Marks,
         marks: Marks,
     ) -> Result<(), AllocError>
-        ensures { OnOk result (IsMarked (incoming_view delivery.now) before self.old → IsPut (incoming_view delivery.now) marks self.old self.new) }
+        ensures { OnOk result (IsMarked (incoming_view delivery.now) address.now before self.old →
+            IsPut (incoming_view delivery.now) address.now marks self.old self.new) }
     {
         let number = delivery.number;
         let link = delivery.link.number;
@@ -183,7 +185,7 @@ impl HeldGroups {
         }
         put_at(
             &mut self.waiting,
-            delivery.link.address,
+            address,
             number,
             before.is_waiting,
             marks.is_waiting,

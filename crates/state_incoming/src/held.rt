@@ -1,14 +1,15 @@
-//! A delivery from a client, from its first part on for as long as something may still come of it: its payload, what has
-//! become of it, and what is still to be told (part 2 of the standard, sections 2.6.12 and 2.6.14).
+//! A delivery from a client, from its first part on for as long as something may still come of it: the address that it is for,
+//! its payload, what has become of it, and what is still to be told (part 2 of the standard, sections 2.6.12 and 2.6.14).
 
-ghost use Rattle.std.specs.Prelude.{◌≡◌, false, not, ◌&&◌, List, [], Some, None, OnOk, OnErr, IfOk, is_some, true, option_map, if◌then◌else◌};
+ghost use Rattle.std.specs.Prelude.{◌≡◌, false, not, ◌&&◌, ℕ, List, [], Some, None, OnOk, OnErr, IfOk, is_some, true, option_map, if◌then◌else◌};
 ghost use Rattle.capture_form.specs.Rules.{RuleSet};
 ghost use Rattle.trace_events.specs.Incoming as law;
+ghost use Rattle.trace_events.specs.Link.{is_anonymous};
 ghost use Rattle.trace_events.specs.Said.{in_spoken};
 ghost use Rattle.trace_events.specs.Outgoing as sent;
 ghost use Rattle.trace_events.specs.Waiting as fates;
 ghost use Rattle.trace_events.specs.Settling.{is_closed};
-ghost use Rattle.trace_events.specs.Waiting.{is_of_multicast};
+ghost use Rattle.trace_events.specs.Address.{has_multicast};
 ghost use Rattle.trace_events.specs.History.{history};
 ghost use Rattle.trace_clauses.specs.Clauses.{first_broken};
 ghost use Rattle.trace_clauses.specs.Outcome.{may_be_told};
@@ -73,6 +74,8 @@ pub struct HeldDelivery {
     number: u64,
     link: HeldLink,
     payload: Vec<u8>,
+    /// The address in its message, from its completion on, where its link has none.
+    to: Vec<u8>,
     /// The record that completed it.
     completion: Option<u64>,
     fate: Fate,
@@ -94,6 +97,7 @@ impl HeldDelivery {
             id: delivery.id,
             format: delivery.format,
             payload: Vec::new(alloc),
+            to: Vec::new(alloc),
             completion: None,
             is_closed: false,
             is_undecided: true,
@@ -101,8 +105,8 @@ impl HeldDelivery {
         })
     }
 
-    /// The delivery that the event begins, unless nothing is left of it at once; `has_consumer` says whether its address has
-    /// one behind the event.
+    /// The delivery that the event begins, unless nothing is left of it at once. What the event completes is for this
+    /// address, and `has_consumer` says whether the delivery's own has one behind the event.
     ///
     /// # Errors
     ///
@@ -111,13 +115,14 @@ impl HeldDelivery {
         alloc: Global,
         rules: &RuleSet,
         event: &Event,
+        address: &[u8],
         has_consumer: bool,
     ) -> Result<Option<HeldDelivery>, AllocError>
-        ensures begun { IfOk result (λ held. option_map held_view held ≡ kept.held_begun rules.now (event_view event.now) has_consumer) }
-        ensures known { IfOk result (λ held. Begins rules.now (event_view event.now) has_consumer (option_map held_view held)) }
+        ensures begun { IfOk result (λ held. option_map held_view held ≡ kept.held_begun rules.now (event_view event.now) address.now has_consumer) }
+        ensures known { IfOk result (λ held. Begins rules.now (event_view event.now) address.now has_consumer (option_map held_view held)) }
         ensures first { OnErr result (is_some (law.incoming_begun (event_view event.now)) ≡ true) }
     {
-        let held = HeldDelivery::first(alloc, rules, event, has_consumer)?;
+        let held = HeldDelivery::first(alloc, rules, event, address, has_consumer)?;
         Ok(held)
     }
 
@@ -126,16 +131,17 @@ impl HeldDelivery {
         alloc: Global,
         rules: &RuleSet,
         event: &Event,
+        address: &[u8],
         has_consumer: bool,
     ) -> Result<Option<HeldDelivery>, AllocError>
-        ensures begun { IfOk result (λ held. option_map held_view held ≡ kept.held_begun rules.now (event_view event.now) has_consumer) }
+        ensures begun { IfOk result (λ held. option_map held_view held ≡ kept.held_begun rules.now (event_view event.now) address.now has_consumer) }
         ensures first { OnErr result (is_some (law.incoming_begun (event_view event.now)) ≡ true) }
     {
         let Some(delivery) = event.incoming_begun() else {
             return Ok(None);
         };
         let mut held = HeldDelivery::unbegun(alloc, &delivery)?;
-        if held.move_on(rules, event, has_consumer)? {
+        if held.move_on(rules, event, address, has_consumer)? {
             Ok(Some(held))
         } else {
             Ok(None)
@@ -152,6 +158,47 @@ impl HeldDelivery {
             id: self.id,
             format: self.format,
         }
+    }
+
+    /// The address that it is for: its link's, or on a link without one its message's, from its completion on.
+    #[tactic(auto, using(crate::proofs::HeldKnown::entry_address))]
+    pub fn address(&self) -> &[u8]
+        ensures stored { result.now ≡ (held_view self.now).address }
+        ensures known { (rules : RuleSet) (history : Events) → IsEntry rules history (held_view self.now) →
+            result.now ≡ law.address_of (held_view self.now).delivery history }
+    {
+        self.own_address()
+    }
+
+    fn own_address(&self) -> &[u8]
+        ensures { result.now ≡ (held_view self.now).address }
+    {
+        let link = self.link.link();
+        if link.is_anonymous() {
+            &self.to
+        } else {
+            link.address
+        }
+    }
+
+    /// Its address behind the event, where what that completes is for this one.
+    pub(crate) fn address_behind<'a>(&'a self, event: &Event, address: &'a [u8]) -> &'a [u8]
+        ensures { result.now ≡ kept.address_behind (event_view event.now) address.now (held_view self.now) }
+    {
+        if self.is_addressed_by(event) {
+            address
+        } else {
+            self.own_address()
+        }
+    }
+
+    /// The event tells its address: it arrives, on a link without one, and the event completes it.
+    fn is_addressed_by(&self, event: &Event) -> bool
+        ensures { result ≡ (is_anonymous (held_view self.now).delivery.link
+            && (kept.says_arriving (held_view self.now).fate && law.completes (held_view self.now).delivery (event_view event.now))) }
+    {
+        let delivery = self.delivery();
+        delivery.link.is_anonymous() && (self.fate.is_arriving() && event.completes(&delivery))
     }
 
     /// What has come of its payload.
@@ -175,7 +222,6 @@ impl HeldDelivery {
     }
 
     /// Its last part has come.
-    #[tactic(auto, using(crate::proofs::HeldKnown::entry_complete))]
     pub fn is_complete(&self) -> bool
         ensures stored { result ≡ not (kept.says_arriving self.now.fate) }
         ensures known { (rules : RuleSet) (history : Events) → IsEntry rules history (held_view self.now) →
@@ -226,18 +272,23 @@ impl HeldDelivery {
     pub fn is_paired(&self) -> bool
         ensures stored { result ≡ kept.says_paired self.now.fate }
         ensures known { (rules : RuleSet) (records : List Record) → IsEntry rules (history rules records) (held_view self.now) →
-            first_broken rules (history rules records) ≡ None → fates.is_of_multicast rules (held_view self.now).delivery ≡ false →
+            first_broken rules (history rules records) ≡ None → fates.is_of_multicast rules (held_view self.now).delivery (history rules records) ≡ false →
             result ≡ sent.is_paired (held_view self.now).delivery (history rules records) }
     {
         self.fate.is_paired()
     }
 
     /// It may go to consumers: it is complete, and not gone.
-    #[tactic(auto, using(crate::proofs::HeldKnown::entry_to_carry))]
     pub fn may_go(&self) -> bool
         ensures stored { result ≡ kept.may_go (held_view self.now) }
         ensures known { (rules : RuleSet) (history : Events) → IsEntry rules history (held_view self.now) →
             (if result then Some (held_view self.now).delivery else None) ≡ to_carry rules (notes.Pair (held_view self.now).delivery.number) history }
+    {
+        self.goes()
+    }
+
+    fn goes(&self) -> bool
+        ensures { result ≡ kept.may_go (held_view self.now) }
     {
         self.is_complete() && !self.is_gone()
     }
@@ -276,27 +327,30 @@ impl HeldDelivery {
         }
     }
 
-    /// The event follows those of the delivery so far; `has_consumer` says whether its address has one behind it. It is kept
-    /// on where the result is true, and else nothing is left of it.
+    /// The event follows those of the delivery so far. What it completes is for this address, and `has_consumer` says whether
+    /// the delivery's own has one behind it. It is kept on where the result is true, and else nothing is left of it.
     ///
     /// # Errors
     ///
-    /// Memory was refused, for the payload of a part of it; then all stays as it was.
+    /// Memory was refused, for the payload of a part of it, or for the address in its message; then all stays as it was.
     pub fn take(
         &mut self,
         rules: &RuleSet,
         event: &Event,
+        address: &[u8],
         has_consumer: bool,
     ) -> Result<bool, AllocError>
         ensures next { IfOk result (λ stays. (if stays then Some (held_view self.new) else None)
-            ≡ kept.held_next rules.now (event_view event.now) has_consumer (held_view self.old)) }
-        ensures known { IfOk result (λ stays. Follows rules.now (event_view event.now) has_consumer (held_view self.old)
+            ≡ kept.held_next rules.now (event_view event.now) address.now has_consumer (held_view self.old)) }
+        ensures known { IfOk result (λ stays. Follows rules.now (event_view event.now) address.now has_consumer (held_view self.old)
             (if stays then Some (held_view self.new) else None)) }
         ensures unchanged { OnErr result (held_view self.new ≡ held_view self.old) }
         ensures same { (held_view self.new).delivery ≡ (held_view self.old).delivery }
         ensures part { OnErr result (law.is_part (held_view self.old).delivery (event_view event.now) ≡ true) }
+        // One that waits stays at its address.
+        ensures stands { kept.says_waiting (held_view self.old).fate ≡ true → (held_view self.new).address ≡ (held_view self.old).address }
     {
-        let stays = self.move_on(rules, event, has_consumer)?;
+        let stays = self.move_on(rules, event, address, has_consumer)?;
         Ok(stays)
     }
 
@@ -305,19 +359,26 @@ impl HeldDelivery {
         &mut self,
         rules: &RuleSet,
         event: &Event,
+        address: &[u8],
         has_consumer: bool,
     ) -> Result<bool, AllocError>
         ensures next { IfOk result (λ stays. (if stays then Some (held_view self.new) else None)
-            ≡ kept.held_next rules.now (event_view event.now) has_consumer (held_view self.old)) }
+            ≡ kept.held_next rules.now (event_view event.now) address.now has_consumer (held_view self.old)) }
         ensures unchanged { OnErr result (held_view self.new ≡ held_view self.old) }
         ensures same { (held_view self.new).delivery ≡ (held_view self.old).delivery }
         ensures part { OnErr result (law.is_part (held_view self.old).delivery (event_view event.now) ≡ true) }
+        ensures stands { kept.says_waiting (held_view self.old).fate ≡ true → (held_view self.new).address ≡ (held_view self.old).address }
     {
-        let fate = self.fate_after(rules, event, has_consumer);
+        let fate = self.fate_after(
+            rules,
+            event,
+            self.address_behind(event, address),
+            has_consumer,
+        );
         let completion = self.completion_after(event);
         let is_closed = self.is_closed_after(event);
         let is_undecided = self.is_undecided_after(event, fate, is_closed);
-        self.join(event)?;
+        self.join(event, address)?;
         self.fate = fate;
         self.completion = completion;
         self.is_closed = is_closed;
@@ -325,10 +386,27 @@ impl HeldDelivery {
         Ok(self.stays(event))
     }
 
-    /// The octets that the event adds stand behind those so far.
-    fn join(&mut self, event: &Event) -> Result<(), AllocError>
-        ensures joined { OnOk result (held_view self.new ≡ kept.joined (event_view event.now) (held_view self.old)) }
+    /// The address that the event tells is its own, and the octets that it adds stand behind those so far.
+    fn join(&mut self, event: &Event, address: &[u8]) -> Result<(), AllocError>
+        ensures joined { OnOk result (held_view self.new ≡ kept.joined (event_view event.now) address.now (held_view self.old)) }
         ensures unchanged { OnErr result (held_view self.new ≡ held_view self.old) }
+        ensures part { OnErr result (law.is_part (held_view self.old).delivery (event_view event.now) ≡ true) }
+    {
+        if self.is_addressed_by(event) {
+            let to = address.to_vec(*self.payload.allocator())?;
+            self.join_part(event)?;
+            self.to = to;
+            Ok(())
+        } else {
+            self.join_part(event)
+        }
+    }
+
+    /// The octets that the event adds stand behind those so far.
+    fn join_part(&mut self, event: &Event) -> Result<(), AllocError>
+        ensures others { self.new ≡ record self.old { payload = self.new.payload } }
+        ensures joined { OnOk result (self.new.payload.items ≡ kept.payload_next (event_view event.now) (held_view self.old).delivery self.old.payload.items) }
+        ensures unchanged { OnErr result (self.new.payload.items ≡ self.old.payload.items) }
         ensures part { OnErr result (law.is_part (held_view self.old).delivery (event_view event.now) ≡ true) }
     {
         if event.is_incoming_part(&self.delivery()) {
@@ -337,40 +415,20 @@ impl HeldDelivery {
         Ok(())
     }
 
-    fn fate_after(&self, rules: &RuleSet, event: &Event, has_consumer: bool) -> Fate
-        ensures { result ≡ kept.fate_next rules.now (event_view event.now) has_consumer (held_view self.now).delivery self.now.fate }
+    /// The address is its own behind the event.
+    fn fate_after(&self, rules: &RuleSet, event: &Event, address: &[u8], has_consumer: bool) -> Fate
+        ensures { result ≡ kept.fate_next rules.now (event_view event.now) address.now has_consumer (held_view self.now).delivery self.now.fate }
     {
         match self.fate {
-            Fate::Arriving if event.completes(&self.delivery()) => self.fate_completed(
+            Fate::Arriving if event.completes(&self.delivery()) => fate_completed(
                 rules,
+                address,
                 has_consumer,
             ),
             Fate::Waiting if event.pairs(&self.delivery()) => Fate::Paired,
             Fate::Waiting if !has_consumer => Fate::Gone,
             fate => fate,
         }
-    }
-
-    fn fate_completed(&self, rules: &RuleSet, has_consumer: bool) -> Fate
-        ensures { result ≡ kept.fate_completed rules.now (held_view self.now).delivery has_consumer }
-    {
-        if self.is_of_multicast(rules) {
-            Fate::Copied
-        } else if has_consumer {
-            Fate::Waiting
-        } else {
-            Fate::Gone
-        }
-    }
-
-    /// Its address goes to all its consumers.
-    fn is_of_multicast(&self, rules: &RuleSet) -> bool
-        ensures { result ≡ is_of_multicast rules.now (held_view self.now).delivery }
-    {
-        matches!(
-            distribution_of(rules, self.delivery().link.address),
-            Distribution::Multicast
-        )
     }
 
     fn completion_after(&self, event: &Event) -> Option<u64>
@@ -416,8 +474,45 @@ impl HeldDelivery {
     }
 }
 
+/// What becomes of one that is completed, for this address.
+fn fate_completed(rules: &RuleSet, address: &[u8], has_consumer: bool) -> Fate
+    ensures { result ≡ kept.fate_completed rules.now address.now has_consumer }
+{
+    if is_multicast(rules, address) {
+        Fate::Copied
+    } else if has_consumer {
+        Fate::Waiting
+    } else {
+        Fate::Gone
+    }
+}
+
+/// What comes to the address goes to all its consumers.
+pub(crate) fn is_multicast(rules: &RuleSet, address: &[u8]) -> bool
+    ensures { result ≡ has_multicast rules.now address.now }
+{
+    matches!(distribution_of(rules, address), Distribution::Multicast)
+}
+
+/// The address behind the event of the delivery that it begins, where what it completes is for this one.
+pub(crate) fn first_address<'a>(
+    event: &Event,
+    delivery: &Incoming<'a>,
+    address: &'a [u8],
+) -> &'a [u8]
+    ensures { result.now ≡ kept.address_behind (event_view event.now) address.now (kept.unbegun (incoming_view delivery.now)) }
+{
+    if !delivery.link.is_anonymous() {
+        delivery.link.address
+    } else if event.completes(delivery) {
+        address
+    } else {
+        &[]
+    }
+}
+
 /// What stands behind the transfer that the event is.
-fn payload_of<'a>(event: &Event<'_, 'a>) -> &'a [u8]
+pub(crate) fn payload_of<'a>(event: &Event<'_, 'a>) -> &'a [u8]
     ensures { result.now ≡ law.part_payload (in_spoken (event_view event.now)) }
 {
     match event.in_spoken() {

@@ -5,10 +5,12 @@
 //! - `groups`: which of those that are kept arrive, are undecided, or wait;
 //! - `touched`: which of them an event may touch;
 //! - `deliveries`: all of them, by number;
+//! - `completed`: the address of the delivery that an event completes;
 //! - `entry_answers`: what their entries answer to the questions of `trace_judge`;
 //! - `group_answers`: what their groups answer to the questions of `trace_judge`.
 #![tactic(auto)]
 
+mod completed;
 mod deliveries;
 mod entry_answers;
 mod group_answers;
@@ -16,6 +18,7 @@ mod groups;
 mod held;
 mod touched;
 
+pub use completed::CompletedAddress;
 pub use deliveries::Deliveries;
 pub use groups::HeldGroups;
 pub use held::{Fate, HeldDelivery};

@@ -1,4 +1,4 @@
-use Rattle.std.proofs.Common.{nat_eq, subst, ◌<◌, ◌≤◌}
+use Rattle.std.proofs.Common.{subst, ◌<◌, ◌≤◌}
 use Rattle.std.proofs.lemmas.Result.{err_from_is_err_and}
 use Rattle.number_groups.specs.Numbers.{is_among}
 use Rattle.number_groups.specs.OctetGroups.{numbers}

@@ -1,12 +1,11 @@
-use Rattle.std.proofs.Common.{◌≡◌, inl, inr, ap, sym, ◌∙◌, ℕ, map, nat_eq, Some, false, if◌then◌else◌, ◌==◌, ◌∷◌}
+use Rattle.std.proofs.Common.{◌≡◌, inl, inr, ap, sym, ◌∙◌, ℕ, map, Some, false, if◌then◌else◌, ◌==◌, ◌∷◌}
 use Rattle.std.proofs.lemmas.Result.{err_from_is_err_and}
 use Rattle.number_groups.specs.Numbers.{is_among}
-use Rattle.trace_events.specs.Words.{is_some_and, or_else}
-use Rattle.trace_events.specs.Incoming.{address_of, incoming_begun}
+use Rattle.trace_events.specs.Words.{or_else}
 use Rattle.trace_events.specs.History.{history}
 use Rattle.trace_events.proofs.Judged.{AreJudged, history-judged}
 use Rattle.trace_values.specs.View.{event_view, link_view}
-use Rattle.state_incoming.specs.Held.{Held, held_begun}
+use Rattle.state_incoming.specs.Held.{Held, address_behind, held_begun, is_begun_served}
 use Rattle.state_incoming.specs.HeldTouched.{is_touched}
 use Rattle.state_incoming.specs.HeldTables.{held_in}
 use Rattle.state_incoming.proofs.EndedKnown.{are-ended, ended-of}
@@ -15,21 +14,22 @@ use Rattle.state_incoming.proofs.TouchedAll.{mid-none, taken}
 use Rattle.state_incoming.proofs.deliveries.Deliveries.take.Goals as goal
 
 pub returns-clause-kept : goal.returns-clause-kept
-returns-clause-kept g c = λ records r next table same ends.
+returns-clause-kept g c = λ records r next table addressed same ends.
     let rules = c.args.rules.now in
     let e = event_view c.args.event.now in
     let past = history rules records in
     let are : AreJudged rules (e ∷ past) = ((r, next.0), history-judged rules records) in
+    let to = c.args.address.now in
     let has = g.A.Addresses.has_one c.args.addresses.now in
     let ended = map link_view c.args.ended.now in
     let old = held_in c.args.self.now in
     let mid = held_in c.touch_all.new.self in
     let all = is_among c.in_ok-touched.touched in
     let of = ended-of rules e past has ended old table.0 (are-ended rules e past are has same ended ends) in
-    let off : (n : ℕ) (x : Held) → old n ≡ Some x → all n ≡ false → is_touched e (has (address_of x.delivery)) x ≡ false = λ n x at none. found c.args.self.now.groups old table.1 n x at has ended e of (sym (c.in_ok-touched.ensures.found n) ∙ none) in
-    let put : (n : ℕ) → held_in c.begin.new.self n ≡ (if e.number == n then or_else (held_begun rules e (is_some_and (incoming_begun e) (λ d. has (address_of d)))) (mid n) else mid n) = λ n. c.in_ok-begin.ensures.begun n ∙ ap (λ b. if e.number == n then or_else (held_begun rules e b) (mid n) else mid n) c.begins_served-has_consumer.ensures in (
-      taken rules e past are next.1 has same old mid (held_in c.begin.new.self) all table.0 off c.in_ok-touch_all.ensures.touched put,
-      c.in_ok-begin.ensures.grouped (c.in_ok-touch_all.ensures.grouped table.1) (mid-none rules e past are next.1 has same old mid (held_in c.begin.new.self) all table.0 off c.in_ok-touch_all.ensures.touched put),
+    let off : (n : ℕ) (x : Held) → old n ≡ Some x → all n ≡ false → is_touched e (has (address_behind e to x)) x ≡ false = λ n x at none. found c.args.self.now.groups old table.1 n x at has ended e of to (sym (c.in_ok-touched.ensures.found n) ∙ none) in
+    let put : (n : ℕ) → held_in c.begin.new.self n ≡ (if e.number == n then or_else (held_begun rules e to (is_begun_served e to has)) (mid n) else mid n) = λ n. c.in_ok-begin.ensures.begun n ∙ ap (λ b. if e.number == n then or_else (held_begun rules e to b) (mid n) else mid n) c.begins_served-has_consumer.ensures in (
+      taken rules e past are next.1 to addressed has same old mid (held_in c.begin.new.self) all table.0 off c.in_ok-touch_all.ensures.touched put,
+      c.in_ok-begin.ensures.grouped (c.in_ok-touch_all.ensures.grouped table.1) (mid-none rules e past are next.1 to addressed has same old mid (held_in c.begin.new.self) all table.0 off c.in_ok-touch_all.ensures.touched put),
     )
 
 pub returns-in_err-touched-clause-refused : goal.returns-in_err-touched-clause-refused

@@ -1,4 +1,4 @@
-use Rattle.std.proofs.Common.{◌≡◌, ap, ◌∙◌, ℕ, nat_eq, arith, option_and_then, if◌then◌else◌, ◌==◌}
+use Rattle.std.proofs.Common.{◌≡◌, ap, ◌∙◌, ℕ, arith, option_and_then, if◌then◌else◌, ◌==◌}
 use Rattle.std.proofs.lemmas.Result.{err_from_is_err_and}
 use Rattle.number_groups.specs.Numbers.{is_among}
 use Rattle.trace_values.specs.View.{event_view}
@@ -8,7 +8,7 @@ use Rattle.state_incoming.proofs.TouchedAll.{nothing-moved, all-moved, still-wit
 use Rattle.state_incoming.proofs.deliveries.Deliveries.touch_all.Goals as goal
 
 pub loop-number-init : goal.loop-number-init
-loop-number-init g c = ((λ n is. is), (λ n. nothing-moved c.args.rules.now (event_view c.args.event.now) (g.A.Addresses.has_one c.args.addresses.now) (held_in c.args.self.now n) (is_among c.args.touched n)), (λ grouped. grouped))
+loop-number-init g c = ((λ n is. is), (λ n. nothing-moved c.args.rules.now (event_view c.args.event.now) c.args.address.now (g.A.Addresses.has_one c.args.addresses.now) (held_in c.args.self.now n) (is_among c.args.touched n)), (λ grouped. grouped))
 
 pub loop-number-smaller : goal.loop-number-smaller
 loop-number-smaller g c = let len = c.in-Some.ensures.len in omega (arith, len)
@@ -20,10 +20,10 @@ loop-number-preserved g c =
     let has = g.A.Addresses.has_one c.args.addresses.now in
     let left = popped-in c.loop-number.touched c.pop.new.self c.in-Some.number c.in-Some.ensures.last in
     let moved : (n : ℕ) → held_in c.touch.new.self n ≡ _ = λ n. c.in_ok-touch.ensures.touched n
-    ∙ ap (λ b. if c.in-Some.number == n then option_and_then (held_next rules e b) (held_in c.loop-number.self n) else held_in c.loop-number.self n) c.is_served-has_consumer.ensures in (
-      still-within rules e has (held_in c.args.self.now) (held_in c.loop-number.self) (held_in c.touch.new.self) (is_among c.args.touched) (is_among c.loop-number.touched) (is_among c.pop.new.self) c.in-Some.number
+    ∙ ap (λ b. if c.in-Some.number == n then option_and_then (held_next rules e c.args.address.now b) (held_in c.loop-number.self n) else held_in c.loop-number.self n) c.is_served-has_consumer.ensures in (
+      still-within rules e c.args.address.now has (held_in c.args.self.now) (held_in c.loop-number.self) (held_in c.touch.new.self) (is_among c.args.touched) (is_among c.loop-number.touched) (is_among c.pop.new.self) c.in-Some.number
           c.loop-number.invariant.0 c.loop-number.invariant.1 c.in-Some.ensures.left left moved,
-      one-more rules e has (held_in c.args.self.now) (held_in c.loop-number.self) (held_in c.touch.new.self) (is_among c.args.touched) (is_among c.loop-number.touched) (is_among c.pop.new.self) c.in-Some.number
+      one-more rules e c.args.address.now has (held_in c.args.self.now) (held_in c.loop-number.self) (held_in c.touch.new.self) (is_among c.args.touched) (is_among c.loop-number.touched) (is_among c.pop.new.self) c.in-Some.number
           c.loop-number.invariant.0 c.loop-number.invariant.1 c.in-Some.ensures.left left moved,
       λ grouped. c.in_ok-touch.ensures.grouped (c.loop-number.invariant.2 grouped),
     )
@@ -31,7 +31,7 @@ loop-number-preserved g c =
 pub returns-clause-touched : goal.returns-clause-touched
 returns-clause-touched g c = λ n.
     let none = none-left c.loop-number.touched n c.in_default.ensures.found.1 in
-    all-moved c.args.rules.now (event_view c.args.event.now) (g.A.Addresses.has_one c.args.addresses.now) (held_in c.args.self.now n) (is_among c.args.touched n) (is_among c.loop-number.touched n) _ none (c.loop-number.invariant.1 n)
+    all-moved c.args.rules.now (event_view c.args.event.now) c.args.address.now (g.A.Addresses.has_one c.args.addresses.now) (held_in c.args.self.now n) (is_among c.args.touched n) (is_among c.loop-number.touched n) _ none (c.loop-number.invariant.1 n)
 
 pub returns-clause-grouped : goal.returns-clause-grouped
 returns-clause-grouped g c = c.loop-number.invariant.2

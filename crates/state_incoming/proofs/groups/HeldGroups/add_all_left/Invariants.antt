@@ -1,4 +1,4 @@
-use Rattle.std.proofs.Common.{◌≡◌, ℕ, ◌||◌, nat_eq, take}
+use Rattle.std.proofs.Common.{◌≡◌, ℕ, ◌||◌, take}
 use Rattle.std.specs.List.{list_any}
 use Rattle.number_groups.specs.Numbers.{is_among}
 use Rattle.state_incoming.specs.Touched as law

@@ -5,4 +5,4 @@ use Rattle.state_incoming.proofs.HeldKnown.{begins}
 use Rattle.state_incoming.proofs.held.HeldDelivery.begin.Goals as goal
 
 pub returns-clause-known : goal.returns-clause-known
-returns-clause-known c = begins c.args.rules.now (event_view c.args.event.now) c.args.has_consumer (option_map held_view c.in_ok-held.held) c.in_ok-held.ensures.begun
+returns-clause-known c = begins c.args.rules.now (event_view c.args.event.now) c.args.address.now c.args.has_consumer (option_map held_view c.in_ok-held.held) c.in_ok-held.ensures.begun
