@@ -4,6 +4,7 @@ ghost use Rattle.std.specs.Prelude.{◌≡◌, ◌∷◌, List, [], OnOk};
 ghost use Rattle.capture_form.specs.Rules.{RuleSet};
 ghost use Rattle.capture_form.specs.declared.records.Record.{Record};
 ghost use Rattle.trace_events.specs.History.{history};
+ghost use Rattle.state_addresses.specs.Addressed.{IsAddressed};
 ghost use Rattle.state_tables.specs.Connections.{IsLawfulNext};
 ghost use Rattle.state_answers.specs.Tables.{AreTables, StandFor, entries_of};
 ghost use Rattle.trace_values.specs.View.{Events, event_view};
@@ -105,20 +106,45 @@ impl Tables {
             AreTables rules.now self.old (history rules.now records) →
             AreTables rules.now self.new (event_view event.now ∷ history rules.now records)) }
     {
+        let completed = self.deliveries.completed_for(event);
+        self.take_addressed(rules, event, completed.octets())?;
+        Ok(())
+    }
+
+    /// The event follows those so far; what it completes is for this address, as `Deliveries::completed_for` tells.
+    ///
+    /// # Errors
+    ///
+    /// Memory was refused; then the tables may agree with no records any more.
+    pub fn take_addressed(
+        &mut self,
+        rules: &RuleSet,
+        event: &Event,
+        address: &[u8],
+    ) -> Result<(), AllocError>
+        ensures { OnOk result ((records : List Record) (r : Record) → IsLawfulNext rules.now records r (event_view event.now) →
+            IsAddressed (event_view event.now) (history rules.now records) address.now →
+            AreTables rules.now self.old (history rules.now records) →
+            AreTables rules.now self.new (event_view event.now ∷ history rules.now records)) }
+    {
         let ended = self.links.ended(self.alloc, event)?;
         let receivers = receivers_of(
             self.alloc,
             rules,
             event,
+            address,
             &self.consumers,
             &self.consumer_links,
             &self.links,
         )?;
-        let due = self.copies.due_to(self.alloc, rules, event, &receivers)?;
+        let due = self
+            .copies
+            .due_to(self.alloc, rules, event, address, &receivers)?;
         self.consumers.take(event, &ended)?;
-        self.deliveries.take(rules, event, &ended, &self.consumers)?;
+        self.deliveries
+            .take(rules, event, address, &ended, &self.consumers)?;
         self.consumer_links.take(event, &ended)?;
-        self.copies.take(rules, event, &ended, &receivers)?;
+        self.copies.take(rules, event, address, &ended, &receivers)?;
         let given = self.sent.take(event, &ended)?;
         self.verdicts.take(event, &due, &given, &ended)?;
         drop(ended);

@@ -35,6 +35,10 @@ impl<'t> Carriage<'t> for Looked<'t> {
             .is_payload_so_far(outgoing.number, more, payload, octets)
     }
 
+    fn is_for(&self, delivery: &Incoming, address: &[u8]) -> bool {
+        self.deliveries.is_for(delivery, address)
+    }
+
     fn is_paired(&self, delivery: &Incoming) -> bool {
         self.sent.is_paired(delivery)
     }

@@ -32,6 +32,10 @@ impl<'t> Outcomes<'t> for Looked<'t> {
         self.deliveries.is_closed(delivery)
     }
 
+    fn is_of_multicast(&self, rules: &RuleSet, delivery: &Incoming) -> bool {
+        self.deliveries.is_of_multicast(rules, delivery)
+    }
+
     fn is_gone(&self, _rules: &RuleSet, delivery: &Incoming) -> bool {
         self.deliveries.is_gone(delivery)
     }
