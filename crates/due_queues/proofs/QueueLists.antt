@@ -10,11 +10,12 @@ use Rattle.trace_events.specs.Event.{Event, Incoming}
 use Rattle.trace_events.specs.Incoming.{address_of, completed_by, incoming_at, incoming_deliveries, is_complete}
 use Rattle.trace_events.specs.Outgoing.{is_paired}
 use Rattle.trace_events.specs.Queue.{stays, completed_deliveries, waiting_queue, waits_at}
+use Rattle.trace_events.specs.Address.{has_multicast}
 use Rattle.trace_events.specs.Waiting.{is_of_multicast, is_waiting, always_had_consumer}
 use Rattle.trace_events.proofs.Judged.{AreJudged}
-use Rattle.trace_events.proofs.QueueSteps.{Each, completed-complete, filter-cons, filter-reverse, is_waiting-stays, one-alone}
+use Rattle.trace_events.proofs.QueueSteps.{Each, completed-complete, each-map, filter-cons, filter-each, filter-reverse, is_waiting-stays, one-alone}
 use Rattle.trace_events.proofs.StepWords.{filter-both}
-use Rattle.trace_clauses.proofs.WaitingQueue.{contains_cases, contains_first, contains_later, contains_none, completed_once, in_filter, in_reverse}
+use Rattle.trace_clauses.proofs.WaitingQueue.{contains_cases, contains_first, contains_later, contains_none, address_stays, completed_once, in_filter, in_reverse}
 use Rattle.due_queues.specs.Queues.{is_of, completed_at, IsQueue}
 
 -- ---- the queue is those of all complete ones that wait
@@ -26,19 +27,40 @@ waits-bits false many complete paired always = refl
 
 pub queue-is : (rules : RuleSet) (address : List ℕ) (past : List Event) → waiting_queue rules address past ≡ filter (λ d. is_waiting rules d past) (completed_at rules address past)
 queue-is rules address past =
-    ap reverse (filter-both (waits_at rules address past) (is_of rules address) (λ d. is_waiting rules d past)
-    (λ d. waits-bits (bytes_eq (address_of d) address) (is_of_multicast rules d) (is_complete d past) (is_paired d past) (always_had_consumer d past)) (completed_deliveries past))
-    ∙ filter-reverse (λ d. is_waiting rules d past) (filter (is_of rules address) (completed_deliveries past))
+    ap reverse (filter-both (waits_at rules address past) (is_of rules address past) (λ d. is_waiting rules d past)
+    (λ d. waits-bits (bytes_eq (address_of d past) address) (is_of_multicast rules d past) (is_complete d past) (is_paired d past) (always_had_consumer d past)) (completed_deliveries past))
+    ∙ filter-reverse (λ d. is_waiting rules d past) (filter (is_of rules address past) (completed_deliveries past))
 
 -- ---- one event
 
-pub completed_at-step : (rules : RuleSet) (address : List ℕ) (e : Event) (past : List Event)
-    → completed_at rules address (e ∷ past) ≡ completed_at rules address past ++ filter (is_of rules address) (cons_option (completed_by e) [])
-completed_at-step rules address e past =
-    let test = is_of rules address in
+and-nothing : (b : Bool) → b ≡ b && true
+and-nothing true = refl
+and-nothing false = refl
+
+all-pass : {A : Type 0} (xs : List A) → filter (λ x. true) xs ≡ xs
+all-pass [] = refl
+all-pass (x ∷ xs) = ap (λ ys. x ∷ ys) (all-pass xs)
+
+-- complete ones stay of their address
+pub of-stays : (rules : RuleSet) (address : List ℕ) (e : Event) (past : List Event) → AreJudged rules (e ∷ past)
+    → filter (is_of rules address (e ∷ past)) (completed_deliveries past) ≡ filter (is_of rules address past) (completed_deliveries past)
+of-stays rules address e past are =
+    let now = is_of rules address (e ∷ past) in
+    let before = is_of rules address past in
+    filter-each now before (λ d. true) (completed_deliveries past)
+    (each-map (λ (d : Incoming). is_complete d past ≡ true) (λ d. now d ≡ before d && true)
+    (λ d done. ap (λ own. bytes_eq own address && not (has_multicast rules own)) (address_stays rules e past are d done) ∙ and-nothing (before d)) (completed_deliveries past)
+    (completed-complete past))
+    ∙ all-pass (filter before (completed_deliveries past))
+
+pub completed_at-step : (rules : RuleSet) (address : List ℕ) (e : Event) (past : List Event) → AreJudged rules (e ∷ past)
+    → completed_at rules address (e ∷ past) ≡ completed_at rules address past ++ filter (is_of rules address (e ∷ past)) (cons_option (completed_by e) [])
+completed_at-step rules address e past are =
+    let test = is_of rules address (e ∷ past) in
     ap reverse (filter-cons test (completed_by e) (completed_deliveries past))
     ∙ (reverse-append (filter test (cons_option (completed_by e) [])) (filter test (completed_deliveries past))
-    ∙ ap (λ xs. reverse (filter test (completed_deliveries past)) ++ xs) (one-alone test (completed_by e)))
+    ∙ (ap (λ xs. reverse (filter test (completed_deliveries past)) ++ xs) (one-alone test (completed_by e))
+    ∙ ap (λ xs. reverse xs ++ filter test (cons_option (completed_by e) [])) (of-stays rules address e past are)))
 
 each-in : {A : Type 0} (P : A → Type 0) (xs : List A) (x : A) → Each P xs → Contains xs x → P x
 each-in P [] x each there = contains_none x there
@@ -49,16 +71,16 @@ each-in P (y ∷ ys) x each there = elim (contains_cases y ys x there) [
 
 listed-complete : (rules : RuleSet) (address : List ℕ) (past : List Event) (d : Incoming) → Contains (completed_at rules address past) d → Contains (completed_deliveries past) d
 listed-complete rules address past d there =
-    (in_filter (is_of rules address) (completed_deliveries past) d (in_reverse (filter (is_of rules address) (completed_deliveries past)) d there)).0
+    (in_filter (is_of rules address past) (completed_deliveries past) d (in_reverse (filter (is_of rules address past) (completed_deliveries past)) d there)).0
 
 pub queue-step : (rules : RuleSet) (e : Event) (past : List Event) → AreJudged rules (e ∷ past) → (address numbers later : List ℕ) → IsQueue rules past address numbers
-    → later ≡ numbers ++ map (λ d. d.number) (filter (is_of rules address) (cons_option (completed_by e) [])) → IsQueue rules (e ∷ past) address later
+    → later ≡ numbers ++ map (λ d. d.number) (filter (is_of rules address (e ∷ past)) (cons_option (completed_by e) [])) → IsQueue rules (e ∷ past) address later
 queue-step rules e past are address numbers later queue is =
-    let new = filter (is_of rules address) (cons_option (completed_by e) []) in
+    let new = filter (is_of rules address (e ∷ past)) (cons_option (completed_by e) []) in
     record {
       dropped = queue.dropped;
       kept = queue.kept ++ new;
-      all = completed_at-step rules address e past ∙ (ap (λ xs. xs ++ new) queue.all ∙ append_assoc queue.dropped queue.kept new);
+      all = completed_at-step rules address e past are ∙ (ap (λ xs. xs ++ new) queue.all ∙ append_assoc queue.dropped queue.kept new);
       over = λ d there.
           let listed = listed-complete rules address past d (subst (λ xs. Contains xs d) (sym queue.all) (Contains-append_left queue.dropped queue.kept d there)) in
           let done = each-in (λ (x : Incoming). is_complete x past ≡ true) (completed_deliveries past) d (completed-complete past) listed in
@@ -137,7 +159,7 @@ pub record IsFirst (rules : RuleSet) (past : List Event) (address : List ℕ) (n
   pub others : List Incoming
   pub number : delivery.number ≡ n
   pub listed : Contains (completed_deliveries past) delivery
-  pub here : is_of rules address delivery ≡ true
+  pub here : is_of rules address past delivery ≡ true
   pub queue : is_waiting rules delivery past ≡ true → waiting_queue rules address past ≡ delivery ∷ others
 
 pub first-of : (rules : RuleSet) (past : List Event) (address numbers : List ℕ) (n : ℕ) (rest : List ℕ) → IsQueue rules past address numbers → numbers ≡ n ∷ rest → IsFirst rules past address n
@@ -151,7 +173,7 @@ first-of rules past address numbers n rest queue is = by queue.kept refl (sym qu
       number = cc;
       listed = listed-complete rules address past x
           (subst (λ ys. Contains ys x) (sym (queue.all ∙ ap (λ ys. queue.dropped ++ ys) own)) (Contains-append_right queue.dropped (x ∷ xs) x (contains_first x xs)));
-      here = (in_filter (is_of rules address) (completed_deliveries past) x (in_reverse (filter (is_of rules address) (completed_deliveries past)) x
+      here = (in_filter (is_of rules address past) (completed_deliveries past) x (in_reverse (filter (is_of rules address past) (completed_deliveries past)) x
           (subst (λ ys. Contains ys x) (sym (queue.all ∙ ap (λ ys. queue.dropped ++ ys) own)) (Contains-append_right queue.dropped (x ∷ xs) x (contains_first x xs))))).1;
       queue = λ waits. queue-kept rules past address numbers queue
           ∙ (ap (filter (λ d. is_waiting rules d past)) own ∙ ap (λ b. if b then x ∷ filter (λ d. is_waiting rules d past) xs else filter (λ d. is_waiting rules d past) xs) waits);

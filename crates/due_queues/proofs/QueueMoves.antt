@@ -10,6 +10,7 @@ use Rattle.capture_form.specs.Rules.{RuleSet}
 use Rattle.number_groups.proofs.Octets.{alike, under}
 use Rattle.trace_events.specs.Words.{is_some_and, where_passes}
 use Rattle.trace_events.specs.Event.{Event, Incoming}
+use Rattle.trace_events.specs.Address.{has_multicast}
 use Rattle.trace_events.specs.Incoming.{address_of, incoming_at, is_complete}
 use Rattle.trace_events.specs.Outgoing.{is_paired}
 use Rattle.trace_events.specs.Queue.{completed_deliveries}
@@ -42,29 +43,33 @@ append-nil [] = refl
 append-nil (x ∷ xs) = ap (λ ys. x ∷ ys) (append-nil xs)
 
 -- what the event completes is of its address alone, and of none where it goes to all consumers
-pub unpushed-is : (rules : RuleSet) (at xs : List ℕ) (o : Option Incoming) → None ≡ where_passes (λ d. not (is_of_multicast rules d)) o
-    → xs ≡ xs ++ map (λ d. d.number) (filter (is_of rules at) (cons_option o []))
-unpushed-is rules at xs None none = append-nil xs
-unpushed-is rules at xs (Some d) none = by (is_of_multicast rules d) (bytes_eq (address_of d) at) none
+pub unpushed-is : (rules : RuleSet) (at xs : List ℕ) (past : List Event) (address : List ℕ) (o : Option Incoming) → IfSome o (λ d. address_of d past ≡ address)
+    → None ≡ where_passes (λ d. not (has_multicast rules address)) o → xs ≡ xs ++ map (λ d. d.number) (filter (is_of rules at past) (cons_option o []))
+unpushed-is rules at xs past address None own none = append-nil xs
+unpushed-is rules at xs past address (Some d) own none =
+    by (is_of_multicast rules d past) (bytes_eq (address_of d past) at) (none ∙ ap (λ ys. if not (has_multicast rules ys) then Some d else None) (sym own))
   where
     by : (many here : Bool) → None ≡ (if not many then Some d else None) → xs ≡ xs ++ map (λ (d : Incoming). d.number) (if here && not many then d ∷ [] else [])
     by true true none = append-nil xs
     by true false none = append-nil xs
     by false here none = absurd cc
 
-pub pushed-is : (rules : RuleSet) (at xs : List ℕ) (o : Option Incoming) (d : Incoming) → Some d ≡ where_passes (λ d. not (is_of_multicast rules d)) o
-    → (if bytes_eq (address_of d) at then xs ++ d.number ∷ [] else xs) ≡ xs ++ map (λ d. d.number) (filter (is_of rules at) (cons_option o []))
-pushed-is rules at xs None d is = absurd cc
-pushed-is rules at xs (Some k) d is = by (is_of_multicast rules k) is
+pub pushed-is : (rules : RuleSet) (at xs : List ℕ) (past : List Event) (address : List ℕ) (o : Option Incoming) (d : Incoming) → IfSome o (λ k. address_of k past ≡ address)
+    → Some d ≡ where_passes (λ d. not (has_multicast rules address)) o
+    → (if bytes_eq address at then xs ++ d.number ∷ [] else xs) ≡ xs ++ map (λ d. d.number) (filter (is_of rules at past) (cons_option o []))
+pushed-is rules at xs past address None d own is = absurd cc
+pushed-is rules at xs past address (Some k) d own is =
+    ap (λ ys. if bytes_eq ys at then xs ++ d.number ∷ [] else xs) (sym own)
+    ∙ by (is_of_multicast rules k past) (is ∙ ap (λ ys. if not (has_multicast rules ys) then Some k else None) (sym own))
   where
     named : (here : Bool) → (if here then xs ++ k.number ∷ [] else xs) ≡ xs ++ map (λ (d : Incoming). d.number) (if here && true then k ∷ [] else [])
     named true = refl
     named false = append-nil xs
 
     by : (many : Bool) → Some d ≡ (if not many then Some k else None)
-        → (if bytes_eq (address_of d) at then xs ++ d.number ∷ [] else xs) ≡ xs ++ map (λ (d : Incoming). d.number) (if bytes_eq (address_of k) at && not many then k ∷ [] else [])
+        → (if bytes_eq (address_of k past) at then xs ++ d.number ∷ [] else xs) ≡ xs ++ map (λ (d : Incoming). d.number) (if bytes_eq (address_of k past) at && not many then k ∷ [] else [])
     by true is = absurd cc
-    by false is = let same : d ≡ k = cc in ap (λ (x : Incoming). if bytes_eq (address_of x) at then xs ++ x.number ∷ [] else xs) same ∙ named (bytes_eq (address_of k) at)
+    by false is = let same : d ≡ k = cc in ap (λ (x : Incoming). if bytes_eq (address_of k past) at then xs ++ x.number ∷ [] else xs) same ∙ named (bytes_eq (address_of k past) at)
 
 pub none-queued : (rules : RuleSet) (address numbers : List ℕ) → numbers ≡ [] → IsQueue rules [] address numbers
 none-queued rules address numbers none = record { dropped = []; kept = []; all = refl; over = λ d there. contains_none d there; are = none }
@@ -121,7 +126,7 @@ module _ (rules : RuleSet) (past : List Event) (are : AreJudged rules past) (kep
     where
       by : (h : Bool) → is_held rules past d ≡ h → (w : Bool) → is_waiting rules d past ≡ w
           → is_some_and (option_map (held rules past) (if h then Some d else None)) (λ (x : Held). says_waiting x.fate) ≡ is_waiting rules d past
-      by true is w other = fate-bits (is_complete d past) (is_of_multicast rules d) (is_paired d past) (always_had_consumer d past)
+      by true is w other = fate-bits (is_complete d past) (is_of_multicast rules d past) (is_paired d past) (always_had_consumer d past)
       by false is false waits = sym waits
       by false is true waits = let never : true ≡ false = sym (waiting-kept rules past d waits) ∙ is in absurd cc
 
@@ -145,7 +150,7 @@ module _ (rules : RuleSet) (past : List Event) (are : AreJudged rules past) (kep
 
   -- the first number of a queue, if its delivery waits
   pub chosen : (address numbers : List ℕ) (n : ℕ) → IsQueue rules past address numbers → says n ≡ true → slice_get numbers 0 ≡ Some n → (o : Option Incoming) → o ≡ option_map (λ x. x.delivery) (kept n)
-      → IfSome o (λ d. (address_of d ≡ address) × (incoming_at d.number past ≡ Some d) × (is_next_waiting rules past d ≡ true))
+      → IfSome o (λ d. (address_of d past ≡ address) × (incoming_at d.number past ≡ Some d) × (is_next_waiting rules past d ≡ true))
   chosen address numbers n queue says-so first o is =
       let item = first-item numbers n first in
       let one : IsFirst rules past address n = first-of rules past address numbers n item.0 queue item.1 in
@@ -156,9 +161,9 @@ module _ (rules : RuleSet) (past : List Event) (are : AreJudged rules past) (kep
       ∙ (were d.number
       ∙ (ap (λ o. option_map (held rules past) (where_passes (is_held rules past) o)) (listed-at d one.listed)
       ∙ ap (λ b. option_map (held rules past) (if b then Some d else None)) (waiting-kept rules past d waits))) in
-      subst (λ (o : Option Incoming). IfSome o (λ d. (address_of d ≡ address) × (incoming_at d.number past ≡ Some d) × (is_next_waiting rules past d ≡ true)))
+      subst (λ (o : Option Incoming). IfSome o (λ d. (address_of d past ≡ address) × (incoming_at d.number past ≡ Some d) × (is_next_waiting rules past d ≡ true)))
       (sym (is ∙ ap (option_map (λ (x : Held). x.delivery)) entry)) (
-        (bytes_eq-Decides (address_of d) address).0 (and_first (bytes_eq (address_of d) address) (not (is_of_multicast rules d)) one.here),
+        (bytes_eq-Decides (address_of d past) address).0 (and_first (bytes_eq (address_of d past) address) (not (is_of_multicast rules d past)) one.here),
         listed-at d one.listed,
         first_waiting-next rules past are address d one.others (one.queue waits),
       )

@@ -25,13 +25,13 @@ queue_in table address = queued (get_by (λ kept. bytes_eq address kept.items) t
 
 -- ---- what the law says
 
--- a delivery of the address that goes to one consumer
-abbrev pub is_of : RuleSet → List ℕ → Incoming → Bool
-is_of rules address d = bytes_eq (address_of d) address && not (is_of_multicast rules d)
+-- a delivery of the address that goes to one consumer; asked of complete ones
+abbrev pub is_of : RuleSet → List ℕ → List Event → Incoming → Bool
+is_of rules address past d = bytes_eq (address_of d past) address && not (is_of_multicast rules d past)
 
 -- all of them that are complete, the first completed first
 abbrev pub completed_at : RuleSet → List ℕ → List Event → List Incoming
-completed_at rules address past = reverse (filter (is_of rules address) (completed_deliveries past))
+completed_at rules address past = reverse (filter (is_of rules address past) (completed_deliveries past))
 
 -- these are their numbers, without some in front that wait no more
 pub record IsQueue (rules : RuleSet) (past : List Event) (address : List ℕ) (numbers : List ℕ) : Type 0 where

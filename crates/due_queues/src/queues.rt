@@ -8,10 +8,11 @@ ghost use Rattle.trace_events.specs.Words.{where_passes};
 ghost use Rattle.trace_events.specs.Incoming as received;
 ghost use Rattle.trace_events.specs.Incoming.{completed_by};
 ghost use Rattle.trace_events.specs.Queue.{waiting_queue};
-ghost use Rattle.trace_events.specs.Waiting.{is_of_multicast};
+ghost use Rattle.trace_events.specs.Address as addresses;
 ghost use Rattle.trace_events.specs.History.{history};
 ghost use Rattle.trace_duties.specs.Diligent.{is_next_waiting};
 ghost use Rattle.trace_values.specs.View.{event_view, incoming_view};
+ghost use Rattle.state_addresses.specs.Addressed.{IsAddressed};
 ghost use Rattle.state_tables.specs.Connections.{IsLawfulNext};
 ghost use Rattle.due_queues.specs.Picks.{StandsFor};
 ghost use Rattle.due_queues.specs.Queues.{HaveQueues, IsPushed, IsShorter, queued, waits_in};
@@ -32,12 +33,12 @@ pub struct Queues {
     entries: IndexMap<Vec<u8>, VecDeque<u64>>,
 }
 
-/// The delivery that the event completes, if it goes to one consumer.
-fn completed<'a>(rules: &RuleSet, event: &Event<'a, '_>) -> Option<Incoming<'a>>
-    ensures { option_map incoming_view result ≡ where_passes (λ d. not (is_of_multicast rules.now d)) (completed_by (event_view event.now)) }
+/// The delivery that the event completes, which is for this address, if it goes to one consumer.
+fn completed<'a>(rules: &RuleSet, event: &Event<'a, '_>, address: &[u8]) -> Option<Incoming<'a>>
+    ensures { option_map incoming_view result ≡ where_passes (λ d. not (addresses.has_multicast rules.now address.now)) (completed_by (event_view event.now)) }
 {
     match event.completed_by() {
-        Some(delivery) if !has_multicast(rules, delivery.link.address) => Some(delivery),
+        Some(delivery) if !has_multicast(rules, address) => Some(delivery),
         _ => None,
     }
 }
@@ -78,20 +79,26 @@ impl Queues {
         }
     }
 
-    /// The event follows those so far.
+    /// The event follows those so far. What it completes is for this address.
     ///
     /// # Errors
     ///
     /// Memory was refused; then the queues may agree with no records any more.
-    pub fn follow(&mut self, rules: &RuleSet, event: &Event) -> Result<(), AllocError>
+    pub fn follow(
+        &mut self,
+        rules: &RuleSet,
+        event: &Event,
+        address: &[u8],
+    ) -> Result<(), AllocError>
         ensures { OnOk result ((records : List Record) (r : Record) → IsLawfulNext rules.now records r (event_view event.now) →
+            IsAddressed (event_view event.now) (history rules.now records) address.now →
             HaveQueues rules.now self.old (history rules.now records) →
             HaveQueues rules.now self.new (event_view event.now ∷ history rules.now records)) }
     {
-        let Some(delivery) = completed(rules, event) else {
+        let Some(delivery) = completed(rules, event, address) else {
             return Ok(());
         };
-        self.push(delivery.link.address, delivery.number)?;
+        self.push(address, delivery.number)?;
         Ok(())
     }
 
@@ -123,7 +130,7 @@ impl Queues {
         ensures kept { (rules : RuleSet) (records : List Record) → StandsFor rules looked.now (history rules records) →
             HaveQueues rules self.old (history rules records) → HaveQueues rules self.new (history rules records) }
         ensures first { (rules : RuleSet) (records : List Record) → StandsFor rules looked.now (history rules records) →
-            HaveQueues rules self.old (history rules records) → IfSome (option_map incoming_view result) (λ d. (received.address_of d ≡ address.now)
+            HaveQueues rules self.old (history rules records) → IfSome (option_map incoming_view result) (λ d. (received.address_of d (history rules records) ≡ address.now)
             × (received.incoming_at d.number (history rules records) ≡ Some d) × (is_next_waiting rules (history rules records) d ≡ true)) }
         ensures none { (rules : RuleSet) (records : List Record) → StandsFor rules looked.now (history rules records) →
             HaveQueues rules self.old (history rules records) → result ≡ None → waiting_queue rules address.now (history rules records) ≡ [] }

@@ -1,7 +1,7 @@
 use Rattle.std.proofs.Common.{◌≡◌, ◌∙◌, ◌∷◌, ap, sym, Option, None, Some, not, option_map}
 use Rattle.trace_events.specs.Words.{where_passes}
 use Rattle.trace_events.specs.Incoming.{completed_by}
-use Rattle.trace_events.specs.Waiting.{is_of_multicast}
+use Rattle.trace_events.specs.Address.{has_multicast}
 use Rattle.trace_events.specs.History.{history}
 use Rattle.trace_events.proofs.Judged.{AreJudged, history-judged}
 use Rattle.trace_values.specs.View.{event_view, incoming_view}
@@ -11,22 +11,22 @@ use Rattle.due_queues.proofs.QueueMoves.{pushed-is, unpushed-is}
 use Rattle.due_queues.proofs.queues.Queues.follow.Goals as goal
 
 pub returns-in_default : goal.returns-in_default
-returns-in_default c = λ records r next queues at.
+returns-in_default c = λ records r next own queues at.
     let rules = c.args.rules.now in
     let e = event_view c.args.event.now in
     let past = history rules records in
     let are : AreJudged rules (e ∷ past) = ((r, next.0), history-judged rules records) in
-    let none : None ≡ where_passes (λ d. not (is_of_multicast rules d)) (completed_by e) = sym (ap (option_map incoming_view) c.in_default.is) ∙ c.completed.ensures in
+    let none : None ≡ where_passes (λ d. not (has_multicast rules c.args.address.now)) (completed_by e) = sym (ap (option_map incoming_view) c.in_default.is) ∙ c.completed.ensures in
     let numbers = queue_in c.args.self.now at in
-    queue-step rules e past are at numbers numbers (queues at) (unpushed-is rules at numbers (completed_by e) none)
+    queue-step rules e past are at numbers numbers (queues at) (unpushed-is rules at numbers (e ∷ past) c.args.address.now (completed_by e) own none)
 
 pub returns : goal.returns
-returns c = λ records r next queues at.
+returns c = λ records r next own queues at.
     let rules = c.args.rules.now in
     let e = event_view c.args.event.now in
     let past = history rules records in
     let are : AreJudged rules (e ∷ past) = ((r, next.0), history-judged rules records) in
     let d = incoming_view c.in-Some.delivery in
-    let some : Some d ≡ where_passes (λ d. not (is_of_multicast rules d)) (completed_by e) = sym (ap (option_map incoming_view) c.in-Some.is) ∙ c.completed.ensures in
+    let some : Some d ≡ where_passes (λ d. not (has_multicast rules c.args.address.now)) (completed_by e) = sym (ap (option_map incoming_view) c.in-Some.is) ∙ c.completed.ensures in
     let numbers = queue_in c.args.self.now at in
-    queue-step rules e past are at numbers (queue_in c.push.new.self at) (queues at) (c.in_ok-push.ensures at ∙ pushed-is rules at numbers (completed_by e) d some)
+    queue-step rules e past are at numbers (queue_in c.push.new.self at) (queues at) (c.in_ok-push.ensures at ∙ pushed-is rules at numbers (e ∷ past) c.args.address.now (completed_by e) d own some)
