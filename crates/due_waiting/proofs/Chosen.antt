@@ -73,29 +73,29 @@ picks-some Multicast test address events n anycast there passes none = absurd cc
 module _ (rules : RuleSet) (past : List Event) (are : AreJudged rules past) where
   -- where a delivery may begin, a link is picked
   module _ (d : Incoming) (l : Link) (h : MayBegin rules past d l) where
-    of-address : is_consumer_of (address_of d) past l ≡ true
+    of-address : is_consumer_of (address_of d past) past l ≡ true
     of-address =
-        both (is_consumer l && bytes_eq l.address (address_of d)) (is_live past l)
-        (both (is_consumer l) (bytes_eq l.address (address_of d)) h.consumer ((bytes_eq-Decides l.address (address_of d)).1 h.address)) (link-lives past l h.live)
+        both (is_consumer l && bytes_eq l.address (address_of d past)) (is_live past l)
+        (both (is_consumer l) (bytes_eq l.address (address_of d past)) h.consumer ((bytes_eq-Decides l.address (address_of d past)).1 h.address)) (link-lives past l h.live)
 
-    listed : Contains (consumers (address_of d) past) l
+    listed : Contains (consumers (address_of d past) past) l
     listed =
-        reverse_has (filter (is_consumer_of (address_of d) past) (links past)) l
-        (filter_has (is_consumer_of (address_of d) past) (links past) l of-address (found-contained (λ (k : Link). k.number == l.number) (links past) l (link-found rules past are l h.live)))
+        reverse_has (filter (is_consumer_of (address_of d past) past) (links past)) l
+        (filter_has (is_consumer_of (address_of d past) past) (links past) l of-address (found-contained (λ (k : Link). k.number == l.number) (links past) l (link-found rules past are l h.live)))
 
-    pub pick-some : pick rules (address_of d) past ≡ None → ⊥
+    pub pick-some : pick rules (address_of d past) past ≡ None → ⊥
     pick-some =
-        picks-some (distribution rules (address_of d)) (is_eligible past) (address_of d) (address_events past) l.number
-        (anycast-of (is_of_multicast rules d) (is_complete d past) (is_paired d past) (always_had_consumer d past) h.waits)
-        (subst (λ ns. Contains ns l.number) (sym (consumers-counted rules past are (address_of d))) (map-has (consumers (address_of d) past) l listed))
+        picks-some (distribution rules (address_of d past)) (is_eligible past) (address_of d past) (address_events past) l.number
+        (anycast-of (is_of_multicast rules d past) (is_complete d past) (is_paired d past) (always_had_consumer d past) h.waits)
+        (subst (λ ns. Contains ns l.number) (sym (consumers-counted rules past are (address_of d past))) (map-has (consumers (address_of d past) past) l listed))
         (ap (λ o. is_some_and o (may_take past)) (link-found rules past are l h.live) ∙ h.takes)
 
     -- and a delivery waits there
-    pub queue-some : waiting_queue rules (address_of d) past ≡ [] → ⊥
+    pub queue-some : waiting_queue rules (address_of d past) past ≡ [] → ⊥
     queue-some empty =
-        contains_none d (subst (λ ds. Contains ds d) empty (waits_queued rules (address_of d) past (judged-kept rules past are) d
+        contains_none d (subst (λ ds. Contains ds d) empty (waits_queued rules (address_of d past) past (judged-kept rules past are) d
         (found-contained (λ (x : Incoming). x.number == d.number) (incoming_deliveries past) d h.found)
-        (both (bytes_eq (address_of d) (address_of d)) (is_waiting rules d past) ((bytes_eq-Decides (address_of d) (address_of d)).1 refl) h.waits)))
+        (both (bytes_eq (address_of d past) (address_of d past)) (is_waiting rules d past) ((bytes_eq-Decides (address_of d past) (address_of d past)).1 refl) h.waits)))
 
   -- the link that is picked lives
   pub picked-lives : (address : List ℕ) (l : Link) → pick rules address past ≡ Some l.number → link_at l.number past ≡ Some l → IsLiveLink l past
@@ -106,14 +106,14 @@ module _ (rules : RuleSet) (past : List Event) (are : AreJudged rules past) wher
       let one : m.0 ≡ l = same_some m.0 l (sym found.0 ∙ at) in
       taken-lives rules past are l.number l (m.1 ∙ ap Some one)
 
-  pub picked-link : (d : Incoming) (address : List ℕ) (n : ℕ) → address_of d ≡ address → Some n ≡ pick rules address past → is_number (pick rules (address_of d) past) n ≡ true
+  pub picked-link : (d : Incoming) (address : List ℕ) (n : ℕ) → address_of d past ≡ address → Some n ≡ pick rules address past → is_number (pick rules (address_of d past) past) n ≡ true
   picked-link d address n of picked = ap (λ a. is_number (pick rules a past) n) of ∙ (ap (λ o. is_number o n) (sym picked) ∙ eq-eqb n n refl)
 
 -- ---- the delivery
 
 pub next-waits : (rules : RuleSet) (past : List Event) (d : Incoming) → is_next_waiting rules past d ≡ true → is_waiting rules d past ≡ true
 next-waits rules past d next =
-    and_first (is_waiting rules d past) (not (list_any (λ other. bytes_eq (address_of other) (address_of d) && is_waiting rules other past && completed_before other d past) (incoming_deliveries past))) next
+    and_first (is_waiting rules d past) (not (list_any (λ other. bytes_eq (address_of other past) (address_of d past) && is_waiting rules other past && completed_before other d past) (incoming_deliveries past))) next
 
 -- the table knows one that waits
 pub waiting-known : (rules : RuleSet) (past : List Event) (table : Deliveries) → AreHeld rules table past → (d : Incoming) → incoming_at d.number past ≡ Some d → is_waiting rules d past ≡ true → Knows table d

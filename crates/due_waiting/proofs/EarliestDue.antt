@@ -54,7 +54,7 @@ module _ (rules : RuleSet) (past : List Event) (are : AreJudged rules past) wher
   not-before a b d waits first second = by (completed_before d a past) refl
     where
       complete : is_complete b past ≡ true
-      complete = complete-of (is_of_multicast rules b) (is_complete b past) (is_paired b past) (always_had_consumer b past) waits
+      complete = complete-of (is_of_multicast rules b past) (is_complete b past) (is_paired b past) (always_had_consumer b past) waits
 
       by : (t : Bool) → completed_before d a past ≡ t → t ≡ false
       by false is = refl
@@ -90,25 +90,25 @@ module _ (rules : RuleSet) (past : List Event) (are : AreJudged rules past) wher
       by false is = ap not (not-before (incoming_view a.delivery) (incoming_view due.delivery) d waits is none)
 
   -- what waits at the address of a delivery that comes next there was not completed before it
-  next-first : (x d : Incoming) (l : Link) → is_next_waiting rules past x ≡ true → MayBegin rules past d l → address_of d ≡ address_of x → completed_before d x past ≡ false
+  next-first : (x d : Incoming) (l : Link) → is_next_waiting rules past x ≡ true → MayBegin rules past d l → address_of d past ≡ address_of x past → completed_before d x past ≡ false
   next-first x d l next h same =
-      let test = λ (other : Incoming). bytes_eq (address_of other) (address_of x) && is_waiting rules other past && completed_before other x past in
+      let test = λ (other : Incoming). bytes_eq (address_of other past) (address_of x past) && is_waiting rules other past && completed_before other x past in
       let none : list_any test (incoming_deliveries past) ≡ false = off (list_any test (incoming_deliveries past)) (and_last (is_waiting rules x past) (not (list_any test (incoming_deliveries past))) next) in
       let fails = none-passes test (incoming_deliveries past) none d (found-contained (λ (y : Incoming). y.number == d.number) (incoming_deliveries past) d h.found) in
-      sym (ap (λ b. b && completed_before d x past) (both (bytes_eq (address_of d) (address_of x)) (is_waiting rules d past) ((bytes_eq-Decides (address_of d) (address_of x)).1 same) h.waits)) ∙ fails
+      sym (ap (λ b. b && completed_before d x past) (both (bytes_eq (address_of d past) (address_of x past)) (is_waiting rules d past) ((bytes_eq-Decides (address_of d past) (address_of x past)).1 same) h.waits)) ∙ fails
 
   -- ---- one address more
 
   pub ahead-more : (first : Option DueWaiting) (due : DueWaiting) → IsDueWaiting rules due past → (d : Incoming) (l : Link) → MayBegin rules past d l → (seen seen' : Bool)
-      → seen' ≡ seen || bytes_eq (address_of d) (address_of (incoming_view due.delivery)) → (seen ≡ true → is_ahead past first d ≡ true) → seen' ≡ true
+      → seen' ≡ seen || bytes_eq (address_of d past) (address_of (incoming_view due.delivery) past) → (seen ≡ true → is_ahead past first d ≡ true) → seen' ≡ true
       → is_ahead past (Some (earlier_of past first due)) d ≡ true
-  ahead-more first due is d l h seen seen' more ahead now = by seen (bytes_eq (address_of d) (address_of (incoming_view due.delivery))) refl refl (sym more ∙ now)
+  ahead-more first due is d l h seen seen' more ahead now = by seen (bytes_eq (address_of d past) (address_of (incoming_view due.delivery) past)) refl refl (sym more ∙ now)
     where
-      by : (a b : Bool) → seen ≡ a → bytes_eq (address_of d) (address_of (incoming_view due.delivery)) ≡ b → a || b ≡ true → is_ahead past (Some (earlier_of past first due)) d ≡ true
+      by : (a b : Bool) → seen ≡ a → bytes_eq (address_of d past) (address_of (incoming_view due.delivery) past) ≡ b → a || b ≡ true → is_ahead past (Some (earlier_of past first due)) d ≡ true
       by true b was same some = ahead-later first due d (ahead was)
       by false true was same some =
           ahead-here first due d (next-waits rules past (incoming_view due.delivery) is.next)
-          (next-first (incoming_view due.delivery) d l is.next h ((bytes_eq-Decides (address_of d) (address_of (incoming_view due.delivery))).0 same))
+          (next-first (incoming_view due.delivery) d l is.next h ((bytes_eq-Decides (address_of d past) (address_of (incoming_view due.delivery) past)).0 same))
       by false false was same some = absurd cc
 
 -- ---- of two the one that was completed first

@@ -30,38 +30,38 @@ empty (l ∷ ls) none = absurd (none l (contains_first l ls))
 
 module _ (rules : RuleSet) (past : List Event) (are : AreJudged rules past) where
   -- a delivery that waits may begin on each link that is eligible
-  eligible-begins : (d : Incoming) → Contains (incoming_deliveries past) d → is_waiting rules d past ≡ true → (l : Link) → Contains (eligible (address_of d) past) l → MayBegin rules past d l
+  eligible-begins : (d : Incoming) → Contains (incoming_deliveries past) d → is_waiting rules d past ≡ true → (l : Link) → Contains (eligible (address_of d past) past) l → MayBegin rules past d l
   eligible-begins d listed waits l there =
-      let takes = in_filter (may_take past) (consumers (address_of d) past) l there in
-      let of = in_filter (is_consumer_of (address_of d) past) (links past) l (in_reverse (filter (is_consumer_of (address_of d) past) (links past)) l takes.0) in
-      let both = and_first (is_consumer l && bytes_eq l.address (address_of d)) (is_live past l) of.1 in
-      let lives = and_last (is_consumer l && bytes_eq l.address (address_of d)) (is_live past l) of.1 in
+      let takes = in_filter (may_take past) (consumers (address_of d past) past) l there in
+      let of = in_filter (is_consumer_of (address_of d past) past) (links past) l (in_reverse (filter (is_consumer_of (address_of d past) past) (links past)) l takes.0) in
+      let both = and_first (is_consumer l && bytes_eq l.address (address_of d past)) (is_live past l) of.1 in
+      let lives = and_last (is_consumer l && bytes_eq l.address (address_of d past)) (is_live past l) of.1 in
       record {
         found = (all_contained (IsKept past) (incoming_deliveries past) d (each_delivery (IsKept past) past (judged-kept rules past are).each) listed).at;
         waits = waits;
         live = live_links-live rules past are l (filter_has (is_live past) (links past) l lives of.0);
-        consumer = and_first (is_consumer l) (bytes_eq l.address (address_of d)) both;
-        address = (bytes_eq-Decides l.address (address_of d)).0 (and_last (is_consumer l) (bytes_eq l.address (address_of d)) both);
+        consumer = and_first (is_consumer l) (bytes_eq l.address (address_of d past)) both;
+        address = (bytes_eq-Decides l.address (address_of d past)).0 (and_last (is_consumer l) (bytes_eq l.address (address_of d past)) both);
         takes = takes.1;
       }
 
   pub none-in-vain : ((d : Incoming) (l : Link) → MayBegin rules past d l → ⊥) → none_waits_in_vain rules past ≡ true
   none-in-vain none =
-      all-each (λ d. not (is_waiting rules d past) || length (eligible (address_of d) past) == 0) (incoming_deliveries past) (λ d there. by d there (is_waiting rules d past) refl)
+      all-each (λ d. not (is_waiting rules d past) || length (eligible (address_of d past) past) == 0) (incoming_deliveries past) (λ d there. by d there (is_waiting rules d past) refl)
     where
-      by : (d : Incoming) → Contains (incoming_deliveries past) d → (b : Bool) → is_waiting rules d past ≡ b → not b || length (eligible (address_of d) past) == 0 ≡ true
+      by : (d : Incoming) → Contains (incoming_deliveries past) d → (b : Bool) → is_waiting rules d past ≡ b → not b || length (eligible (address_of d past) past) == 0 ≡ true
       by d there false waits = refl
-      by d there true waits = empty (eligible (address_of d) past) (λ l eligible. none d l (eligible-begins d there waits l eligible))
+      by d there true waits = empty (eligible (address_of d past) past) (λ l eligible. none d l (eligible-begins d there waits l eligible))
 
   -- one before which none was completed that may begin is the first
   pub first-begins : (x : Incoming) → ((d : Incoming) (l : Link) → MayBegin rules past d l → completed_before d x past ≡ false) → is_first_to_begin rules past x ≡ true
   first-begins x first =
-      all-each (λ d. not (is_waiting rules d past) || length (eligible (address_of d) past) == 0 || not (completed_before d x past)) (incoming_deliveries past) (λ d there. by d there (is_waiting rules d past) refl)
+      all-each (λ d. not (is_waiting rules d past) || length (eligible (address_of d past) past) == 0 || not (completed_before d x past)) (incoming_deliveries past) (λ d there. by d there (is_waiting rules d past) refl)
     where
-      one : (d : Incoming) → Contains (incoming_deliveries past) d → is_waiting rules d past ≡ true → (ls : List Link) → eligible (address_of d) past ≡ ls → length ls == 0 || not (completed_before d x past) ≡ true
+      one : (d : Incoming) → Contains (incoming_deliveries past) d → is_waiting rules d past ≡ true → (ls : List Link) → eligible (address_of d past) past ≡ ls → length ls == 0 || not (completed_before d x past) ≡ true
       one d there waits [] is = refl
       one d there waits (l ∷ ls) is = or-last (length (l ∷ ls) == 0) (not (completed_before d x past)) (ap not (first d l (eligible-begins d there waits l (subst (λ ks. Contains ks l) (sym is) (contains_first l ls)))))
 
-      by : (d : Incoming) → Contains (incoming_deliveries past) d → (b : Bool) → is_waiting rules d past ≡ b → not b || length (eligible (address_of d) past) == 0 || not (completed_before d x past) ≡ true
+      by : (d : Incoming) → Contains (incoming_deliveries past) d → (b : Bool) → is_waiting rules d past ≡ b → not b || length (eligible (address_of d past) past) == 0 || not (completed_before d x past) ≡ true
       by d there false waits = refl
-      by d there true waits = one d there waits (eligible (address_of d) past) refl
+      by d there true waits = one d there waits (eligible (address_of d past) past) refl

@@ -1,5 +1,5 @@
 -- The list of deliveries that wait, behind one more event.
-use Rattle.std.proofs.Common.{◌≡◌, refl, sym, ap, ◌∙◌, ◌↔◌, ℕ, Bool, true, false, not, ◌&&◌, bytes_eq, inl, inr, List, ◌∷◌, Some, None, if◌then◌else◌}
+use Rattle.std.proofs.Common.{◌≡◌, refl, sym, ap, subst, ◌∙◌, ◌↔◌, ℕ, Bool, true, false, not, ◌&&◌, bytes_eq, inl, inr, List, ◌∷◌, Option, Some, None, IfSome, if◌then◌else◌}
 use Rattle.std.specs.Prelude.{Contains}
 use Rattle.std.proofs.lemmas.Slice.Eq.{bytes_eq-Decides}
 use Rattle.capture_form.specs.Rules.{RuleSet}
@@ -8,6 +8,7 @@ use Rattle.trace_events.specs.Event.{Event, Link, Incoming, Outgoing}
 use Rattle.trace_events.specs.Ends.{ends_link}
 use Rattle.trace_events.specs.Incoming.{address_of, completed_by, completes}
 use Rattle.trace_events.specs.Link.{IsLiveLink, is_consumer, own_link}
+use Rattle.trace_events.proofs.IncomingSteps.{address_of-same}
 use Rattle.trace_events.proofs.Judged.{AreJudged}
 use Rattle.trace_clauses.specs.Clauses.{first_broken}
 use Rattle.state_addresses.specs.ConsumerLinks.{consumer_at, has_number}
@@ -21,12 +22,18 @@ use Rattle.due_waiting.proofs.Woken.{completed-now, might-before}
 -- each live link of a consumer stands with its session, and an address at which a delivery may begin is awake
 pub record Have (rules : RuleSet) (stand : ℕ → ℕ → Bool) (wake : List ℕ → Bool) (past : List Event) : Type 0 where
   pub stands : (l : Link) → IsLiveLink l past → is_consumer l ≡ true → stand l.session.number l.number ≡ true
-  pub awake : (d : Incoming) (l : Link) → MayBegin rules past d l → wake (address_of d) ≡ true
+  pub awake : (d : Incoming) (l : Link) → MayBegin rules past d l → wake (address_of d past) ≡ true
+
+-- the address of what the event completes is awake
+pub completed-wakes : (awake : List ℕ → Bool) (now : List Event) (address : List ℕ) (o : Option Incoming) → IfSome o (λ d. address_of d now ≡ address)
+    → ((d : Incoming) → o ≡ Some d → awake address ≡ true) → (d : Incoming) → o ≡ Some d → awake (address_of d now) ≡ true
+completed-wakes awake now address o own wakes d is =
+    ap awake (subst (λ (p : Option Incoming). IfSome p (λ x. address_of x now ≡ address)) is own) ∙ wakes d is
 
 module _ (rules : RuleSet) (e : Event) (past : List Event) (are : AreJudged rules (e ∷ past)) (lawful : first_broken rules (e ∷ past) ≡ None)
     (ended : List Link) (all : (l : Link) → Contains ended l ↔ IsLiveLink l past × (ends_link l e ≡ true))
     (stood stand₁ stand : ℕ → ℕ → Bool) (was_awake awake : List ℕ → Bool)
-    (completed : (d : Incoming) → completed_by e ≡ Some d → awake (address_of d) ≡ true)
+    (completed : (d : Incoming) → completed_by e ≡ Some d → awake (address_of d (e ∷ past)) ≡ true)
     (credited : (l : Link) → e.link ≡ Some l → is_consumer l ≡ true → grants_window e ≡ true → awake l.address ≡ true)
     (freed : (j : Outgoing) → e.outgoing ≡ Some j → goes_on e ≡ false → awake j.link.address ≡ true)
     (granted : (l : Link) → IsGranted e past l → stood l.session.number l.number ≡ true → consumer_at l.number past ≡ Some l → awake l.address ≡ true)
@@ -42,10 +49,10 @@ module _ (rules : RuleSet) (e : Event) (past : List Event) (are : AreJudged rule
   ]
 
   module _ (d : Incoming) (l : Link) (h : MayBegin rules (e ∷ past) d l) where
-    here : awake l.address ≡ true → awake (address_of d) ≡ true
+    here : awake l.address ≡ true → awake (address_of d (e ∷ past)) ≡ true
     here is = ap awake (sym h.address) ∙ is
 
-    awake-by : (b : Bool) → completes d e ≡ b → awake (address_of d) ≡ true
+    awake-by : (b : Bool) → completes d e ≡ b → awake (address_of d (e ∷ past)) ≡ true
     awake-by true now = completed d (completed-now rules e past are lawful d l h now)
     awake-by false none = elim (might-before rules e past are lawful d l h none) [
       | inl woken ↦ elim woken [
@@ -55,7 +62,7 @@ module _ (rules : RuleSet) (e : Event) (past : List Event) (are : AreJudged rule
           | inr window ↦ here (granted l window (has.stands l window.live h.consumer) (consumer-found rules past are.1 l window.live h.consumer))
         ]
       ]
-      | inr before ↦ kept (address_of d) (has.awake d l before)
+      | inr before ↦ ap awake (address_of-same e past d none) ∙ kept (address_of d past) (has.awake d l before)
     ]
 
   pub have-waiting : Have rules stand awake (e ∷ past)
@@ -63,17 +70,17 @@ module _ (rules : RuleSet) (e : Event) (past : List Event) (are : AreJudged rule
 
 -- without an address at which none may begin
 pub have-dropped : (rules : RuleSet) (past : List Event) (stand : ℕ → ℕ → Bool) (was_awake awake : List ℕ → Bool) (gone : List ℕ)
-    → ((d : Incoming) (l : Link) → MayBegin rules past d l → address_of d ≡ gone → ⊥) → ((at : List ℕ) → awake at ≡ was_awake at && not (bytes_eq gone at))
+    → ((d : Incoming) (l : Link) → MayBegin rules past d l → address_of d past ≡ gone → ⊥) → ((at : List ℕ) → awake at ≡ was_awake at && not (bytes_eq gone at))
     → Have rules stand was_awake past → Have rules stand awake past
 have-dropped rules past stand was_awake awake gone none dropped has = record {
   stands = has.stands;
-  awake = λ d l h. dropped (address_of d) ∙ by d l h (has.awake d l h) (bytes_eq gone (address_of d)) refl;
+  awake = λ d l h. dropped (address_of d past) ∙ by d l h (has.awake d l h) (bytes_eq gone (address_of d past)) refl;
 }
   where
     stays : (b : Bool) → b ≡ true → b && true ≡ true
     stays true is = refl
     stays false is = absurd cc
 
-    by : (d : Incoming) (l : Link) → MayBegin rules past d l → was_awake (address_of d) ≡ true → (b : Bool) → bytes_eq gone (address_of d) ≡ b → was_awake (address_of d) && not b ≡ true
-    by d l h was false other = stays (was_awake (address_of d)) was
-    by d l h was true same = absurd (none d l h (sym ((bytes_eq-Decides gone (address_of d)).0 same)))
+    by : (d : Incoming) (l : Link) → MayBegin rules past d l → was_awake (address_of d past) ≡ true → (b : Bool) → bytes_eq gone (address_of d past) ≡ b → was_awake (address_of d past) && not b ≡ true
+    by d l h was false other = stays (was_awake (address_of d past)) was
+    by d l h was true same = absurd (none d l h (sym ((bytes_eq-Decides gone (address_of d past)).0 same)))

@@ -19,6 +19,7 @@ use Rattle.trace_events.specs.Outgoing.{in_progress, is_paired}
 use Rattle.trace_events.specs.Queue.{stays}
 use Rattle.trace_events.specs.Waiting.{is_waiting, is_of_multicast, always_had_consumer}
 use Rattle.trace_events.proofs.Along.{and_first, and_last, some_passes}
+use Rattle.trace_events.proofs.IncomingSteps.{address_of-same}
 use Rattle.trace_events.proofs.Judged.{AreJudged}
 use Rattle.trace_events.proofs.LinkNumbers.{own_link-number}
 use Rattle.trace_events.proofs.QueueSteps.{is_waiting-stays}
@@ -145,7 +146,7 @@ module _ (rules : RuleSet) (e : Event) (past : List Event) (are : AreJudged rule
   found waits = elim (found-at rules e past are d.number d (incoming_begun e) refl h.found) [
     | inl before ↦ before
     | inr new ↦
-        let complete : is_complete d past ≡ true = complete-of (is_of_multicast rules d) (is_complete d past) (is_paired d past) (always_had_consumer d past) waits in
+        let complete : is_complete d past ≡ true = complete-of (is_of_multicast rules d past) (is_complete d past) (is_paired d past) (always_had_consumer d past) waits in
         let fresh : is_complete d past ≡ false = (judged-sound rules past are.1).fresh d (omega (arith, new)) in
         absurd cc
   ]
@@ -221,7 +222,7 @@ module _ (rules : RuleSet) (e : Event) (past : List Event) (are : AreJudged rule
         waits = waited none;
         live = was;
         consumer = h.consumer;
-        address = h.address;
+        address = h.address ∙ address_of-same e past d none;
         takes = all-three (nat_lt 0 (link_credit l past)) (nat_lt 0 (session_window l.session past)) (is_none (in_progress l past)) credit window idle;
       })
     ]

@@ -22,7 +22,7 @@ pub record HasWaiting (rules : RuleSet) (waiting : Waiting) (past : List Event) 
   pub picks : ArePicks waiting.picks past
   pub queues : HaveQueues rules waiting.queues past
   pub stands : (l : Link) → IsLiveLink l past → is_consumer l ≡ true → stands waiting.links l.session.number l.number ≡ true
-  pub awake : (d : Incoming) (l : Link) → MayBegin rules past d l → is_awake waiting.awake (address_of d) ≡ true
+  pub awake : (d : Incoming) (l : Link) → MayBegin rules past d l → is_awake waiting.awake (address_of d past) ≡ true
 
 -- the delivery that comes next at its address, and the live link that is picked for it
 pub record IsDueWaiting (rules : RuleSet) (due : DueWaiting) (past : List Event) : Type 0 where
@@ -35,7 +35,7 @@ pub record IsDueWaiting (rules : RuleSet) (due : DueWaiting) (past : List Event)
 
 -- no delivery may begin at the address
 abbrev pub NoneBegins : RuleSet → List Event → List ℕ → Type 0
-NoneBegins rules past address = (d : Incoming) (l : Link) → MayBegin rules past d l → address_of d ≡ address → ⊥
+NoneBegins rules past address = (d : Incoming) (l : Link) → MayBegin rules past d l → address_of d past ≡ address → ⊥
 
 -- no delivery that may begin was completed before it
 abbrev pub IsEarliest : RuleSet → DueWaiting → List Event → Type 0

@@ -15,7 +15,7 @@ pub record MayBegin (rules : RuleSet) (past : List Event) (d : Incoming) (l : Li
   pub waits : is_waiting rules d past ≡ true
   pub live : IsLiveLink l past
   pub consumer : is_consumer l ≡ true
-  pub address : l.address ≡ address_of d
+  pub address : l.address ≡ address_of d past
   pub takes : may_take past l ≡ true
 
 -- a flow of the client names the link, and may give it credit

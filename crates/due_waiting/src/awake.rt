@@ -3,7 +3,7 @@
 ghost use Rattle.std.specs.Prelude.{◌≡◌, ◌+◌, ◌<◌, ◌&&◌, ◌||◌, ◌↔◌, ℕ, List, Some, IfSome, IsSome, OnOk, bytes_eq, false, is_some, not, option_and_then, option_map, true};
 ghost use Rattle.capture_form.specs.Rules.{RuleSet};
 ghost use Rattle.trace_events.specs.Event as law;
-ghost use Rattle.trace_events.specs.Incoming.{address_of, completed_by};
+ghost use Rattle.trace_events.specs.Incoming.{completed_by};
 ghost use Rattle.trace_events.specs.Link.{IsLiveLink, is_consumer};
 ghost use Rattle.trace_events.specs.Session.{IsLiveOn};
 ghost use Rattle.trace_events.specs.declared.session.Session.{Session};
@@ -66,8 +66,8 @@ impl Awake {
     }
 
     /// Those come in at which a delivery may begin by what the event does: it completes one there, gives a link of a
-    /// consumer credit, ends the delivery on it, or gives window to its session, which had none. `links` are the live
-    /// links of consumers, `before` the tables without the event.
+    /// consumer credit, ends the delivery on it, or gives window to its session, which had none. What it completes is for
+    /// this address; `links` are the live links of consumers, `before` the tables without the event.
     ///
     /// # Errors
     ///
@@ -75,10 +75,11 @@ impl Awake {
     pub fn wake(
         &mut self,
         event: &Event,
+        address: &[u8],
         links: &BySession,
         before: &Looked<'_>,
     ) -> Result<(), AllocError>
-        ensures completed { OnOk result ((d : law.Incoming) → completed_by (event_view event.now) ≡ Some d → is_awake self.new (address_of d) ≡ true) }
+        ensures completed { OnOk result ((d : law.Incoming) → completed_by (event_view event.now) ≡ Some d → is_awake self.new address.now ≡ true) }
         ensures credited { OnOk result ((l : law.Link) → (event_view event.now).link ≡ Some l → is_consumer l ≡ true →
             grants_window (event_view event.now) ≡ true → is_awake self.new l.address ≡ true) }
         ensures freed { OnOk result ((j : law.Outgoing) → (event_view event.now).outgoing ≡ Some j → goes_on (event_view event.now) ≡ false →
@@ -88,7 +89,7 @@ impl Awake {
             is_awake self.new l.address ≡ true) }
         ensures kept { OnOk result (IsKept self.old self.new) }
     {
-        self.add(completed(event))?;
+        self.add(completed(event, address))?;
         self.add(credited(event))?;
         self.add(freed(event))?;
         self.wake_session(granted(event, before), links, before.consumer_links)?;
@@ -145,11 +146,14 @@ impl Awake {
     }
 }
 
-/// The address of the delivery that the event completes.
-fn completed<'a>(event: &Event<'a, '_>) -> Option<&'a [u8]>
-    ensures { option_map (λ octets. octets.now) result ≡ option_map address_of (completed_by (event_view event.now)) }
+/// This address, where the event completes a delivery.
+fn completed<'a>(event: &Event, address: &'a [u8]) -> Option<&'a [u8]>
+    ensures { (d : law.Incoming) → completed_by (event_view event.now) ≡ Some d → option_map (λ octets. octets.now) result ≡ Some address.now }
 {
-    Some(event.completed_by()?.link.address)
+    match event.completed_by() {
+        Some(_) => Some(address),
+        None => None,
+    }
 }
 
 /// The event is a flow of the client.

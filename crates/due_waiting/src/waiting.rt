@@ -7,6 +7,7 @@ ghost use Rattle.trace_events.specs.History.{history};
 ghost use Rattle.trace_events.specs.Incoming.{address_of};
 ghost use Rattle.trace_duties.specs.Quiet.{none_waits_in_vain};
 ghost use Rattle.trace_values.specs.View.{Events, event_view, incoming_view};
+ghost use Rattle.state_addresses.specs.Addressed.{IsAddressed};
 ghost use Rattle.state_tables.specs.Connections.{IsLawfulNext};
 ghost use Rattle.state_incoming.specs.EntryAnswers.{Knows};
 ghost use Rattle.due_flows.specs.Lent.{AreOf};
@@ -59,7 +60,7 @@ impl Waiting {
         }
     }
 
-    /// The event follows; `before` are the tables without it.
+    /// The event follows; what it completes is for this address, and `before` are the tables without it.
     ///
     /// # Errors
     ///
@@ -68,16 +69,18 @@ impl Waiting {
         &mut self,
         rules: &RuleSet,
         event: &Event,
+        address: &[u8],
         before: &Looked<'_>,
     ) -> Result<(), AllocError>
         ensures { OnOk result ((records : List Record) (r : Record) → IsLawfulNext rules.now records r (event_view event.now) →
+            IsAddressed (event_view event.now) (history rules.now records) address.now →
             AreOf rules.now before.now (history rules.now records) → HasWaiting rules.now self.old (history rules.now records) →
             HasWaiting rules.now self.new (event_view event.now ∷ history rules.now records)) }
     {
         let ended = before.links.ended(self.alloc, event)?;
         self.picks.follow(rules, event, before)?;
-        self.queues.follow(rules, event)?;
-        self.awake.wake(event, &self.links, before)?;
+        self.queues.follow(rules, event, address)?;
+        self.awake.wake(event, address, &self.links, before)?;
         self.links.end(&ended);
         self.links.open(event)?;
         Ok(())
@@ -122,7 +125,7 @@ impl Waiting {
         ensures before { (at : List ℕ) → is_among_first self.new.awake index at ≡ is_among_first self.old.awake index at }
         ensures here { IfSome result (λ due. (records : List Record) → AreOf rules.now looked.now (history rules.now records) →
             HasWaiting rules.now self.old (history rules.now records) → (at : List ℕ) → is_among_first self.new.awake (index + 1) at
-            ≡ (is_among_first self.old.awake index at || bytes_eq at (address_of (incoming_view due.delivery)))) }
+            ≡ (is_among_first self.old.awake index at || bytes_eq at (address_of (incoming_view due.delivery) (history rules.now records)))) }
         ensures count { count_of self.new.awake + (if is_none result then 1 else 0) ≡ count_of self.old.awake }
     {
         let address = self.awake.get(index)?;
@@ -146,7 +149,7 @@ fn due_at<'t>(
         ArePicks picks.now (history rules.now records) → HaveQueues rules.now queues.old (history rules.now records) →
         IsDueWaiting rules.now due (history rules.now records)) }
     ensures here { IfSome result (λ due. (records : List Record) → AreOf rules.now looked.now (history rules.now records) →
-        HaveQueues rules.now queues.old (history rules.now records) → address_of (incoming_view due.delivery) ≡ address.now) }
+        HaveQueues rules.now queues.old (history rules.now records) → address_of (incoming_view due.delivery) (history rules.now records) ≡ address.now) }
     ensures kept { (records : List Record) → AreOf rules.now looked.now (history rules.now records) →
         HaveQueues rules.now queues.old (history rules.now records) → HaveQueues rules.now queues.new (history rules.now records) }
     ensures none { (records : List Record) → AreOf rules.now looked.now (history rules.now records) →

@@ -1,16 +1,17 @@
-use Rattle.std.proofs.Common.{sym, subst, List}
+use Rattle.std.proofs.Common.{◌∷◌, sym, subst, List}
 use Rattle.trace_events.specs.History.{history}
+use Rattle.trace_events.specs.Incoming.{completed_by}
 use Rattle.trace_events.proofs.Judged.{history-judged}
 use Rattle.trace_values.specs.View.{event_view}
 use Rattle.trace_values.specs.declared.event.Link.{Link}
 use Rattle.state_tables.specs.EndedLinks.{AreEnded, views}
 use Rattle.due_waiting.specs.Awake.{is_awake}
 use Rattle.due_waiting.specs.BySession.{stands}
-use Rattle.due_waiting.proofs.WaitingFollowed.{have-waiting}
+use Rattle.due_waiting.proofs.WaitingFollowed.{completed-wakes, have-waiting}
 use Rattle.due_waiting.proofs.waiting.Waiting.follow.Goals as goal
 
 pub returns : goal.returns
-returns c = λ records r next tables has.
+returns c = λ records r next own tables has.
     let rules = c.args.rules.now in
     let e = event_view c.args.event.now in
     let past = history rules records in
@@ -18,11 +19,11 @@ returns c = λ records r next tables has.
     let ends = c.in_ok-ended.ensures rules records r next.0 tables.1.1.0 in
     let have = have-waiting rules e past ((r, next.0), history-judged rules records) next.1 (views c.deref.result.now) (subst Ended (sym c.deref.ensures.value) ends)
     (stands c.args.self.now.links) (stands c.end.new.self) (stands c.open.new.self) (is_awake c.args.self.now.awake) (is_awake c.wake.new.self)
-    c.in_ok-wake.ensures.completed c.in_ok-wake.ensures.credited c.in_ok-wake.ensures.freed (λ l. c.in_ok-wake.ensures.granted rules past tables l) c.in_ok-wake.ensures.kept
+    (completed-wakes (is_awake c.wake.new.self) (e ∷ past) c.args.address.now (completed_by e) own c.in_ok-wake.ensures.completed) c.in_ok-wake.ensures.credited c.in_ok-wake.ensures.freed (λ l. c.in_ok-wake.ensures.granted rules past tables l) c.in_ok-wake.ensures.kept
     c.end.ensures c.in_ok-open.ensures.opened c.in_ok-open.ensures.stood (record { stands = has.stands; awake = has.awake }) in
     record {
       picks = c.in_ok-follow.ensures rules records r next tables has.picks;
-      queues = c.in_ok-follow-2.ensures records r next has.queues;
+      queues = c.in_ok-follow-2.ensures records r next own has.queues;
       stands = have.stands;
       awake = have.awake;
     }
