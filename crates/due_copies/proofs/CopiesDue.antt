@@ -215,9 +215,10 @@ due-consumer rules (e ∷ past) d l due = by (completes d e) due (due-consumer r
     makes : makes_due rules l e past (due_count rules l past) ≡ true → is_consumer l ≡ true
     makes is =
         let copied = and_first (is_copied_to rules l e past) (nat_lt (due_count rules l past - begun_count l past) (link_credit l past)) is in
-        let x = some-and (completed_by e) (λ x. is_of_multicast rules x && is_consumer_of (address_of x) past l) copied in
-        let of = and_last (is_of_multicast rules x.0) (is_consumer_of (address_of x.0) past l) x.2 in
-        and_first (is_consumer l) (bytes_eq l.address (address_of x.0)) (and_first (is_consumer l && bytes_eq l.address (address_of x.0)) (is_live past l) of)
+        let x = some-and (completed_by e) (λ x. is_of_multicast rules x (e ∷ past) && is_consumer_of (address_of x (e ∷ past)) past l) copied in
+        let address = address_of x.0 (e ∷ past) in
+        let of = and_last (is_of_multicast rules x.0 (e ∷ past)) (is_consumer_of address past l) x.2 in
+        and_first (is_consumer l) (bytes_eq l.address address) (and_first (is_consumer l && bytes_eq l.address address) (is_live past l) of)
 
     by : (b : Bool) → (if b then makes_due rules l e past (due_count rules l past) else is_due rules d l past) ≡ true → (is_due rules d l past ≡ true → is_consumer l ≡ true) → is_consumer l ≡ true
     by true is rest = makes is

@@ -22,6 +22,7 @@ use Rattle.trace_clauses.specs.Clauses.{first_broken}
 use Rattle.trace_clauses.proofs.UnsentCopies.{unsent_complete}
 use Rattle.trace_clauses.proofs.WaitingQueue.{completed_below, completed_once, completion_complete}
 use Rattle.trace_duties.specs.Pick.{may_take}
+use Rattle.state_addresses.specs.Addressed.{IsAddressed}
 use Rattle.state_addresses.specs.ConsumerLinks.{has_number, consumer_at}
 use Rattle.state_addresses.specs.Copies.{AreReceivers, names_at}
 use Rattle.state_addresses.specs.declared.copies.Receiver.{Receiver}
@@ -60,7 +61,7 @@ all-three false b c p q r = absurd cc
 
 module _ (rules : RuleSet) (e : Event) (past : List Event) (are : AreJudged rules (e ∷ past)) (lawful : first_broken rules (e ∷ past) ≡ None)
     (ended : List Link) (all : (l : Link) → Contains ended l ↔ IsLiveLink l past × (ends_link l e ≡ true))
-    (receivers : List Receiver) (given : AreReceivers rules e past receivers)
+    (address : List ℕ) (addressed : IsAddressed e past address) (receivers : List Receiver) (given : AreReceivers rules address e past receivers)
     (old l₁ l₂ l₃ l₄ new : Lists)
     (listed₁ : (link c : ℕ) → has_number ended link ≡ false → copy_on l₁ link c ≡ copy_on old link c)
     (only₁ : (link c n : ℕ) → copy_on l₁ link c ≡ Some n → copy_on old link c ≡ Some n)
@@ -108,7 +109,7 @@ module _ (rules : RuleSet) (e : Event) (past : List Event) (are : AreJudged rule
 
     module _ (here : completes d e ≡ true) where
       coming-is : IsComing e receivers past l d
-      coming-is = coming rules e past are lawful l d h receivers given here
+      coming-is = coming rules e past are lawful l d h address addressed receivers given here
 
       there : IsIn l₃ l.session.number l.number e.number d.number
       there = came l d coming-is.part here coming-is.receives coming-is.at h

@@ -6,7 +6,7 @@ use Rattle.capture_form.specs.Rules.{RuleSet}
 use Rattle.trace_events.specs.Words.{is_some_and, where_passes}
 use Rattle.trace_events.specs.Event.{Event, Link, Incoming, is_on_link}
 use Rattle.trace_events.specs.Said.{in_transfer, out_transfer}
-use Rattle.trace_events.specs.Address.{is_consumer_of}
+use Rattle.trace_events.specs.Address.{has_multicast, is_consumer_of}
 use Rattle.trace_events.specs.Credit.{link_credit, begun_count}
 use Rattle.trace_events.specs.Due.{is_copied_to, makes_due, due_count, is_due, is_unsent}
 use Rattle.trace_events.specs.Incoming.{address_of, is_last_part, completed_by, completes, is_complete, incoming_at, incoming_begun}
@@ -28,6 +28,7 @@ use Rattle.trace_clauses.proofs.OneConsumer.{some-and, found-at}
 use Rattle.trace_clauses.proofs.Parts.{IsKept, holds_some}
 use Rattle.trace_clauses.proofs.Undecided.{link_of_session}
 use Rattle.trace_clauses.proofs.UnsentCopies.{unsent_complete}
+use Rattle.state_addresses.specs.Addressed.{IsAddressed}
 use Rattle.state_addresses.specs.ConsumerLinks.{consumer_at}
 use Rattle.state_addresses.specs.Copies.{AreReceiversOf, AreReceivers, copied_by, names_at}
 use Rattle.state_addresses.specs.declared.copies.Receiver.{Receiver}
@@ -104,25 +105,27 @@ module _ (rules : RuleSet) (e : Event) (past : List Event) (are : AreJudged rule
     | inr live ↦ live
   ]
 
-  pub coming : (receivers : List Receiver) → AreReceivers rules e past receivers → completes d e ≡ true → IsComing e receivers past l d
-  coming receivers given here =
+  pub coming : (address : List ℕ) → IsAddressed e past address → (receivers : List Receiver) → AreReceivers rules address e past receivers → completes d e ≡ true → IsComing e receivers past l d
+  coming address addressed receivers given here =
       let makes : makes_due rules l e past (due_count rules l past) ≡ true = sym (ap (λ b. if b then makes_due rules l e past (due_count rules l past) else is_due rules d l past) here) ∙ due in
       let copied : is_copied_to rules l e past ≡ true = and_first (is_copied_to rules l e past) (nat_lt (due_count rules l past - begun_count l past) (link_credit l past)) makes in
-      let x = some-and (completed_by e) (λ x. is_of_multicast rules x && is_consumer_of (address_of x) past l) copied in
+      let x = some-and (completed_by e) (λ x. is_of_multicast rules x (e ∷ past) && is_consumer_of (address_of x (e ∷ past)) past l) copied in
       let same : (x.0.number == d.number) ≡ true = sym (ap (λ o. is_some_and o (λ (other : Incoming). other.number == d.number)) x.1) ∙ here in
       let part = completed_part (is_some_and (in_transfer e) is_last_part) e.incoming x.0 x.1 in
       let kept = holds_some (IsKept (e ∷ past)) e.incoming x.0 part (judged-kept rules (e ∷ past) are).each.0 in
       let one : x.0 ≡ d = same_some x.0 d (sym kept.at ∙ (ap (λ n. incoming_at n (e ∷ past)) (eqb-true x.0.number d.number same) ∙ h.found)) in
-      let many = and_first (is_of_multicast rules x.0) (is_consumer_of (address_of x.0) past l) x.2 in
-      let of = and_last (is_of_multicast rules x.0) (is_consumer_of (address_of x.0) past l) x.2 in
-      let both = and_first (is_consumer l && bytes_eq l.address (address_of x.0)) (is_live past l) of in
-      let consumer = and_first (is_consumer l) (bytes_eq l.address (address_of x.0)) both in
-      let copy : copied_by rules e ≡ Some x.0 = ap (where_passes (is_of_multicast rules)) x.1 ∙ ap (λ b. if b then Some x.0 else None) many in
-      let those : AreReceiversOf (address_of x.0) past receivers = subst (λ (o : Option Incoming). IfSome o (λ d. AreReceiversOf (address_of d) past receivers)) copy given in
+      let for : address_of x.0 (e ∷ past) ≡ address = holds_some (λ (other : Incoming). address_of other (e ∷ past) ≡ address) (completed_by e) x.0 x.1 addressed in
+      let held : has_multicast rules address && is_consumer_of address past l ≡ true = sym (ap (λ a. has_multicast rules a && is_consumer_of a past l) for) ∙ x.2 in
+      let many = and_first (has_multicast rules address) (is_consumer_of address past l) held in
+      let of = and_last (has_multicast rules address) (is_consumer_of address past l) held in
+      let both = and_first (is_consumer l && bytes_eq l.address address) (is_live past l) of in
+      let consumer = and_first (is_consumer l) (bytes_eq l.address address) both in
+      let copy : copied_by rules address e ≡ Some x.0 = ap (where_passes (λ (other : Incoming). has_multicast rules address)) x.1 ∙ ap (λ b. if b then Some x.0 else None) many in
+      let those : AreReceiversOf address past receivers = subst (λ (o : Option Incoming). IfSome o (λ other. AreReceiversOf address past receivers)) copy given in
       let at = link-found rules past are.1 l lived in
       let one_of : list_any (λ (x : Receiver). x.link == l.number && (x.credit == link_credit l past)) receivers ≡ true =
       those l.number (link_credit l past)
-      ∙ (ap (λ o. is_some_and o (λ (m : Link). is_consumer_of (address_of x.0) past m && (link_credit m past == link_credit l past))) at
+      ∙ (ap (λ o. is_some_and o (λ (m : Link). is_consumer_of address past m && (link_credit m past == link_credit l past))) at
       ∙ (ap (λ b. b && (link_credit l past == link_credit l past)) of ∙ eq-eqb (link_credit l past) (link_credit l past) refl)) in
       record {
         part = part ∙ ap Some one;

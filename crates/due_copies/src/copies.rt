@@ -11,6 +11,7 @@ ghost use Rattle.trace_duties.specs.Pick.{may_take};
 ghost use Rattle.trace_duties.specs.Quiet.{copies_are_sent, has_earlier_unsent};
 ghost use Rattle.trace_values.specs.View.{Events, event_view, incoming_view, link_view};
 ghost use Rattle.state_tables.specs.Connections.{IsLawfulNext};
+ghost use Rattle.state_addresses.specs.Addressed.{IsAddressed};
 ghost use Rattle.due_flows.specs.Lent.{AreOf};
 ghost use Rattle.due_copies.specs.Copies.{HasUnsent, IsDueCopy, IsKnownCopy, IsReady, IsUnsentOn};
 
@@ -55,7 +56,7 @@ impl UnsentCopies {
         }
     }
 
-    /// The event follows; `before` are the tables without it.
+    /// The event follows; what it completes is for this address, and `before` are the tables without it.
     ///
     /// # Errors
     ///
@@ -64,9 +65,11 @@ impl UnsentCopies {
         &mut self,
         rules: &RuleSet,
         event: &Event,
+        address: &[u8],
         before: &Looked<'_>,
     ) -> Result<(), AllocError>
         ensures { OnOk result ((records : List Record) (r : Record) → IsLawfulNext rules.now records r (event_view event.now) →
+            IsAddressed (event_view event.now) (history rules.now records) address.now →
             AreOf rules.now before.now (history rules.now records) → HasUnsent rules.now self.old (history rules.now records) →
             HasUnsent rules.now self.new (event_view event.now ∷ history rules.now records)) }
     {
@@ -75,11 +78,12 @@ impl UnsentCopies {
             self.alloc,
             rules,
             event,
+            address,
             before.consumers,
             before.consumer_links,
             before.links,
         )?;
-        self.copies.take(rules, event, &ended, &receivers)?;
+        self.copies.take(rules, event, address, &ended, &receivers)?;
         self.lists.end(&ended);
         self.lists.send(event);
         self.lists
