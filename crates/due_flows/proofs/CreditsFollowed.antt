@@ -1,5 +1,5 @@
 -- The list of links that may be given more credit, behind one more event, and where it is empty.
-use Rattle.std.proofs.Common.{◌≡◌, refl, sym, ap, ◌∙◌, ℕ, ◌<◌, Bool, true, false, not, ◌&&◌, ◌||◌, ◌↔◌, inl, inr, List, ◌∷◌, length, Option, Some, None, option_map, if◌then◌else◌, ◌==◌, eqb-true, arith}
+use Rattle.std.proofs.Common.{◌≡◌, refl, sym, ap, ◌∙◌, ℕ, suc, ◌<◌, Bool, true, false, not, ◌&&◌, ◌||◌, ◌↔◌, inl, inr, List, [], ◌∷◌, length, Option, Some, None, option_map, if◌then◌else◌, ◌==◌, eqb-true, arith}
 use Rattle.std.specs.Prelude.{Contains}
 use Rattle.capture_form.specs.Rules.{RuleSet}
 use Rattle.trace_events.specs.Words.{is_some_and, where_passes}
@@ -8,8 +8,8 @@ use Rattle.trace_events.specs.declared.session.Session.{Session}
 use Rattle.trace_events.specs.Address.{has_consumer}
 use Rattle.trace_events.specs.Ends.{ends_link}
 use Rattle.trace_events.specs.Incoming.{is_aborted, is_complete, is_settled, is_told}
-use Rattle.trace_events.specs.Link.{IsLiveLink, is_producer, is_live, live_links, own_link}
-use Rattle.trace_events.specs.Waiting.{is_undecided, is_unpaired, always_had_consumer}
+use Rattle.trace_events.specs.Link.{IsLiveLink, is_consumer, is_producer, is_live, live_links, own_link}
+use Rattle.trace_events.specs.Waiting.{has_waiting, is_undecided, is_unpaired, always_had_consumer}
 use Rattle.trace_clauses.specs.Clauses.{first_broken}
 use Rattle.trace_clauses.specs.FlowClause.{may_be_topped_up}
 use Rattle.trace_events.proofs.Judged.{AreJudged}
@@ -26,13 +26,13 @@ use Rattle.state_incoming.specs.declared.deliveries.Deliveries.{Deliveries}
 use Rattle.state_incoming.proofs.CarriedHeld.{knows-held}
 use Rattle.state_addresses.specs.ConsumerLinks.{has_number}
 use Rattle.state_answers.specs.declared.looked.Looked.{Looked}
-use Rattle.due_flows.specs.Credits.{HasCredits, IsIn, AreEndedIn, AreOpenedIn, HasMore, AreTouchedIn, AreWokenIn, place_in, on_session, at_address, waits}
+use Rattle.due_flows.specs.Credits.{HasCredits, IsIn, AreEndedIn, AreFreedIn, AreOpenedIn, HasMore, AreTouchedIn, AreWokenIn, has_waited, place_in, on_session, at_address, waits}
 use Rattle.due_flows.specs.Lent.{AreOf}
-use Rattle.due_flows.specs.Topping.{IsProducing, IsToppable, IsDecidedOn}
+use Rattle.due_flows.specs.Topping.{IsProducing, IsToppable, IsDecidedOn, EndsWaited}
 use Rattle.due_flows.specs.declared.credits.Credits.{Credits}
 use Rattle.due_flows.proofs.LiveOnes.{link-before, live-known, live_links-live}
 use Rattle.due_flows.proofs.PartsFollowed.{not-ended}
-use Rattle.due_flows.proofs.ToppedLinks.{Touches, Names, Tells, Carries, Settles, Serves, lived-before}
+use Rattle.due_flows.proofs.ToppedLinks.{Touches, Names, Tells, Carries, Settles, Serves, Frees, lived-before, some-any}
 
 -- ---- what is undecided is kept
 
@@ -60,6 +60,10 @@ decided-known rules past are lawful table were l o d = knows-held rules past are
 
 -- ---- a link that is in the list
 
+no-octets : (xs : List ℕ) → (length xs == 0) ≡ true → xs ≡ []
+no-octets [] is = refl
+no-octets (x ∷ xs) is = let none : suc (length xs) ≡ 0 = eqb-true (length (x ∷ xs)) 0 is in absurd (omega (arith, none))
+
 in-more : (c c' : Credits) (l : Link) → HasMore c c' → IsIn c l → IsIn c' l
 in-more c c' l more is = record {
   place = more.places l.number ∙ is.place;
@@ -69,16 +73,25 @@ in-more c c' l more is = record {
 
 module _ (rules : RuleSet) (e : Event) (past : List Event) (are : AreJudged rules (e ∷ past)) (lawful : first_broken rules (e ∷ past) ≡ None)
     (before : Looked) (tables : AreOf rules before past) (ended : List Link) (all : (l : Link) → Contains ended l ↔ IsLiveLink l past × (ends_link l e ≡ true))
-    (old without with_opened touched now : Credits) (ends : AreEndedIn ended old without) (opens : AreOpenedIn e without with_opened) (touches : AreTouchedIn e before with_opened touched)
-    (wakes : AreWokenIn e before touched now) (has : HasCredits rules old past) where
+    (old without with_opened touched waked now : Credits) (ends : AreEndedIn ended old without) (opens : AreOpenedIn e without with_opened) (touches : AreTouchedIn e before with_opened touched)
+    (wakes : AreWokenIn e before touched waked) (frees : AreFreedIn ended before waked now) (has : HasCredits rules old past) where
   woken : (n : ℕ) → waits touched n ≡ true → waits now n ≡ true
-  woken = wakes.more.waiting
+  woken n is = frees.more.waiting n (wakes.more.waiting n is)
+
+  in-now : (l : Link) → IsIn touched l → IsIn now l
+  in-now l is = in-more waked now l frees.more (in-more touched waked l wakes.more is)
+
+  -- a consumer's link at whose address deliveries wait is among those that end
+  waited : EndsWaited rules e past → has_waited rules past ended ≡ true
+  waited w =
+      some-any (λ (k : Link). is_consumer k && has_waiting rules k.address past) ended w.link ((all w.link).1 (w.live, w.ends))
+      (ap (λ b. b && has_waiting rules w.link.address past) w.consumer ∙ w.waits)
 
   -- one that the event opens
   opened : (l : Link) → IsProducing l (e ∷ past) → own_link e ≡ Some l → IsIn now l × (may_be_topped_up rules (e ∷ past) l ≡ true → waits now l.number ≡ true)
   opened l is own =
       let here = opens.opened l (ap (where_passes is_producer) own ∙ ap (λ b. if b then Some l else None) is.producer) in (
-        in-more touched now l wakes.more (in-more with_opened touched l touches.more here),
+        in-now l (in-more with_opened touched l touches.more here),
         λ may. woken l.number (touches.names l (passing (λ (k : Link). k.number == e.number) e.link l own).0 is.producer),
       )
 
@@ -118,14 +131,16 @@ module _ (rules : RuleSet) (e : Event) (past : List Event) (are : AreJudged rule
     by-kind (Names on) = woken l.number (touches.names l on is.producer)
     by-kind (Tells d) = woken l.number (ap (λ (k : Link). waits touched k.number) (sym d.link) ∙ touches.tells rules past tables d.delivery d.is (known e.told d))
     by-kind (Carries d) = woken l.number (ap (λ (k : Link). waits touched k.number) (sym d.link) ∙ touches.carries rules past tables d.delivery d.is (known _ d))
-    by-kind (Settles on settles_it) = wakes.settled l.session.number settles_it (ap (option_map (λ (s : Session). s.number)) on) l.number in-touched.session
+    by-kind (Settles on settles_it) = frees.more.waiting l.number (wakes.settled l.session.number settles_it (ap (option_map (λ (s : Session). s.number)) on) l.number in-touched.session)
     by-kind (Serves s) =
-        wakes.served rules past tables s.consumer s.opened (ap (λ a. has_consumer a past) s.address ∙ s.unserved) l.number
-        (ap (λ a. at_address touched a l.number) s.address ∙ in-touched.address)
+        frees.more.waiting l.number (wakes.served rules past tables s.consumer s.opened (ap (λ a. has_consumer a past) s.address ∙ s.unserved) l.number
+        (ap (λ a. at_address touched a l.number) s.address ∙ in-touched.address))
+    by-kind (Frees anonymous w) =
+        frees.freed rules past tables (waited w) l.number (ap (λ a. at_address waked a l.number) (sym (no-octets l.address anonymous)) ∙ (in-more touched waked l wakes.more in-touched).address)
 
     lived : IsIn now l × (may_be_topped_up rules (e ∷ past) l ≡ true → waits now l.number ≡ true)
     lived = (
-      in-more touched now l wakes.more in-touched,
+      in-now l in-touched,
       λ may. elim (lived-before rules e past are lawful l is.live live may) [
         | inl kind ↦ by-kind kind
         | inr had ↦ woken l.number (touches.more.waiting l.number (opens.waiting l.number ∙ (ends.waiting l.number ∙ was.1 had)))

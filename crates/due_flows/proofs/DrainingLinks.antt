@@ -33,7 +33,7 @@ use Rattle.trace_events.proofs.OutgoingSteps.{names_on}
 use Rattle.trace_clauses.proofs.BegunDeliveries.{begun-own, begun-written, begun-carries}
 use Rattle.trace_clauses.proofs.IncomingProgress.{judged-kept}
 use Rattle.trace_clauses.proofs.Parts.{IsKept, each_delivery}
-use Rattle.trace_clauses.proofs.WaitingQueue.{completed_once, all_contained}
+use Rattle.trace_clauses.proofs.WaitingQueue.{address_stays, all_contained, completed_once, multicast_stays}
 use Rattle.due_flows.specs.Draining.{IsDraining, is_drain, asks_drain, writes_part}
 use Rattle.due_flows.proofs.LiveOnes.{link-before, link-found, link-lives}
 use Rattle.due_flows.proofs.Members.{some-passes, none-passes, found-contained, contains-more}
@@ -214,24 +214,26 @@ module _ (rules : RuleSet) (e : Event) (past : List Event) (are : AreJudged rule
   kept d there = all_contained (IsKept past) (incoming_deliveries past) d (each_delivery (IsKept past) past (judged-kept rules past are.1).each) there
 
   -- a delivery is paired by a part that is written on a link of its address
-  pub pairs-written : (l : Link) (d : Incoming) → Contains (incoming_deliveries past) d → pairs d e ≡ true → address_of d ≡ l.address → IsWrittenFor e l
+  pub pairs-written : (l : Link) (d : Incoming) → Contains (incoming_deliveries past) d → pairs d e ≡ true → address_of d past ≡ l.address → IsWrittenFor e l
   pairs-written l d there is address =
       let j = some_passes (λ (j : Outgoing). names d.number j.note) (outgoing_begun e) is in
       let own = begun-own rules e past are lawful j.0 j.1 in
       let c = begun-carries rules e past are lawful j.0 j.1 in
       let named : (c.delivery.number == d.number) ≡ true = sym (ap (names d.number) (own.0 ∙ c.named)) ∙ j.2 in
       let one : c.delivery ≡ d = same_some c.delivery d (sym c.kept.at ∙ (ap (λ n. incoming_at n past) (eqb-true c.delivery.number d.number named) ∙ (kept d there).at)) in
-      record { link = j.0.link; on = own.1; address = c.address ∙ (ap address_of one ∙ address); written = begun-written rules e past are lawful j.0 j.1 }
+      record { link = j.0.link; on = own.1; address = c.address ∙ (ap (λ (x : Incoming). address_of x past) one ∙ address); written = begun-written rules e past are lawful j.0 j.1 }
 
   module _ (l : Link) (live : IsLiveLink l (e ∷ past)) where
     -- a delivery that waited at an address with a consumer waits on, or is paired
-    pub waits-on : (d : Incoming) → Contains (incoming_deliveries past) d → has_consumer (address_of d) (e ∷ past) ≡ true → is_waiting rules d past ≡ true → is_waiting rules d (e ∷ past) ≡ false → pairs d e ≡ true
+    pub waits-on : (d : Incoming) → Contains (incoming_deliveries past) d → has_consumer (address_of d past) (e ∷ past) ≡ true → is_waiting rules d past ≡ true → is_waiting rules d (e ∷ past) ≡ false → pairs d e ≡ true
     waits-on d there has was none =
-        let w = waits-bits (is_of_multicast rules d) (is_complete d past) (is_paired d past) (always_had_consumer d past) was in
+        let w = waits-bits (is_of_multicast rules d past) (is_complete d past) (is_paired d past) (always_had_consumer d past) was in
         let always : always_had_consumer d (e ∷ past) ≡ true =
-        ap (λ b. b && (completes d e || always_had_consumer d past)) has ∙ or-right (completes d e) (always_had_consumer d past) w.3 in
+        ap (λ a. has_consumer a (e ∷ past) && (completes d e || always_had_consumer d past)) (address_stays rules e past are d w.1)
+        ∙ (ap (λ b. b && (completes d e || always_had_consumer d past)) has ∙ or-right (completes d e) (always_had_consumer d past) w.3) in
         let paired : is_paired d (e ∷ past) ≡ true =
-        paired-bits (is_of_multicast rules d) (is_complete d (e ∷ past)) (is_paired d (e ∷ past)) (always_had_consumer d (e ∷ past)) w.0 (complete-stays d e past w.1) always none in
+        paired-bits (is_of_multicast rules d (e ∷ past)) (is_complete d (e ∷ past)) (is_paired d (e ∷ past)) (always_had_consumer d (e ∷ past))
+        (multicast_stays rules e past are d w.1 ∙ w.0) (complete-stays d e past w.1) always none in
         or-second (pairs d e) (is_paired d past) w.2 (sym (is_paired-step e past d) ∙ paired)
 
     served : is_consumer l ≡ true → has_consumer l.address (e ∷ past) ≡ true
@@ -250,13 +252,17 @@ module _ (rules : RuleSet) (e : Event) (past : List Event) (are : AreJudged rule
 
     waited : is_consumer l ≡ true → has_waiting rules l.address past ≡ true → has_waiting rules l.address (e ∷ past) ≡ false → IsWrittenFor e l
     waited consumer was none =
-        let test = λ (d : Incoming). bytes_eq (address_of d) l.address && is_waiting rules d past in
+        let test = λ (d : Incoming). bytes_eq (address_of d past) l.address && is_waiting rules d past in
         let d = some-passes test (incoming_deliveries past) was in
-        let at : address_of d.0 ≡ l.address = (bytes_eq-Decides (address_of d.0) l.address).0 (and_first (bytes_eq (address_of d.0) l.address) (is_waiting rules d.0 past) d.1.1) in
-        let waits : is_waiting rules d.0 past ≡ true = and_last (bytes_eq (address_of d.0) l.address) (is_waiting rules d.0 past) d.1.1 in
-        let now : bytes_eq (address_of d.0) l.address && is_waiting rules d.0 (e ∷ past) ≡ false =
-        none-passes (λ (x : Incoming). bytes_eq (address_of x) l.address && is_waiting rules x (e ∷ past)) (incoming_deliveries (e ∷ past)) none d.0 (contains-more (incoming_begun e) (incoming_deliveries past) d.0 d.1.0) in
-        let stopped : is_waiting rules d.0 (e ∷ past) ≡ false = sym (ap (λ b. b && is_waiting rules d.0 (e ∷ past)) ((bytes_eq-Decides (address_of d.0) l.address).1 at)) ∙ now in
+        let at : address_of d.0 past ≡ l.address = (bytes_eq-Decides (address_of d.0 past) l.address).0 (and_first (bytes_eq (address_of d.0 past) l.address) (is_waiting rules d.0 past) d.1.1) in
+        let waits : is_waiting rules d.0 past ≡ true = and_last (bytes_eq (address_of d.0 past) l.address) (is_waiting rules d.0 past) d.1.1 in
+        let w = waits-bits (is_of_multicast rules d.0 past) (is_complete d.0 past) (is_paired d.0 past) (always_had_consumer d.0 past) waits in
+        let still : address_of d.0 (e ∷ past) ≡ l.address = address_stays rules e past are d.0 w.1 ∙ at in
+        let now : bytes_eq (address_of d.0 (e ∷ past)) l.address && is_waiting rules d.0 (e ∷ past) ≡ false =
+        none-passes (λ (x : Incoming). bytes_eq (address_of x (e ∷ past)) l.address && is_waiting rules x (e ∷ past)) (incoming_deliveries (e ∷ past)) none d.0
+        (contains-more (incoming_begun e) (incoming_deliveries past) d.0 d.1.0) in
+        let stopped : is_waiting rules d.0 (e ∷ past) ≡ false =
+        sym (ap (λ b. b && is_waiting rules d.0 (e ∷ past)) ((bytes_eq-Decides (address_of d.0 (e ∷ past)) l.address).1 still)) ∙ now in
         pairs-written l d.0 d.1.0 (waits-on d.0 d.1.0 (ap (λ a. has_consumer a (e ∷ past)) at ∙ served consumer) waits stopped) at
 
     unsent : has_unsent rules l past ≡ true → has_unsent rules l (e ∷ past) ≡ false → IsWrittenFor e l

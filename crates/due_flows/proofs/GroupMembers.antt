@@ -1,5 +1,5 @@
 -- The numbers of a group come in one after the other.
-use Rattle.std.proofs.Common.{◌≡◌, refl, sym, ap, ◌∙◌, ◌<◌, ◌≤◌, ◌+◌, ℕ, Bool, true, false, ◌||◌, List, length, take, get_or, Option, nat_eq, ◌==◌, eqb-true, eq-eqb}
+use Rattle.std.proofs.Common.{◌≡◌, refl, sym, ap, ◌∙◌, ◌<◌, ◌≤◌, ◌+◌, ℕ, Bool, true, false, ◌||◌, List, [], ◌∷◌, length, map, take, get_or, Option, nat_eq, ◌==◌, eqb-true, eq-eqb}
 use Rattle.std.specs.List.{list_any, slice_get}
 use Rattle.std.proofs.lemmas.List.{take_all}
 use Rattle.std.proofs.lemmas.List.Folds.{list_any_more}
@@ -35,3 +35,11 @@ one-more xs i n first now next lt was o at added =
 
 pub all-in : (xs : List ℕ) (i n : ℕ) (first now : Bool) → length xs ≤ i → now ≡ first || list_any (nat_eq n) (take i xs) → now ≡ first || list_any (nat_eq n) xs
 all-in xs i n first now le was = was ∙ ap (λ ys. first || list_any (nat_eq n) ys) (take_all i xs le)
+
+-- the elements of a list are asked one after the other
+pub each-in : {A : Type 0} (p : A → Bool) (xs : List A) (i : ℕ) (first now : Bool) → length xs ≤ i → now ≡ first || list_any p (take i xs) → now ≡ first || list_any p xs
+each-in p xs i first now le was = was ∙ ap (λ ys. first || list_any p ys) (take_all i xs le)
+
+pub any-map : {A B : Type 0} (f : A → B) (p : B → Bool) (xs : List A) → list_any (λ x. p (f x)) xs ≡ list_any p (map f xs)
+any-map f p [] = refl
+any-map f p (x ∷ xs) = ap (λ b. p (f x) || b) (any-map f p xs)

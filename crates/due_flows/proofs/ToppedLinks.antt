@@ -14,16 +14,16 @@ use Rattle.trace_events.specs.Event.{Event, Link, Incoming, Outgoing, is_on_link
 use Rattle.trace_events.specs.declared.session.Session.{Session}
 use Rattle.trace_events.specs.Said.{in_transfer, in_disposition}
 use Rattle.trace_events.specs.Address.{has_consumer, has_multicast, is_consumer_of}
-use Rattle.trace_events.specs.Link.{IsLiveLink, is_consumer, is_sender, is_live, links, link_at, own_link}
+use Rattle.trace_events.specs.Link.{IsLiveLink, is_anonymous, is_consumer, is_sender, is_live, links, link_at, own_link}
 use Rattle.trace_events.specs.Credit.{link_event, link_events, given_credit}
 use Rattle.flow_counts.specs.GivenCredit as given
-use Rattle.trace_events.specs.Incoming.{address_of, completes, is_aborted, is_complete, is_from, is_last_part, is_part, is_settled, is_told, incoming_at, incoming_deliveries, settles_id}
+use Rattle.trace_events.specs.Incoming.{address_of, message_address, completes, is_aborted, is_complete, is_from, is_last_part, is_part, is_settled, is_told, incoming_at, incoming_deliveries, settles_id}
 use Rattle.trace_events.specs.Outgoing.{outgoing_begun, names, is_paired}
 use Rattle.trace_events.specs.Decided.{decides, decided_count, begins_undecided}
 use Rattle.trace_events.specs.Disposition.{covers_id}
 use Rattle.trace_events.specs.Ends.{ends_link}
 use Rattle.trace_events.specs.History.{judge}
-use Rattle.trace_events.specs.Waiting.{is_of_multicast, is_undecided, is_waiting, always_had_consumer, undecided_count}
+use Rattle.trace_events.specs.Waiting.{is_of_multicast, is_undecided, is_unpaired, is_waiting, always_had_consumer, undecided_count}
 use Rattle.trace_clauses.specs.Clauses.{first_broken}
 use Rattle.trace_clauses.specs.FlowClause.{may_be_topped_up}
 use Rattle.trace_events.proofs.Along.{and_first, and_last, some_passes}
@@ -31,15 +31,15 @@ use Rattle.trace_events.proofs.Judged.{AreJudged, judged-number}
 use Rattle.trace_events.proofs.LinkNumbers.{links-found}
 use Rattle.trace_events.proofs.Links.{passing}
 use Rattle.trace_clauses.proofs.IncomingProgress.{judged-kept, progress-kept}
-use Rattle.trace_clauses.proofs.LinkEnds.{is_live-next}
+use Rattle.trace_clauses.proofs.LinkEnds.{is_live-next, lives-live}
 use Rattle.trace_clauses.proofs.Parts.{IsKept, IsPart, record_part, each_delivery}
 use Rattle.trace_clauses.proofs.Undecided.{part_link}
 use Rattle.trace_clauses.proofs.UndecidedCount.{undecided_count_moves}
 use Rattle.trace_clauses.proofs.WaitingQueue.{all_contained, contains_cases, contains_first, contains_later}
-use Rattle.due_flows.specs.Topping.{IsDecidedOn, IsServedFirst, carried_number, named, settles}
+use Rattle.due_flows.specs.Topping.{IsDecidedOn, IsServedFirst, EndsWaited, carried_number, named, settles}
 use Rattle.due_flows.proofs.LiveOnes.{all-contained, event-session, link-found, link-lives}
 use Rattle.due_flows.proofs.DrainingLinks.{on-link, waits-on}
-use Rattle.due_flows.proofs.Members.{some-passes, none-passes}
+use Rattle.due_flows.proofs.Members.{contains-more, some-passes, none-passes}
 
 same_some : {A : Type 0} (a b : A) → Some a ≡ Some b → a ≡ b
 same_some a b is = cc
@@ -64,7 +64,7 @@ module _ {A : Type 0} where
       by false is (inl none) = inl (sum_by-cons (λ y. cond (p y) 1 0) x xs ∙ (ap (λ b. cond b 1 0 + count_by p xs) is ∙ ap (λ n. 0 + n) none))
       by false is (inr some) = inr (some.0, (contains_later x xs some.0 some.1.0, some.1.1))
 
-  some-any : (p : A → Bool) (xs : List A) (x : A) → Contains xs x → p x ≡ true → list_any p xs ≡ true
+  pub some-any : (p : A → Bool) (xs : List A) (x : A) → Contains xs x → p x ≡ true → list_any p xs ≡ true
   some-any p xs x there is = by (list_any p xs) refl
     where
       by : (b : Bool) → list_any p xs ≡ b → b ≡ true
@@ -73,14 +73,15 @@ module _ {A : Type 0} where
 
 -- ---- what may bring a link there
 
--- the event names the link, or opens it; tells or carries a delivery of it; is a producer's disposition on its session; or
--- opens the first consumer's link of its address
+-- the event names the link, or opens it; tells or carries a delivery of it; is a producer's disposition on its session; opens
+-- the first consumer's link of its address; or, where the link has none, ends a consumer's link at whose address deliveries wait
 pub data Touches (rules : RuleSet) (e : Event) (past : List Event) (l : Link) : Type 0 where
   Names : e.link ≡ Some l → Touches rules e past l
   Tells : IsDecidedOn rules past l e.told → Touches rules e past l
   Carries : IsDecidedOn rules past l (carried_number e) → Touches rules e past l
   Settles : e.session ≡ Some l.session → settles e ≡ true → Touches rules e past l
   Serves : IsServedFirst e past l → Touches rules e past l
+  Frees : is_anonymous l ≡ true → EndsWaited rules e past → Touches rules e past l
 
 -- ---- one delivery
 
@@ -134,6 +135,29 @@ not-multicast : (m c p a : Bool) → (not m && c && not p) && a ≡ true → m �
 not-multicast false c p a is = refl
 not-multicast true c p a is = absurd cc
 
+-- at its address there is a consumer while it waits
+waits-has : (d : Incoming) (past : List Event) → always_had_consumer d past ≡ true → has_consumer (address_of d past) past ≡ true
+waits-has d [] is = absurd cc
+waits-has d (e ∷ past) is = and_first (has_consumer (address_of d (e ∷ past)) (e ∷ past)) _ is
+
+-- live before and not behind
+ended-by : (was behind ends : Bool) → behind ≡ was && not ends → was ≡ true → behind ≡ false → ends ≡ true
+ended-by true behind true is before off = refl
+ended-by true behind false is before off = let never : false ≡ true = sym off ∙ is in absurd cc
+ended-by false behind ends is before off = absurd cc
+
+consumer-bits : (consumer same live : Bool) → consumer && same && live ≡ true → (consumer ≡ true) × (same ≡ true) × (live ≡ true)
+consumer-bits true true true is = (refl, refl, refl)
+consumer-bits true true false is = absurd cc
+consumer-bits true false live is = absurd (none live is)
+  where
+    none : (b : Bool) → false && b ≡ true → ⊥
+    none b is = cc
+consumer-bits false same live is = absurd (none same live is)
+  where
+    none : (b c : Bool) → false && b && c ≡ true → ⊥
+    none b c is = cc
+
 or-other : (b c : Bool) → b ≡ false → b || c ≡ true → c ≡ true
 or-other true c none is = absurd cc
 or-other false c none is = is
@@ -173,24 +197,58 @@ module _ (rules : RuleSet) (e : Event) (past : List Event) (are : AreJudged rule
               absurd (omega (arith, fresh, number_is, before))
         ]
 
-    module _ (served : has_multicast rules l.address || has_consumer l.address (e ∷ past) ≡ true) (undecided : is_undecided rules d past ≡ true) (decided : is_undecided rules d (e ∷ past) ≡ false) where
-      -- it waited, and waits no more
-      paired : is_waiting rules d past ≡ true → is_waiting rules d (e ∷ past) ≡ false → Touches rules e past l
-      paired waited stops =
-          let single : has_multicast rules l.address ≡ false =
-          ap (λ (m : Link). has_multicast rules m.address) (sym of-link) ∙ not-multicast (is_of_multicast rules d) (is_complete d past) (is_paired d past) (always_had_consumer d past) waited in
-          let has : has_consumer (address_of d) (e ∷ past) ≡ true =
-          ap (λ (m : Link). has_consumer m.address (e ∷ past)) of-link ∙ or-other (has_multicast rules l.address) (has_consumer l.address (e ∷ past)) single served in
-          let pairs_it = waits-on rules e past are lawful l now d there has waited stops in
-          let j = some_passes (λ (j : Outgoing). names d.number j.note) (outgoing_begun e) pairs_it in
-          let begun = (passing (λ (x : Outgoing). x.number == e.number) e.outgoing j.0 j.1).0 in
-          Carries (record {
-            delivery = d;
-            is = ap (option_and_then (λ (x : Outgoing). named x.note)) begun ∙ names-named d.number j.0.note j.2;
-            at = kept.at;
-            undecided = undecided;
-            link = of-link;
-          })
+    module _ (served : is_anonymous l || has_multicast rules l.address || has_consumer l.address (e ∷ past) ≡ true) (undecided : is_undecided rules d past ≡ true) (decided : is_undecided rules d (e ∷ past) ≡ false) where
+      -- it waited, and waits no more: it is paired, or has lost the last consumer of its address
+      module _ (waited : is_waiting rules d past ≡ true) (stops : is_waiting rules d (e ∷ past) ≡ false) where
+        carried : has_consumer (address_of d past) (e ∷ past) ≡ true → Touches rules e past l
+        carried has =
+            let pairs_it = waits-on rules e past are lawful l now d there has waited stops in
+            let j = some_passes (λ (j : Outgoing). names d.number j.note) (outgoing_begun e) pairs_it in
+            let begun = (passing (λ (x : Outgoing). x.number == e.number) e.outgoing j.0 j.1).0 in
+            Carries (record {
+              delivery = d;
+              is = ap (option_and_then (λ (x : Outgoing). named x.note)) begun ∙ names-named d.number j.0.note j.2;
+              at = kept.at;
+              undecided = undecided;
+              link = of-link;
+            })
+
+        lost : has_consumer (address_of d past) (e ∷ past) ≡ false → EndsWaited rules e past
+        lost none =
+            let had = waits-has d past (and_last (is_unpaired rules d past) (always_had_consumer d past) waited) in
+            let k = some-passes (is_consumer_of (address_of d past) past) (links past) had in
+            let before = consumer-bits (is_consumer k.0) (bytes_eq k.0.address (address_of d past)) (is_live past k.0) k.1.1 in
+            let off = none-passes (is_consumer_of (address_of d past) (e ∷ past)) (links (e ∷ past)) none k.0 (contains-more (own_link e) (links past) k.0 k.1.0) in
+            let over : is_live (e ∷ past) k.0 ≡ false =
+            sym (ap (λ b. b && bytes_eq k.0.address (address_of d past) && is_live (e ∷ past) k.0) before.0 ∙ ap (λ b. b && is_live (e ∷ past) k.0) before.1) ∙ off in
+            let at = (all-contained (λ k. (link_at k.number past ≡ Some k) × (k.number < length past)) (links past) k.0 (links-found rules past are.1) k.1.0).0 in
+            let own : address_of d past ≡ k.0.address = sym ((bytes_eq-Decides k.0.address (address_of d past)).0 before.1) in
+            record {
+              link = k.0;
+              live = lives-live rules past are.1 k.0 at before.2;
+              ends = ended-by (is_live past k.0) (is_live (e ∷ past) k.0) (ends_link k.0 e) (is_live-next rules e past are k.0 at) before.2 over;
+              consumer = before.0;
+              waits = some-any (λ (x : Incoming). bytes_eq (address_of x past) k.0.address && is_waiting rules x past) (incoming_deliveries past) d there
+                  (ap (λ b. b && is_waiting rules d past) ((bytes_eq-Decides (address_of d past) k.0.address).1 own) ∙ waited);
+            }
+
+        -- on a link with an address it is that of the delivery, and has a consumer
+        stays-served : is_anonymous l ≡ false → has_consumer (address_of d past) (e ∷ past) ≡ true
+        stays-served addressed =
+            let own : address_of d past ≡ l.address =
+            ap (λ (m : Link). if is_anonymous m then message_address d past else m.address) of-link ∙ ap (λ b. if b then message_address d past else l.address) addressed in
+            let single : is_anonymous l || has_multicast rules l.address ≡ false =
+            ap (λ b. b || has_multicast rules l.address) addressed
+            ∙ (ap (has_multicast rules) (sym own) ∙ not-multicast (is_of_multicast rules d past) (is_complete d past) (is_paired d past) (always_had_consumer d past) waited) in
+            ap (λ a. has_consumer a (e ∷ past)) own ∙ or-other (is_anonymous l || has_multicast rules l.address) (has_consumer l.address (e ∷ past)) single served
+
+        paired : Touches rules e past l
+        paired = by (is_anonymous l) refl (has_consumer (address_of d past) (e ∷ past)) refl
+          where
+            by : (b : Bool) → is_anonymous l ≡ b → (c : Bool) → has_consumer (address_of d past) (e ∷ past) ≡ c → Touches rules e past l
+            by b anonymous true has = carried has
+            by true anonymous false none = Frees anonymous (lost none)
+            by false addressed false none = let never : true ≡ false = sym (stays-served addressed) ∙ none in absurd cc
 
       settled : settles_id d e ≡ true → Touches rules e past l
       settled is =
@@ -238,17 +296,8 @@ module _ (rules : RuleSet) (e : Event) (past : List Event) (are : AreJudged rule
       found : (k : Link) × (Contains (cons_option (own_link e) (links past)) k × (is_consumer_of l.address (e ∷ past) k ≡ true))
       found = some-passes (is_consumer_of l.address (e ∷ past)) (links (e ∷ past)) has
 
-      bits : (consumer same live : Bool) → consumer && same && live ≡ true → (consumer ≡ true) × (same ≡ true) × (live ≡ true)
-      bits true true true is = (refl, refl, refl)
-      bits true true false is = absurd cc
-      bits true false live is = absurd (none live is)
-        where
-          none : (b : Bool) → false && b ≡ true → ⊥
-          none b is = cc
-      bits false same live is = absurd cc
-
       is : (is_consumer found.0 ≡ true) × (bytes_eq found.0.address l.address ≡ true) × (is_live (e ∷ past) found.0 ≡ true)
-      is = bits (is_consumer found.0) (bytes_eq found.0.address l.address) (is_live (e ∷ past) found.0) found.1.1
+      is = consumer-bits (is_consumer found.0) (bytes_eq found.0.address l.address) (is_live (e ∷ past) found.0) found.1.1
 
       opened : has_consumer l.address past ≡ false → own_link e ≡ Some found.0 → Touches rules e past l
       opened none own = Serves (record {
@@ -298,20 +347,21 @@ module _ (rules : RuleSet) (e : Event) (past : List Event) (are : AreJudged rule
   both true c p q = q
   both false c p q = absurd cc
 
-  -- someone takes its deliveries, and did before
-  takers-before : has_multicast rules l.address || has_consumer l.address (e ∷ past) ≡ true → Touches rules e past l ⊎ (has_multicast rules l.address || has_consumer l.address past ≡ true)
-  takers-before takes = elim (or-both (has_multicast rules l.address) (has_consumer l.address (e ∷ past)) takes) [
-    | inl multicast ↦ inr (or-left (has_multicast rules l.address) (has_consumer l.address past) multicast)
+  -- someone takes its deliveries, or they say for whom they are; and so it was before
+  takers-before : is_anonymous l || has_multicast rules l.address || has_consumer l.address (e ∷ past) ≡ true
+      → Touches rules e past l ⊎ (is_anonymous l || has_multicast rules l.address || has_consumer l.address past ≡ true)
+  takers-before takes = elim (or-both (is_anonymous l || has_multicast rules l.address) (has_consumer l.address (e ∷ past)) takes) [
+    | inl always ↦ inr (or-left (is_anonymous l || has_multicast rules l.address) (has_consumer l.address past) always)
     | inr has ↦ elim (served-before has) [
       | inl touched ↦ inl touched
-      | inr had ↦ inr (or-right (has_multicast rules l.address) (has_consumer l.address past) had)
+      | inr had ↦ inr (or-right (is_anonymous l || has_multicast rules l.address) (has_consumer l.address past) had)
     ]
   ]
 
   counts-before : is_on_link l e ≡ false → may_be_topped_up rules (e ∷ past) l ≡ true → Touches rules e past l ⊎ (may_be_topped_up rules past l ≡ true)
   counts-before off may =
-      let low = and_first (nat_le (given_credit l (e ∷ past) + undecided_count rules l (e ∷ past)) LOW_MARK) (has_multicast rules l.address || has_consumer l.address (e ∷ past)) may in
-      let takes = and_last (nat_le (given_credit l (e ∷ past) + undecided_count rules l (e ∷ past)) LOW_MARK) (has_multicast rules l.address || has_consumer l.address (e ∷ past)) may in
+      let low = and_first (nat_le (given_credit l (e ∷ past) + undecided_count rules l (e ∷ past)) LOW_MARK) (is_anonymous l || has_multicast rules l.address || has_consumer l.address (e ∷ past)) may in
+      let takes = and_last (nat_le (given_credit l (e ∷ past) + undecided_count rules l (e ∷ past)) LOW_MARK) (is_anonymous l || has_multicast rules l.address || has_consumer l.address (e ∷ past)) may in
       elim (counted-some (λ d. is_from l d && decides rules e past d) (incoming_deliveries past)) [
         | inr some ↦
             let from = and_first (is_from l some.0) (decides rules e past some.0) some.1.1 in
@@ -320,7 +370,7 @@ module _ (rules : RuleSet) (e : Event) (past : List Event) (are : AreJudged rule
             (not-true (is_undecided rules some.0 (e ∷ past)) (and_last (is_undecided rules some.0 past) (not (is_undecided rules some.0 (e ∷ past))) decides_it)))
         | inl none ↦ elim (takers-before takes) [
           | inl touched ↦ inl touched
-          | inr took ↦ inr (both (nat_le (given_credit l past + undecided_count rules l past) LOW_MARK) (has_multicast rules l.address || has_consumer l.address past)
+          | inr took ↦ inr (both (nat_le (given_credit l past + undecided_count rules l past) LOW_MARK) (is_anonymous l || has_multicast rules l.address || has_consumer l.address past)
               (low-before (undecided_count rules l past) (undecided_count rules l (e ∷ past)) (more none) (given-same off) low) took)
         ]
       ]

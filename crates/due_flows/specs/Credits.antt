@@ -1,5 +1,6 @@
 -- What the list of links that may be given more credit has, and what an event makes of it.
-use Rattle.std.specs.Prelude.{◌≡◌, ℕ, Bool, true, false, List, Option, Some, option_map, nat_eq, ◌==◌}
+use Rattle.std.specs.Prelude.{◌≡◌, ◌&&◌, ℕ, Bool, true, false, List, [], Option, Some, option_map, nat_eq, ◌==◌}
+use Rattle.std.specs.List.{list_any}
 use Rattle.number_groups.specs.Groups.{is_member}
 use Rattle.number_groups.specs.OctetGroups as octets
 use Rattle.capture_form.specs.Rules.{RuleSet}
@@ -7,7 +8,8 @@ use Rattle.trace_events.specs.declared.session.Session.{Session}
 use Rattle.trace_events.specs.Words.{is_some_and, where_passes}
 use Rattle.trace_events.specs.Event.{Event, Link, Incoming}
 use Rattle.trace_events.specs.Address.{has_consumer}
-use Rattle.trace_events.specs.Link.{is_producer, own_link}
+use Rattle.trace_events.specs.Link.{is_consumer, is_producer, own_link}
+use Rattle.trace_events.specs.Waiting.{has_waiting}
 use Rattle.trace_clauses.specs.FlowClause.{may_be_topped_up}
 use Rattle.state_incoming.specs.EntryAnswers.{Knows}
 use Rattle.state_addresses.specs.ConsumerLinks.{has_number}
@@ -84,3 +86,12 @@ pub record AreWokenIn (e : Event) (before : Looked) (earlier later : Credits) : 
   pub settled : (session : ℕ) → settles e ≡ true → option_map (λ (s : Session). s.number) e.session ≡ Some session → (n : ℕ) → on_session earlier session n ≡ true → waits later n ≡ true
   pub served : (rules : RuleSet) (past : List Event) → AreOf rules before past → (l : Link) → consumer_opened e ≡ Some l → has_consumer l.address past ≡ false
       → (n : ℕ) → at_address earlier l.address n ≡ true → waits later n ≡ true
+
+-- one of these links is a consumer's at whose address deliveries wait
+abbrev pub has_waited : RuleSet → List Event → List Link → Bool
+has_waited rules past ended = list_any (λ l. is_consumer l && has_waiting rules l.address past) ended
+
+-- where such a link ends, all links without address are candidates
+pub record AreFreedIn (ended : List Link) (before : Looked) (earlier later : Credits) : Type 0 where
+  pub more : HasMore earlier later
+  pub freed : (rules : RuleSet) (past : List Event) → AreOf rules before past → has_waited rules past ended ≡ true → (n : ℕ) → at_address earlier [] n ≡ true → waits later n ≡ true

@@ -8,9 +8,10 @@ use Rattle.trace_events.specs.Words.{is_some_and, where_passes}
 use Rattle.trace_events.specs.Event.{Event, Link, Incoming}
 use Rattle.trace_events.specs.Said.{in_disposition}
 use Rattle.trace_events.specs.Address.{has_consumer}
+use Rattle.trace_events.specs.Ends.{ends_link}
 use Rattle.trace_events.specs.Incoming.{incoming_at}
 use Rattle.trace_events.specs.Link.{IsLiveLink, is_consumer, is_producer, is_sender, own_link}
-use Rattle.trace_events.specs.Waiting.{is_undecided}
+use Rattle.trace_events.specs.Waiting.{has_waiting, is_undecided}
 use Rattle.trace_clauses.specs.FlowClause.{may_be_topped_up}
 
 -- a producer's live link
@@ -55,3 +56,11 @@ pub record IsServedFirst (e : Event) (past : List Event) (l : Link) : Type 0 whe
   pub opened : consumer_opened e ≡ Some consumer
   pub address : consumer.address ≡ l.address
   pub unserved : has_consumer l.address past ≡ false
+
+-- the event ends a consumer's link at whose address deliveries wait
+pub record EndsWaited (rules : RuleSet) (e : Event) (past : List Event) : Type 0 where
+  pub link : Link
+  pub live : IsLiveLink link past
+  pub ends : ends_link link e ≡ true
+  pub consumer : is_consumer link ≡ true
+  pub waits : has_waiting rules link.address past ≡ true

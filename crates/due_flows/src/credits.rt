@@ -1,6 +1,6 @@
 //! The links of producers that may be given more credit (part 2 of the standard, section 2.6.7).
 
-ghost use Rattle.std.specs.Prelude.{◌≡◌, ◌∷◌, ℕ, List, [], Some, None, IfSome, OnOk, false, is_some, nat_eq, option_map, true};
+ghost use Rattle.std.specs.Prelude.{◌≡◌, ◌∷◌, ◌&&◌, ℕ, List, [], Some, None, IfSome, OnOk, false, is_some, nat_eq, option_map, true};
 ghost use Rattle.capture_form.specs.Rules.{RuleSet};
 ghost use Rattle.capture_form.specs.declared.records.Record.{Record};
 ghost use Rattle.number_groups.specs.Groups.{is_member};
@@ -8,7 +8,8 @@ ghost use Rattle.number_groups.specs.OctetGroups as octets;
 ghost use Rattle.trace_events.specs.Address as addresses;
 ghost use Rattle.trace_events.specs.Event as law;
 ghost use Rattle.trace_events.specs.History.{history};
-ghost use Rattle.trace_events.specs.Link.{is_producer, own_link};
+ghost use Rattle.trace_events.specs.Link.{is_consumer, is_producer, own_link};
+ghost use Rattle.trace_events.specs.Waiting.{has_waiting};
 ghost use Rattle.trace_events.specs.Words.{is_some_and, where_passes};
 ghost use Rattle.trace_duties.specs.Quiet.{none_lacks_credit};
 ghost use Rattle.state_incoming.specs.EntryAnswers.{Knows};
@@ -17,7 +18,7 @@ ghost use Rattle.state_tables.specs.EndedLinks.{views};
 ghost use Rattle.state_addresses.specs.ConsumerLinks.{has_number};
 ghost use Rattle.due_flows.specs.Lent.{AreOf};
 ghost use Rattle.due_flows.specs.Topping.{IsToppable, carried_number, consumer_opened, settles};
-ghost use Rattle.due_flows.specs.Credits.{HasCredits, AreEndedIn, AreOpenedIn, AreTouchedIn, AreWokenIn, place_of};
+ghost use Rattle.due_flows.specs.Credits.{HasCredits, AreEndedIn, AreFreedIn, AreOpenedIn, AreTouchedIn, AreWokenIn, has_waited, place_of};
 ghost use Rattle.trace_values.specs.View.{Events, event_view, link_view};
 
 use crate::candidates::Candidates;
@@ -81,6 +82,7 @@ impl Credits {
         self.open(event)?;
         self.touch(event, before)?;
         self.wake(event, before)?;
+        self.free(&ended, before)?;
         Ok(())
     }
 
@@ -128,6 +130,17 @@ impl Credits {
         }
         if let Some(address) = served(event, before) {
             self.links.insert_octet_group(&self.of_address, address)?;
+        }
+        Ok(())
+    }
+
+    /// So may those without address where a consumer's link ends at whose address deliveries wait: these may be of such a link,
+    /// wait no more without a consumer, and are decided by that where their producer has settled them.
+    fn free(&mut self, ended: &[Link], before: &Looked<'_>) -> Result<(), AllocError>
+        ensures { OnOk result (AreFreedIn (views ended.now) before.now self.old self.new) }
+    {
+        if has_waited(ended, before) {
+            self.links.insert_octet_group(&self.of_address, &[])?;
         }
         Ok(())
     }
@@ -222,6 +235,25 @@ fn served<'a>(event: &Event<'a, '_>, before: &Looked<'_>) -> Option<&'a [u8]>
         }
         _ => None,
     }
+}
+
+/// The link is a consumer's at whose address deliveries wait.
+fn is_waited(link: &Link, before: &Looked<'_>) -> bool
+    ensures { (rules : RuleSet) (past : Events) → AreOf rules before.now past →
+        result ≡ (is_consumer (link_view link.now) && has_waiting rules (link_view link.now).address past) }
+{
+    link.is_consumer() && before.deliveries.has_waiting(link.address)
+}
+
+/// One of these links is such a one.
+fn has_waited(ended: &[Link], before: &Looked<'_>) -> bool
+    ensures { (rules : RuleSet) (past : Events) → AreOf rules before.now past → result ≡ has_waited rules past (views ended.now) }
+{
+    let mut has = false;
+    for link in ended {
+        has = has || is_waited(link, before);
+    }
+    has
 }
 
 /// The link of this number, at its place, where it may be given more credit.

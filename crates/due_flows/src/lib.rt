@@ -1,8 +1,9 @@
 //! Lists of the work that sessions and links ask for: windows and credit to be given anew, deliveries to go on with, and
 //! drains to be answered. Each keeps candidates, among which is all that is due, is moved forward by one event after the
 //! other, and answers what is due with the lowest number, by the tables of `state_answers`. An event touches what belongs
-//! to it alone: its session, its link, and those of its address that wait for it. That it is the lowest is the code's doing,
-//! shown by worked captures: neither law nor duties ask for it, so no clause says it.
+//! to it alone: its session, its link, those of its address that wait for it, and the links without address where it ends a
+//! consumer's link at which deliveries wait. That it is the lowest is the code's doing, shown by worked captures: neither law
+//! nor duties ask for it, so no clause says it.
 //!
 //! - `windows`: the sessions whose window is to be given anew;
 //! - `parts`: the deliveries to consumers that may go on;

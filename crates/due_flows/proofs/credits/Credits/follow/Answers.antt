@@ -1,9 +1,10 @@
-use Rattle.std.proofs.Common.{sym, subst, List}
+use Rattle.std.proofs.Common.{sym, subst, ◌∙◌, List}
 use Rattle.trace_events.specs.History.{history}
 use Rattle.trace_events.proofs.Judged.{history-judged}
 use Rattle.trace_values.specs.View.{event_view}
 use Rattle.trace_values.specs.declared.event.Link.{Link}
 use Rattle.state_tables.specs.EndedLinks.{AreEnded, views}
+use Rattle.due_flows.specs.Credits.{AreFreedIn}
 use Rattle.due_flows.proofs.CreditsFollowed.{have-credits}
 use Rattle.due_flows.proofs.credits.Credits.follow.Goals as goal
 
@@ -14,4 +15,5 @@ returns c = λ rules records r next are has.
     let Ended : List Link → Type 0 = λ links. AreEnded e past (views links) in
     let ended = subst Ended (sym c.deref.ensures.value) (c.in_ok-ended.ensures rules records r next.0 are.1.1.0) in
     have-credits rules e past ((r, next.0), history-judged rules records) next.1 c.args.before.now are (views c.deref.result.now) ended
-    c.args.self.now c.end.new.self c.open.new.self c.touch.new.self c.wake.new.self c.end.ensures c.in_ok-open.ensures c.in_ok-touch.ensures c.in_ok-wake.ensures has
+    c.args.self.now c.end.new.self c.open.new.self c.touch.new.self c.wake.new.self c.free.new.self c.end.ensures c.in_ok-open.ensures c.in_ok-touch.ensures c.in_ok-wake.ensures
+    (subst (λ links. AreFreedIn (views links) c.args.before.now c.wake.new.self c.free.new.self) (c.deref-2.ensures.value ∙ sym c.deref.ensures.value) c.in_ok-free.ensures) has
