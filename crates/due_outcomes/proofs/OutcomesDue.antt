@@ -63,8 +63,8 @@ module _ (rules : RuleSet) (past : List Event) (looked : Looked) (stands : AreLo
   waiting-entry d there is =
       ap (λ o. is_some_and o (λ (x : Held). says_waiting x.fate))
       (entry-at rules past are lawful looked.deliveries.now stands.1.1.1.1.0.0 d.number d (incoming-kept d there).at
-      (held-bits (is_of_multicast rules d) (is_complete d past) (is_paired d past) (always_had_consumer d past) (is_closed past d) _ is))
-      ∙ fate-bits (is_of_multicast rules d) (is_complete d past) (is_paired d past) (always_had_consumer d past) is
+      (held-bits (is_of_multicast rules d past) (is_complete d past) (is_paired d past) (always_had_consumer d past) (is_closed past d) _ is))
+      ∙ fate-bits (is_of_multicast rules d past) (is_complete d past) (is_paired d past) (always_had_consumer d past) is
 
   carried-entry : (j : Outgoing) → Contains (outgoing_deliveries past) j → (d : Incoming) → noted j.note past ≡ Some d → says_closed (held_in looked.deliveries.now d.number) ≡ is_closed past d
   carried-entry j there d at =
@@ -87,7 +87,7 @@ module _ (rules : RuleSet) (past : List Event) (looked : Looked) (stands : AreLo
         by false other = other
         by true same = let never : true ≡ false = sym is ∙ none d there (sym (eqb-true number d.number same)) in absurd cc
 
-    still-waits : (d : Incoming) → Contains (incoming_deliveries past) d → is_waiting rules d past ≡ true → waits_in later (address_of d) d.number ≡ true
+    still-waits : (d : Incoming) → Contains (incoming_deliveries past) d → is_waiting rules d past ≡ true → waits_in later (address_of d past) d.number ≡ true
     still-waits d there is = by (is_some_and (held_in looked.deliveries.now number) (λ x. says_waiting x.fate)) refl
       where
         apart : is_some_and (held_in looked.deliveries.now number) (λ x. says_waiting x.fate) ≡ false → (b : Bool) → (number == d.number) ≡ b → (number == d.number) ≡ false
@@ -97,11 +97,11 @@ module _ (rules : RuleSet) (past : List Event) (looked : Looked) (stands : AreLo
             let never : true ≡ false = sym says ∙ not_waiting in
             absurd cc
 
-        by : (b : Bool) → is_some_and (held_in looked.deliveries.now number) (λ x. says_waiting x.fate) ≡ b → waits_in later (address_of d) d.number ≡ true
-        by true says = subst (λ groups. waits_in (record later { waiting = groups }) (address_of d) d.number ≡ true) (sym (waits says)) (was.waiting d there is)
-        by false says = waiting (address_of d) d.number (apart says (number == d.number) refl) (was.waiting d there is)
+        by : (b : Bool) → is_some_and (held_in looked.deliveries.now number) (λ x. says_waiting x.fate) ≡ b → waits_in later (address_of d past) d.number ≡ true
+        by true says = subst (λ groups. waits_in (record later { waiting = groups }) (address_of d past) d.number ≡ true) (sym (waits says)) (was.waiting d there is)
+        by false says = waiting (address_of d past) d.number (apart says (number == d.number) refl) (was.waiting d there is)
 
-    still-carried : (j : Outgoing) → Contains (outgoing_deliveries past) j → (d : Incoming) → noted j.note past ≡ Some d → is_of_multicast rules d ≡ false → is_closed past d ≡ false → IsOn later.carried j d.number
+    still-carried : (j : Outgoing) → Contains (outgoing_deliveries past) j → (d : Incoming) → noted j.note past ≡ Some d → is_of_multicast rules d past ≡ false → is_closed past d ≡ false → IsOn later.carried j d.number
     still-carried j there d at anycast open_still = by (says_closed (held_in looked.deliveries.now number)) refl
       where
         apart : says_closed (held_in looked.deliveries.now number) ≡ true → (b : Bool) → (number == d.number) ≡ b → (number == d.number) ≡ false

@@ -1,5 +1,5 @@
 -- A list that takes an event, part by part, follows it.
-use Rattle.std.proofs.Common.{◌≡◌, sym, ap, subst, ◌∙◌, ℕ, Bool, true, false, ◌&&◌, ◌||◌, List, ◌∷◌, Option, IfSome, is_some, nat_eq, ◌==◌}
+use Rattle.std.proofs.Common.{◌≡◌, sym, ap, subst, ◌∙◌, ℕ, Bool, true, false, ◌&&◌, ◌||◌, List, ◌∷◌, Option, Some, None, IfSome, is_some, nat_eq, ◌==◌}
 use Rattle.std.specs.Prelude.{Contains}
 use Rattle.std.specs.List.{list_any}
 use Rattle.number_groups.specs.Groups.{is_member}
@@ -17,6 +17,7 @@ use Rattle.trace_events.specs.Outgoing.{answering, names, outgoing_begun, outgoi
 use Rattle.trace_events.specs.Queue.{pairs}
 use Rattle.trace_events.specs.Waiting.{is_of_multicast}
 use Rattle.trace_events.proofs.Judged.{AreJudged}
+use Rattle.state_addresses.specs.Addressed.{IsAddressed}
 use Rattle.state_tables.specs.EndedLinks.{AreEnded}
 use Rattle.number_groups.specs.Ascending.{has}
 use Rattle.state_outgoing.specs.Sent.{is_left_unsettled}
@@ -30,13 +31,14 @@ use Rattle.due_outcomes.proofs.UnderKeys.{if-such, or-first, or-last}
 use Rattle.due_outcomes.proofs.UntoldSteps.{IsFollowed}
 
 module _ (rules : RuleSet) (e : Event) (past : List Event) (are : AreJudged rules (e ∷ past)) (u0 u1 u2 u3 : Untold) (c3 c5 c6 c7 : Ascending) (spoken : List ℕ) (on_link : Groups ℕ) (ended : List Link) (carried : Option ℕ)
+    (address : List ℕ) (addressed : IsAddressed e past address)
     (completes1 : (n : ℕ) → has u1.candidates n ≡ (has u0.candidates n || is_some_and (completed_by e) (λ d. d.number == n)))
-    (waits1 : IfSome (completed_by e) (λ d. is_of_multicast rules d ≡ false → waits_in u1 (address_of d) d.number ≡ true))
-    (kept1 : (address : List ℕ) (n : ℕ) → waits_in u0 address n ≡ true → waits_in u1 address n ≡ true)
+    (waits1 : IfSome (completed_by e) (λ d. has_multicast rules address ≡ false → waits_in u1 address d.number ≡ true))
+    (kept1 : (a : List ℕ) (n : ℕ) → waits_in u0 a n ≡ true → waits_in u1 a n ≡ true)
     (same1 : u1.carried ≡ u0.carried)
     (begun2 : IfSome (outgoing_begun e) (λ j. (n : ℕ) → names n j.note ≡ true → has_multicast rules j.link.address ≡ false → IsOn u2.carried j n))
     (kept2 : KeepsOn u1.carried u2.carried)
-    (stay2 : (address : List ℕ) (n : ℕ) → is_some_and (outgoing_begun e) (λ j. names n j.note) ≡ false → waits_in u1 address n ≡ true → waits_in u2 address n ≡ true)
+    (stay2 : (a : List ℕ) (n : ℕ) → is_some_and (outgoing_begun e) (λ j. names n j.note) ≡ false → waits_in u1 a n ≡ true → waits_in u2 a n ≡ true)
     (same2 : u2.candidates ≡ u1.candidates)
     (add3 : (n : ℕ) → has c3 n ≡ (has u2.candidates n || is_number carried n)) (names3 : (n : ℕ) → is_number carried n ≡ is_some_and e.outgoing (λ j. names n j.note))
     (add5 : (n : ℕ) → has c5 n ≡ (has c3 n || is_among spoken n))
@@ -64,8 +66,14 @@ module _ (rules : RuleSet) (e : Event) (past : List Event) (are : AreJudged rule
   under2 : (j : Outgoing) (n : ℕ) → IsOn u3.carried j n → IsOn u2.carried j n
   under2 j n is = subst (λ (x : Groups ℕ). IsOn x j n) carried8 is
 
-  waiting3 : (address : List ℕ) (n : ℕ) → waits_in u2 address n ≡ true → waits_in u3 address n ≡ true
-  waiting3 address n is = ap (λ (x : OctetGroups). octets.is_member x address n) waiting8 ∙ is
+  waiting3 : (a : List ℕ) (n : ℕ) → waits_in u2 a n ≡ true → waits_in u3 a n ≡ true
+  waiting3 a n is = ap (λ (x : OctetGroups). octets.is_member x a n) waiting8 ∙ is
+
+  -- what the event completes is for this address
+  own-waits : (o : Option Incoming) → IfSome o (λ d. address_of d (e ∷ past) ≡ address) → IfSome o (λ d. has_multicast rules address ≡ false → waits_in u1 address d.number ≡ true)
+      → IfSome o (λ d. is_of_multicast rules d (e ∷ past) ≡ false → waits_in u1 (address_of d (e ∷ past)) d.number ≡ true)
+  own-waits None for waits = tt
+  own-waits (Some d) for waits = λ anycast. ap (λ a. waits_in u1 a d.number) for ∙ waits (sym (ap (has_multicast rules) for) ∙ anycast)
 
   both : (a b : Bool) → a ≡ true → b ≡ true → a && b ≡ true
   both a b is so = ap (λ x. x && b) is ∙ so
@@ -74,10 +82,11 @@ module _ (rules : RuleSet) (e : Event) (past : List Event) (are : AreJudged rule
   followed = record {
     grown = λ n is. from3 n (from1 n (completes1 n ∙ or-first (has u0.candidates n) (is_some_and (completed_by e) (λ d. d.number == n)) is));
     completed = λ d is. from3 d.number (from1 d.number (completes1 d.number ∙ or-last (has u0.candidates d.number) (is_some_and (completed_by e) (λ x. x.number == d.number)) is));
-    waits = if-such (λ (d : Incoming). is_of_multicast rules d ≡ false → waits_in u1 (address_of d) d.number ≡ true)
-        (λ d. is_of_multicast rules d ≡ false → pairs d e ≡ false → waits_in u3 (address_of d) d.number ≡ true) (completed_by e)
-        (λ d h anycast apart. waiting3 (address_of d) d.number (stay2 (address_of d) d.number apart (h anycast))) waits1;
-    stay = λ address n apart is. waiting3 address n (stay2 address n apart (kept1 address n is));
+    waits = if-such (λ (d : Incoming). is_of_multicast rules d (e ∷ past) ≡ false → waits_in u1 (address_of d (e ∷ past)) d.number ≡ true)
+        (λ d. is_of_multicast rules d (e ∷ past) ≡ false → pairs d e ≡ false → waits_in u3 (address_of d (e ∷ past)) d.number ≡ true) (completed_by e)
+        (λ d h anycast apart. waiting3 (address_of d (e ∷ past)) d.number (stay2 (address_of d (e ∷ past)) d.number apart (h anycast)))
+        (own-waits (completed_by e) addressed waits1);
+    stay = λ a n apart is. waiting3 a n (stay2 a n apart (kept1 a n is));
     named = λ n is. from3 n (add3 n ∙ or-last (has u2.candidates n) (is_number carried n) (names3 n ∙ is));
     begun = subst (λ (x : Groups ℕ). IfSome (outgoing_begun e) (λ j. (n : ℕ) → names n j.note ≡ true → has_multicast rules j.link.address ≡ false → IsOn x j n)) (sym carried8) begun2;
     kept = λ j n is. subst (λ (x : Groups ℕ). IsOn x j n) (sym carried8) (kept2 j n (subst (λ (x : Groups ℕ). IsOn x j n) (sym same1) is));
@@ -86,9 +95,9 @@ module _ (rules : RuleSet) (e : Event) (past : List Event) (are : AreJudged rule
     spoken = λ j begun opens speaks n named. from5 n (add5 n ∙ or-last (has c3 n) (is_among spoken n) (spoken5 j begun opens speaks n named));
     awaited = λ l n lives ends awaits. from7 n (add7 n ∙ or-last (has c6 n) (list_any (λ m. is_member nat_eq on_link m.number n) ended)
         (contained-any (λ (m : Link). is_member nat_eq on_link m.number n) ended l ((over l).1 (lives, ends)) (awaited7 l.number n ∙ awaits)));
-    lost = λ address n had none is. let l = lost-link rules e past are address had none in
+    lost = λ a n had none is. let l = lost-link rules e past are a had none in
         add8 n ∙ or-last (has c7 n) (list_any (λ m. is_consumer m && waits_in u2 m.address n) ended)
         (contained-any (λ (m : Link). is_consumer m && waits_in u2 m.address n) ended l.link ((over l.link).1 (l.lives, l.ends))
         (both (is_consumer l.link) (waits_in u2 l.link.address n) l.consumes
-        (ap (λ a. waits_in u2 a n) l.at ∙ (sym (ap (λ (x : OctetGroups). octets.is_member x address n) waiting8) ∙ is))));
+        (ap (λ b. waits_in u2 b n) l.at ∙ (sym (ap (λ (x : OctetGroups). octets.is_member x a n) waiting8) ∙ is))));
   }

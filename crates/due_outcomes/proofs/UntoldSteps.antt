@@ -40,7 +40,7 @@ use Rattle.trace_clauses.proofs.OutcomesToTell.{is_to_tell-parts, is_to_tell_mov
 use Rattle.trace_clauses.proofs.OutgoingProgress.{judged-carrying, judged-outgoing_part}
 use Rattle.trace_clauses.proofs.OutgoingProgress.{IsPartOf as PartOut}
 use Rattle.trace_clauses.proofs.Parts.{IsKept, each_delivery}
-use Rattle.trace_clauses.proofs.WaitingQueue.{all_contained, find_has}
+use Rattle.trace_clauses.proofs.WaitingQueue.{address_stays, all_contained, find_has, multicast_stays}
 use Rattle.number_groups.specs.Ascending.{has}
 use Rattle.state_outgoing.specs.Sent.{is_left_unsettled}
 use Rattle.state_outgoing.proofs.SentDecided.{judged-decided}
@@ -84,7 +84,7 @@ pub record IsFollowed (rules : RuleSet) (e : Event) (past : List Event) (earlier
   pub grown : Grows earlier.candidates later.candidates
   -- what the event completes is a candidate, and found where it waits
   pub completed : (d : Incoming) → completes d e ≡ true → has later.candidates d.number ≡ true
-  pub waits : IfSome (completed_by e) (λ d. is_of_multicast rules d ≡ false → pairs d e ≡ false → waits_in later (address_of d) d.number ≡ true)
+  pub waits : IfSome (completed_by e) (λ d. is_of_multicast rules d (e ∷ past) ≡ false → pairs d e ≡ false → waits_in later (address_of d (e ∷ past)) d.number ≡ true)
   -- what the event doesn't pair is still found
   pub stay : (address : List ℕ) (n : ℕ) → is_some_and (outgoing_begun e) (λ j. names n j.note) ≡ false → waits_in earlier address n ≡ true → waits_in later address n ≡ true
   -- what it carries a part of is a candidate, and found by its carrier
@@ -98,9 +98,15 @@ pub record IsFollowed (rules : RuleSet) (e : Event) (past : List Event) (earlier
   pub awaited : (l : Link) (n : ℕ) → IsLiveLink l past → ends_link l e ≡ true → awaits_at rules past l.number n ≡ true → has later.candidates n ≡ true
   pub lost : (address : List ℕ) (n : ℕ) → has_consumer address past ≡ true → has_consumer address (e ∷ past) ≡ false → waits_in later address n ≡ true → has later.candidates n ≡ true
 
-had-now : (d : Incoming) (past : List Event) → always_had_consumer d past ≡ true → has_consumer (address_of d) past ≡ true
+had-now : (d : Incoming) (past : List Event) → always_had_consumer d past ≡ true → has_consumer (address_of d past) past ≡ true
 had-now d [] is = absurd cc
-had-now d (e ∷ past) is = (and-both (has_consumer (address_of d) (e ∷ past)) _ is).0
+had-now d (e ∷ past) is = (and-both (has_consumer (address_of d (e ∷ past)) (e ∷ past)) _ is).0
+
+-- one that waits is complete
+waits-complete : (rules : RuleSet) (d : Incoming) (past : List Event) → is_waiting rules d past ≡ true → is_complete d past ≡ true
+waits-complete rules d past is =
+    let unpaired = and-both (is_unpaired rules d past) (always_had_consumer d past) is in
+    (and-both (not (is_of_multicast rules d past)) (is_complete d past) (and-both (not (is_of_multicast rules d past) && is_complete d past) (not (is_paired d past)) unpaired.0).0).1
 
 names-number : (own : Note) (n m : ℕ) → own ≡ notes.Pair m → names n own ≡ true → m ≡ n
 names-number own n m is named = eqb-true m n (sym (ap (names n) is) ∙ named)
@@ -170,7 +176,7 @@ module _ (rules : RuleSet) (e : Event) (past : List Event) (are : AreJudged rule
     was-due is = f.grown d.number (was.due d there is)
 
     -- what carries it is answered
-    module _ (anycast : is_of_multicast rules d ≡ false) (opens : is_closed past d ≡ false) (j : Outgoing) (is : pairing d past ≡ Some j) where
+    module _ (behind : is_of_multicast rules d (e ∷ past) ≡ false) (opens : is_closed past d ≡ false) (j : Outgoing) (is : pairing d past ≡ Some j) where
       begun_j : Contains (outgoing_deliveries past) j
       begun_j = find_has (λ (x : Outgoing). names d.number x.note) (outgoing_deliveries past) j is
 
@@ -183,6 +189,12 @@ module _ (rules : RuleSet) (e : Event) (past : List Event) (are : AreJudged rule
       number_j : b.delivery.number ≡ d.number
       number_j = names-number j.note d.number b.delivery.number b.named named_j
 
+      complete_d : is_complete d past ≡ true
+      complete_d = sym (ap (λ n. list_any (λ (y : Event). is_some_and (completed_by y) (λ x. x.number == n)) past) number_j) ∙ b.complete
+
+      anycast : is_of_multicast rules d past ≡ false
+      anycast = sym (multicast_stays rules e past are d complete_d) ∙ behind
+
       noted_j : noted j.note past ≡ Some d
       noted_j = ap (λ note. noted note past) b.named ∙ (ap (λ n. incoming_at n past) number_j ∙ k.at)
 
@@ -192,8 +204,8 @@ module _ (rules : RuleSet) (e : Event) (past : List Event) (are : AreJudged rule
       answered-before : is_some (decision j past) || is_sent_settled j past || not (is_live past j.link) ≡ true → Found
       answered-before answered =
           let outcome : has_outcome rules past d ≡ true =
-          outcome-bits (is_complete d past) (is_of_multicast rules d) (has_all_verdicts rules d past) (is_gone rules d past) (is_some_and (pairing d past) (is_answered past))
-          (sym (ap (λ n. list_any (λ (y : Event). is_some_and (completed_by y) (λ x. x.number == n)) past) number_j) ∙ b.complete) anycast (passed (is_answered past) (pairing d past) j is answered) in
+          outcome-bits (is_complete d past) (is_of_multicast rules d past) (has_all_verdicts rules d past) (is_gone rules d past) (is_some_and (pairing d past) (is_answered past))
+          complete_d anycast (passed (is_answered past) (pairing d past) j is answered) in
           was-due (is_to_tell-parts rules past d ∙ (ap (λ x. x && not (is_closed past d)) outcome ∙ ap not opens))
 
       over-before : is_live past j.link ≡ false → Found
@@ -228,12 +240,12 @@ module _ (rules : RuleSet) (e : Event) (past : List Event) (are : AreJudged rule
             | inr ends ↦ ended (is_live past j.link) refl ends
           ]
 
-    by-pairing : is_of_multicast rules d ≡ false → is_closed past d ≡ false → (o : Option Outgoing) → pairing d past ≡ o → is_some_and o (answers_now e past) ≡ true → Found
+    by-pairing : is_of_multicast rules d (e ∷ past) ≡ false → is_closed past d ≡ false → (o : Option Outgoing) → pairing d past ≡ o → is_some_and o (answers_now e past) ≡ true → Found
     by-pairing anycast opens None is ans = absurd cc
     by-pairing anycast opens (Some j) is ans = pair-answers anycast opens j is ans
 
     -- what carries it began before, or begins with the event
-    by-begun : is_of_multicast rules d ≡ false → is_closed past d ≡ false → (o : Option Outgoing) → outgoing_begun e ≡ o → is_some_and (pairing d (e ∷ past)) (answers_now e past) ≡ true → Found
+    by-begun : is_of_multicast rules d (e ∷ past) ≡ false → is_closed past d ≡ false → (o : Option Outgoing) → outgoing_begun e ≡ o → is_some_and (pairing d (e ∷ past)) (answers_now e past) ≡ true → Found
     by-begun anycast opens None none ans = by-pairing anycast opens (pairing d past) refl (sym (ap (λ o. is_some_and o (answers_now e past)) (pairing-same e past d none)) ∙ ans)
     by-begun anycast opens (Some j) begun ans = by (names d.number j.note) refl
       where
@@ -273,20 +285,22 @@ module _ (rules : RuleSet) (e : Event) (past : List Event) (are : AreJudged rule
         let both = and-both (is_complete d past && not (has_all_verdicts rules d past)) (has_all_verdicts rules d (e ∷ past)) gets in
         last-found other (not-true (has_all_verdicts rules d past) (and-both (is_complete d past) (not (has_all_verdicts rules d past)) both.0).1) both.1
 
-    by-kind : is_closed past d ≡ false → (many : Bool) → is_of_multicast rules d ≡ many
+    by-kind : is_closed past d ≡ false → (many : Bool) → is_of_multicast rules d (e ∷ past) ≡ many
         → (if many then gets_last_verdict rules e past d
-        else completes d e && not (has_consumer (address_of d) (e ∷ past)) || is_waiting rules d past && not (has_consumer (address_of d) (e ∷ past)) && not (pairs d e)
+        else completes d e && not (has_consumer (address_of d (e ∷ past)) (e ∷ past)) || is_waiting rules d past && not (has_consumer (address_of d (e ∷ past)) (e ∷ past)) && not (pairs d e)
         || is_some_and (pairing d (e ∷ past)) (answers_now e past)) ≡ true → Found
     by-kind opens true many gets = by-many (completes d e) refl gets
     by-kind opens false anycast gets =
-        let none = not (has_consumer (address_of d) (e ∷ past)) in
+        let none = not (has_consumer (address_of d (e ∷ past)) (e ∷ past)) in
         elim (or-cases (completes d e && none || is_waiting rules d past && none && not (pairs d e)) (is_some_and (pairing d (e ∷ past)) (answers_now e past)) gets) [
           | inl either ↦ elim (or-cases (completes d e && none) (is_waiting rules d past && none && not (pairs d e)) either) [
             | inl completes_it ↦ f.completed d (and-both (completes d e) none completes_it).0
             | inr loses ↦ let parts = and-both (is_waiting rules d past && none) (not (pairs d e)) loses in
                 let both = and-both (is_waiting rules d past) none parts.0 in
-                f.lost (address_of d) d.number (had-now d past (and-both (is_unpaired rules d past) (always_had_consumer d past) both.0).1) (not-true (has_consumer (address_of d) (e ∷ past)) both.1)
-                (f.stay (address_of d) d.number (not-true (pairs d e) parts.1) (was.waiting d there both.0))
+                let same = address_stays rules e past are d (waits-complete rules d past both.0) in
+                f.lost (address_of d past) d.number (had-now d past (and-both (is_unpaired rules d past) (always_had_consumer d past) both.0).1)
+                (sym (ap (λ a. has_consumer a (e ∷ past)) same) ∙ not-true (has_consumer (address_of d (e ∷ past)) (e ∷ past)) both.1)
+                (f.stay (address_of d past) d.number (not-true (pairs d e) parts.1) (was.waiting d there both.0))
           ]
           | inr answers ↦ by-begun anycast opens (outgoing_begun e) refl answers
         ]
@@ -296,12 +310,12 @@ module _ (rules : RuleSet) (e : Event) (past : List Event) (are : AreJudged rule
         let moved = and-both (is_to_tell rules past d || gets_outcome rules e past d && not (is_closed past d)) (not (closes_incoming e d)) (sym (is_to_tell_moves rules e past are lawful d k) ∙ is) in
         elim (or-cases (is_to_tell rules past d) (gets_outcome rules e past d && not (is_closed past d)) moved.0) [
           | inl so ↦ was-due so
-          | inr now ↦ let both = and-both (gets_outcome rules e past d) (not (is_closed past d)) now in by-kind (not-true (is_closed past d) both.1) (is_of_multicast rules d) refl both.0
+          | inr now ↦ let both = and-both (gets_outcome rules e past d) (not (is_closed past d)) now in by-kind (not-true (is_closed past d) both.1) (is_of_multicast rules d (e ∷ past)) refl both.0
         ]
 
   -- ---- what is carried
 
-  carried-old : (j : Outgoing) → Contains (outgoing_deliveries past) j → (d : Incoming) → noted j.note (e ∷ past) ≡ Some d → is_of_multicast rules d ≡ false → is_closed (e ∷ past) d ≡ false
+  carried-old : (j : Outgoing) → Contains (outgoing_deliveries past) j → (d : Incoming) → noted j.note (e ∷ past) ≡ Some d → is_of_multicast rules d (e ∷ past) ≡ false → is_closed (e ∷ past) d ≡ false
       → IsOn later.carried j d.number
   carried-old j there d at anycast opens =
       let b = outgoing-begun j there in
@@ -310,23 +324,25 @@ module _ (rules : RuleSet) (e : Event) (past : List Event) (are : AreJudged rule
       or-none (is_closed past b.delivery) (closes_incoming e b.delivery)
       (sym (is_closed-step e past b.delivery (is_live-next rules e past are b.delivery.link b.kept.link.at)) ∙ (ap (is_closed (e ∷ past)) same ∙ opens)) in
       subst (λ (x : Incoming). IsOn later.carried j x.number) same
-      (f.kept j b.delivery.number (was.carried j there b.delivery (begun-noted past j b) (ap (is_of_multicast rules) same ∙ anycast) so))
+      (f.kept j b.delivery.number (was.carried j there b.delivery (begun-noted past j b) (sym (multicast_stays rules e past are b.delivery b.complete) ∙ (ap (λ (x : Incoming). is_of_multicast rules x (e ∷ past)) same ∙ anycast)) so))
 
-  carried-new : (j : Outgoing) → outgoing_begun e ≡ Some j → (d : Incoming) → noted j.note (e ∷ past) ≡ Some d → is_of_multicast rules d ≡ false → IsOn later.carried j d.number
+  carried-new : (j : Outgoing) → outgoing_begun e ≡ Some j → (d : Incoming) → noted j.note (e ∷ past) ≡ Some d → is_of_multicast rules d (e ∷ past) ≡ false → IsOn later.carried j d.number
   carried-new j begun d at anycast =
       let c = begun-carries rules e past are lawful j begun in
       let own = begun-own rules e past are lawful j begun in
       let same : c.delivery ≡ d = same_some c.delivery d (sym (begun-noted_now rules e past are lawful j begun) ∙ at) in
       let names_it : names d.number j.note ≡ true =
       ap (names d.number) (own.0 ∙ c.named) ∙ eq-eqb c.delivery.number d.number (ap (λ (x : Incoming). x.number) same) in
-      let address : has_multicast rules j.link.address ≡ false = ap (has_multicast rules) (c.address ∙ ap address_of same) ∙ anycast in
+      let address : has_multicast rules j.link.address ≡ false =
+      ap (has_multicast rules) (c.address ∙ (sym (address_stays rules e past are c.delivery c.complete) ∙ ap (λ (x : Incoming). address_of x (e ∷ past)) same)) ∙ anycast in
       subst (λ (o : Option Outgoing). IfSome o (λ i. (n : ℕ) → names n i.note ≡ true → has_multicast rules i.link.address ≡ false → IsOn later.carried i n)) begun f.begun d.number names_it address
 
   -- ---- what waits
 
-  waits-completed : (d x : Incoming) → completed_by e ≡ Some x → x ≡ d → is_of_multicast rules d ≡ false → pairs d e ≡ false → waits_in later (address_of d) d.number ≡ true
+  waits-completed : (d x : Incoming) → completed_by e ≡ Some x → x ≡ d → is_of_multicast rules d (e ∷ past) ≡ false → pairs d e ≡ false
+      → waits_in later (address_of d (e ∷ past)) d.number ≡ true
   waits-completed d x at same anycast apart =
-      subst (λ (o : Option Incoming). IfSome o (λ y. is_of_multicast rules y ≡ false → pairs y e ≡ false → waits_in later (address_of y) y.number ≡ true)) (at ∙ ap Some same) f.waits anycast apart
+      subst (λ (o : Option Incoming). IfSome o (λ y. is_of_multicast rules y (e ∷ past) ≡ false → pairs y e ≡ false → waits_in later (address_of y (e ∷ past)) y.number ≡ true)) (at ∙ ap Some same) f.waits anycast apart
 
   completed-incoming : (x : Incoming) → completed_by e ≡ Some x → e.incoming ≡ Some x
   completed-incoming x = by (is_some_and (in_transfer e) is_last_part)
@@ -337,24 +353,24 @@ module _ (rules : RuleSet) (e : Event) (past : List Event) (are : AreJudged rule
 
   -- a delivery that waits behind the event is completed by it, or waited before and isn't paired
   by-completion : (d : Incoming) (now : Bool) → completes d e ≡ now → is_waiting rules d (e ∷ past) ≡ true
-      → (now ≡ true → is_of_multicast rules d ≡ false → pairs d e ≡ false → waits_in later (address_of d) d.number ≡ true)
-      → (is_waiting rules d past ≡ true → pairs d e ≡ false → waits_in later (address_of d) d.number ≡ true) → waits_in later (address_of d) d.number ≡ true
+      → (now ≡ true → is_of_multicast rules d (e ∷ past) ≡ false → pairs d e ≡ false → waits_in later (address_of d (e ∷ past)) d.number ≡ true)
+      → (is_waiting rules d past ≡ true → pairs d e ≡ false → waits_in later (address_of d (e ∷ past)) d.number ≡ true) → waits_in later (address_of d (e ∷ past)) d.number ≡ true
   by-completion d true now is begins stays_on =
-      let parts = and-both (not (is_of_multicast rules d) && not (is_paired d past)) (stays e past d)
-      (sym (ap (λ b. (if b then not (is_of_multicast rules d) && not (is_paired d past) else is_waiting rules d past) && stays e past d) now) ∙ (sym (is_waiting-step rules d e past) ∙ is)) in
-      begins refl (not-true (is_of_multicast rules d) (and-both (not (is_of_multicast rules d)) (not (is_paired d past)) parts.0).0)
-      (not-true (pairs d e) (and-both (has_consumer (address_of d) (e ∷ past)) (not (pairs d e)) parts.1).1)
+      let parts = and-both (not (is_of_multicast rules d (e ∷ past)) && not (is_paired d past)) (stays e past d)
+      (sym (ap (λ b. (if b then not (is_of_multicast rules d (e ∷ past)) && not (is_paired d past) else is_waiting rules d past) && stays e past d) now) ∙ (sym (is_waiting-step rules d e past) ∙ is)) in
+      begins refl (not-true (is_of_multicast rules d (e ∷ past)) (and-both (not (is_of_multicast rules d (e ∷ past))) (not (is_paired d past)) parts.0).0)
+      (not-true (pairs d e) (and-both (has_consumer (address_of d (e ∷ past)) (e ∷ past)) (not (pairs d e)) parts.1).1)
   by-completion d false now is begins stays_on =
       let parts = and-both (is_waiting rules d past) (stays e past d)
-      (sym (ap (λ b. (if b then not (is_of_multicast rules d) && not (is_paired d past) else is_waiting rules d past) && stays e past d) now) ∙ (sym (is_waiting-step rules d e past) ∙ is)) in
-      stays_on parts.0 (not-true (pairs d e) (and-both (has_consumer (address_of d) (e ∷ past)) (not (pairs d e)) parts.1).1)
+      (sym (ap (λ b. (if b then not (is_of_multicast rules d (e ∷ past)) && not (is_paired d past) else is_waiting rules d past) && stays e past d) now) ∙ (sym (is_waiting-step rules d e past) ∙ is)) in
+      stays_on parts.0 (not-true (pairs d e) (and-both (has_consumer (address_of d (e ∷ past)) (e ∷ past)) (not (pairs d e)) parts.1).1)
 
-  waiting-old : (d : Incoming) → Contains (incoming_deliveries past) d → is_waiting rules d (e ∷ past) ≡ true → waits_in later (address_of d) d.number ≡ true
+  waiting-old : (d : Incoming) → Contains (incoming_deliveries past) d → is_waiting rules d (e ∷ past) ≡ true → waits_in later (address_of d (e ∷ past)) d.number ≡ true
   waiting-old d there is =
       by-completion d (completes d e) refl is
       (λ now anycast apart. let part = some-passes (λ (x : Incoming). x.number == d.number) (completed_by e) now in
       waits-completed d part.0 part.1 (incoming-same d part.0 (incoming-kept d there) (completed-incoming part.0 part.1) part.2) anycast apart)
-      (λ so apart. f.stay (address_of d) d.number apart (was.waiting d there so))
+      (λ so apart. ap (λ a. waits_in later a d.number) (address_stays rules e past are d (waits-complete rules d past so)) ∙ f.stay (address_of d past) d.number apart (was.waiting d there so))
 
   -- one that begins with the event is complete only by it
   fresh-incomplete : (d : Incoming) → incoming_begun e ≡ Some d → is_complete d past ≡ false
@@ -363,15 +379,13 @@ module _ (rules : RuleSet) (e : Event) (past : List Event) (are : AreJudged rule
       let number : d.number ≡ length past = eqb-true d.number e.number own.1 ∙ judged-number rules e past are in
       (judged-sound rules past are.1).fresh d (omega (arith, number))
 
-  waiting-new : (d : Incoming) → incoming_begun e ≡ Some d → is_waiting rules d (e ∷ past) ≡ true → waits_in later (address_of d) d.number ≡ true
+  waiting-new : (d : Incoming) → incoming_begun e ≡ Some d → is_waiting rules d (e ∷ past) ≡ true → waits_in later (address_of d (e ∷ past)) d.number ≡ true
   waiting-new d begun is =
       by-completion d (completes d e) refl is
       (λ now anycast apart. let part = some-passes (λ (x : Incoming). x.number == d.number) (completed_by e) now in
       let own = passing (λ (x : Incoming). x.number == e.number) e.incoming d begun in
       waits-completed d part.0 part.1 (same_some part.0 d (sym (completed-incoming part.0 part.1) ∙ own.0)) anycast apart)
-      (λ so apart. let unpaired = and-both (is_unpaired rules d past) (always_had_consumer d past) so in
-      let complete = and-both (not (is_of_multicast rules d)) (is_complete d past) (and-both (not (is_of_multicast rules d) && is_complete d past) (not (is_paired d past)) unpaired.0).0 in
-      let never : true ≡ false = sym complete.1 ∙ fresh-incomplete d begun in
+      (λ so apart. let never : true ≡ false = sym (waits-complete rules d past so) ∙ fresh-incomplete d begun in
       absurd cc)
 
   -- ---- all of it

@@ -29,6 +29,6 @@ KeepsOn earlier later = (j : Outgoing) (n : ℕ) → IsOn earlier j n → IsOn l
 -- anycast of which something may still be told, by the links of the deliveries to clients that carry it.
 pub record HasUntold (rules : RuleSet) (untold : Untold) (past : List Event) : Type 0 where
   pub due : (d : Incoming) → Contains (incoming_deliveries past) d → is_to_tell rules past d ≡ true → has untold.candidates d.number ≡ true
-  pub waiting : (d : Incoming) → Contains (incoming_deliveries past) d → is_waiting rules d past ≡ true → waits_in untold (address_of d) d.number ≡ true
-  pub carried : (j : Outgoing) → Contains (outgoing_deliveries past) j → (d : Incoming) → noted j.note past ≡ Some d → is_of_multicast rules d ≡ false → is_closed past d ≡ false
+  pub waiting : (d : Incoming) → Contains (incoming_deliveries past) d → is_waiting rules d past ≡ true → waits_in untold (address_of d past) d.number ≡ true
+  pub carried : (j : Outgoing) → Contains (outgoing_deliveries past) j → (d : Incoming) → noted j.note past ≡ Some d → is_of_multicast rules d past ≡ false → is_closed past d ≡ false
       → IsOn untold.carried j d.number

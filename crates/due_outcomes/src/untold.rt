@@ -10,16 +10,16 @@ ghost use Rattle.trace_duties.specs.Quiet.{none_is_untold};
 ghost use Rattle.trace_events.specs.Address.{has_multicast};
 ghost use Rattle.trace_events.specs.Event as events;
 ghost use Rattle.trace_events.specs.History.{history};
-ghost use Rattle.trace_events.specs.Incoming.{address_of, completed_by};
+ghost use Rattle.trace_events.specs.Incoming.{completed_by};
 ghost use Rattle.trace_events.specs.Link.{is_consumer};
 ghost use Rattle.trace_events.specs.Outgoing.{names, outgoing_begun};
-ghost use Rattle.trace_events.specs.Waiting as fates;
 ghost use Rattle.trace_events.specs.Words.{is_number, is_some_and};
 ghost use Rattle.trace_judge.specs.Told.{told_view};
 ghost use Rattle.trace_values.specs.View.{event_view, incoming_view, link_view, outgoing_view};
 ghost use Rattle.state_incoming.specs.EntryAnswers.{says_closed};
 ghost use Rattle.state_incoming.specs.Held.{says_waiting};
 ghost use Rattle.state_incoming.specs.HeldTables.{held_in};
+ghost use Rattle.state_addresses.specs.Addressed.{IsAddressed};
 ghost use Rattle.state_tables.specs.Connections.{IsLawfulNext};
 ghost use Rattle.number_groups.specs.Ascending.{count_of, has};
 ghost use Rattle.due_outcomes.specs.DueOutcomes.{IsDueOutcome};
@@ -132,9 +132,9 @@ impl Untold {
         }
     }
 
-    /// The event follows; `before` are the tables without it. It takes the time of the deliveries of which a consumer speaks
-    /// with it, of those that went over the links that it ends or have a copy due there, and of those that wait at the
-    /// addresses of these.
+    /// The event follows; what it completes is for this address, and `before` are the tables without it. It takes the time of
+    /// the deliveries of which a consumer speaks with it, of those that went over the links that it ends or have a copy due
+    /// there, and of those that wait at the addresses of these.
     ///
     /// # Errors
     ///
@@ -143,13 +143,15 @@ impl Untold {
         &mut self,
         rules: &RuleSet,
         event: &Event,
+        address: &[u8],
         before: &Looked<'_>,
     ) -> Result<(), AllocError>
         ensures { OnOk result ((records : List Record) (r : Record) → IsLawfulNext rules.now records r (event_view event.now) →
+            IsAddressed (event_view event.now) (history rules.now records) address.now →
             AreLooked rules.now before.now (history rules.now records) →
             HasUntold rules.now self.old (history rules.now records) → HasUntold rules.now self.new (event_view event.now ∷ history rules.now records)) }
     {
-        self.complete(rules, event)?;
+        self.complete(rules, event, address)?;
         self.pair(rules, event)?;
         add(&mut self.candidates, carried_number(event))?;
         let answered = before.sent.answered(self.alloc, event)?;
@@ -180,21 +182,21 @@ impl Untold {
         None
     }
 
-    /// What the event completes is a candidate, and found by its address while it may wait.
-    fn complete(&mut self, rules: &RuleSet, event: &Event) -> Result<(), AllocError>
+    /// What the event completes is a candidate, and found by this address, its own, while it may wait.
+    fn complete(&mut self, rules: &RuleSet, event: &Event, address: &[u8]) -> Result<(), AllocError>
         ensures completed { OnOk result ((n : ℕ) → has self.new.candidates n
             ≡ (has self.old.candidates n || is_some_and (completed_by (event_view event.now)) (λ d. d.number == n))) }
-        ensures waits { OnOk result (IfSome (completed_by (event_view event.now)) (λ d. fates.is_of_multicast rules.now d ≡ false →
-            waits_in self.new (address_of d) d.number ≡ true)) }
-        ensures kept { OnOk result ((address : List ℕ) (n : ℕ) → waits_in self.old address n ≡ true → waits_in self.new address n ≡ true) }
+        ensures waits { OnOk result (IfSome (completed_by (event_view event.now)) (λ d. has_multicast rules.now address.now ≡ false →
+            waits_in self.new address.now d.number ≡ true)) }
+        ensures kept { OnOk result ((a : List ℕ) (n : ℕ) → waits_in self.old a n ≡ true → waits_in self.new a n ≡ true) }
         ensures same { self.new.carried ≡ self.old.carried }
     {
         let Some(delivery) = event.completed_by() else {
             return Ok(());
         };
         self.candidates.insert(delivery.number)?;
-        if !has_multicast(rules, delivery.link.address) {
-            self.waiting.insert(delivery.link.address, delivery.number)?;
+        if !has_multicast(rules, address) {
+            self.waiting.insert(address, delivery.number)?;
         }
         Ok(())
     }
@@ -259,7 +261,7 @@ impl Untold {
         ensures carried { self.new.carried ≡ self.old.carried }
     {
         if !held.is_waiting() {
-            self.waiting.remove(held.delivery().link.address, number);
+            self.waiting.remove(held.address(), number);
         }
     }
 

@@ -16,7 +16,7 @@ use Rattle.due_outcomes.proofs.UntoldSteps.{untold-next}
 use Rattle.due_outcomes.proofs.untold.Untold.follow.Goals as goal
 
 pub returns : goal.returns
-returns c = λ records r next stands was.
+returns c = λ records r next addressed stands was.
     let rules = c.args.rules.now in
     let e = event_view c.args.event.now in
     let past = history rules records in
@@ -26,7 +26,7 @@ returns c = λ records r next stands was.
     untold-next rules e past are next.1 c.args.self.now c.add_waiting.new.self was
     (followed rules e past are c.args.self.now c.complete.new.self u2 c.add_waiting.new.self
     c.add.new.candidates c.add_all.new.candidates c.add_of_links.new.candidates c.add_of_links-2.new.candidates
-    c.deref.result.now c.on_link.result.now (views items) c.carried_number.result
+    c.deref.result.now c.on_link.result.now (views items) c.carried_number.result c.args.address.now addressed
     c.in_ok-complete.ensures.completed c.in_ok-complete.ensures.waits c.in_ok-complete.ensures.kept c.in_ok-complete.ensures.same
     c.in_ok-pair.ensures.begun c.in_ok-pair.ensures.kept c.in_ok-pair.ensures.stay c.in_ok-pair.ensures.same
     c.in_ok-add.ensures c.carried_number.ensures
