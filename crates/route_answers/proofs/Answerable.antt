@@ -92,12 +92,12 @@ module _ (rules : RuleSet) (c : ℕ) (past : List Event) (ready : IsReady rules 
       attach_short None is =
           let spoken = spoken_on channel payload (AnAttach fields) in
           let on = on_session rules (unfaulted c past octets spoken) spoken past None refl (found rules c past octets spoken None heard is) in
-          let named = attach_named on.session fields past None refl refl on.fault in
-          (named.0, address_short (length past) ready.short fields fields.role refl named.1)
+          let named = attach_named rules on.session fields past None refl refl on.fault in
+          (named.0, address_short rules (length past) ready.short fields fields.role refl named.1)
       attach_short (Some (Refuse condition)) is =
           let spoken = spoken_on channel payload (AnAttach fields) in
           let on = on_session rules (unfaulted c past octets spoken) spoken past (Some (Refuse condition)) refl (found rules c past octets spoken (Some (Refuse condition)) heard is) in
-          (attach_named on.session fields past (Some (Refuse condition)) refl refl on.fault).0
+          (attach_named rules on.session fields past (Some (Refuse condition)) refl refl on.fault).0
       attach_short (Some (Close condition)) is = tt
       attach_short (Some (End condition)) is = tt
       attach_short (Some (Detach condition)) is = tt

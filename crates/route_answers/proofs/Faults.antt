@@ -9,7 +9,7 @@ use Rattle.amqp_perf.specs.declared.attach.Role.{Role}
 use Rattle.amqp_perf.specs.declared.attach.Role.TheVariants.{Sender, Receiver}
 use Rattle.amqp_perf.specs.Nested.{TerminusFields, TargetFields, ATerminus, ACoordinator, AddressFields, AText, AnOther}
 use Rattle.amqp_perf.specs.Meaning.{AttachFields, TransferFields, flag}
-use Rattle.capture_form.specs.Rules.{RuleSet}
+use Rattle.capture_form.specs.Rules.{RuleSet, serves_anonymous}
 use Rattle.trace_events.specs.declared.fault.Fault.{Fault}
 use Rattle.trace_events.specs.declared.fault.Fault.TheVariants.{Close, End, Refuse, Detach}
 use Rattle.trace_events.specs.declared.session.Session.{Session}
@@ -81,12 +81,12 @@ not_end : (condition : ErrorCondition) (z : Option Fault) → ends z ≡ false �
 not_end condition z other is = let never : true ≡ false = ap ends is ∙ other in absurd cc
 
 -- one that is accepted or refused has a name that is short enough
-pub attach_named : (s : Session) (fields : AttachFields) (past : List Event) (z : Option Fault) → closes z ≡ false → ends z ≡ false → attach_fault s fields past ≡ z
-    → (length fields.name ≤ MAX_LINK_NAME) × (terminus_fault fields fields.role ≡ z)
-attach_named s fields past z other unended is =
+pub attach_named : (rules : RuleSet) (s : Session) (fields : AttachFields) (past : List Event) (z : Option Fault) → closes z ≡ false → ends z ≡ false → attach_fault rules s fields past ≡ z
+    → (length fields.name ≤ MAX_LINK_NAME) × (terminus_fault rules fields fields.role ≡ z)
+attach_named rules s fields past z other unended is =
     let one = unless_closed (nat_lt HANDLE_MAX fields.handle) FramingError _ z other is in
     let two = unless_closed (is_handle_in_use s fields.handle past) HandleInUse _ z other one.1 in
-    let three = not_this (nat_lt MAX_LINK_NAME (length fields.name)) (Some (End ResourceLimitExceeded)) (terminus_fault fields fields.role) z (not_end ResourceLimitExceeded z unended) two.1 in
+    let three = not_this (nat_lt MAX_LINK_NAME (length fields.name)) (Some (End ResourceLimitExceeded)) (terminus_fault rules fields fields.role) z (not_end ResourceLimitExceeded z unended) two.1 in
     (ltb-false MAX_LINK_NAME (length fields.name) three.0, three.1)
 
 -- ---- links
@@ -132,13 +132,13 @@ address_refuses (AnOther octets) = refl
 address_refuses (AText []) = refl
 address_refuses (AText (octet ∷ rest)) = either (nat_lt MAX_ADDRESS (length (octet ∷ rest))) (Some (Refuse ResourceLimitExceeded)) None refl refl
 
-target_refuses : (target : Option TargetFields) → refuses (target_fault target) ≡ true
-target_refuses None = refl
-target_refuses (Some ACoordinator) = refl
-target_refuses (Some (ATerminus target)) = either (flag target.dynamic) (Some (Refuse NotImplemented)) (target_address_fault target.address) refl (by target.address)
+target_refuses : (rules : RuleSet) (target : Option TargetFields) → refuses (target_fault rules target) ≡ true
+target_refuses rules None = refl
+target_refuses rules (Some ACoordinator) = refl
+target_refuses rules (Some (ATerminus target)) = either (flag target.dynamic) (Some (Refuse NotImplemented)) (target_address_fault rules target.address) refl (by target.address)
   where
-    by : (o : Option AddressFields) → refuses (target_address_fault o) ≡ true
-    by None = refl
+    by : (o : Option AddressFields) → refuses (target_address_fault rules o) ≡ true
+    by None = either (serves_anonymous rules) None (Some (Refuse NotImplemented)) refl refl
     by (Some address) = address_refuses address
 
 source_refuses : (source : Option TerminusFields) → refuses (source_fault source) ≡ true
@@ -149,9 +149,10 @@ source_refuses (Some source) = either (flag source.dynamic) None (source_address
     by None = refl
     by (Some address) = address_refuses address
 
-terminus_refuses : (fields : AttachFields) (role : Role) → refuses (terminus_fault fields role) ≡ true
-terminus_refuses fields Sender = either (is_none fields.initial_delivery_count) (Some (Refuse InvalidField)) (target_fault fields.target) refl (target_refuses fields.target)
-terminus_refuses fields Receiver = source_refuses fields.source
+terminus_refuses : (rules : RuleSet) (fields : AttachFields) (role : Role) → refuses (terminus_fault rules fields role) ≡ true
+terminus_refuses rules fields Sender =
+    either (is_none fields.initial_delivery_count) (Some (Refuse InvalidField)) (target_fault rules fields.target) refl (target_refuses rules fields.target)
+terminus_refuses rules fields Receiver = source_refuses fields.source
 
-pub no_attach : (fields : AttachFields) (condition : ErrorCondition) → terminus_fault fields fields.role ≡ Some (Detach condition) → ⊥
-no_attach fields condition is = let never : false ≡ true = sym (ap refuses is) ∙ terminus_refuses fields fields.role in absurd cc
+pub no_attach : (rules : RuleSet) (fields : AttachFields) (condition : ErrorCondition) → terminus_fault rules fields fields.role ≡ Some (Detach condition) → ⊥
+no_attach rules fields condition is = let never : false ≡ true = sym (ap refuses is) ∙ terminus_refuses rules fields fields.role in absurd cc

@@ -8,9 +8,10 @@ use Rattle.amqp_perf.specs.Meaning.{AnOpen, ABegin, AnAttach, ADetach, AnEnd, AC
 use Rattle.amqp_perf.specs.Router.{router_open, begin_answer, attach_to_producer, attach_to_consumer, attach_refused, detach_with}
 use Rattle.amqp_perf.specs.Writing.{IsWritable}
 use Rattle.trace_clauses.specs.Written.{spoken_octets, says, error_of}
+use Rattle.trace_duties.specs.Answer.{attach_to_anonymous}
 use Rattle.route_answers.proofs.Closing.{open_fits, close_fits, end_fits, detach_fits}
 use Rattle.route_answers.proofs.Begins.{begin_fits}
-use Rattle.route_answers.proofs.Attaches.{producer_fits, consumer_fits, refused_fits}
+use Rattle.route_answers.proofs.Attaches.{producer_fits, anonymous_fits, consumer_fits, refused_fits}
 use Rattle.route_answers.proofs.Again as again
 
 module _ (channel : ℕ) where
@@ -34,6 +35,9 @@ module _ (channel : ℕ) where
     pub producer_short : (address : List ℕ) → ours ≡ attach_to_producer theirs address → length theirs.name ≤ MAX_LINK_NAME → length address ≤ MAX_ADDRESS
         → length (spoken_octets (says channel (AnAttach ours))) ≤ 512
     producer_short address is named short = subst (λ a. length (spoken_octets (says channel (AnAttach a))) ≤ 512) (sym is) (producer_fits channel theirs named address short)
+
+    pub anonymous_short : ours ≡ attach_to_anonymous theirs → length theirs.name ≤ MAX_LINK_NAME → length (spoken_octets (says channel (AnAttach ours))) ≤ 512
+    anonymous_short is named = subst (λ a. length (spoken_octets (says channel (AnAttach a))) ≤ 512) (sym is) (anonymous_fits channel theirs named)
 
     pub consumer_short : (address : List ℕ) (made : Bool) (mode : SenderSettleMode) → ours ≡ attach_to_consumer theirs address made mode → length theirs.name ≤ MAX_LINK_NAME
         → length address ≤ MAX_ADDRESS → length (spoken_octets (says channel (AnAttach ours))) ≤ 512

@@ -165,7 +165,7 @@ module _ (rules : RuleSet) (c channel : ℕ) (past : List Event) (octets payload
       absurd (no_detach (is_some begin.remote_channel || is_some (live_session c channel past)) NotAllowed condition (behind_open (has_in_open c past) (nat_lt CHANNEL_MAX channel) (begin_fault (bare (ABegin begin)) begin) (Some (Detach condition)) refl is).1)
   on_detach (AnAttach fields) condition is =
       let on = on_kind (AnAttach fields) (Some (Detach condition)) refl is in
-      absurd (no_attach fields condition (attach_named on.session fields past (Some (Detach condition)) refl refl on.fault).1)
+      absurd (no_attach rules fields condition (attach_named rules on.session fields past (Some (Detach condition)) refl refl on.fault).1)
   on_detach (AFlow flow) condition is =
       let on = on_kind (AFlow flow) (Some (Detach condition)) refl is in absurd (no_flow (is_some flow.handle) (is_none (bare (AFlow flow)).link) condition on.fault)
   on_detach (ADisposition fields) condition is =
@@ -189,12 +189,13 @@ module _ (rules : RuleSet) (c channel : ℕ) (past : List Event) (octets payload
     attach_goes role same none =
         let on = on_kind m None refl (found rules c past octets (spoken m) None heard none) in
         let s = on.session in
-        let named = attach_named s fields past None refl refl on.fault in
-        let short = address_short (length past) ready.short fields role same (subst (λ r. terminus_fault fields r ≡ None) same named.1) in
+        let named = attach_named rules s fields past None refl refl on.fault in
+        let sound = subst (λ r. terminus_fault rules fields r ≡ None) same named.1 in
+        let short = address_short rules (length past) ready.short fields role same sound in
         let ours = attach_answer (e m).number fields role in
         goes_one rules c (hist m) (says channel (AnAttach ours))
         (attach_fine rules c channel (hist m) (talks m s on.live refl refl) s (lives m s on.live refl refl) ours
-        (accepted s (e m) past fields refl refl (attached_here s on.live) heard role same none)
+        (accepted s (e m) past fields refl refl (attached_here s on.live) heard rules role same none sound)
         (fits_all c (hist m) (spoken_octets (says channel (AnAttach ours))) (accepted_fits channel fields named.0 (length past) role short)))
         (λ over. still m s on.live)
 
@@ -243,7 +244,7 @@ module _ (rules : RuleSet) (c channel : ℕ) (past : List Event) (octets payload
     refuse_attach : (condition : ErrorCondition) → (e m).fault ≡ Some (Refuse condition) → Goes rules c (refusal channel condition m) (hist m)
     refuse_attach condition is =
         let on = on_kind m (Some (Refuse condition)) refl (found rules c past octets (spoken m) (Some (Refuse condition)) heard is) in
-        refuse_on condition on.session on.live (attach_named on.session fields past (Some (Refuse condition)) refl refl on.fault).0 is
+        refuse_on condition on.session on.live (attach_named rules on.session fields past (Some (Refuse condition)) refl refl on.fault).0 is
 
   -- ---- where there is no fault
 

@@ -15,7 +15,7 @@ use Rattle.trace_events.specs.Link.{IsLiveLink}
 use Rattle.trace_clauses.specs.Clauses.{first_broken}
 use Rattle.trace_clauses.specs.LinkClause.{asked_address}
 use Rattle.trace_clauses.specs.Written.{says, error_of}
-use Rattle.trace_duties.specs.Answer.{heard_answer, passed_answer}
+use Rattle.trace_duties.specs.Answer.{attach_to_anonymous, heard_answer, passed_answer}
 use Rattle.route_answers.specs.declared.reply.Source.{Source}
 use Rattle.route_answers.specs.declared.reply.Source.TheVariants as sources
 use Rattle.route_answers.specs.declared.reply.Saying.{Saying}
@@ -40,6 +40,7 @@ meaning_of channel (sayings.Close condition) = AClose (error_of condition)
 meaning_of channel sayings.Begin = ABegin (begin_answer channel)
 meaning_of channel (sayings.End condition) = AnEnd (error_of condition)
 meaning_of channel (sayings.ToProducer theirs address) = AnAttach (attach_to_producer (attach_fields theirs) address.now)
+meaning_of channel (sayings.ToAnonymous theirs) = AnAttach (attach_to_anonymous (attach_fields theirs))
 meaning_of channel (sayings.ToConsumer theirs source mode) = AnAttach (attach_to_consumer (attach_fields theirs) (source_text source) (is_made source) mode)
 meaning_of channel (sayings.Refused theirs) = AnAttach (attach_refused (attach_fields theirs))
 meaning_of channel (sayings.Detach handle closed condition) = ADetach (detach_with handle closed condition)
@@ -57,6 +58,7 @@ answer_view (answers.Two first second) = reply_view first ∷ reply_view second 
 
 abbrev pub CanBeSaid : Saying → Type 0
 CanBeSaid (sayings.ToProducer theirs address) = (length theirs.name.now ≤ MAX_LINK_NAME) × (length address.now ≤ MAX_ADDRESS)
+CanBeSaid (sayings.ToAnonymous theirs) = length theirs.name.now ≤ MAX_LINK_NAME
 CanBeSaid (sayings.ToConsumer theirs source mode) = (length theirs.name.now ≤ MAX_LINK_NAME) × (length (source_text source) ≤ MAX_ADDRESS)
 CanBeSaid (sayings.Refused theirs) = length theirs.name.now ≤ MAX_LINK_NAME
 CanBeSaid other = Unit {0}

@@ -6,11 +6,13 @@ ghost use Rattle.amqp_perf.specs.Meaning.{AnAttach};
 ghost use Rattle.amqp_perf.specs.declared.attach.Role.TheVariants as roles;
 ghost use Rattle.amqp_perf.specs.NestedViews.{address_view, terminus_view, target_view};
 ghost use Rattle.amqp_perf.specs.View.{attach_fields};
+ghost use Rattle.amqp_perf.specs.Writing.{IsWritable};
 ghost use Rattle.trace_events.specs.Address as addresses;
 ghost use Rattle.trace_events.specs.Link as links;
 ghost use Rattle.trace_clauses.specs.LinkClause as law;
 ghost use Rattle.trace_clauses.specs.Written.{says};
-ghost use Rattle.trace_duties.specs.Answer.{attach_answer};
+ghost use Rattle.trace_events.specs.Words.{is_some_and};
+ghost use Rattle.trace_duties.specs.Answer.{attach_answer, attach_to_anonymous};
 ghost use Rattle.route_answers.specs.Replies.{reply_view, source_text, is_made, CanBeSaid};
 
 use crate::reply::{Reply, Saying, Source};
@@ -58,6 +60,31 @@ fn asked_source<'a>(number: u64, theirs: &Attach<'a>) -> Source<'a>
     }
 }
 
+/// A target without address, as an anonymous sender has it; a coordinator has none either.
+fn is_without_address(target: &Option<Target<'_>>) -> bool
+    ensures { result ≡ is_some_and (option_map target_view target.now) law.is_without_address }
+{
+    match target {
+        Some(Target::Terminus(terminus)) => terminus.address.is_none(),
+        _ => false,
+    }
+}
+
+/// The answer to an anonymous sender: as to any producer, with a target without address.
+pub(crate) fn to_anonymous<'a>(theirs: Attach<'a>) -> Attach<'a>
+    ensures says { attach_fields result ≡ attach_to_anonymous (attach_fields theirs.entry) }
+    ensures writable { length theirs.entry.name.now ≤ MAX_LINK_NAME → IsWritable (AnAttach (attach_to_anonymous (attach_fields theirs.entry))) }
+{
+    let target = Terminus {
+        address: None,
+        dynamic: None,
+    };
+    Attach {
+        target: Some(Target::Terminus(target)),
+        ..theirs.to_producer("")
+    }
+}
+
 /// The answer to the attach in this record that is accepted. The router's sender settles as the client asks.
 pub(crate) fn accepted<'a>(number: u64, channel: u16, theirs: Attach<'a>) -> Reply<'a>
     ensures says { reply_view result ≡ says channel (AnAttach (attach_answer number (attach_fields theirs.entry) theirs.entry.role)) }
@@ -65,6 +92,7 @@ pub(crate) fn accepted<'a>(number: u64, channel: u16, theirs: Attach<'a>) -> Rep
         → CanBeSaid result.saying }
 {
     let saying = match theirs.role {
+        Role::Sender if is_without_address(&theirs.target) => Saying::ToAnonymous(theirs),
         Role::Sender => Saying::ToProducer(theirs, target_text(theirs.target)),
         Role::Receiver => {
             let source = asked_source(number, &theirs);

@@ -21,6 +21,8 @@ pub enum Saying<'a> {
     End(Option<ErrorCondition>),
     /// The answer to a producer's attach, for this address.
     ToProducer(Attach<'a>, &'a str),
+    /// The answer to an anonymous sender's attach.
+    ToAnonymous(Attach<'a>),
     /// The answer to a consumer's attach, for this address, where the router settles so.
     ToConsumer(Attach<'a>, Source<'a>, SenderSettleMode),
     /// The answer to an attach that is refused.

@@ -13,6 +13,7 @@ ghost use Rattle.trace_clauses.specs.Written.{spoken_octets, says, error_of};
 ghost use Rattle.route_answers.specs.Writing.{frame_of};
 ghost use Rattle.route_answers.specs.Replies.{reply_view, source_text, is_made, CanBeSaid};
 
+use crate::attach::to_anonymous;
 use crate::reply::{Reply, Saying, Source};
 use amqp_frames::put_frame;
 use amqp_perf::{Attach, Begin, Detach, ErrorCondition, Open, Performative, SenderSettleMode};
@@ -101,6 +102,9 @@ impl<'a> Reply<'a> {
             Saying::ToProducer(theirs, address) => {
                 let attach = theirs.to_producer(address);
                 put(out, channel, &Performative::Attach(attach))
+            }
+            Saying::ToAnonymous(theirs) => {
+                put(out, channel, &Performative::Attach(to_anonymous(theirs)))
             }
             Saying::ToConsumer(theirs, source, mode) => {
                 put_to_consumer(out, channel, theirs, source, mode)

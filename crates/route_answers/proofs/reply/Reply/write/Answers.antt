@@ -2,7 +2,7 @@ use Rattle.std.proofs.Common.{subst}
 use Rattle.std.specs.Option.{option_copied}
 use Rattle.amqp_perf.specs.View.{attach_fields, detach_fields}
 use Rattle.route_answers.specs.Replies.{CanBeSaid}
-use Rattle.route_answers.proofs.Short.{close_short, end_short, detach_short, producer_short, refused_short, close_can, end_can}
+use Rattle.route_answers.proofs.Short.{close_short, end_short, detach_short, producer_short, anonymous_short, refused_short, close_can, end_can}
 use Rattle.route_answers.proofs.reply.Reply.write.Goals as goal
 
 pub put-requires-in-Close-clause-writable : goal.put-requires-in-Close-clause-writable
@@ -21,6 +21,11 @@ pub put-requires-in-ToProducer-clause-short : goal.put-requires-in-ToProducer-cl
 put-requires-in-ToProducer-clause-short c =
     let can = subst CanBeSaid c.in-ToProducer.is c.requires in
     producer_short c.args.self.now.channel (attach_fields c.to_producer-attach.result) (attach_fields c.in-ToProducer.theirs) c.in-ToProducer.address.now c.to_producer-attach.ensures.says can.0 can.1
+
+pub put-requires-in-ToAnonymous-clause-short : goal.put-requires-in-ToAnonymous-clause-short
+put-requires-in-ToAnonymous-clause-short c =
+    anonymous_short c.args.self.now.channel (attach_fields c.to_anonymous.result) (attach_fields c.in-ToAnonymous.theirs) c.to_anonymous.ensures.says
+    (subst CanBeSaid c.in-ToAnonymous.is c.requires)
 
 pub put-requires-in-Refused-clause-short : goal.put-requires-in-Refused-clause-short
 put-requires-in-Refused-clause-short c =
