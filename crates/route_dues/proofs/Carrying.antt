@@ -35,7 +35,7 @@ pub record MayCarry (rules : RuleSet) (past : List Event) (l : Link) (d : Incomi
   pub known : incoming_at d.number past ≡ Some d
   pub complete : is_complete d past ≡ true
   pub stays : is_gone rules d past ≡ false
-  pub address : address_of d ≡ l.address
+  pub address : address_of d past ≡ l.address
 
 -- it may begin there
 pub record MayBegin (rules : RuleSet) (past : List Event) (l : Link) (d : Incoming) : Type 0 where
@@ -45,7 +45,7 @@ pub record MayBegin (rules : RuleSet) (past : List Event) (l : Link) (d : Incomi
   pub first : is_first_to rules l past d ≡ true
   pub order : is_in_order l past d ≡ true
   pub earliest : has_earlier_unsent rules past l d ≡ false
-  pub picked : is_of_multicast rules d || is_next_waiting rules past d && is_picked_link rules past d l ≡ true
+  pub picked : is_of_multicast rules d past || is_next_waiting rules past d && is_picked_link rules past d l ≡ true
 
 abbrev Passes : RuleSet → List Event → Incoming → Bool
 Passes rules past d = is_complete d past && not (is_gone rules d past)
@@ -70,8 +70,8 @@ module _ (rules : RuleSet) (past : List Event) (l : Link) (d : Incoming) (may : 
   seven : (fields : TransferFields) → not (begins_outgoing e) || has_form d l fields ≡ true → is_some_and e.link (names_carried rules e fields past) ≡ true
   seven fields form =
       ap (λ o. is_some_and o (names_carried rules e fields past)) at
-      ∙ (ap (λ o. is_some_and o (is_alike e l fields)) is_carried
-      ∙ both (bytes_eq (address_of d) l.address) (not (begins_outgoing e) || has_form d l fields) ((bytes_decides (address_of d) l.address).1 may.address) form)
+      ∙ (ap (λ o. is_some_and o (is_alike e l fields past)) is_carried
+      ∙ both (bytes_eq (address_of d past) l.address) (not (begins_outgoing e) || has_form d l fields) ((bytes_decides (address_of d past) l.address).1 may.address) form)
 
   eight : (j : Outgoing) → e.outgoing ≡ Some j → (fields : TransferFields) (octets : List ℕ) → is_payload_so_far (flag fields.more) (incoming.payload d past) (outgoing.payload j past ++ octets) ≡ true
       → carries_noted rules e fields octets past ≡ true
@@ -126,8 +126,8 @@ module _ (rules : RuleSet) (past : List Event) (l : Link) (d : Incoming) (may : 
   pub first_picked : is_picked rules e past ≡ true
   first_picked =
       or_right (not (begins_outgoing e)) _
-      (ap (λ o. is_none_or o (λ x. is_of_multicast rules x || is_next_waiting rules past x && is_some_and e.link (is_picked_link rules past x))) (is_noted rules past l d may.carries e on at note)
-      ∙ (ap (λ o. is_of_multicast rules d || is_next_waiting rules past d && is_some_and o (is_picked_link rules past d)) at ∙ may.picked))
+      (ap (λ o. is_none_or o (λ x. is_of_multicast rules x past || is_next_waiting rules past x && is_some_and e.link (is_picked_link rules past x))) (is_noted rules past l d may.carries e on at note)
+      ∙ (ap (λ o. is_of_multicast rules d past || is_next_waiting rules past d && is_some_and o (is_picked_link rules past d)) at ∙ may.picked))
 
   pub first_earliest : is_earliest rules e past ≡ true
   first_earliest = earliest-sent rules e past l d at (is_noted rules past l d may.carries e on at note) may.earliest
@@ -161,7 +161,7 @@ module _ (rules : RuleSet) (past : List Event) (l : Link) (d : Incoming) (may : 
     next_meets L14 = refl
 
   pub next_picked : is_picked rules e past ≡ true
-  next_picked = ap (λ b. not b || is_none_or (noted e.note past) (λ x. is_of_multicast rules x || is_next_waiting rules past x && is_some_and e.link (is_picked_link rules past x))) later
+  next_picked = ap (λ b. not b || is_none_or (noted e.note past) (λ x. is_of_multicast rules x past || is_next_waiting rules past x && is_some_and e.link (is_picked_link rules past x))) later
 
   pub next_earliest : is_earliest rules e past ≡ true
   next_earliest = earliest-none rules e past later

@@ -111,8 +111,8 @@ module _ (d : Incoming) (past : List Event) (state : Option (List ℕ)) where
 
 pub row_fits : (rules : RuleSet) (d : Incoming) (past : List Event) (why : Why) (state : Option (List ℕ)) → row rules d past why ≡ Some state → Fits d past state
 row_fits rules d past N state is = small_one d past state (is_gone rules d past) (Some (bare_octets Released)) (omega arith) is
-row_fits rules d past M state is = told_small d past state (is_of_multicast rules d) (whole_verdict rules d past) is
-row_fits rules d past C state is = anycast_fits d past state (is_of_multicast rules d) (pairing d past) C is
-row_fits rules d past Z state is = anycast_fits d past state (is_of_multicast rules d) (pairing d past) Z is
-row_fits rules d past S state is = anycast_fits d past state (is_of_multicast rules d) (pairing d past) S is
-row_fits rules d past L state is = anycast_fits d past state (is_of_multicast rules d) (pairing d past) L is
+row_fits rules d past M state is = told_small d past state (is_of_multicast rules d past) (whole_verdict rules d past) is
+row_fits rules d past C state is = anycast_fits d past state (is_of_multicast rules d past) (pairing d past) C is
+row_fits rules d past Z state is = anycast_fits d past state (is_of_multicast rules d past) (pairing d past) Z is
+row_fits rules d past S state is = anycast_fits d past state (is_of_multicast rules d past) (pairing d past) S is
+row_fits rules d past L state is = anycast_fits d past state (is_of_multicast rules d past) (pairing d past) L is

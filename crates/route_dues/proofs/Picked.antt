@@ -61,35 +61,35 @@ picked_from Multicast test address events n is = absurd cc
 
 pub record IsPicked (past : List Event) (d : Incoming) (l : Link) : Type 0 where
   pub consumes : is_consumer l ≡ true
-  pub address : address_of d ≡ l.address
+  pub address : address_of d past ≡ l.address
   pub lives : is_live past l ≡ true
   pub takes : may_take past l ≡ true
 
 module _ (rules : RuleSet) (past : List Event) (are : AreJudged rules past) (d : Incoming) (l : Link) (at : link_at l.number past ≡ Some l) (picked : is_picked_link rules past d l ≡ true) where
-  chosen : Contains (filter (is_eligible past) (picks.consumers (address_of d) (address_events past))) l.number
-  chosen = picked_from (distribution rules (address_of d)) (is_eligible past) (address_of d) (address_events past) l.number (number-some (pick rules (address_of d) past) l.number picked)
+  chosen : Contains (filter (is_eligible past) (picks.consumers (address_of d past) (address_events past))) l.number
+  chosen = picked_from (distribution rules (address_of d past)) (is_eligible past) (address_of d past) (address_events past) l.number (number-some (pick rules (address_of d past) past) l.number picked)
 
   eligible : is_eligible past l.number ≡ true
-  eligible = (in_filter (is_eligible past) (picks.consumers (address_of d) (address_events past)) l.number chosen).1
+  eligible = (in_filter (is_eligible past) (picks.consumers (address_of d past) (address_events past)) l.number chosen).1
 
-  counted : Contains (map (λ (m : Link). m.number) (consumers (address_of d) past)) l.number
+  counted : Contains (map (λ (m : Link). m.number) (consumers (address_of d past) past)) l.number
   counted =
-      subst (λ xs. Contains xs l.number) (consumers-counted rules past are (address_of d))
-      (in_filter (is_eligible past) (picks.consumers (address_of d) (address_events past)) l.number chosen).0
+      subst (λ xs. Contains xs l.number) (consumers-counted rules past are (address_of d past))
+      (in_filter (is_eligible past) (picks.consumers (address_of d past) (address_events past)) l.number chosen).0
 
-  consuming : is_consumer_of (address_of d) past l ≡ true
+  consuming : is_consumer_of (address_of d past) past l ≡ true
   consuming =
-      let m = in_map (λ (m : Link). m.number) (consumers (address_of d) past) l.number counted in
-      let listed = in_filter (is_consumer_of (address_of d) past) (links past) m.0 (in_reverse (filter (is_consumer_of (address_of d) past) (links past)) m.0 m.1) in
+      let m = in_map (λ (m : Link). m.number) (consumers (address_of d past) past) l.number counted in
+      let listed = in_filter (is_consumer_of (address_of d past) past) (links past) m.0 (in_reverse (filter (is_consumer_of (address_of d past) past) (links past)) m.0 m.1) in
       let found = all_contained (λ x. (link_at x.number past ≡ Some x) × (x.number < length past)) (links past) m.0 (links-found rules past are) listed.0 in
-      subst (λ x. is_consumer_of (address_of d) past x ≡ true) (same_some m.0 l (sym found.0 ∙ (ap (λ n. link_at n past) m.2 ∙ at))) listed.1
+      subst (λ x. is_consumer_of (address_of d past) past x ≡ true) (same_some m.0 l (sym found.0 ∙ (ap (λ n. link_at n past) m.2 ∙ at))) listed.1
 
   pub is_picked-link : IsPicked past d l
   is_picked-link =
-      let both = and_first (is_consumer l && bytes_eq l.address (address_of d)) (is_live past l) consuming in
+      let both = and_first (is_consumer l && bytes_eq l.address (address_of d past)) (is_live past l) consuming in
       record {
-        consumes = and_first (is_consumer l) (bytes_eq l.address (address_of d)) both;
-        address = sym ((bytes_decides l.address (address_of d)).0 (and_last (is_consumer l) (bytes_eq l.address (address_of d)) both));
-        lives = and_last (is_consumer l && bytes_eq l.address (address_of d)) (is_live past l) consuming;
+        consumes = and_first (is_consumer l) (bytes_eq l.address (address_of d past)) both;
+        address = sym ((bytes_decides l.address (address_of d past)).0 (and_last (is_consumer l) (bytes_eq l.address (address_of d past)) both));
+        lives = and_last (is_consumer l && bytes_eq l.address (address_of d past)) (is_live past l) consuming;
         takes = sym (ap (λ o. is_some_and o (may_take past)) at) ∙ eligible;
       }

@@ -70,7 +70,7 @@ none_of (Some x) is = absurd cc
 
 module _ (rules : RuleSet) (past : List Event) (l : Link) (d : Incoming) (lawful : IsLawful rules past) (live : IsLiveLink l past) (consumes : is_consumer l ≡ true)
     (found : incoming_at d.number past ≡ Some d) (takes : may_take past l ≡ true) where
-  begin_by : GoesFirst rules l past d → address_of d ≡ l.address → is_in_order l past d ≡ true → has_earlier_unsent rules past l d ≡ false → is_of_multicast rules d || is_next_waiting rules past d && is_picked_link rules past d l ≡ true
+  begin_by : GoesFirst rules l past d → address_of d past ≡ l.address → is_in_order l past d ≡ true → has_earlier_unsent rules past l d ≡ false → is_of_multicast rules d past || is_next_waiting rules past d && is_picked_link rules past d l ≡ true
       → MayFollow rules past l.session.connection (notes.Pair d.number) (first_frame past l d)
   begin_by goes address order earliest picked =
       let counts = and_first (nat_lt 0 (link_credit l past) && nat_lt 0 (session_window l.session past)) (is_none (in_progress l past)) takes in
@@ -99,14 +99,14 @@ module _ (rules : RuleSet) (past : List Event) (l : Link) (d : Incoming) (lawful
       let copy = due_copy rules past are l d found (and_first _ _ unsent) in
       begin_by (copy_goes_first rules past are l d found unsent) copy.address
       (order l d (live_found rules past are l live) (live_lives past l live) unsent) earliest
-      (or_left (is_of_multicast rules d) (is_next_waiting rules past d && is_picked_link rules past d l) copy.multicast)
+      (or_left (is_of_multicast rules d past) (is_next_waiting rules past d && is_picked_link rules past d l) copy.multicast)
 
 -- a link that carries anycast deliveries has no copies to send
 waits-alone : (many complete paired had : Bool) → not many && complete && not paired && had ≡ true → many ≡ false
 waits-alone false complete paired had is = refl
 waits-alone true complete paired had is = absurd cc
 
-no_copies : (rules : RuleSet) (past : List Event) → AreJudged rules past → (l : Link) (d : Incoming) → address_of d ≡ l.address → is_waiting rules d past ≡ true → has_earlier_unsent rules past l d ≡ false
+no_copies : (rules : RuleSet) (past : List Event) → AreJudged rules past → (l : Link) (d : Incoming) → address_of d past ≡ l.address → is_waiting rules d past ≡ true → has_earlier_unsent rules past l d ≡ false
 no_copies rules past are l d at waits = none-before (λ (x : Incoming). completed_before x d past && is_unsent rules x l past) (incoming_deliveries past) (λ x there. by x there (is_unsent rules x l past) refl)
   where
     by : (x : Incoming) → Contains (incoming_deliveries past) x → (b : Bool) → is_unsent rules x l past ≡ b → completed_before x d past && b ≡ false
@@ -114,8 +114,8 @@ no_copies rules past are l d at waits = none-before (λ (x : Incoming). complete
     by x there true unsent =
         let kept = all_contained (IsKept past) (incoming_deliveries past) x (each_delivery (IsKept past) past (judged-kept rules past are).each) there in
         let copy = due_copy rules past are l x kept.at (and_first _ _ unsent) in
-        let alone : is_of_multicast rules d ≡ false = waits-alone (is_of_multicast rules d) (is_complete d past) (is_paired d past) (always_had_consumer d past) waits in
-        let many : is_of_multicast rules d ≡ true = ap (has_multicast rules) (at ∙ sym copy.address) ∙ copy.multicast in
+        let alone : is_of_multicast rules d past ≡ false = waits-alone (is_of_multicast rules d past) (is_complete d past) (is_paired d past) (always_had_consumer d past) waits in
+        let many : is_of_multicast rules d past ≡ true = ap (has_multicast rules) (at ∙ sym copy.address) ∙ copy.multicast in
         let never : true ≡ false = sym many ∙ alone in
         absurd cc
 
@@ -130,4 +130,4 @@ module _ (rules : RuleSet) (past : List Event) (l : Link) (d : Incoming) (lawful
       begin_by rules past l d lawful (lives-live rules past are l at is.lives) is.consumes found is.takes
       (waiting_goes_first rules past l d waits) is.address
       (kept_in_order rules past are lawful.unbroken keeps l d at found is.address waits) (no_copies rules past are l d is.address waits)
-      (or_right (is_of_multicast rules d) (is_next_waiting rules past d && is_picked_link rules past d l) (both (is_next_waiting rules past d) (is_picked_link rules past d l) next picked))
+      (or_right (is_of_multicast rules d past) (is_next_waiting rules past d && is_picked_link rules past d l) (both (is_next_waiting rules past d) (is_picked_link rules past d l) next picked))

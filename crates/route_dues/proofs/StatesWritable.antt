@@ -193,11 +193,11 @@ module _ (rules : RuleSet) (d : Incoming) (past : List Event) (are : AreJudged r
 
   row_made : (why : Why) → row rules d past why ≡ Some (Some octets) → Made octets
   row_made N is = bare_if (is_gone rules d past) Released is
-  row_made M is = verdict_made (is_of_multicast rules d) (whole_verdict rules d past) is
-  row_made C is = anycast_made (is_of_multicast rules d) (pairing d past) C is
-  row_made Z is = anycast_made (is_of_multicast rules d) (pairing d past) Z is
-  row_made S is = anycast_made (is_of_multicast rules d) (pairing d past) S is
-  row_made L is = anycast_made (is_of_multicast rules d) (pairing d past) L is
+  row_made M is = verdict_made (is_of_multicast rules d past) (whole_verdict rules d past) is
+  row_made C is = anycast_made (is_of_multicast rules d past) (pairing d past) C is
+  row_made Z is = anycast_made (is_of_multicast rules d past) (pairing d past) Z is
+  row_made S is = anycast_made (is_of_multicast rules d past) (pairing d past) S is
+  row_made L is = anycast_made (is_of_multicast rules d past) (pairing d past) L is
 
 -- ---- and it came in one frame
 

@@ -62,7 +62,7 @@ module _ (rules : RuleSet) (past : List Event) (l : Link) (note : Note) (fields 
       (both (is_all_told rules past) _ told
       (or_left (is_some_and e.link (stands_still past)) (begins_in_turn rules e past) (ap (λ o. is_some_and o (stands_still past)) on ∙ still)))
 
-  begins : none_stands_still past ≡ true → is_none_or (noted note past) (λ d. is_of_multicast rules d || is_first_to_begin rules past d) ≡ true
+  begins : none_stands_still past ≡ true → is_none_or (noted note past) (λ d. is_of_multicast rules d past || is_first_to_begin rules past d) ≡ true
       → stands_in_turn rules e past (Out (frame_of (written_transfer l fields octets))) ≡ true
   begins moving first =
       or_right (is_of_answer rules past) _
@@ -79,25 +79,25 @@ module _ (rules : RuleSet) (past : List Event) (l : Link) (d : Incoming) (live :
       goes_on rules past l j.note (next_part l (nat_lt room (length rest))) (take room rest) live refl told still
 
   module _ (moving : none_stands_still past ≡ true) (found : incoming_at d.number past ≡ Some d) where
-    first_in_turn : is_of_multicast rules d || is_first_to_begin rules past d ≡ true
+    first_in_turn : is_of_multicast rules d past || is_first_to_begin rules past d ≡ true
         → stands_in_turn rules (writing rules past l.session.connection (notes.Pair d.number) (first_frame past l d)) past (Out (frame_of (first_frame past l d))) ≡ true
     first_in_turn first =
         let fields = first_part l (next_delivery_id l.session past) d.format in
         let room = room_on past l fields in
         begins rules past l (notes.Pair d.number) (fields (nat_lt room (length (incoming.payload d past)))) (take room (incoming.payload d past)) live refl told moving
-        (ap (λ o. is_none_or o (λ x. is_of_multicast rules x || is_first_to_begin rules past x)) found ∙ first)
+        (ap (λ o. is_none_or o (λ x. is_of_multicast rules x past || is_first_to_begin rules past x)) found ∙ first)
 
     -- the first of those that wait
     pub waiting_in_turn : is_first_to_begin rules past d ≡ true
         → stands_in_turn rules (writing rules past l.session.connection (notes.Pair d.number) (first_frame past l d)) past (Out (frame_of (first_frame past l d))) ≡ true
-    waiting_in_turn first = first_in_turn (or_right (is_of_multicast rules d) (is_first_to_begin rules past d) first)
+    waiting_in_turn first = first_in_turn (or_right (is_of_multicast rules d past) (is_first_to_begin rules past d) first)
 
     -- a copy
     pub copy_in_turn : IsLawful rules past → is_unsent rules d l past ≡ true
         → stands_in_turn rules (writing rules past l.session.connection (notes.Pair d.number) (first_frame past l d)) past (Out (frame_of (first_frame past l d))) ≡ true
     copy_in_turn lawful unsent =
         let copy = due_copy rules past (lawful_judged rules past lawful) l d found (and_first _ _ unsent) in
-        first_in_turn (or_left (is_of_multicast rules d) (is_first_to_begin rules past d) copy.multicast)
+        first_in_turn (or_left (is_of_multicast rules d past) (is_first_to_begin rules past d) copy.multicast)
 
 -- ---- flows
 

@@ -92,8 +92,10 @@ impl<D: Dues> Books<D> {
             AreBooks D.has_all rules.now self.old records → AreBooks D.has_all rules.now self.new (records ++ r ∷ [])) }
     {
         let looked = self.tables.looked();
-        self.dues.follow(rules, event, &looked)?;
-        self.tables.take(rules, event)?;
+        let completed = looked.deliveries.completed_for(event);
+        let address = completed.octets();
+        self.dues.follow(rules, event, address, &looked)?;
+        self.tables.take_addressed(rules, event, address)?;
         Ok(())
     }
 

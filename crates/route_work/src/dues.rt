@@ -5,6 +5,7 @@ ghost use Rattle.capture_form.specs.Rules.{RuleSet};
 ghost use Rattle.capture_form.specs.declared.records.Record.{Record};
 ghost use Rattle.trace_events.specs.History.{history};
 ghost use Rattle.state_tables.specs.Connections.{IsLawfulNext};
+ghost use Rattle.state_addresses.specs.Addressed.{IsAddressed};
 ghost use Rattle.trace_duties.specs.Quiet.{is_quiet};
 ghost use Rattle.trace_values.specs.View.{Events, event_view};
 ghost use Rattle.route_work.specs.Dues.{IsDue, is_in_turn};
@@ -26,7 +27,7 @@ pub trait Dues {
     fn new(alloc: Global) -> Self
         ensures { (rules : RuleSet) → has_all result rules [] };
 
-    /// The event follows those so far, of which the tables that are lent tell.
+    /// The event follows those so far, of which the tables that are lent tell; what it completes is for this address.
     ///
     /// # Errors
     ///
@@ -35,9 +36,11 @@ pub trait Dues {
         &mut self,
         rules: &RuleSet,
         event: &Event,
+        address: &[u8],
         before: &Looked<'_>,
     ) -> Result<(), AllocError>
         ensures { OnOk result ((records : List Record) (r : Record) → IsLawfulNext rules.now records r (event_view event.now) →
+            IsAddressed (event_view event.now) (history rules.now records) address.now →
             TellsOf rules.now before.now (history rules.now records) → has_all self.old rules.now (history rules.now records) →
             has_all self.new rules.now (event_view event.now ∷ history rules.now records)) };
 

@@ -9,6 +9,7 @@ ghost use Rattle.trace_duties.specs.Quiet.{none_stands_still};
 ghost use Rattle.trace_duties.specs.Turn.{is_all_told, is_first_to_begin};
 ghost use Rattle.trace_values.specs.View.{Events, event_view, incoming_view};
 ghost use Rattle.state_tables.specs.Connections.{IsLawfulNext};
+ghost use Rattle.state_addresses.specs.Addressed.{IsAddressed};
 ghost use Rattle.route_work.specs.Copies.{IsDueCopy};
 ghost use Rattle.due_waiting.specs.Waiting.{IsDueWaiting};
 ghost use Rattle.route_work.specs.Dues.{IsDue, is_in_turn};
@@ -54,7 +55,7 @@ impl Sending {
         }
     }
 
-    /// The event follows; `before` are the tables without it.
+    /// The event follows; what it completes is for this address, and `before` are the tables without it.
     ///
     /// # Errors
     ///
@@ -63,15 +64,17 @@ impl Sending {
         &mut self,
         rules: &RuleSet,
         event: &Event,
+        address: &[u8],
         before: &Looked<'_>,
     ) -> Result<(), AllocError>
         ensures { OnOk result ((records : List Record) (r : Record) → IsLawfulNext rules.now records r (event_view event.now) →
+            IsAddressed (event_view event.now) (history rules.now records) address.now →
             TellsOf rules.now before.now (history rules.now records) → HasSending rules.now self.old (history rules.now records) →
             HasSending rules.now self.new (event_view event.now ∷ history rules.now records)) }
     {
         self.parts.follow(event, before)?;
-        self.waiting.follow(rules, event, before)?;
-        self.copies.follow(rules, event, before)?;
+        self.waiting.follow(rules, event, address, before)?;
+        self.copies.follow(rules, event, address, before)?;
         Ok(())
     }
 

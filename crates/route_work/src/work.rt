@@ -48,10 +48,11 @@ impl Dues for Work {
         &mut self,
         rules: &RuleSet,
         event: &Event,
+        address: &[u8],
         before: &Looked<'_>,
     ) -> Result<(), AllocError> {
-        self.telling.follow(rules, event, before)?;
-        self.sending.follow(rules, event, before)?;
+        self.telling.follow(rules, event, address, before)?;
+        self.sending.follow(rules, event, address, before)?;
         self.flowing.follow(event, before)?;
         Ok(())
     }
