@@ -6,6 +6,7 @@
 
 mod router;
 
+pub use route_items::{Item, StepFault};
 pub use router::CoreOver;
 
 /// The router's core, with all that is due.
