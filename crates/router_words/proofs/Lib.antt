@@ -1,3 +1,4 @@
+pub mod RuleWordLemmas
 mod WordLemmas
 mod Numbers
 mod Answering

@@ -1,5 +1,5 @@
 -- What the words ask the router to serve, and what is wrong with them.
-use Rattle.std.specs.Prelude.{◌≡◌, ℕ, ◌++◌, false, List, map, Any, Some, codes, decimal}
+use Rattle.std.specs.Prelude.{◌≡◌, ℕ, ◌++◌, List, map, Any, Some, codes, decimal}
 use Rattle.std.specs.declared.net.socket_addr.SocketAddrV4.{SocketAddrV4}
 use Rattle.std.specs.Net.Grammar.{IsSocketV4Text}
 use Rattle.capture_form.specs.Rules.{RuleText, serves_anonymous}
@@ -10,15 +10,19 @@ use Rattle.router_words.specs.declared.fault.WordsFault.{WordsFault}
 use Rattle.router_words.specs.declared.fault.WordsFault.TheVariants.{BadAddress, BadRule, RuleRefused, NoMemory}
 use Rattle.router_words.specs.declared.service.Service.{Service}
 use Rattle.router_words.specs.declared.words.Words.{Words}
-use Rattle.router_words.specs.RuleWords.{SpellsNoRule, rule_text}
+use Rattle.router_words.specs.RuleWords.{SaysNothing, ask_anonymous, rule_text, spelling_words}
 
 -- the text is an IPv4 address with its port
 abbrev pub HasAddress : List ℕ → Type 0
 HasAddress text = (address : SocketAddrV4) × IsSocketV4Text text address
 
+-- the words behind the fourth
+abbrev pub said : Words → List (List ℕ)
+said words = map (λ word. word.now) words.rules.items
+
 -- the rules that the words spell, in their order
 abbrev pub AreSpelled : Words → List RuleText → Type 0
-AreSpelled words rules = map rule_text rules ≡ map (λ word. word.now) words.rules.items
+AreSpelled words rules = map rule_text rules ≡ spelling_words (said words)
 
 -- what words ask to serve
 pub record IsServiceOf (words : Words) (service : Service) : Type 0 where
@@ -27,12 +31,12 @@ pub record IsServiceOf (words : Words) (service : Service) : Type 0 where
   pub workers : service.workers ≡ words.workers
   pub connections : service.connections ≡ words.connections
   pub rules : AreSpelled words service.rules.list
-  pub anonymous : serves_anonymous service.rules ≡ false
+  pub anonymous : serves_anonymous service.rules ≡ ask_anonymous (said words)
 
 -- each fault comes only for its cause, in this order (own format)
 abbrev pub IsFaultOf : Words → WordsFault → Type 0
 IsFaultOf words BadAddress = ¬ (HasAddress words.listen.now)
-IsFaultOf words BadRule = HasAddress words.listen.now × Any (λ word. SpellsNoRule word.now) words.rules.items
+IsFaultOf words BadRule = HasAddress words.listen.now × Any (λ word. SaysNothing word.now) words.rules.items
 IsFaultOf words (RuleRefused refusal) =
     HasAddress words.listen.now × ((rules : List RuleText) × AreSpelled words rules × (rules_fault rules ≡ Some refusal))
 IsFaultOf words NoMemory = HasAddress words.listen.now

@@ -14,7 +14,7 @@ use std::fmt;
 pub enum WordsFault {
     /// The first word is no IPv4 address with its port.
     BadAddress,
-    /// A word behind the fourth is no rule.
+    /// A word behind the fourth is neither a rule nor `anonymous`.
     BadRule,
     /// The rules may not stand beside one another.
     RuleRefused(RulesFault),

@@ -3,7 +3,7 @@
 //! `amqp_router LISTEN CAPTURE WORKERS CONNECTIONS [RULE]...`. The modules, in reading order:
 //!
 //! - `words`: what the parser makes of the words, as texts and numbers
-//! - `rule_words`: the rules that words spell
+//! - `rule_words`: the rules that words spell, and whether one of them is `anonymous`
 //! - `service`: what the router is to serve, after all words were looked into
 //! - `fault`: what is wrong with words that the parser took
 //! - `outcome`: how a run ended, with its line and its exit status

@@ -8,7 +8,7 @@ use std::fmt;
 pub enum Outcome {
     /// All connections were served, and the capture was written.
     Served { connections: u64, records: u64 },
-    /// A poll or a listener failed, or a connection could not be taken in.
+    /// A poll or a listener failed, or the address could not be listened at.
     DeviceFault,
     /// The capture could not be written.
     NotWritten,

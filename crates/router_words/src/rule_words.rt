@@ -1,20 +1,46 @@
-//! The rules that words spell.
+//! What the words behind the fourth say: rules, and whether anonymous senders are served.
 
 ghost use Rattle.std.specs.Prelude.{◌≡◌, ◌⊎◌, map, Any, IfOk, IfErr, MatchOption};
-ghost use Rattle.router_words.specs.RuleWords.{SpellsNoRule, named_distribution, rule_word, rule_text};
+ghost use Rattle.router_words.specs.RuleWords.{
+  SaysNothing,
+  SpellsNoRule,
+  ask_anonymous,
+  is_anonymous,
+  named_distribution,
+  rule_word,
+  rule_text,
+  spelling_words,
+};
 
 use crate::fault::WordsFault;
 use capture_form::{Distribution, Rule};
 use std::alloc::Global;
 
-/// The rules of these words, in their order.
+/// Whether one of these words is `anonymous`.
+#[tactic(auto, using(crate::proofs::RuleWordLemmas::asked_with))]
+pub fn ask_anonymous(words: &[&str]) -> bool
+    ensures { result ≡ ask_anonymous (map (λ word. word.now) words.now) }
+{
+    let mut asked = false;
+    for word in words {
+        if is_anonymous(word) {
+            asked = true;
+        }
+    }
+    asked
+}
+
+/// The rules of these words, in their order; `anonymous` is none.
 pub fn rules_in(alloc: Global, words: &[&str]) -> Result<Vec<Rule>, WordsFault>
-    ensures ok { IfOk result (λ rules. map rule_text rules.items ≡ map (λ word. word.now) words.now) }
-    ensures bad { result ≡ Err WordsFault.BadRule → Any (λ word. SpellsNoRule word.now) words.now }
+    ensures ok { IfOk result (λ rules. map rule_text rules.items ≡ spelling_words (map (λ word. word.now) words.now)) }
+    ensures bad { result ≡ Err WordsFault.BadRule → Any (λ word. SaysNothing word.now) words.now }
     ensures others { IfErr result (λ fault. (fault ≡ WordsFault.BadRule) ⊎ (fault ≡ WordsFault.NoMemory)) }
 {
     let mut rules = Vec::new(alloc);
     for word in words {
+        if is_anonymous(word) {
+            continue;
+        }
         let Some((distribution, prefix)) = rule_in(word) else {
             return Err(WordsFault::BadRule);
         };
@@ -25,6 +51,13 @@ pub fn rules_in(alloc: Global, words: &[&str]) -> Result<Vec<Rule>, WordsFault>
         })?;
     }
     Ok(rules)
+}
+
+/// Whether the word is `anonymous`.
+fn is_anonymous(word: &str) -> bool
+    ensures { result ≡ is_anonymous word.now }
+{
+    word == "anonymous"
 }
 
 /// The rule that the word spells: the name of a distribution, a colon and the prefix, which may be empty.

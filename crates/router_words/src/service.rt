@@ -1,7 +1,7 @@
 //! What the router is to serve.
 
 use crate::fault::WordsFault;
-use crate::rule_words::rules_in;
+use crate::rule_words::{ask_anonymous, rules_in};
 use crate::words::Words;
 use address_table::Rules;
 use std::alloc::Global;
@@ -18,7 +18,7 @@ pub struct Service<'a> {
     pub workers: u8,
     /// How many connections are to be served.
     pub connections: u16,
-    /// By which rules the messages are distributed.
+    /// By which rules the messages are distributed, and whether anonymous senders are served.
     pub rules: Rules,
 }
 
@@ -26,7 +26,7 @@ impl<'a> Service<'a> {
     ghost use Rattle.std.specs.Prelude.{◌≡◌, ◌↔◌, IfOk, IfErr};
     ghost use Rattle.router_words.specs.Service.{HasAddress, IsFaultOf, IsServiceOf};
 
-    /// Looks into the words: at the address, then at each rule, then at all rules.
+    /// Looks into the words: at the address, then at each rule's word, then at all rules.
     pub fn from_words(alloc: Global, words: &Words<'a>) -> Result<Service<'a>, WordsFault>
         ensures service { IfOk result (IsServiceOf words.now) }
         ensures address { (result ≡ Err WordsFault.BadAddress) ↔ ¬ (HasAddress words.now.listen.now) }
@@ -35,7 +35,12 @@ impl<'a> Service<'a> {
         let Ok(address) = words.listen.parse::<SocketAddrV4>() else {
             return Err(WordsFault::BadAddress);
         };
-        let rules = Rules::new(rules_in(alloc, &words.rules)?)?;
+        let plain = Rules::new(rules_in(alloc, &words.rules)?)?;
+        let rules = if ask_anonymous(&words.rules) {
+            plain.with_anonymous()
+        } else {
+            plain
+        };
         Ok(Service {
             address,
             capture: words.capture,

@@ -20,7 +20,7 @@ pub struct Words<'a> {
     pub workers: u8,
     /// How many connections are to be served.
     pub connections: u16,
-    /// The rules, in their order.
+    /// The words behind these, in their order: rules, and `anonymous`.
     pub rules: Vec<&'a str>,
 }
 
@@ -45,7 +45,7 @@ impl<'a> Words<'a> {
     }
 }
 
-/// The command line: four words, and as many rules as there are.
+/// The command line: four words, and as many words of rules as there are.
 fn command_line<'a>(alloc: Global) -> Result<Command<'a>, AllocError>
     ensures { IfOk result (λ command. app_of command ≡ command_line) }
 {
@@ -62,7 +62,7 @@ fn command_line<'a>(alloc: Global) -> Result<Command<'a>, AllocError>
         "How many connections are served, 0 to 65535",
     );
     let rules = Arg::new(alloc, "RULE").action(ArgAction::Append).help(
-        "How an address and those below it are distributed: closest:A, balanced:A or multicast:A",
+        "How an address and those below it are distributed: closest:A, balanced:A or multicast:A; or anonymous: targets without address are served",
     );
     bare_command(alloc)
         .arg(listen)?
