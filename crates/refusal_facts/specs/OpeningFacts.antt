@@ -8,7 +8,8 @@ use Rattle.trace_events.specs.Heard.{is_of_connection}
 use Rattle.trace_events.specs.Link.{address_at}
 use Rattle.trace_events.specs.Said.{as_open, out_attach, out_begin, out_meaning, out_spoken}
 use Rattle.trace_events.specs.Session.{has_unanswered_begin}
-use Rattle.trace_clauses.specs.LinkClause.{asking, answering_receiver_mode}
+use Rattle.trace_clauses.specs.LinkClause.{asking, answering_receiver_mode, is_without_address}
+use Rattle.trace_events.specs.Words.{is_some_and}
 use Rattle.trace_values.specs.View.{asking_view, frame_view}
 use Rattle.refusal_facts.specs.declared.connection.FrameFacts.{FrameFacts}
 use Rattle.refusal_facts.specs.declared.connection.WritingFacts.{WritingFacts}
@@ -40,6 +41,7 @@ abbrev pub AreAttach : Event → List Event → AttachFacts → Type 0
 AreAttach e past facts =
     (facts.session ≡ e.session) × (out_attach e ≡ Some (attach_fields facts.ours))
     × (facts.address.now ≡ address_at facts.ours.role (attach_fields facts.ours))
+    × (facts.is_without_address ≡ is_some_and (attach_fields facts.ours).target is_without_address)
     × (option_map asking_view facts.asked ≡ option_and_then (λ s. asking s facts.ours.handle past) e.session)
     × (facts.due_sender_mode ≡ option_map (λ asked. asked.sender_mode) (option_map asking_view facts.asked))
     × (facts.due_receiver_mode ≡ option_map (λ asked. answering_receiver_mode asked.receiver_mode asked.role) (option_map asking_view facts.asked))

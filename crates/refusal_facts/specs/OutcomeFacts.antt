@@ -9,7 +9,7 @@ use Rattle.pairing_cert.specs.declared.note.Note.TheVariants as notes
 use Rattle.trace_events.specs.Connection.{frame_limit}
 use Rattle.trace_events.specs.Disposition.{terminal_state}
 use Rattle.trace_events.specs.Event.{Event, Incoming}
-use Rattle.trace_events.specs.Incoming.{incoming_at, is_complete}
+use Rattle.trace_events.specs.Incoming.{address_of, incoming_at, is_complete}
 use Rattle.trace_events.specs.Link.{is_live}
 use Rattle.trace_events.specs.Outgoing.{decision, is_sent, pairing}
 use Rattle.trace_events.specs.Said.{out_disposition}
@@ -32,7 +32,7 @@ row_of rules d past (notes.Pair n) = None
 
 -- the best verdict of the copies of a multicast delivery, where each that is due has its own
 abbrev pub verdict_of : RuleSet → Incoming → List Event → Option Outcome
-verdict_of rules d past = if is_of_multicast rules d then whole_verdict rules d past else None
+verdict_of rules d past = if is_of_multicast rules d past then whole_verdict rules d past else None
 
 -- how a delivery to a client stands
 abbrev pub IsCarrier : List Event → Carrier → Type 0
@@ -44,7 +44,8 @@ IsCarrier past carrier =
 abbrev pub AreTold : RuleSet → Note → List Event → ToldDelivery → Type 0
 AreTold rules note past told =
     let d = incoming_view told.delivery in
-    (told.is_complete ≡ is_complete d past) × (told.is_closed ≡ is_closed past d) × (told.is_multicast ≡ is_of_multicast rules d)
+    (told.is_complete ≡ is_complete d past) × (told.is_closed ≡ is_closed past d) × (told.address.now ≡ address_of d past)
+    × (told.is_multicast ≡ is_of_multicast rules d past)
     × (told.verdict ≡ verdict_of rules d past) × (told.is_gone ≡ is_gone rules d past) × (told.frame_limit ≡ frame_limit d.link.session.connection past)
     × (option_map told_view told.row ≡ row_of rules d past note)
     × (option_map (λ carrier. outgoing_view carrier.outgoing) told.carrier ≡ pairing d past) × IfSome told.carrier (IsCarrier past)

@@ -7,7 +7,7 @@ use Rattle.pairing_cert.specs.declared.note.Note.TheVariants as notes
 use Rattle.trace_events.specs.Credit.{begins_outgoing, delivery_count, link_credit}
 use Rattle.trace_events.specs.Due.{is_unsent}
 use Rattle.trace_events.specs.Event.{Event}
-use Rattle.trace_events.specs.Incoming.{completion, incoming_at, is_complete}
+use Rattle.trace_events.specs.Incoming.{address_of, completion, incoming_at, is_complete}
 use Rattle.trace_events.specs.Outgoing.{next_delivery_id, pairing}
 use Rattle.trace_events.specs.Said.{out_transfer}
 use Rattle.trace_events.specs.Waiting.{is_gone, is_of_multicast}
@@ -70,13 +70,14 @@ IsNamed rules knows past note (named.Kept delivery complete gone) =
 IsNamed rules knows past note (named.Unknown number) =
     (to_carry rules note past ≡ None) × IsNamedBy rules knows past note (named.Unknown number)
 
--- L7: the delivery that the note names, the link, and what this transfer says
+-- L7: the delivery that the note names, with its address where it may be carried, the link, and what this transfer says
 abbrev pub AreCarrying : RuleSet → (ℕ → Type 0) → Event → List Event → CarryingFacts → Type 0
 AreCarrying rules knows e past facts =
     (facts.note ≡ e.note) × (e.link ≡ Some (link_view facts.link)) × IsNamed rules knows past e.note facts.named
     × (facts.begins ≡ begins_outgoing e)
     × (option_map (λ fields. unwrap_or fields.message_format 0) (out_transfer e) ≡ Some facts.format)
     × (option_map (λ fields. flag fields.settled) (out_transfer e) ≡ Some facts.is_settled)
+    × (option_map (λ address. address.now) facts.address ≡ option_map (λ d. address_of d past) (to_carry rules e.note past))
 
 -- L9: who was sent the delivery before, whether a copy is due to the link, and what the link's last delivery carries
 abbrev pub AreOrder : RuleSet → Event → List Event → OrderFacts → Type 0
@@ -84,7 +85,7 @@ AreOrder rules e past facts =
     (e.link ≡ Some (link_view facts.link)) × (to_carry rules e.note past ≡ Some (incoming_view facts.delivery))
     × (facts.completion ≡ completion (incoming_view facts.delivery) past)
     × (facts.before_completion ≡ option_and_then (λ d. completion d past) (carried_before (link_view facts.link) past))
-    × (facts.is_multicast ≡ is_of_multicast rules (incoming_view facts.delivery))
+    × (facts.is_multicast ≡ is_of_multicast rules (incoming_view facts.delivery) past)
     × (option_map outgoing_view facts.carrier ≡ pairing (incoming_view facts.delivery) past)
     × (facts.is_unsent ≡ is_unsent rules (incoming_view facts.delivery) (link_view facts.link) past)
     × (option_map incoming_view facts.before ≡ carried_before (link_view facts.link) past)

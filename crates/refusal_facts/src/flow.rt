@@ -34,7 +34,8 @@ pub struct ProducerNumbers<'a> {
     pub given_credit: u32,
     /// How many deliveries are not decided.
     pub undecided: u64,
-    /// More credit may be given: what is given and undecided has come down so far, and someone may take the deliveries.
+    /// More credit may be given: what is given and undecided has come down so far, and someone may take the deliveries, or the link has
+    /// no address.
     pub may_be_topped_up: bool,
     /// The credit that fills the link up.
     pub full_credit: u32,

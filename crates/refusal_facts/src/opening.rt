@@ -6,10 +6,11 @@ ghost use Rattle.trace_events.specs.Session.{IsLiveOn, StandsLive};
 ghost use Rattle.trace_clauses.specs.LinkClause as attaches;
 ghost use Rattle.trace_values.specs.View.{Events, asking_view, event_view};
 ghost use Rattle.trace_events.specs.Said as said;
+ghost use Rattle.trace_events.specs.Words.{is_some_and};
+ghost use Rattle.amqp_perf.specs.NestedViews.{target_view};
 ghost use Rattle.refusal_facts.specs.OpeningFacts.{AreAttach, AreBegin};
 
-use amqp_perf::{Attach, ReceiverSettleMode, SenderSettleMode};
-use capture_form::Rule;
+use amqp_perf::{Attach, ReceiverSettleMode, SenderSettleMode, Target};
 use trace_events::Session;
 use trace_judge::Openings;
 use trace_values::{Asking, Event, address_at};
@@ -33,6 +34,8 @@ pub struct AttachFacts<'a> {
     pub ours: Attach<'a>,
     /// The address that ours has, by its role.
     pub address: &'a [u8],
+    /// Ours has a target without address, as is due to an anonymous sender.
+    pub is_without_address: bool,
     /// What the client's attach of the handle asks for, if one is to be answered.
     pub asked: Option<Asking<'a>>,
     /// How the router's sender is to settle, if one is to be answered.
@@ -89,6 +92,16 @@ fn asked_on<'a, P: Openings<'a>>(
     past.asking(session?, handle)
 }
 
+/// A target without address; a coordinator is none.
+fn is_without_address(target: &Option<Target>) -> bool
+    ensures { result ≡ is_some_and (option_map target_view target.now) attaches.is_without_address }
+{
+    match target {
+        Some(Target::Terminus(terminus)) => terminus.address.is_none(),
+        _ => false,
+    }
+}
+
 /// L3.
 pub(crate) fn attach_facts<'a, P: Openings<'a>>(
     past: &P,
@@ -104,6 +117,7 @@ pub(crate) fn attach_facts<'a, P: Openings<'a>>(
         session: event.session,
         ours,
         address,
+        is_without_address: is_without_address(&ours.target),
         asked,
         due_sender_mode: due_sender_mode(&asked),
         due_receiver_mode: due_receiver_mode(&asked),

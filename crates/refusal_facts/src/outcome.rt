@@ -2,6 +2,7 @@
 
 ghost use Rattle.capture_form.specs.Rules.{RuleSet};
 ghost use Rattle.std.specs.Prelude.{List, ◌≡◌, is_some, IfSome, option_and_then, option_map};
+ghost use Rattle.trace_events.specs.Event as law_events;
 ghost use Rattle.trace_events.specs.Incoming as received;
 ghost use Rattle.trace_events.specs.Outgoing as sent;
 ghost use Rattle.trace_judge.specs.Told.{told_view};
@@ -9,11 +10,12 @@ ghost use Rattle.trace_values.specs.View.{Events, event_view, incoming_view, out
 ghost use Rattle.trace_events.specs.Said as said;
 ghost use Rattle.refusal_facts.specs.OutcomeFacts.{AreOutcome, AreSettling, AreTold, IsCarrier, row_of, verdict_of};
 
+use crate::payloads::Payloads;
 use amqp_perf::{Outcome, State};
 use capture_form::RuleSet;
 use pairing_cert::Note;
 use trace_judge::{Outcomes, Told, row};
-use trace_values::{Decision, Event, Incoming, Outgoing, has_multicast};
+use trace_values::{Decision, Event, Incoming, Outgoing};
 
 /// The delivery to a client that carries one whose outcome is told.
 #[derive(Clone, Copy)]
@@ -35,6 +37,8 @@ pub struct ToldDelivery<'a> {
     pub is_complete: bool,
     /// Nothing more is to be told of it: it is told, settled by its producer, or of a link that is over.
     pub is_closed: bool,
+    /// The address that it is for: its link's; on a link without address its message's, once it is complete.
+    pub address: &'a [u8],
     /// Its address is multicast.
     pub is_multicast: bool,
     /// The best verdict of its copies, where each that is due has its own; of one of multicast alone.
@@ -99,7 +103,7 @@ fn verdict_of<'a, P: Outcomes<'a>>(
     ensures { (history : Events) → P.stands_for past.now rules.now history → P.knows_incoming past.now (incoming_view delivery.now) history →
         (result ≡ verdict_of rules.now (incoming_view delivery.now) history) }
 {
-    if has_multicast(rules, delivery.link.address) {
+    if past.is_of_multicast(rules, delivery) {
         past.whole_verdict(rules, delivery)
     } else {
         None
@@ -132,21 +136,24 @@ fn carrier_of<'a, P: Outcomes<'a>>(past: &P, delivery: &Incoming) -> Option<Carr
 }
 
 /// How the delivery stands.
-fn standing<'a, P: Outcomes<'a>>(
+fn standing<'a, P: Outcomes<'a>, C: Payloads<'a>>(
     past: &P,
+    contents: &C,
     rules: &RuleSet,
     delivery: Incoming<'a>,
     note: Note,
 ) -> ToldDelivery<'a>
     requires few { P.is_short past.now }
     ensures same { incoming_view result.delivery ≡ incoming_view delivery.entry }
-    ensures told { (history : Events) → P.stands_for past.now rules.now history → P.knows_incoming past.now (incoming_view delivery.entry) history → AreTold rules.now note history result }
+    ensures told { (history : Events) → P.stands_for past.now rules.now history → C.tells_of contents.now rules.now history → P.knows_incoming past.now (incoming_view delivery.entry) history →
+        C.knows contents.now (incoming_view delivery.entry) → AreTold rules.now note history result }
 {
     ToldDelivery {
         delivery,
         is_complete: past.is_complete(&delivery),
         is_closed: past.is_closed(&delivery),
-        is_multicast: has_multicast(rules, delivery.link.address),
+        address: contents.address(&delivery),
+        is_multicast: past.is_of_multicast(rules, &delivery),
         verdict: verdict_of(past, rules, &delivery),
         is_gone: past.is_gone(rules, &delivery),
         frame_limit: past.frame_limit(delivery.link.session.connection),
@@ -156,8 +163,9 @@ fn standing<'a, P: Outcomes<'a>>(
 }
 
 /// The delivery that begins in the record of this number, if there is a number, and how it stands.
-fn told_delivery<'a, P: Outcomes<'a>>(
+fn told_delivery<'a, P: Outcomes<'a>, C: Payloads<'a>>(
     past: &P,
+    contents: &C,
     rules: &RuleSet,
     number: Option<u64>,
     note: Note,
@@ -165,22 +173,23 @@ fn told_delivery<'a, P: Outcomes<'a>>(
     requires few { P.is_short past.now }
     ensures same { (history : Events) → P.stands_for past.now rules.now history → IfSome number (λ n. P.knows_number past.now n history) →
         (option_map (λ told. incoming_view told.delivery) result ≡ option_and_then (λ n. received.incoming_at n history) number) }
-    ensures told { (history : Events) → P.stands_for past.now rules.now history → IfSome number (λ n. P.knows_number past.now n history) → IfSome result (AreTold rules.now note history) }
+    ensures told { (history : Events) → P.stands_for past.now rules.now history → C.tells_of contents.now rules.now history → ((d : law_events.Incoming) → P.knows_incoming past.now d history → C.knows contents.now d) → IfSome number (λ n. P.knows_number past.now n history) → IfSome result (AreTold rules.now note history) }
 {
     match past.incoming_at(number?) {
-        Some(delivery) => Some(standing(past, rules, delivery, note)),
+        Some(delivery) => Some(standing(past, contents, rules, delivery, note)),
         None => None,
     }
 }
 
 /// L11.
-pub(crate) fn outcome_facts<'a, P: Outcomes<'a>>(
+pub(crate) fn outcome_facts<'a, P: Outcomes<'a>, C: Payloads<'a>>(
     past: &P,
+    contents: &C,
     rules: &RuleSet,
     event: &Event<'a, 'a>,
 ) -> Option<OutcomeFacts<'a>>
     requires few { P.is_short past.now }
-    ensures facts { (history : Events) → P.stands_for past.now rules.now history → IfSome (event_view event.now).told (λ n. P.knows_number past.now n history) → IfSome result (AreOutcome rules.now (event_view event.now) history) }
+    ensures facts { (history : Events) → P.stands_for past.now rules.now history → C.tells_of contents.now rules.now history → ((d : law_events.Incoming) → P.knows_incoming past.now d history → C.knows contents.now d) → IfSome (event_view event.now).told (λ n. P.knows_number past.now n history) → IfSome result (AreOutcome rules.now (event_view event.now) history) }
     ensures there { is_some result ≡ is_some (said.out_disposition (event_view event.now)) }
 {
     let disposition = event.out_disposition()?;
@@ -190,7 +199,7 @@ pub(crate) fn outcome_facts<'a, P: Outcomes<'a>>(
         is_settled: disposition.is_settled(),
         note: event.note,
         state: disposition.state,
-        told: told_delivery(past, rules, event.told, event.note),
+        told: told_delivery(past, contents, rules, event.told, event.note),
     })
 }
 

@@ -25,6 +25,11 @@ pub trait Payloads<'a> {
         ensures { (rules : RuleSet) (history : Events) → Self.tells_of self.now rules history → Self.knows self.now (incoming_view delivery.now) →
             (result.now ≡ received.payload (incoming_view delivery.now) history) };
 
+    /// The address that a delivery is for: its link's; on a link without address its message's, from its completion on.
+    fn address(&self, delivery: &Incoming) -> &'a [u8]
+        ensures { (rules : RuleSet) (history : Events) → Self.tells_of self.now rules history → Self.knows self.now (incoming_view delivery.now) →
+            (result.now ≡ received.address_of (incoming_view delivery.now) history) };
+
     /// How many octets were sent so far of a delivery to a client, counted in 64 bits.
     fn sent_count(&self, delivery: &Outgoing) -> u64
         ensures { (rules : RuleSet) (history : Events) → Self.tells_of self.now rules history → Self.knows_sent self.now (outgoing_view delivery.now) history →

@@ -18,7 +18,7 @@ use capture_form::RuleSet;
 use pairing_cert::Note;
 use trace_events::Session;
 use trace_judge::{Carriage, Counts, Outcomes, Questions};
-use trace_values::{Event, Incoming, Link, Outgoing, has_multicast};
+use trace_values::{Event, Incoming, Link, Outgoing};
 
 /// L4: the link on which a transfer stands, and its session's window.
 #[derive(Clone, Copy)]
@@ -86,6 +86,8 @@ pub struct CarryingFacts<'a> {
     pub note: Note,
     pub link: Link<'a>,
     pub named: Named<'a>,
+    /// The address that the delivery is for, where it may be carried.
+    pub address: Option<&'a [u8]>,
     /// The transfer begins a delivery: only then its message-format and settled flag are compared.
     pub begins: bool,
     /// The message-format that it says, 0 where it says none.
@@ -226,13 +228,31 @@ fn named_by<'a, P: Outcomes<'a> + Carriage<'a>>(past: &P, rules: &RuleSet, note:
     }
 }
 
-/// L7.
-pub(crate) fn carrying_facts<'a, P: Outcomes<'a> + Carriage<'a>>(
+/// The address of the delivery that a note names, where it may be carried.
+fn address_carried<'a, P: Carriage<'a>, C: Payloads<'a>>(
     past: &P,
+    contents: &C,
+    rules: &RuleSet,
+    note: Note,
+) -> Option<&'a [u8]>
+    ensures { (history : Events) → P.stands_for past.now rules.now history → C.tells_of contents.now rules.now history → ((d : law_events.Incoming) → P.knows_incoming past.now d history → C.knows contents.now d) →
+        (option_map (λ address. address.now) result ≡ option_map (λ d. received.address_of d history) (transfers.to_carry rules.now note history)) }
+{
+    match past.to_carry(rules, note) {
+        Some(delivery) => Some(contents.address(&delivery)),
+        None => None,
+    }
+}
+
+/// L7.
+pub(crate) fn carrying_facts<'a, P: Outcomes<'a> + Carriage<'a>, C: Payloads<'a>>(
+    past: &P,
+    contents: &C,
     rules: &RuleSet,
     event: &Event<'a, 'a>,
 ) -> Option<CarryingFacts<'a>>
-    ensures facts { (history : Events) → P.stands_for past.now rules.now history → IfSome result (AreCarrying rules.now (λ n. P.knows_number past.now n history) (event_view event.now) history) }
+    ensures facts { (history : Events) → P.stands_for past.now rules.now history → C.tells_of contents.now rules.now history → ((d : law_events.Incoming) → P.knows_incoming past.now d history → C.knows contents.now d) →
+        IfSome result (AreCarrying rules.now (λ n. P.knows_number past.now n history) (event_view event.now) history) }
     ensures there { is_some result ≡ (is_some (said.out_transfer (event_view event.now)) && is_some (event_view event.now).link) }
 {
     let transfer = event.out_transfer()?;
@@ -240,6 +260,7 @@ pub(crate) fn carrying_facts<'a, P: Outcomes<'a> + Carriage<'a>>(
         note: event.note,
         link: event.link?,
         named: named_by(past, rules, event.note),
+        address: address_carried(past, contents, rules, event.note),
         begins: event.begins_outgoing(),
         format: transfer.message_format.unwrap_or(0),
         is_settled: transfer.settled.unwrap_or(false),
@@ -292,7 +313,7 @@ pub(crate) fn order_facts<'a, P: Questions<'a>, C: Payloads<'a>>(
         link,
         delivery,
         completion: contents.completion(&delivery),
-        is_multicast: has_multicast(rules, delivery.link.address),
+        is_multicast: past.is_of_multicast(rules, &delivery),
         carrier: past.pairing(&delivery),
         is_unsent: past.is_unsent(rules, &delivery, &link),
         before,
