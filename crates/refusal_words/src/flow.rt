@@ -1,11 +1,12 @@
 //! What L10 compares, in words.
 
 use crate::Origins;
-use crate::text::OrNone;
+use crate::text::deliveries;
 use crate::transfer::{
     Linked, NO_SESSION, origin_of, write_credit_origin, write_flag, write_no_link, write_number,
     write_session,
 };
+use amqp_perf::Flow;
 use flow_counts::{INCOMING_WINDOW, LOW_MARK, OUTGOING_WINDOW};
 use refusal_facts::{ConsumerNumbers, FlowFacts, FlowLink, ProducerNumbers};
 use std::fmt;
@@ -56,11 +57,11 @@ fn write_producer<W: fmt::Write>(
     let flow = &facts.flow;
     write!(
         f,
-        "\n{}: a producer's, given credit {}, {} undecided deliver{}",
+        "\n{}: a producer's, given credit {}, {} undecided {}",
         Linked(&numbers.link, origins),
         numbers.given_credit,
         numbers.undecided,
-        if numbers.undecided == 1 { "y" } else { "ies" }
+        deliveries(numbers.undecided)
     )?;
     write_number(
         f,
@@ -69,17 +70,20 @@ fn write_producer<W: fmt::Write>(
         numbers.delivery_count,
     )?;
     write_flag(f, "drain", flow.drains(), false)?;
-    let (given, full) = (numbers.given_credit, numbers.full_credit);
-    if flow.link_credit == Some(given) {
-        return write!(f, "\nlink-credit: {given}, as is due");
-    }
-    write!(
-        f,
-        "\nlink-credit: {}, due {given}",
-        OrNone(flow.link_credit)
-    )?;
-    if numbers.may_be_topped_up {
-        write!(f, ", or {full} to top it up")
+    write_given_credit(f, flow.link_credit, numbers)
+}
+
+/// The credit that a producer is told, and the one that is due.
+fn write_given_credit<W: fmt::Write>(
+    f: &mut fmt::Formatter<W>,
+    said: Option<u32>,
+    numbers: &ProducerNumbers,
+) -> fmt::Result {
+    write_number(f, "link-credit", said, numbers.given_credit)?;
+    if said == Some(numbers.given_credit) {
+        Ok(())
+    } else if numbers.may_be_topped_up {
+        write!(f, ", or {} to top it up", numbers.full_credit)
     } else {
         write_no_top_up(f, numbers)
     }
@@ -104,17 +108,9 @@ fn write_no_top_up<W: fmt::Write>(
     }
 }
 
-/// Whether a drain may be answered.
+/// Whether a drain may be answered, and why.
 fn write_drain<W: fmt::Write>(f: &mut fmt::Formatter<W>, numbers: &ConsumerNumbers) -> fmt::Result {
-    if numbers.may_be_drained() {
-        write!(
-            f,
-            "\ndrain answer: it may stand, with delivery-count {} and link-credit 0",
-            numbers.drained_count()
-        )?;
-    } else {
-        write!(f, "\ndrain answer: it may not stand")?;
-    }
+    write_drain_answer(f, numbers)?;
     write!(
         f,
         " (asked for: {}; credit: {}; a delivery waits at the address: {}; a copy for the link is unsent: {})",
@@ -123,6 +119,22 @@ fn write_drain<W: fmt::Write>(f: &mut fmt::Formatter<W>, numbers: &ConsumerNumbe
         yes_or_no(numbers.has_waiting),
         yes_or_no(numbers.has_unsent)
     )
+}
+
+/// Whether a drain may be answered.
+fn write_drain_answer<W: fmt::Write>(
+    f: &mut fmt::Formatter<W>,
+    numbers: &ConsumerNumbers,
+) -> fmt::Result {
+    if numbers.may_be_drained() {
+        let count = numbers.drained_count();
+        write!(
+            f,
+            "\ndrain answer: it may stand, with delivery-count {count} and link-credit 0"
+        )
+    } else {
+        write!(f, "\ndrain answer: it may not stand")
+    }
 }
 
 fn yes_or_no(is_so: bool) -> &'static str {
@@ -136,7 +148,6 @@ fn write_consumer<W: fmt::Write>(
     numbers: &ConsumerNumbers,
     origins: &Origins,
 ) -> fmt::Result {
-    let flow = &facts.flow;
     write!(
         f,
         "\n{}: a consumer's, credit {}",
@@ -144,6 +155,15 @@ fn write_consumer<W: fmt::Write>(
         numbers.credit
     )?;
     write_credit_origin(f, origin_of(origins, &numbers.link), numbers.delivery_count)?;
+    write_consumer_numbers(f, &facts.flow, numbers)
+}
+
+/// The numbers of a consumer's link, those that are said and those that are due.
+fn write_consumer_numbers<W: fmt::Write>(
+    f: &mut fmt::Formatter<W>,
+    flow: &Flow,
+    numbers: &ConsumerNumbers,
+) -> fmt::Result {
     write_number(
         f,
         "delivery-count",

@@ -44,8 +44,12 @@ const IN_LINE: usize = 16;
 impl fmt::Display for Malformed<'_> {
     fn fmt<W: fmt::Write>(&self, f: &mut fmt::Formatter<W>) -> fmt::Result {
         let offset = self.offset;
-        write!(f, "no capture from offset {offset} on: {}", self.kind)?;
-        write!(f, "\nexpected: {}", expected(self.kind))?;
+        write!(
+            f,
+            "no capture from offset {offset} on: {}\nexpected: {}",
+            self.kind,
+            expected(self.kind)
+        )?;
         match &self.around {
             Some(around) => write_around(f, around),
             None => Ok(()),

@@ -1,15 +1,17 @@
 //! What L1 to L3 and L13 compare, in words.
 
 use crate::Origins;
-use crate::text::{Asked, Quoted, receiver_mode_name, role_name, sender_mode_name};
-use crate::transfer::{Linked, NO_SESSION, write_no_link, write_session};
-use amqp_perf::{Performative, Role};
+use crate::text::{
+    Asked, OrNoAddress, Quoted, receiver_mode_name, role_name, sender_mode_name, where_so,
+};
+use crate::transfer::{Linked, NO_SESSION, write_no_link, write_number, write_session};
+use amqp_perf::{ErrorCondition, Performative, Role};
 use flow_counts::INCOMING_WINDOW;
 use refusal_facts::{
     AskedAddress, Asking, AttachFacts, BeginFacts, DetachFacts, EndFacts, FrameFacts, WritingFacts,
 };
 use std::fmt;
-use trace_events::Fault;
+use trace_events::{Fault, Session};
 use trace_values::Body;
 
 /// The octets of a frame behind its header and whatever extends that, where it is a whole one.
@@ -33,14 +35,19 @@ pub(crate) fn write_frame<W: fmt::Write>(
             octets.len()
         ),
         Body::Empty(_) => write!(f, "\nframe: an empty body, due a performative"),
-        Body::NoPerformative(_) => match Performative::read(body_octets(octets)) {
-            Ok(_) => write!(f, "\nframe: no whole performative stands in its body"),
-            Err(fault) => write!(
-                f,
-                "\nframe: no whole performative stands in its body: {fault}, counted from the body on"
-            ),
-        },
+        Body::NoPerformative(_) => write_no_performative(f, body_octets(octets)),
         Body::Says(_) => Ok(()),
+    }
+}
+
+/// Why a body is no performative.
+fn write_no_performative<W: fmt::Write>(f: &mut fmt::Formatter<W>, body: &[u8]) -> fmt::Result {
+    match Performative::read(body).err() {
+        None => write!(f, "\nframe: no whole performative stands in its body"),
+        Some(fault) => write!(
+            f,
+            "\nframe: no whole performative stands in its body: {fault}, counted from the body on"
+        ),
     }
 }
 
@@ -49,35 +56,36 @@ pub(crate) fn write_writing<W: fmt::Write>(
     f: &mut fmt::Formatter<W>,
     facts: &WritingFacts,
 ) -> fmt::Result {
-    if !facts.was_opened {
-        write!(f, "\nconnection: it was not opened")?;
-    }
-    if facts.was_finished {
-        write!(f, "\nconnection: it is lost, or the router has closed it")?;
-    }
-    if facts.is_open && facts.has_out_frame {
-        write!(
-            f,
-            "\norder: an open, and a frame was written on the connection before"
-        )?;
-    }
-    if !facts.is_open && !facts.has_out_frame {
-        write!(
-            f,
-            "\norder: the router's first frame on the connection, and it is no open"
-        )?;
-    }
-    if facts.was_stopped && !facts.is_of_connection {
-        write!(
-            f,
-            "\norder: neither an open nor a close, and the client has closed, or its octets stopped being frames (broken)"
-        )?;
-    }
+    let is_late = facts.was_stopped && !facts.is_of_connection;
+    write!(
+        f,
+        "{}{}{}{}",
+        where_so(!facts.was_opened, "\nconnection: it was not opened"),
+        where_so(
+            facts.was_finished,
+            "\nconnection: it is lost, or the router has closed it",
+        ),
+        order_broken(facts),
+        where_so(
+            is_late,
+            "\norder: neither an open nor a close, and the client has closed, or its octets stopped being frames (broken)",
+        )
+    )?;
     let (len, limit) = (facts.len, facts.limit);
     if len > limit as usize {
-        write!(f, "\nframe: {len} octets, the limit is {limit}")?;
+        write!(f, "\nframe: {len} octets, the limit is {limit}")
+    } else {
+        Ok(())
     }
-    Ok(())
+}
+
+/// What is wrong with the place of an open, or of a first frame.
+fn order_broken(facts: &WritingFacts) -> &'static str {
+    match (facts.is_open, facts.has_out_frame) {
+        (true, true) => "\norder: an open, and a frame was written on the connection before",
+        (false, false) => "\norder: the router's first frame on the connection, and it is no open",
+        _ => "",
+    }
 }
 
 /// L2.
@@ -85,30 +93,20 @@ pub(crate) fn write_begin<W: fmt::Write>(
     f: &mut fmt::Formatter<W>,
     facts: &BeginFacts,
 ) -> fmt::Result {
-    if facts.is_asked_for {
-        write!(
-            f,
-            "\nthe client's begin: there is one to be answered, as is due"
-        )?;
+    let asked = if facts.is_asked_for {
+        "there is one to be answered, as is due"
     } else {
-        write!(
-            f,
-            "\nthe client's begin: there is none to be answered on the channel"
-        )?;
-    }
-    match facts.remote_channel {
-        Some(channel) if channel == facts.channel => {
-            write!(f, "\nremote-channel: {channel}, as is due")?
-        }
-        Some(channel) => write!(f, "\nremote-channel: {channel}, due {}", facts.channel)?,
-        None => write!(f, "\nremote-channel: none, due {}", facts.channel)?,
-    }
-    let window = facts.incoming_window;
-    if window == INCOMING_WINDOW {
-        write!(f, "\nincoming-window: {window}, as is due")
-    } else {
-        write!(f, "\nincoming-window: {window}, due {INCOMING_WINDOW}")
-    }
+        "there is none to be answered on the channel"
+    };
+    write!(f, "\nthe client's begin: {asked}")?;
+    let channel = facts.remote_channel.map(u32::from);
+    write_number(f, "remote-channel", channel, u32::from(facts.channel))?;
+    write_number(
+        f,
+        "incoming-window",
+        Some(facts.incoming_window),
+        INCOMING_WINDOW,
+    )
 }
 
 fn opposite(role: Role) -> Role {
@@ -149,20 +147,72 @@ fn write_accepted<W: fmt::Write>(
     asked: &Asking,
 ) -> fmt::Result {
     write_word(f, "source and target", ends_name(facts), "both")?;
-    write!(f, "\naddress: {}", Quoted(facts.address))?;
-    match asked.address {
-        AskedAddress::Given(address) if address == facts.address => write!(f, ", as is due")?,
-        _ => write!(f, ", asked for {}", Asked(asked.address))?,
+    write_address(f, facts, asked.address)?;
+    write_due_word(
+        f,
+        "snd-settle-mode",
+        sender_mode_name(facts.ours.sender_mode()),
+        facts.due_sender_mode.map(sender_mode_name),
+    )?;
+    write_due_word(
+        f,
+        "rcv-settle-mode",
+        receiver_mode_name(facts.ours.receiver_mode()),
+        facts.due_receiver_mode.map(receiver_mode_name),
+    )
+}
+
+/// A word that is said, where one is due.
+fn write_due_word<W: fmt::Write>(
+    f: &mut fmt::Formatter<W>,
+    name: &str,
+    said: &str,
+    due: Option<&str>,
+) -> fmt::Result {
+    match due {
+        Some(due) => write_word(f, name, said, due),
+        None => Ok(()),
     }
-    if let Some(due) = facts.due_sender_mode {
-        let said = sender_mode_name(facts.ours.sender_mode());
-        write_word(f, "snd-settle-mode", said, sender_mode_name(due))?;
+}
+
+/// The address of an attach, against the one that is asked for.
+fn write_address<W: fmt::Write>(
+    f: &mut fmt::Formatter<W>,
+    facts: &AttachFacts,
+    asked: AskedAddress,
+) -> fmt::Result {
+    let said = facts.address;
+    match asked {
+        AskedAddress::Given(due) if due.is_empty() => write_no_address(f, facts),
+        AskedAddress::Given(due) if due == said => {
+            write!(f, "\naddress: {}, as is due", Quoted(said))
+        }
+        _ => write!(
+            f,
+            "\naddress: {}, asked for {}",
+            OrNoAddress(said),
+            Asked(asked)
+        ),
     }
-    if let Some(due) = facts.due_receiver_mode {
-        let said = receiver_mode_name(facts.ours.receiver_mode());
-        write_word(f, "rcv-settle-mode", said, receiver_mode_name(due))?;
+}
+
+/// The address of an attach, where none is asked for.
+fn write_no_address<W: fmt::Write>(f: &mut fmt::Formatter<W>, facts: &AttachFacts) -> fmt::Result {
+    if facts.is_without_address {
+        return write!(f, "\naddress: none, as is due");
     }
-    Ok(())
+    if facts.ours.target.is_none() {
+        return Ok(());
+    }
+    if facts.address.is_empty() {
+        write!(
+            f,
+            "\ntarget: a coordinator, or one whose address is no text; asked for one without address"
+        )
+    } else {
+        let said = Quoted(facts.address);
+        write!(f, "\naddress: {said}, asked for none")
+    }
 }
 
 /// What is asked for, against the answer.
@@ -171,11 +221,7 @@ fn write_asked<W: fmt::Write>(
     facts: &AttachFacts,
     asked: &Asking,
 ) -> fmt::Result {
-    if facts.ours.name == asked.name {
-        write!(f, "\nname: {:?}, as is due", asked.name)?;
-    } else {
-        write!(f, "\nname: {:?}, due {:?}", facts.ours.name, asked.name)?;
-    }
+    write_name(f, facts.ours.name, asked.name)?;
     write_word(
         f,
         "role",
@@ -188,6 +234,15 @@ fn write_asked<W: fmt::Write>(
     }
 }
 
+/// The name of an attach, against the one that is asked for.
+fn write_name<W: fmt::Write>(f: &mut fmt::Formatter<W>, said: &str, due: &str) -> fmt::Result {
+    if said == due {
+        write!(f, "\nname: {due:?}, as is due")
+    } else {
+        write!(f, "\nname: {said:?}, due {due:?}")
+    }
+}
+
 /// The fault of the client's attach, and what is due for it.
 fn write_fault<W: fmt::Write>(
     f: &mut fmt::Formatter<W>,
@@ -195,14 +250,7 @@ fn write_fault<W: fmt::Write>(
     fault: Fault,
 ) -> fmt::Result {
     let (due, condition) = match fault {
-        Fault::Refuse(condition) => {
-            write!(
-                f,
-                "\nthe client's attach is to be refused: {}",
-                condition.name()
-            )?;
-            return write_word(f, "source and target", ends_name(facts), "neither");
-        }
+        Fault::Refuse(condition) => return write_refusal(f, facts, condition),
         Fault::Close(condition) => ("close the connection", condition),
         Fault::End(condition) => ("end the session", condition),
         Fault::Detach(condition) => ("detach the link", condition),
@@ -214,15 +262,26 @@ fn write_fault<W: fmt::Write>(
     )
 }
 
+/// Why the client's attach is to be refused.
+fn write_refusal<W: fmt::Write>(
+    f: &mut fmt::Formatter<W>,
+    facts: &AttachFacts,
+    condition: ErrorCondition,
+) -> fmt::Result {
+    let name = condition.name();
+    write!(f, "\nthe client's attach is to be refused: {name}")?;
+    write_word(f, "source and target", ends_name(facts), "neither")
+}
+
 /// L3.
 pub(crate) fn write_attach<W: fmt::Write>(
     f: &mut fmt::Formatter<W>,
     facts: &AttachFacts,
 ) -> fmt::Result {
-    match &facts.session {
-        Some(session) => write_session(f, session)?,
-        None => return write!(f, "\nsession: {NO_SESSION}"),
-    }
+    let Some(session) = &facts.session else {
+        return write!(f, "\nsession: {NO_SESSION}");
+    };
+    write_session(f, session)?;
     match &facts.asked {
         Some(asked) => write_asked(f, facts, asked),
         None => write!(
@@ -239,36 +298,33 @@ pub(crate) fn write_detach<W: fmt::Write>(
     facts: &DetachFacts,
     origins: &Origins,
 ) -> fmt::Result {
-    match &facts.session {
-        Some(session) => write_session(f, session)?,
-        None => write!(f, "\nsession: {NO_SESSION}")?,
-    }
+    write_any_session(f, &facts.session)?;
     match &facts.link {
         Some(link) => write!(f, "\n{} is live", Linked(link, origins))?,
         None => write_no_link(f, facts.handle)?,
     }
-    if facts.is_owed {
-        write!(
-            f,
-            "\nowed: a detach of the client's or a refusal is to be answered"
-        )
+    let owed = if facts.is_owed {
+        "a detach of the client's or a refusal is to be answered"
     } else {
-        write!(
-            f,
-            "\nowed: no detach of the client's and no refusal is to be answered"
-        )
-    }
+        "no detach of the client's and no refusal is to be answered"
+    };
+    write!(f, "\nowed: {owed}")
 }
 
 /// L13, of an end.
 pub(crate) fn write_end<W: fmt::Write>(f: &mut fmt::Formatter<W>, facts: &EndFacts) -> fmt::Result {
-    match &facts.session {
-        Some(session) => write_session(f, session)?,
-        None => write!(f, "\nsession: {NO_SESSION}")?,
-    }
-    if facts.is_owed {
-        write!(f, "\nowed: an end of the client's is to be answered")
-    } else {
-        write!(f, "\nowed: no end of the client's is to be answered")
+    write_any_session(f, &facts.session)?;
+    let owed = if facts.is_owed { "an" } else { "no" };
+    write!(f, "\nowed: {owed} end of the client's is to be answered")
+}
+
+/// A session, if one is live.
+fn write_any_session<W: fmt::Write>(
+    f: &mut fmt::Formatter<W>,
+    session: &Option<Session>,
+) -> fmt::Result {
+    match session {
+        Some(session) => write_session(f, session),
+        None => write!(f, "\nsession: {NO_SESSION}"),
     }
 }

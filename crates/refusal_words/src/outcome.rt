@@ -1,7 +1,7 @@
 //! What L11 and L12 compare, in words.
 
-use crate::text::{Hex, Noted, StateToTell, outcome_name};
-use crate::transfer::{write_flag, write_incoming, write_outgoing};
+use crate::text::{Hex, Noted, OrNoAddress, StateToTell, kind_name, outcome_name, where_so};
+use crate::transfer::{FromClient, ToClient, write_flag};
 use amqp_perf::{Outcome, State};
 use pairing_cert::{Note, Why};
 use refusal_facts::{Carrier, Decision, OutcomeFacts, SettlingFacts, ToldDelivery};
@@ -36,32 +36,26 @@ fn write_decision<W: fmt::Write>(
 /// The state that is told.
 fn write_state<W: fmt::Write>(f: &mut fmt::Formatter<W>, state: &Option<State>) -> fmt::Result {
     match state {
-        None => write!(f, "none"),
+        None => write!(f, "\nstate: none"),
         Some(state) => match state.outcome() {
-            Some(outcome) => write!(f, "{} ({})", outcome_name(outcome), Hex(state.raw())),
-            None => write!(f, "no outcome ({})", Hex(state.raw())),
+            Some(outcome) => {
+                let name = outcome_name(outcome);
+                write!(f, "\nstate: {name} ({})", Hex(state.raw()))
+            }
+            None => write!(f, "\nstate: no outcome ({})", Hex(state.raw())),
         },
     }
 }
 
 /// Who was sent the delivery, and what is known of that.
 fn write_carrier<W: fmt::Write>(f: &mut fmt::Formatter<W>, carrier: &Carrier) -> fmt::Result {
-    write!(f, "\ncarried: as ")?;
-    write_outgoing(f, &carrier.outgoing)?;
     write!(
         f,
-        "; {}, on a link that {} and is {}; ",
-        if carrier.is_sent {
-            "wholly sent"
-        } else {
-            "not wholly sent"
-        },
+        "\ncarried: as {}; {}wholly sent, on a link that {} and is {}pre-settled; ",
+        ToClient(&carrier.outgoing),
+        where_so(!carrier.is_sent, "not "),
         if carrier.is_live { "lives" } else { "is over" },
-        if carrier.outgoing.link.is_pre_settled {
-            "pre-settled"
-        } else {
-            "not pre-settled"
-        }
+        where_so(!carrier.outgoing.link.is_pre_settled, "not ")
     )?;
     write_decision(f, &carrier.decision)
 }
@@ -112,6 +106,16 @@ fn write_row<W: fmt::Write>(
     }
 }
 
+/// The address that a complete delivery on a link without one is for.
+fn write_own_address<W: fmt::Write>(f: &mut fmt::Formatter<W>, told: &ToldDelivery) -> fmt::Result {
+    if told.delivery.link.is_anonymous() && told.is_complete {
+        let address = OrNoAddress(told.address);
+        write!(f, "\naddress: {address}, by its message")
+    } else {
+        Ok(())
+    }
+}
+
 /// A delivery whose outcome is told.
 fn write_told<W: fmt::Write>(
     f: &mut fmt::Formatter<W>,
@@ -120,29 +124,25 @@ fn write_told<W: fmt::Write>(
 ) -> fmt::Result {
     write!(
         f,
-        "\n{} ",
-        if told.is_multicast {
-            "multicast"
-        } else {
-            "anycast"
-        }
+        "\n{} {}{}{}{}",
+        kind_name(told.is_multicast),
+        FromClient(&told.delivery),
+        where_so(
+            !told.is_complete,
+            "\ncomplete: no, its last part has not come",
+        ),
+        where_so(
+            told.is_closed,
+            "\nclosed: it is told, settled by its producer, or its link is over",
+        ),
+        where_so(
+            told.is_gone,
+            "\ngone: it found no consumer or lost the last one",
+        )
     )?;
-    write_incoming(f, &told.delivery)?;
-    if !told.is_complete {
-        write!(f, "\ncomplete: no, its last part has not come")?;
-    }
-    if told.is_closed {
-        write!(
-            f,
-            "\nclosed: it is told, settled by its producer, or its link is over"
-        )?;
-    }
-    if told.is_gone {
-        write!(f, "\ngone: it found no consumer or lost the last one")?;
-    }
+    write_own_address(f, told)?;
     write_fate(f, told)?;
     write_row(f, facts.note, told)?;
-    write!(f, "\nstate: ")?;
     write_state(f, &facts.state)
 }
 

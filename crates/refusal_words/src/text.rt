@@ -21,6 +21,34 @@ impl fmt::Display for Quoted<'_> {
     }
 }
 
+/// An address, if there is one.
+#[derive(Clone, Copy)]
+pub(crate) struct OrNoAddress<'a>(pub &'a [u8]);
+
+impl fmt::Display for OrNoAddress<'_> {
+    fn fmt<W: fmt::Write>(&self, f: &mut fmt::Formatter<W>) -> fmt::Result {
+        if self.0.is_empty() {
+            write!(f, "none")
+        } else {
+            write!(f, "{}", Quoted(self.0))
+        }
+    }
+}
+
+/// The address of a link, if it has one.
+#[derive(Clone, Copy)]
+pub(crate) struct Addressed<'a>(pub &'a [u8]);
+
+impl fmt::Display for Addressed<'_> {
+    fn fmt<W: fmt::Write>(&self, f: &mut fmt::Formatter<W>) -> fmt::Result {
+        if self.0.is_empty() {
+            write!(f, "without address")
+        } else {
+            write!(f, "address {}", Quoted(self.0))
+        }
+    }
+}
+
 /// Octets in hexadecimal, the first ones alone where there are many.
 #[derive(Clone, Copy)]
 pub(crate) struct Hex<'a>(pub &'a [u8]);
@@ -133,6 +161,26 @@ impl fmt::Display for Asked<'_> {
             AskedAddress::Made(number) => write!(f, "\"dyn/{number}\""),
         }
     }
+}
+
+/// A text that is printed where this is so.
+pub(crate) fn where_so(is_so: bool, text: &'static str) -> &'static str {
+    if is_so { text } else { "" }
+}
+
+/// How a delivery goes to consumers.
+pub(crate) fn kind_name(is_multicast: bool) -> &'static str {
+    if is_multicast { "multicast" } else { "anycast" }
+}
+
+/// Octets and transfers: one or more.
+pub(crate) fn plural(count: u64) -> &'static str {
+    where_so(count != 1, "s")
+}
+
+/// Deliveries: one or more.
+pub(crate) fn deliveries(count: u64) -> &'static str {
+    if count == 1 { "delivery" } else { "deliveries" }
 }
 
 /// A flag of a performative.

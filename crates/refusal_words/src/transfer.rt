@@ -2,8 +2,12 @@
 
 ghost use Rattle.std.specs.Prelude.{◌≡◌, IfSome};
 
-use crate::text::{Noted, OrNone, Quoted, flag_name};
-use crate::{LinkOrigin, Origins, SessionOrigin};
+use crate::text::{
+    Addressed, Noted, OrNoAddress, OrNone, Quoted, deliveries, flag_name, kind_name, plural,
+    where_so,
+};
+use crate::{Credited, LinkOrigin, Origins, SessionOrigin};
+use pairing_cert::Note;
 use refusal_facts::{
     BeginningFacts, CarryingFacts, Difference, GoingOnFacts, Incoming, Link, Named, OrderFacts,
     Outgoing, PayloadFacts, SendingFacts,
@@ -18,19 +22,29 @@ pub(crate) struct Linked<'l, 'a>(pub &'l Link<'a>, pub &'l Origins);
 impl fmt::Display for Linked<'_, '_> {
     fn fmt<W: fmt::Write>(&self, f: &mut fmt::Formatter<W>) -> fmt::Result {
         let link = self.0;
-        let session = &link.session;
-        write!(f, "link")?;
-        if let Some(origin) = origin_of(self.1, link) {
-            write!(f, " {:?}", origin.name.as_str())?;
+        match origin_of(self.1, link) {
+            Some(origin) => write!(f, "link {:?} {}", origin.name.as_str(), Placed(link)),
+            None => write!(f, "link {}", Placed(link)),
         }
+    }
+}
+
+/// Where a link stands, in brackets.
+#[derive(Clone, Copy)]
+struct Placed<'l, 'a>(&'l Link<'a>);
+
+impl fmt::Display for Placed<'_, '_> {
+    fn fmt<W: fmt::Write>(&self, f: &mut fmt::Formatter<W>) -> fmt::Result {
+        let link = self.0;
+        let session = &link.session;
         write!(
             f,
-            " (handle {}, session {}/{}, attached in record {}, address {})",
+            "(handle {}, session {}/{}, attached in record {}, {})",
             link.handle,
             session.connection,
             session.channel,
             link.number,
-            Quoted(link.address)
+            Addressed(link.address)
         )
     }
 }
@@ -62,22 +76,24 @@ pub(crate) fn window_origin_of<'o>(
     }
 }
 
-/// Deliveries, transfers, octets: one or more.
-pub(crate) fn plural(count: u64) -> &'static str {
-    if count == 1 { "" } else { "s" }
-}
-
 /// What a number was so many steps ago, which now is this.
-fn write_when<W: fmt::Write>(
-    f: &mut fmt::Formatter<W>,
-    name: &str,
+#[derive(Clone, Copy)]
+struct When {
+    name: &'static str,
     number: u32,
     steps: u64,
-) -> fmt::Result {
-    match u32::try_from(steps) {
-        Ok(steps) => write!(f, " when {name} was {}", number.wrapping_sub(steps)),
-        // It has gone round since.
-        Err(_) => Ok(()),
+}
+
+impl fmt::Display for When {
+    fn fmt<W: fmt::Write>(&self, f: &mut fmt::Formatter<W>) -> fmt::Result {
+        match u32::try_from(self.steps) {
+            Ok(steps) => {
+                let number = self.number.wrapping_sub(steps);
+                write!(f, " when {} was {number}", self.name)
+            }
+            // It has gone round since.
+            Err(_) => Ok(()),
+        }
     }
 }
 
@@ -91,28 +107,35 @@ pub(crate) fn write_credit_origin<W: fmt::Write>(
         return Ok(());
     };
     match &origin.credit {
-        Some(credit) => {
-            write!(
-                f,
-                ", of the flow in record {} (link-credit {}, delivery-count {}",
-                credit.number,
-                credit.link_credit,
-                OrNone(credit.delivery_count)
-            )?;
-            match origin.drained {
-                Some(number) => write!(f, ", drain); the drain was answered in record {number}")?,
-                None => {
-                    write_when(f, "it", delivery_count, origin.begun)?;
-                    write!(f, "{})", if credit.drain { ", drain" } else { "" })?;
-                }
-            }
-        }
+        Some(credit) => write_grant(f, origin, credit, delivery_count)?,
         None => write!(f, "; no flow has granted any since the attach")?,
     }
     let begun = origin.begun;
-    match begun {
-        1 => write!(f, "; 1 delivery begun since"),
-        _ => write!(f, "; {begun} deliveries begun since"),
+    write!(f, "; {begun} {} begun since", deliveries(begun))
+}
+
+/// The flow that granted the credit.
+fn write_grant<W: fmt::Write>(
+    f: &mut fmt::Formatter<W>,
+    origin: &LinkOrigin,
+    credit: &Credited,
+    delivery_count: u32,
+) -> fmt::Result {
+    write!(
+        f,
+        ", of the flow in record {} (link-credit {}, delivery-count {}",
+        credit.number,
+        credit.link_credit,
+        OrNone(credit.delivery_count)
+    )?;
+    let when = When {
+        name: "it",
+        number: delivery_count,
+        steps: origin.begun,
+    };
+    match origin.drained {
+        Some(number) => write!(f, ", drain); the drain was answered in record {number}"),
+        None => write!(f, "{when}{})", where_so(credit.drain, ", drain")),
     }
 }
 
@@ -125,25 +148,37 @@ pub(crate) fn write_window_origin<W: fmt::Write>(
     let Some(origin) = origin else {
         return Ok(());
     };
-    if let Some(window) = &origin.window {
-        write!(
+    write_window_grant(f, origin, next_outgoing_id)?;
+    let sent = origin.sent;
+    write!(f, "; {sent} transfer{} sent since", plural(sent))
+}
+
+/// The flow or the begin that granted the window.
+fn write_window_grant<W: fmt::Write>(
+    f: &mut fmt::Formatter<W>,
+    origin: &SessionOrigin,
+    next_outgoing_id: u32,
+) -> fmt::Result {
+    let when = When {
+        name: "next-outgoing-id",
+        number: next_outgoing_id,
+        steps: origin.sent,
+    };
+    match (&origin.window, &origin.opened) {
+        (Some(window), _) => write!(
             f,
-            ", of the flow in record {} (incoming-window {}, next-incoming-id {}",
+            ", of the flow in record {} (incoming-window {}, next-incoming-id {}{when})",
             window.number,
             window.incoming_window,
             OrNone(window.next_incoming_id)
-        )?;
-        write_when(f, "next-outgoing-id", next_outgoing_id, origin.sent)?;
-        write!(f, ")")?;
-    } else if let Some(opened) = &origin.opened {
-        write!(
+        ),
+        (None, Some(opened)) => write!(
             f,
             ", of the client's begin in record {} (incoming-window {})",
             opened.number, opened.incoming_window
-        )?;
+        ),
+        (None, None) => Ok(()),
     }
-    let sent = origin.sent;
-    write!(f, "; {sent} transfer{} sent since", plural(sent))
 }
 
 /// The session on which a frame stands, and its window.
@@ -215,13 +250,12 @@ pub(crate) fn write_sending<W: fmt::Write>(
 ) -> fmt::Result {
     write_named_link(f, facts, origins)?;
     write_window(f, facts, origins)?;
-    if facts.is_resumed {
-        write!(f, "\nresume: true, due false")?;
-    }
-    if facts.is_aborted {
-        write!(f, "\naborted: true, due false")?;
-    }
-    Ok(())
+    write!(
+        f,
+        "{}{}",
+        where_so(facts.is_resumed, "\nresume: true, due false"),
+        where_so(facts.is_aborted, "\naborted: true, due false")
+    )
 }
 
 /// L5.
@@ -265,39 +299,59 @@ pub(crate) fn write_flag<W: fmt::Write>(
     }
 }
 
-/// A delivery to a client, at the head of a line.
-pub(crate) fn write_outgoing<W: fmt::Write>(
-    f: &mut fmt::Formatter<W>,
-    outgoing: &Outgoing,
-) -> fmt::Result {
-    let session = &outgoing.link.session;
-    write!(
-        f,
-        "delivery {} to session {}/{}, handle {}, begun in record {}",
-        OrNone(outgoing.id),
-        session.connection,
-        session.channel,
-        outgoing.link.handle,
-        outgoing.number
-    )
+/// A delivery to a client, as it is printed in a line.
+#[derive(Clone, Copy)]
+pub(crate) struct ToClient<'d, 'a>(pub &'d Outgoing<'a>);
+
+impl fmt::Display for ToClient<'_, '_> {
+    fn fmt<W: fmt::Write>(&self, f: &mut fmt::Formatter<W>) -> fmt::Result {
+        let outgoing = self.0;
+        let session = &outgoing.link.session;
+        write!(
+            f,
+            "delivery {} to session {}/{}, handle {}, begun in record {}",
+            OrNone(outgoing.id),
+            session.connection,
+            session.channel,
+            outgoing.link.handle,
+            outgoing.number
+        )
+    }
 }
 
-/// A delivery from a client, at the head of a line.
-pub(crate) fn write_incoming<W: fmt::Write>(
-    f: &mut fmt::Formatter<W>,
-    delivery: &Incoming,
-) -> fmt::Result {
-    let session = &delivery.link.session;
-    write!(
-        f,
-        "delivery of record {} (session {}/{}, handle {}, delivery-id {}, address {})",
-        delivery.number,
-        session.connection,
-        session.channel,
-        delivery.link.handle,
-        OrNone(delivery.id),
-        Quoted(delivery.link.address)
-    )
+/// The address of a producer's link, as it is printed with a delivery on it.
+#[derive(Clone, Copy)]
+struct OfLink<'l, 'a>(&'l Link<'a>);
+
+impl fmt::Display for OfLink<'_, '_> {
+    fn fmt<W: fmt::Write>(&self, f: &mut fmt::Formatter<W>) -> fmt::Result {
+        if self.0.is_anonymous() {
+            write!(f, "on a link without address")
+        } else {
+            write!(f, "address {}", Quoted(self.0.address))
+        }
+    }
+}
+
+/// A delivery from a client, as it is printed in a line.
+#[derive(Clone, Copy)]
+pub(crate) struct FromClient<'d, 'a>(pub &'d Incoming<'a>);
+
+impl fmt::Display for FromClient<'_, '_> {
+    fn fmt<W: fmt::Write>(&self, f: &mut fmt::Formatter<W>) -> fmt::Result {
+        let delivery = self.0;
+        let session = &delivery.link.session;
+        write!(
+            f,
+            "delivery of record {} (session {}/{}, handle {}, delivery-id {}, {})",
+            delivery.number,
+            session.connection,
+            session.channel,
+            delivery.link.handle,
+            OrNone(delivery.id),
+            OfLink(&delivery.link)
+        )
+    }
 }
 
 /// L6.
@@ -308,22 +362,22 @@ pub(crate) fn write_going_on<W: fmt::Write>(
     let Some(first) = &facts.first else {
         return write!(f, "\nin progress: no delivery");
     };
-    write!(f, "\nin progress: ")?;
-    write_outgoing(f, first)?;
+    write!(f, "\nin progress: {}", ToClient(first))?;
     write_same_id(f, facts.id, first.id)?;
     write_same_settled(f, facts.settled, first.is_settled)?;
-    if facts.note == first.note {
-        write!(
-            f,
-            "\nnote: {}, as the first transfer has",
-            Noted(facts.note)
-        )
+    write_same_note(f, facts.note, first.note)
+}
+
+/// The note of a later transfer, against that of the first.
+fn write_same_note<W: fmt::Write>(f: &mut fmt::Formatter<W>, note: Note, due: Note) -> fmt::Result {
+    if note == due {
+        write!(f, "\nnote: {}, as the first transfer has", Noted(note))
     } else {
         write!(
             f,
             "\nnote: {}, the first transfer's {}",
-            Noted(facts.note),
-            Noted(first.note)
+            Noted(note),
+            Noted(due)
         )
     }
 }
@@ -371,24 +425,44 @@ fn write_carried<W: fmt::Write>(
     facts: &CarryingFacts,
     delivery: &Incoming,
 ) -> fmt::Result {
-    write!(f, "\nnote: the ")?;
-    write_incoming(f, delivery)?;
-    write!(f, ", complete and not gone, as is due")?;
-    if delivery.link.address == facts.link.address {
-        write!(f, "\naddress: {}, as is due", Quoted(facts.link.address))?;
+    write!(
+        f,
+        "\nnote: the {}, complete and not gone, as is due",
+        FromClient(delivery)
+    )?;
+    if let Some(due) = facts.address {
+        write_same_address(f, facts.link.address, delivery, due)?;
+    }
+    if facts.begins {
+        write_number(f, "message-format", Some(facts.format), delivery.format)?;
+        write_flag(f, "settled", facts.is_settled, facts.link.is_pre_settled)
+    } else {
+        Ok(())
+    }
+}
+
+/// The address of a link, against that of the delivery that it carries.
+fn write_same_address<W: fmt::Write>(
+    f: &mut fmt::Formatter<W>,
+    address: &[u8],
+    delivery: &Incoming,
+    due: &[u8],
+) -> fmt::Result {
+    if address == due {
+        write!(f, "\naddress: {}, as is due", Quoted(address))?;
     } else {
         write!(
             f,
             "\naddress: the link's {}, the delivery's {}",
-            Quoted(facts.link.address),
-            Quoted(delivery.link.address)
+            OrNoAddress(address),
+            OrNoAddress(due)
         )?;
     }
-    if facts.begins {
-        write_number(f, "message-format", Some(facts.format), delivery.format)?;
-        write_flag(f, "settled", facts.is_settled, facts.link.is_pre_settled)?;
-    }
-    Ok(())
+    write!(
+        f,
+        "{}",
+        where_so(delivery.link.is_anonymous(), ", by its message")
+    )
 }
 
 /// L7.
@@ -413,17 +487,16 @@ pub(crate) fn write_carrying<W: fmt::Write>(
             delivery,
             is_complete,
             is_gone,
-        } => {
-            write!(f, "\nnote: the ")?;
-            write_incoming(f, delivery)?;
-            if !*is_complete {
-                write!(f, "\ncomplete: no, its last part has not come")?;
-            }
-            if *is_gone {
-                write!(f, "\ngone: yes, it found no consumer or lost the last one")?;
-            }
-            Ok(())
-        }
+        } => write!(
+            f,
+            "\nnote: the {}{}{}",
+            FromClient(delivery),
+            where_so(!*is_complete, "\ncomplete: no, its last part has not come"),
+            where_so(
+                *is_gone,
+                "\ngone: yes, it found no consumer or lost the last one",
+            )
+        ),
     }
 }
 
@@ -432,11 +505,10 @@ pub(crate) fn write_payload<W: fmt::Write>(
     f: &mut fmt::Formatter<W>,
     facts: &PayloadFacts,
 ) -> fmt::Result {
-    write!(f, "\nnote: the ")?;
-    write_incoming(f, &facts.delivery)?;
     write!(
         f,
-        ", of {} octet{}",
+        "\nnote: the {}, of {} octet{}",
+        FromClient(&facts.delivery),
         facts.whole,
         plural(facts.whole as u64)
     )?;
@@ -448,33 +520,39 @@ pub(crate) fn write_payload<W: fmt::Write>(
         facts.said,
         flag_name(facts.has_more)
     )?;
-    match facts.difference {
-        Difference::Octet { offset, due, said } => {
-            write!(
-                f,
-                "\noctet {offset} of the payload: 0x{said:02x}, due 0x{due:02x}"
-            )
-        }
+    write_difference(f, facts.difference)
+}
+
+/// Where the octets are others.
+fn write_difference<W: fmt::Write>(
+    f: &mut fmt::Formatter<W>,
+    difference: Difference,
+) -> fmt::Result {
+    match difference {
+        Difference::Octet { offset, due, said } => write!(
+            f,
+            "\noctet {offset} of the payload: 0x{said:02x}, due 0x{due:02x}"
+        ),
         Difference::TooMany(more) => write!(f, "\nlength: {more} octet{} too many", plural(more)),
-        Difference::Missing(missing) => {
-            write!(
-                f,
-                "\nlength: {missing} octet{} missing at the end",
-                plural(missing)
-            )
-        }
+        Difference::Missing(missing) => write!(
+            f,
+            "\nlength: {missing} octet{} missing at the end",
+            plural(missing)
+        ),
         Difference::Nothing => Ok(()),
     }
 }
 
-/// A record that completed something.
-fn write_completion<W: fmt::Write>(
-    f: &mut fmt::Formatter<W>,
-    completion: Option<u64>,
-) -> fmt::Result {
-    match completion {
-        Some(number) => write!(f, ", complete since record {number}"),
-        None => Ok(()),
+/// The record that completed a delivery, if one did, as it is printed behind that.
+#[derive(Clone, Copy)]
+struct CompleteSince(Option<u64>);
+
+impl fmt::Display for CompleteSince {
+    fn fmt<W: fmt::Write>(&self, f: &mut fmt::Formatter<W>) -> fmt::Result {
+        match self.0 {
+            Some(number) => write!(f, ", complete since record {number}"),
+            None => Ok(()),
+        }
     }
 }
 
@@ -483,21 +561,27 @@ fn write_copy<W: fmt::Write>(f: &mut fmt::Formatter<W>, facts: &OrderFacts) -> f
     if facts.is_unsent {
         return write!(f, "\ncopy: due to the link and not sent, as is due");
     }
-    if let Some(carrier) = &facts.carrier {
-        if carrier.link.number == facts.link.number {
-            write!(f, "\ncopy: sent to the link before, as ")?;
-            return write_outgoing(f, carrier);
-        }
-    }
-    match facts.completion {
-        Some(number) if number < facts.link.number => write!(
+    match &facts.carrier {
+        Some(carrier) if carrier.link.number == facts.link.number => write!(
             f,
-            "\ncopy: none is due, since the link was attached after the delivery was complete"
+            "\ncopy: sent to the link before, as {}",
+            ToClient(carrier)
         ),
         _ => write!(
             f,
-            "\ncopy: none is due, since the link had no credit left for one when the delivery was complete; or it was sent there before"
+            "\ncopy: none is due, since the link {}",
+            why_no_copy(facts)
         ),
+    }
+}
+
+/// Why no copy is due to the link that was not sent there before.
+fn why_no_copy(facts: &OrderFacts) -> &'static str {
+    match facts.completion {
+        Some(number) if number < facts.link.number =>
+            "was attached after the delivery was complete",
+        _ =>
+            "had no credit left for one when the delivery was complete; or it was sent there before",
     }
 }
 
@@ -505,10 +589,7 @@ fn write_copy<W: fmt::Write>(f: &mut fmt::Formatter<W>, facts: &OrderFacts) -> f
 fn write_receiver<W: fmt::Write>(f: &mut fmt::Formatter<W>, facts: &OrderFacts) -> fmt::Result {
     match &facts.carrier {
         None => write!(f, "\nsent before: to nobody, as is due"),
-        Some(carrier) => {
-            write!(f, "\nsent before: as ")?;
-            write_outgoing(f, carrier)
-        }
+        Some(carrier) => write!(f, "\nsent before: as {}", ToClient(carrier)),
     }
 }
 
@@ -518,37 +599,36 @@ pub(crate) fn write_order<W: fmt::Write>(
     facts: &OrderFacts,
     origins: &Origins,
 ) -> fmt::Result {
-    write!(f, "\n{}", Linked(&facts.link, origins))?;
     write!(
         f,
-        "\nnote: the {} ",
-        if facts.is_multicast {
-            "multicast"
-        } else {
-            "anycast"
-        }
+        "\n{}\nnote: the {} {}{}",
+        Linked(&facts.link, origins),
+        kind_name(facts.is_multicast),
+        FromClient(&facts.delivery),
+        CompleteSince(facts.completion)
     )?;
-    write_incoming(f, &facts.delivery)?;
-    write_completion(f, facts.completion)?;
     if facts.is_multicast {
         write_copy(f, facts)?;
     } else {
         write_receiver(f, facts)?;
     }
-    match &facts.before {
-        None => write!(f, "\norder: the link's first delivery"),
-        Some(before) => {
-            write!(f, "\norder: the link's last delivery carries the ")?;
-            write_incoming(f, before)?;
-            write_completion(f, facts.before_completion)?;
-            if facts.is_in_order {
-                write!(f, ", which is before, as is due")
-            } else {
-                write!(
-                    f,
-                    ", which is not before the one that this transfer carries"
-                )
-            }
-        }
-    }
+    write_before(f, facts)
+}
+
+/// Whether the delivery comes behind the one that the link carried last.
+fn write_before<W: fmt::Write>(f: &mut fmt::Formatter<W>, facts: &OrderFacts) -> fmt::Result {
+    let Some(before) = &facts.before else {
+        return write!(f, "\norder: the link's first delivery");
+    };
+    let order = if facts.is_in_order {
+        "which is before, as is due"
+    } else {
+        "which is not before the one that this transfer carries"
+    };
+    write!(
+        f,
+        "\norder: the link's last delivery carries the {}{}, {order}",
+        FromClient(before),
+        CompleteSince(facts.before_completion)
+    )
 }
