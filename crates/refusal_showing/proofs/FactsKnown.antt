@@ -31,7 +31,7 @@ module _ (rules : RuleSet) (knows less : ℕ → Type 0) (known : (n : ℕ) → 
   named-less says (named.Unknown number) h = (h.0, by-less says (named.Unknown number) h.1)
 
   facts-less : (facts : Facts) → AreFacts rules knows e past facts → AreFacts rules less e past facts
-  facts-less (kinds.Carrying facts) h = (h.0, h.1, named-less e.note facts.named h.2, h.3, h.4, h.5)
+  facts-less (kinds.Carrying facts) h = (h.0, h.1, named-less e.note facts.named h.2, h.3, h.4, h.5, h.6)
   facts-less _ h = h
 
   -- a reason

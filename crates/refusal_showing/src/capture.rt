@@ -109,8 +109,21 @@ where
 {
     let mut recalling = Recalling::new(alloc, input);
     let mut explaining = Explaining::new(alloc);
-    let verdict = audit_watched(alloc, &mut recalling, &mut explaining);
-    match text_behind(alloc, verdict, &explaining, &recalling) {
+    explain_by(alloc, &mut recalling, &mut explaining)
+}
+
+/// The same by a reader that recalls nothing yet, told to a watcher that has seen nothing.
+///
+/// It borrows both: owned here, their drop would be proved on each way out.
+fn explain_by<R: Read>(
+    alloc: Global,
+    recalling: &mut Recalling<R>,
+    explaining: &mut Explaining,
+) -> Explanation
+    ensures answers { IfSome (R.remaining recalling.old.reader) (λ octets. AnswersRead octets (verdict_of result)) }
+{
+    let verdict = audit_watched(alloc, &mut *recalling, explaining);
+    match text_behind(alloc, verdict, explaining, recalling) {
         Ok(text) => Explanation {
             verdict,
             text,
@@ -132,18 +145,30 @@ fn text_behind<R>(
     recalling: &Recalling<R>,
 ) -> Result<String, AllocError> {
     let mut text = String::new(alloc);
+    put_behind(&mut text, verdict, explaining, recalling)?;
+    Ok(text)
+}
+
+/// The same, put behind a text.
+///
+/// It borrows the text: owned here, its drop would be proved on each way out.
+fn put_behind<R>(
+    text: &mut String,
+    verdict: Verdict,
+    explaining: &Explaining,
+    recalling: &Recalling<R>,
+) -> Result<(), AllocError> {
     match verdict {
         Verdict::Refused(..) => {
             text.push_str(explaining.line())?;
-            text.push_str(explaining.reason())?;
+            text.push_str(explaining.reason())
         }
         Verdict::Malformed(offset, kind) => {
             let octets = recalling.recalled(offset, SHOWN);
-            writeln!(text, "{}", malformed(offset, kind, octets))?;
+            writeln!(text, "{}", malformed(offset, kind, octets))
         }
-        Verdict::Accepted(_) | Verdict::NoMemory(_) | Verdict::Unreadable(_) => {}
+        Verdict::Accepted(_) | Verdict::NoMemory(_) | Verdict::Unreadable(_) => Ok(()),
     }
-    Ok(text)
 }
 
 /// The fault, with these octets, which stand at it.

@@ -26,6 +26,10 @@ impl<'t> Payloads<'t> for Contents<'t> {
         self.deliveries.payload(delivery)
     }
 
+    fn address(&self, delivery: &Incoming) -> &'t [u8] {
+        self.deliveries.address(delivery)
+    }
+
     fn sent_count(&self, delivery: &Outgoing) -> u64 {
         self.sent.sent_count(delivery.number)
     }
