@@ -4,13 +4,14 @@ use Rattle.amqp_frames.specs.declared.fault.FrameFault.TheVariants.{TooSmall, To
 use Rattle.amqp_frames.specs.declared.frame.FrameKind.{FrameKind}
 use Rattle.amqp_frames.specs.declared.frame.FrameKind.TheVariants.{Amqp, Sasl}
 use Rattle.amqp_frames.specs.Frame.{Frame}
+use Rattle.amqp_types.specs.Part.{Part, Null, Boolean, Uint, Seen}
 use Rattle.amqp_perf.specs.Meaning.{Meaning}
-use Rattle.amqp_perf.specs.declared.descriptor.Outcome.TheVariants.{Accepted, Released, Modified}
+use Rattle.amqp_perf.specs.declared.descriptor.Outcome.TheVariants.{Accepted, Rejected, Released, Modified}
 use Rattle.amqp_perf.specs.declared.fault.PerfFault.TheVariants.{NotPerformative}
 use Rattle.capture_form.specs.declared.records.What.TheVariants as whats
 use Rattle.capture_view.specs.declared.said.FrameFlaw.TheVariants as flaws
 use Rattle.capture_view.specs.Saying.{NoFrame, NoBody, NoPerformative, Says, fault_place, said_as, said_of, said_read}
-use Rattle.capture_view.specs.State.{condition_by, condition_of, describes_error, names_error}
+use Rattle.capture_view.specs.State.{condition_by, condition_of, describes_error, modified_by, modified_of, names_error, says_true}
 use Rattle.capture_view.specs.Viewed.{Opened, Lost, Broken, happened_in}
 
 -- ---- frames
@@ -77,6 +78,41 @@ told_by_none octets = (refl, refl, refl, refl)
 
 no_list : condition_of None ≡ None
 no_list = refl
+
+-- ---- modified states
+
+-- a field, apart from its octets
+abbrev field : Part → Seen
+field part = record { octets = []; part = part }
+
+is_true : says_true (field (Boolean true)) ≡ true
+is_true = refl
+
+is_false : says_true (field (Boolean false)) ≡ false
+is_false = refl
+
+-- null says nothing, nor does a number
+is_null : says_true (field Null) ≡ false
+is_null = refl
+
+is_a_number : says_true (field (Uint 1)) ≡ false
+is_a_number = refl
+
+-- the first field is of the delivery, the second of this consumer
+failed : modified_of (Some (field Null, field (Boolean true) ∷ [])) ≡ Some (record { delivery_failed = true; undeliverable_here = false })
+failed = refl
+
+undeliverable : modified_of (Some (field Null, field Null ∷ field (Boolean true) ∷ []))
+    ≡ Some (record { delivery_failed = false; undeliverable_here = true })
+undeliverable = refl
+
+says_nothing : modified_of (Some (field Null, [])) ≡ Some (record { delivery_failed = false; undeliverable_here = false })
+says_nothing = refl
+
+-- only a modified state says it
+said_by_none : (octets : List ℕ) → (modified_by (Some Accepted) octets ≡ None) × (modified_by (Some Released) octets ≡ None)
+    × (modified_by (Some Rejected) octets ≡ None) × (modified_by None octets ≡ None)
+said_by_none octets = (refl, refl, refl, refl)
 
 -- ---- records
 

@@ -1,15 +1,18 @@
--- The error that a state of a delivery tells (part 3, 3.4.3; part 2, 2.8.14).
+-- What a state of a delivery tells beside its outcome: the error of a rejected one (part 3, 3.4.3; part 2, 2.8.14), and what a
+-- modified one says of its delivery (part 3, 3.4.5).
 use Rattle.std.specs.Prelude.{ℕ, Bool, false, List, Option, Some, None, Ok, Err, codes, ◌==◌, if◌then◌else◌}
 use Rattle.std.specs.Str.{bytes_eq}
 use Rattle.flow_counts.specs.declared.profile.TheConstants.{MAX_DEPTH}
 use Rattle.amqp_types.specs.Part.{Part, Seen}
 use Rattle.amqp_types.specs.Listed.{listed_in}
 use Rattle.amqp_types.specs.Reading.{Read, seen_at}
-use Rattle.amqp_types.specs.Typed.{symbol_in, ulong_in}
+use Rattle.amqp_types.specs.Typed.{boolean_in, symbol_in, ulong_in}
 use Rattle.amqp_perf.specs.declared.descriptor.Outcome.{Outcome}
 use Rattle.amqp_perf.specs.declared.descriptor.Outcome.TheVariants.{Accepted, Rejected, Released, Modified}
-use Rattle.amqp_perf.specs.FieldPlaces.{first}
+use Rattle.amqp_perf.specs.FieldPlaces.{first, others}
+use Rattle.amqp_perf.specs.Meaning.{flag}
 use Rattle.amqp_perf.specs.Nested.{StateFields}
+use Rattle.capture_view.specs.declared.state.ModifiedTold.{ModifiedTold}
 
 -- whether a name is that of an error (part 2, 2.8.14)
 abbrev pub names_error : Option (List ℕ) → Bool
@@ -50,3 +53,28 @@ condition_by (Some Modified) octets = None
 -- the condition that a state tells
 abbrev pub condition_told : StateFields → Option (List ℕ)
 condition_told state = condition_by state.outcome state.octets
+
+-- a boolean that is true; a field that is absent says nothing
+abbrev pub says_true : Seen → Bool
+says_true field = flag (boolean_in field.part)
+
+-- its first field says that the delivery failed, its second that it is not to come to this consumer again
+abbrev pub modified_of : Option (Seen × List Seen) → Option ModifiedTold
+modified_of None = None
+modified_of (Some list) = Some (record { delivery_failed = says_true (first list.1); undeliverable_here = says_true (first (others list.1)) })
+
+-- of a state whose octets were read so
+abbrev pub modified_read : Read Seen → Option ModifiedTold
+modified_read (Ok x) = modified_of (listed_in x.0.part)
+modified_read (Err fault) = None
+
+abbrev pub modified_by : Option Outcome → List ℕ → Option ModifiedTold
+modified_by None octets = None
+modified_by (Some Accepted) octets = None
+modified_by (Some Rejected) octets = None
+modified_by (Some Released) octets = None
+modified_by (Some Modified) octets = modified_read (seen_at MAX_DEPTH 0 octets)
+
+-- what a modified state says of its delivery
+abbrev pub modified_told : StateFields → Option ModifiedTold
+modified_told state = modified_by state.outcome state.octets
