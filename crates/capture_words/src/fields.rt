@@ -5,7 +5,7 @@ use amqp_perf::{
     Address, Attach, Begin, Detach, Disposition, Flow, Open, Outcome, Performative,
     ReceiverSettleMode, Role, SenderSettleMode, State, Target, Terminus, Transfer,
 };
-use capture_view::condition_told;
+use capture_view::{ModifiedTold, condition_told, modified_told};
 use std::alloc::AllocError;
 
 impl Page {
@@ -165,7 +165,8 @@ impl Page {
         }
     }
 
-    /// Appends a state: an outcome by its name, with the condition of its error; any other state by its octets.
+    /// Appends a state: an outcome by its name, with the condition of its error, or with what it says of its delivery; any other
+    /// state by its octets.
     fn put_state(&mut self, state: &State<'_>) -> Result<(), AllocError> {
         self.put(" state=")?;
         match state.outcome() {
@@ -175,7 +176,21 @@ impl Page {
                 self.put_octets(state.raw())?;
             }
         }
-        self.put_error(" condition=", condition_told(state))
+        self.put_error(" condition=", condition_told(state))?;
+        match modified_told(state) {
+            Some(told) => self.put_modified(told),
+            None => Ok(()),
+        }
+    }
+
+    /// Appends what a modified state says of its delivery.
+    fn put_modified(&mut self, told: ModifiedTold) -> Result<(), AllocError> {
+        self.put(match (told.delivery_failed, told.undeliverable_here) {
+            (false, false) => "",
+            (true, false) => " delivery-failed",
+            (false, true) => " undeliverable-here",
+            (true, true) => " delivery-failed undeliverable-here",
+        })
     }
 
     fn put_detach(&mut self, detach: &Detach<'_>) -> Result<(), AllocError> {

@@ -9,19 +9,20 @@
 //! and not with records. `put` writes the table onto a page. The totals are proved (`Totals`); the rows of links are
 //! tested.
 //!
-//! `show_capture` reads a text record by record, hands each record to a `View`, which appends to a page what is to be shown
-//! of it, and writes the page as it fills. It tells how the reading ended: whole, or where and why not. What is read is
+//! `show_capture` reads a text record by record, hands its rules and each record to a `View`, which appends to a page what is to
+//! be shown of them, and writes the page as it fills. It tells how the reading ended: whole, or where and why not. What is read is
 //! proved to be the capture's text, up to its first fault; what a view makes of a record is its own affair.
 //!
 //! In reading order: `page` keeps the text; `item` are texts, octets and numbers; `fields` the fields of each
 //! performative; `flaws` what is no performative; `line` the whole line. Of the table: `row`, `links`, `deliveries`, `waiting`,
-//! `summary`, `table`. Of a reader's capture: `ending`, `stream`.
+//! `summary`, `table`. Of a reader's capture: `head`, `ending`, `stream`.
 #![tactic(auto)]
 
 mod deliveries;
 mod ending;
 mod fields;
 mod flaws;
+mod head;
 mod item;
 mod line;
 mod links;

@@ -1,7 +1,7 @@
 //! The line of a record.
 
 use crate::page::Page;
-use amqp_perf::Performative;
+use amqp_perf::{Performative, message_to};
 use capture_view::{AddressTold, Happened, LinkRole, LinkTold, RecordView, Said};
 use pairing_cert::{Note, Why};
 use std::alloc::AllocError;
@@ -43,6 +43,7 @@ impl Page {
             Happened::In(said) => {
                 self.put("in  ")?;
                 self.put_said(view.connection, said, link, has_session)?;
+                self.put_destination(said, link)?;
             }
             Happened::Out(said) => {
                 self.put("out ")?;
@@ -89,6 +90,44 @@ impl Page {
                     None => Ok(()),
                 }
             }
+        }
+    }
+
+    /// Appends the address that the message of this transfer is for, where its producer's link has none and the message's whole
+    /// properties stand in this part of it.
+    fn put_destination(
+        &mut self,
+        said: Said<'_>,
+        link: Option<LinkTold<'_>>,
+    ) -> Result<(), AllocError> {
+        let Said::Says {
+            performative: Performative::Transfer(_),
+            rest,
+            ..
+        } = said
+        else {
+            return Ok(());
+        };
+        match link {
+            Some(
+                LinkTold {
+                    role: LinkRole::Producer,
+                    address: AddressTold::Absent,
+                    ..
+                },
+            ) => self.put_to(rest),
+            _ => Ok(()),
+        }
+    }
+
+    /// Appends the address in the properties of a message, where they name one.
+    fn put_to(&mut self, payload: &[u8]) -> Result<(), AllocError> {
+        match message_to(payload) {
+            Some(to) => {
+                self.put(" to=")?;
+                self.put_text(to)
+            }
+            None => Ok(()),
         }
     }
 

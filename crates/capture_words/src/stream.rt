@@ -11,7 +11,7 @@ ghost use Rattle.capture_words.specs.Shown.{AppendsSome, EndsRecords, EndsText};
 
 use crate::Page;
 use crate::ending::Ending;
-use capture_form::Reader;
+use capture_form::{Reader, RuleSet};
 use capture_view::{RecordView, view_of};
 use std::alloc::{AllocError, Global};
 use std::io::{Read, Write};
@@ -24,6 +24,9 @@ pub trait View {
 
     /// What is known of it after these records, the newest first.
     ghost agrees: { Self → List Viewed → Type 0 };
+
+    /// Appends to the page what is to be shown of the rules, in front of all records.
+    fn begin(&self, rules: &RuleSet, page: &mut Page) -> Result<(), AllocError>;
 
     /// Takes one record more, and appends to the page what is to be shown of it.
     fn take(&mut self, view: &RecordView<'_>, page: &mut Page) -> Result<(), AllocError>
@@ -69,9 +72,17 @@ where
     ensures quiet { is_watched ≡ false → err.new ≡ err.old }
 {
     match Reader::start(alloc, input) {
-        Ok((_, records)) => show_records(records, view, page, out, is_watched, err),
+        Ok((rules, records)) => match begin(rules, view, page) {
+            Ok(()) => show_records(records, view, page, out, is_watched, err),
+            Err(AllocError) => Ok(Ending::NoMemory),
+        },
         Err(fault) => Ok(Ending::from(fault)),
     }
+}
+
+/// Appends to the page what is to be shown of the rules, and lets them go.
+fn begin<V: View>(rules: RuleSet, view: &V, page: &mut Page) -> Result<(), AllocError> {
+    view.begin(&rules, page)
 }
 
 /// Shows the records that are read.
