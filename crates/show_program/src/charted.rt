@@ -1,10 +1,11 @@
 //! The records that are asked for, as a chart.
 
-ghost use Rattle.std.specs.Prelude.{◌≡◌, false, None, IfOk, IfSome};
+ghost use Rattle.std.specs.Prelude.{◌≡◌, ℕ, List, [], false, None, IfOk, IfSome};
 ghost use Rattle.std.specs.String.{string_bytes};
 ghost use Rattle.capture_form.specs.Laws.{records_behind};
 ghost use Rattle.capture_form.specs.Reader.{fault_of, left_of, offset_of};
 ghost use Rattle.capture_form.specs.Reading.{reading};
+ghost use Rattle.capture_view.specs.declared.choice.Choice.{Choice};
 ghost use Rattle.capture_words.specs.Shown.{EndsRecords, EndsText};
 ghost use Rattle.capture_words.specs.Taken.{TakesAll};
 ghost use Rattle.svg_text.specs.Drawn.{IsSvg};
@@ -50,13 +51,29 @@ pub enum NoChart {
     Memory,
 }
 
-impl Charted<'_> {
+impl<'a> Charted<'a> {
     ghost use Rattle.std.specs.Prelude.{◌≡◌, ◌∷◌, ◌++◌, [], ℕ, List, false, OnOk, if◌then◌else◌};
     ghost use Rattle.show_program.specs.Asked.{is_drawn};
     ghost use Rattle.capture_view.specs.declared.choice.Choice.{Choice};
     ghost use Rattle.capture_view.specs.Viewed.{viewed};
     ghost use Rattle.capture_words.specs.Taken.{TakesOneMore};
     ghost use Rattle.capture_chart.specs.Shown.{arrows_of, shown_of};
+
+    /// Those for which `choice` asks, and those with these numbers; no record was taken yet.
+    fn new(alloc: Global, choice: Choice<'a>, also: &'a [u64]) -> Charted<'a>
+        ensures { HasAsked choice.entry also.entry.now result [] }
+    {
+        let asked = Asked::new(alloc, choice);
+        let outcomes = Outcomes::new(alloc);
+        let chart = Chart::new(alloc);
+        Charted {
+            asked,
+            also,
+            outcomes,
+            chart,
+            is_full: false,
+        }
+    }
 
     /// Takes one record more. After an error an arrow may be missing.
     fn take(&mut self, view: &RecordView<'_>) -> Result<(), AllocError>
@@ -158,17 +175,28 @@ where
     // Under the title it has the arrows of these records, in order, each once, with these marks.
     ensures arrows { IfOk result (λ drawn. DrawsMarked title.now (marking marks.entry) choice.entry also.now (R.remaining input) drawn.ending (string_bytes drawn.text)) }
 {
-    let asked = Asked::new(alloc, choice);
-    let outcomes = Outcomes::new(alloc);
-    let chart = Chart::new(alloc);
-    let mut charted = Charted {
-        asked,
-        also,
-        outcomes,
-        chart,
-        is_full: false,
-    };
-    let ending = read_all(alloc, input, &mut charted);
+    let mut charted = Charted::new(alloc, choice, also);
+    draw_read(alloc, title, marks, input, &mut charted)
+}
+
+/// The same, with a chart that has taken no record yet.
+///
+/// It borrows that: owned here, its drop would be proved on each way out.
+fn draw_read<R: Read>(
+    alloc: Global,
+    title: &str,
+    marks: Marks<'_>,
+    input: R,
+    charted: &mut Charted<'_>,
+) -> Result<Drawn, NoChart>
+where
+    R: Drop,
+    ensures ending { IfOk result (λ drawn. IfSome (R.remaining input) (λ octets. EndsText octets drawn.ending)) }
+    ensures document { IfOk result (λ drawn. IsSvg (string_bytes drawn.text)) }
+    ensures arrows { (choice : Choice) (also : List ℕ) → HasAsked choice also charted.old []
+        → IfOk result (λ drawn. DrawsMarked title.now (marking marks.entry) choice also (R.remaining input) drawn.ending (string_bytes drawn.text)) }
+{
+    let ending = read_all(alloc, input, charted);
     if charted.is_full {
         return Err(NoChart::TooMany);
     }
@@ -186,20 +214,19 @@ where
     ensures taken { IfSome (R.remaining input) (λ octets. TakesAll (HasAsked charted.old.asked.choice charted.old.also.now) (reading octets).records result charted.old charted.new) }
 {
     match Reader::start(alloc, input) {
-        Ok((_, records)) => take_records(records, charted),
+        Ok((_, mut records)) => take_records(&mut records, charted),
         Err(fault) => Ending::from(fault),
     }
 }
 
 /// Takes the records that are read.
-fn take_records<R: Read>(records: Reader<R>, charted: &mut Charted<'_>) -> Ending
-where
-    R: Drop,
-    requires { fault_of records ≡ None }
-    ensures ending { IfSome (left_of R.remaining records) (λ left. EndsRecords (offset_of records) left result) }
-    ensures taken { IfSome (left_of R.remaining records) (λ left. TakesAll (HasAsked charted.old.asked.choice charted.old.also.now) (records_behind (offset_of records) left).records result charted.old charted.new) }
+///
+/// It borrows their reader: owned here, its drop would be proved on each way out of the loop.
+fn take_records<R: Read>(records: &mut Reader<R>, charted: &mut Charted<'_>) -> Ending
+    requires { fault_of records.old ≡ None }
+    ensures ending { IfSome (left_of R.remaining records.old) (λ left. EndsRecords (offset_of records.old) left result) }
+    ensures taken { IfSome (left_of R.remaining records.old) (λ left. TakesAll (HasAsked charted.old.asked.choice charted.old.also.now) (records_behind (offset_of records.old) left).records result charted.old charted.new) }
 {
-    let mut records = records;
     for number in 0..u64::MAX {
         match records.next_record() {
             Ok(Some(entry)) => {

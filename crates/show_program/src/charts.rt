@@ -5,7 +5,7 @@ ghost use Rattle.std.specs.Io.KnownBytes.{Appends};
 ghost use Rattle.capture_words.specs.Shown.{EndsText};
 ghost use Rattle.show_program.specs.Run.{ShowsInput, TellsAlone, no_chart, too_many};
 
-use crate::charted::{NoChart, draw_capture};
+use crate::charted::{Drawn, NoChart, draw_capture};
 use crate::telling::{NO_FILE, TOO_MANY, tell, tell_no_chart, tell_too_many};
 use crate::words::Words;
 use capture_words::{Ending, NotWritten};
@@ -67,12 +67,19 @@ where
     ensures ending { IfOk result (λ ending. IfSome (R.remaining input) (λ octets. EndsText octets ending)) }
 {
     match draw_capture(alloc, title_of(words.source), words.choice, input) {
-        Ok(drawn) => match write_new(files, path, drawn.text.as_str()) {
-            Ok(()) => Ok(drawn.ending),
-            Err(NotWritten) => Err(NotCharted::NotWritten),
-        },
+        Ok(drawn) => write_drawn(files, path, &drawn),
         Err(NoChart::TooMany) => Err(NotCharted::TooMany),
         Err(NoChart::Memory) => Ok(Ending::NoMemory),
+    }
+}
+
+/// Writes the document to a new file of this path, and says how the reading ended.
+fn write_drawn<F: Files>(files: &F, path: &str, drawn: &Drawn) -> Result<Ending, NotCharted>
+    ensures { IfOk result (λ ending. ending ≡ drawn.now.ending) }
+{
+    match write_new(files, path, drawn.text.as_str()) {
+        Ok(()) => Ok(drawn.ending),
+        Err(NotWritten) => Err(NotCharted::NotWritten),
     }
 }
 

@@ -1,6 +1,7 @@
 //! A line for each record that is asked for.
 
 use crate::asked::Asked;
+use capture_form::RuleSet;
 use capture_view::{Choice, RecordView};
 use capture_words::{Page, View};
 use std::alloc::{AllocError, Global};
@@ -42,6 +43,11 @@ impl View for Lines<'_> {
     ghost use Rattle.capture_view.specs.Tables.{StandsFor};
 
     ghost agrees = { λ lines past. StandsFor lines.asked.names past };
+
+    /// Rules have no line.
+    fn begin(&self, _rules: &RuleSet, _page: &mut Page) -> Result<(), AllocError> {
+        Ok(())
+    }
 
     fn take(&mut self, view: &RecordView<'_>, page: &mut Page) -> Result<(), AllocError> {
         let is_asked = self.asked.take(view)?;

@@ -1,11 +1,12 @@
 //! Why a capture is not accepted, told and drawn: a chart in a file, with the refused record and those that it is compared with
 //! marked.
 
-ghost use Rattle.std.specs.Prelude.{◌≡◌, ◌≢◌, ◌≤◌, ◌⊎◌, Some, IfOk};
+ghost use Rattle.std.specs.Prelude.{◌≡◌, ◌≢◌, ◌≤◌, ◌⊎◌, ℕ, List, Option, Some, IfOk, IfSome};
 ghost use Rattle.std.specs.String.{string_bytes};
 ghost use Rattle.std.specs.Io.KnownBytes.{Appends, Consumes};
 ghost use Rattle.svg_text.specs.Drawn.{IsSvg};
 ghost use Rattle.audit_core.specs.Report.{status_of as status_of_verdict};
+ghost use Rattle.audit_core.specs.Verdict.{AnswersRead};
 ghost use Rattle.refusal_showing.specs.Explained.{Tells as Explains, verdict_of};
 ghost use Rattle.show_program.specs.Charts.{DrawsExplained, marks_of, near_by};
 ghost use Rattle.show_program.specs.Run.{ExplainsInput, no_chart, too_many};
@@ -62,15 +63,53 @@ where
     let mut input = input;
     let (octets, has_room) = keep(alloc, &mut input);
     if !has_room {
-        return tell_verdict(&Verdict::NoMemory(0), out);
+        return tell_no_memory(out);
     }
     let explanation = explain_read(alloc, octets.as_slice().chain(input));
-    match marked_file(files, alloc, words, path, octets.as_slice(), &explanation) {
-        Ok(()) => tell_explanation(&explanation, out),
+    write_explained(
+        files,
+        alloc,
+        words,
+        path,
+        octets.as_slice(),
+        &explanation,
+        out,
+    )
+}
+
+/// The same of a capture that was explained, whose octets these are.
+///
+/// It borrows the explanation: owned here, its drop would be proved on each way out.
+fn write_explained<F: Files, O: Write>(
+    files: &F,
+    alloc: Global,
+    words: Words<'_>,
+    path: &str,
+    octets: &[u8],
+    explanation: &Explanation,
+    out: &mut O,
+) -> u8
+    ensures explained { (held : Option (List ℕ)) → IfSome held (λ known. AnswersRead known (verdict_of explanation.now))
+        → result ≢ NOT_WRITTEN → result ≢ NO_FILE → result ≢ TOO_MANY → ExplainsInput held (O.contents out.old) (O.contents out.new) result }
+    ensures chart { result ≡ NO_FILE → Appends (O.contents out.old) (O.contents out.new) no_chart }
+    ensures many { result ≡ TOO_MANY → Appends (O.contents out.old) (O.contents out.new) too_many }
+    ensures status { (result ≤ TOO_MANY) ⊎ (result ≡ NOT_WRITTEN) }
+{
+    match marked_file(files, alloc, words, path, octets, explanation) {
+        Ok(()) => tell_explanation(explanation, out),
         Err(NotMarked::TooMany) => tell_too_many(out),
         Err(NotMarked::NotWritten) => tell_no_chart(out),
-        Err(NotMarked::Memory) => tell_verdict(&Verdict::NoMemory(0), out),
+        Err(NotMarked::Memory) => tell_no_memory(out),
     }
+}
+
+/// Writes the line of refused memory to `out`, and answers its status; or `NOT_WRITTEN` where `out` fails.
+fn tell_no_memory<O: Write>(out: &mut O) -> u8
+    // That says nothing of any input.
+    ensures explained { (held : Option (List ℕ)) → result ≢ NOT_WRITTEN → ExplainsInput held (O.contents out.old) (O.contents out.new) result }
+    ensures status { (result ≤ 4) ⊎ (result ≡ NOT_WRITTEN) }
+{
+    tell_verdict(&Verdict::NoMemory(0), out)
 }
 
 /// The octets that are read, up to the end or to a fault of the reader; and whether there was room for them.
@@ -119,12 +158,17 @@ fn marked_file<F: Files>(
         octets,
         explanation,
     ) {
-        Ok(drawn) => match write_new(files, path, drawn.text.as_str()) {
-            Ok(()) => Ok(()),
-            Err(NotWritten) => Err(NotMarked::NotWritten),
-        },
+        Ok(drawn) => write_document(files, path, drawn.text.as_str()),
         Err(NoChart::TooMany) => Err(NotMarked::TooMany),
         Err(NoChart::Memory) => Err(NotMarked::Memory),
+    }
+}
+
+/// Writes the text of a chart to a new file of this path.
+fn write_document<F: Files>(files: &F, path: &str, text: &str) -> Result<(), NotMarked> {
+    match write_new(files, path, text) {
+        Ok(()) => Ok(()),
+        Err(NotWritten) => Err(NotMarked::NotWritten),
     }
 }
 

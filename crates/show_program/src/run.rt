@@ -175,15 +175,14 @@ where
     ensures quiet { is_watched ≡ false → err.new ≡ err.old }
     ensures status { (result ≤ NO_LINK) ⊎ (result ≡ NOT_WRITTEN) }
 {
-    let mut page = Page::new(alloc, words.width);
     match mode {
         Mode::Lines => {
-            let mut lines = Lines::new(alloc, words.choice);
-            show_by(alloc, &mut lines, &mut page, is_watched, input, out, err)
+            let lines = Lines::new(alloc, words.choice);
+            show_all(alloc, lines, words.width, is_watched, input, out, err)
         }
         Mode::Summary => {
-            let mut table = Table::new(alloc);
-            show_by(alloc, &mut table, &mut page, is_watched, input, out, err)
+            let table = Table::new(alloc);
+            show_all(alloc, table, words.width, is_watched, input, out, err)
         }
         Mode::Why => show_why(alloc, input, out),
         Mode::Packets(path) => write_packets(files, alloc, path, input, out),
@@ -193,7 +192,30 @@ where
     }
 }
 
-/// Shows the capture that is read by a view, and tells how its reading ended.
+/// Shows the capture that is read by a view, on a page of this width, and tells how its reading ended.
+///
+/// It takes the view itself, and owns the page: in `show_input` the drop of each would be proved for each mode.
+fn show_all<V: View + Drop, R: Read, O: Write, E: Write>(
+    alloc: Global,
+    view: V,
+    width: Option<usize>,
+    is_watched: bool,
+    input: R,
+    out: &mut O,
+    err: &mut E,
+) -> u8
+where
+    R: Drop,
+    ensures shown { result ≢ NOT_WRITTEN → ShowsInput (R.remaining input) (O.contents out.old) (O.contents out.new) result }
+    ensures quiet { is_watched ≡ false → err.new ≡ err.old }
+    ensures status { (result ≤ 4) ⊎ (result ≡ NOT_WRITTEN) }
+{
+    let mut view = view;
+    let mut page = Page::new(alloc, width);
+    show_by(alloc, &mut view, &mut page, is_watched, input, out, err)
+}
+
+/// The same with a view and a page that are lent.
 fn show_by<V: View, R: Read, O: Write, E: Write>(
     alloc: Global,
     view: &mut V,

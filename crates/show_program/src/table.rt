@@ -1,5 +1,6 @@
 //! One table of all records.
 
+use capture_form::RuleSet;
 use capture_view::RecordView;
 use capture_words::{Page, Summary, View};
 use std::alloc::{AllocError, Global};
@@ -24,6 +25,10 @@ impl View for Table {
     ghost use Rattle.capture_words.specs.Summary.{totals_of};
 
     ghost agrees = { λ table past. totals_of table.summary ≡ counted past };
+
+    fn begin(&self, rules: &RuleSet, page: &mut Page) -> Result<(), AllocError> {
+        page.put_rules(rules)
+    }
 
     fn take(&mut self, view: &RecordView<'_>, _page: &mut Page) -> Result<(), AllocError> {
         self.summary.take(view)

@@ -152,61 +152,51 @@ Packets and charts are those of the whole records in front of a fault where the 
 in front of a fault or of a refused record.";
 
 /// The command line: a file, which records, and how they are shown.
+///
+/// Each argument is made where it is handed over: kept here, it would be dropped on each way out before.
 fn command_line<'a>(alloc: Global) -> Result<Command<'a>, AllocError>
     ensures { IfOk result (λ command. app_of command ≡ command_line) }
 {
-    let wide = flag(alloc, "wide").help(
-        "Shows texts and octets whole; else, and with --why, they are cut at 32 characters",
-    );
-    let summary = flag(alloc, "summary").help(
-        "Shows one table of the whole capture instead of its records",
-    );
-    let why = flag(alloc, "why").help(
-        "Audits the capture, and says why it is not accepted instead of its records",
-    );
-    let pcapng = asking(alloc, "pcapng", ValueParser::string(), "OUT").help(
-        "Writes the whole capture as packets to OUT, which must not exist, and shows nothing",
-    );
-    let chart = asking(alloc, "chart", ValueParser::string(), "OUT").help(
-        "Draws the records that are asked for as a chart to OUT, which must not exist, and shows nothing; with --why marked, and explained",
-    );
-    let credit = asking(alloc, "credit", ValueParser::string(), "OUT").help(
-        "Audits the capture, and draws the credit of a consumer's link to OUT, which must not exist",
-    );
     choosing_command(alloc)?
-        .arg(wide)?
-        .arg(summary)?
-        .arg(why)?
-        .arg(pcapng)?
-        .arg(chart)?
-        .arg(credit)
+        .arg(flag(alloc, "wide").help(
+            "Shows texts and octets whole; else, and with --why, they are cut at 32 characters",
+        ))?
+        .arg(flag(alloc, "summary").help(
+            "Shows the form, the rules and one table of the whole capture instead of its records",
+        ))?
+        .arg(flag(alloc, "why").help(
+            "Audits the capture, and says why it is not accepted instead of its records",
+        ))?
+        .arg(asking(alloc, "pcapng", ValueParser::string(), "OUT").help(
+            "Writes the whole capture as packets to OUT, which must not exist, and shows nothing",
+        ))?
+        .arg(asking(alloc, "chart", ValueParser::string(), "OUT").help(
+            "Draws the records that are asked for as a chart to OUT, which must not exist, and shows nothing; with --why marked, and explained",
+        ))?
+        .arg(asking(alloc, "credit", ValueParser::string(), "OUT").help(
+            "Audits the capture, and draws the credit of a consumer's link to OUT, which must not exist",
+        ))
 }
 
 /// The command with a file, and what says which records.
 fn choosing_command<'a>(alloc: Global) -> Result<Command<'a>, AllocError>
     ensures { IfOk result (λ command. app_of command ≡ choosing_command) }
 {
-    let file = Arg::new(alloc, "FILE").action(ArgAction::Set).help(
-        "The capture to show; standard input where there is none, or for -",
-    );
-    let from = asking(alloc, "from", value_parser!(u64), "N").help("Records from number N on");
-    let to = asking(alloc, "to", value_parser!(u64), "N").help("Records up to number N");
-    let connection = asking(alloc, "connection", value_parser!(u32), "C").help(
-        "Records of connection C",
-    );
-    let link = asking(alloc, "link", ValueParser::string(), "NAME").help(
-        "Records whose frame names a link of this name",
-    );
-    let delivery = asking(alloc, "delivery", value_parser!(u64), "N").help(
-        "Records about the delivery from a client whose first transfer is record N",
-    );
     bare_command(alloc)
-        .arg(file)?
-        .arg(from)?
-        .arg(to)?
-        .arg(connection)?
-        .arg(link)?
-        .arg(delivery)
+        .arg(
+            Arg::new(alloc, "FILE").action(ArgAction::Set).help(
+                "The capture to show; standard input where there is none, or for -",
+            ),
+        )?
+        .arg(asking(alloc, "from", value_parser!(u64), "N").help("Records from number N on"))?
+        .arg(asking(alloc, "to", value_parser!(u64), "N").help("Records up to number N"))?
+        .arg(asking(alloc, "connection", value_parser!(u32), "C").help("Records of connection C"))?
+        .arg(asking(alloc, "link", ValueParser::string(), "NAME").help(
+            "Records whose frame names a link of this name",
+        ))?
+        .arg(asking(alloc, "delivery", value_parser!(u64), "N").help(
+            "Records about the delivery from a client whose first transfer is record N",
+        ))
 }
 
 /// The command without its arguments.

@@ -12,7 +12,7 @@ loop-number-init g c = record {
   runs = c.requires;
   read = [];
   many = refl;
-  follows = follows_start (offset_of c.args.records) (left_of g.R.Read.remaining c.args.records);
+  follows = follows_start (offset_of c.args.records.now) (left_of g.R.Read.remaining c.args.records.now);
   took = λ begins. begins;
 }
 
@@ -37,26 +37,26 @@ pub returns-in-Ok-None-clause-ending : goal.returns-in-Ok-None-clause-ending
 returns-in-Ok-None-clause-ending g c =
     let so = c.loop-number.invariant in
     let next = found_so _ _ c.in-Ok-None.field-0 None c.in-Ok-None.field-0-is c.in-Ok-None.ensures.next in
-    ends_of (offset_of c.args.records) _ so.read Whole (follows_end (offset_of c.args.records) (left_of g.R.Read.remaining c.args.records) _ _ so.read _ so.follows next)
+    ends_of (offset_of c.args.records.now) _ so.read Whole (follows_end (offset_of c.args.records.now) (left_of g.R.Read.remaining c.args.records.now) _ _ so.read _ so.follows next)
 
 pub returns-in-Ok-None-clause-taken : goal.returns-in-Ok-None-clause-taken
 returns-in-Ok-None-clause-taken g c =
     let so = c.loop-number.invariant in
     let next = found_so _ _ c.in-Ok-None.field-0 None c.in-Ok-None.field-0-is c.in-Ok-None.ensures.next in
-    took_all (HasAsked c.args.charted.now.asked.choice c.args.charted.now.also.now) (offset_of c.args.records) _ so.read Whole _ _
-    (follows_end (offset_of c.args.records) (left_of g.R.Read.remaining c.args.records) _ _ so.read _ so.follows next) so.took
+    took_all (HasAsked c.args.charted.now.asked.choice c.args.charted.now.also.now) (offset_of c.args.records.now) _ so.read Whole _ _
+    (follows_end (offset_of c.args.records.now) (left_of g.R.Read.remaining c.args.records.now) _ _ so.read _ so.follows next) so.took
 
 pub returns-in-Err-clause-ending : goal.returns-in-Err-clause-ending
 returns-in-Err-clause-ending g c =
     let so = c.loop-number.invariant in
-    let first = left_of g.R.Read.remaining c.args.records in
-    let ends = follows_fault (offset_of c.args.records) first _ _ so.read c.in-Err.fault so.follows (c.in-Err.ensures.place so.runs) (c.in-Err.ensures.exact so.runs) in
-    ends_of (offset_of c.args.records) first so.read c.from.result (subst (λ e. EndsWith (offset_of c.args.records) first so.read e) (sym c.from.ensures) ends)
+    let first = left_of g.R.Read.remaining c.args.records.now in
+    let ends = follows_fault (offset_of c.args.records.now) first _ _ so.read c.in-Err.fault so.follows (c.in-Err.ensures.place so.runs) (c.in-Err.ensures.exact so.runs) in
+    ends_of (offset_of c.args.records.now) first so.read c.from.result (subst (λ e. EndsWith (offset_of c.args.records.now) first so.read e) (sym c.from.ensures) ends)
 
 pub returns-in-Err-clause-taken : goal.returns-in-Err-clause-taken
 returns-in-Err-clause-taken g c =
     let so = c.loop-number.invariant in
-    let first = left_of g.R.Read.remaining c.args.records in
-    let ends = follows_fault (offset_of c.args.records) first _ _ so.read c.in-Err.fault so.follows (c.in-Err.ensures.place so.runs) (c.in-Err.ensures.exact so.runs) in
-    took_all (HasAsked c.args.charted.now.asked.choice c.args.charted.now.also.now) (offset_of c.args.records) first so.read c.from.result _ _
-    (subst (λ e. EndsWith (offset_of c.args.records) first so.read e) (sym c.from.ensures) ends) so.took
+    let first = left_of g.R.Read.remaining c.args.records.now in
+    let ends = follows_fault (offset_of c.args.records.now) first _ _ so.read c.in-Err.fault so.follows (c.in-Err.ensures.place so.runs) (c.in-Err.ensures.exact so.runs) in
+    took_all (HasAsked c.args.charted.now.asked.choice c.args.charted.now.also.now) (offset_of c.args.records.now) first so.read c.from.result _ _
+    (subst (λ e. EndsWith (offset_of c.args.records.now) first so.read e) (sym c.from.ensures) ends) so.took
