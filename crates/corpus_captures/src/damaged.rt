@@ -40,37 +40,71 @@ impl Damage {
         text: &[u8],
         often: u32,
     ) -> Result<u32, AllocError> {
-        let Ok((rules, _)) = Reader::start(alloc, text) else {
-            return Ok(often);
-        };
-        let head = len_of_head(&rules);
+        match head_of(alloc, text) {
+            Some(head) => self.judged_otherwise_behind(alloc, text, head, often),
+            None => Ok(often),
+        }
+    }
+
+    /// The same of a text whose records begin at this place.
+    fn judged_otherwise_behind(
+        &mut self,
+        alloc: Global,
+        text: &[u8],
+        head: usize,
+        often: u32,
+    ) -> Result<u32, AllocError> {
         let mut otherwise: u32 = 0;
         for _ in 0..often {
-            let damaged = self.damaged(alloc, text, head)?;
-            if !is_judged_alike(alloc, damaged.as_slice()) {
+            if !self.next_is_judged_alike(alloc, text, head)? {
                 otherwise = otherwise.saturating_add(1);
             }
         }
         Ok(otherwise)
     }
 
-    /// A text made of that of a capture whose records begin at this place: with one to three records left out, repeated or
-    /// exchanged, and in one of two with an octet changed.
-    fn damaged(&mut self, alloc: Global, text: &[u8], head: usize) -> Result<Vec<u8>, AllocError> {
-        let (front, records) = text.split_at(head.min(text.len()));
-        let mut pieces = pieces_of(alloc, records)?;
-        for _ in 0..=self.chance.below(3) {
-            self.exchange(&mut pieces)?;
-        }
+    /// Damages the text of a capture whose records begin at this place, and answers whether what comes of it is judged alike.
+    fn next_is_judged_alike(
+        &mut self,
+        alloc: Global,
+        text: &[u8],
+        head: usize,
+    ) -> Result<bool, AllocError> {
         let mut damaged = Vec::new(alloc);
+        self.put_damaged(&mut damaged, text, head)?;
+        Ok(is_judged_alike(alloc, damaged.as_slice()))
+    }
+
+    /// Puts a text made of that of a capture whose records begin at this place: with one to three records left out, repeated or
+    /// exchanged, and in one of two with an octet changed.
+    fn put_damaged(
+        &mut self,
+        damaged: &mut Vec<u8>,
+        text: &[u8],
+        head: usize,
+    ) -> Result<(), AllocError> {
+        let (front, records) = text.split_at(head.min(text.len()));
         damaged.extend_from_slice(front)?;
-        for piece in pieces.iter() {
-            damaged.extend_from_slice(piece)?;
-        }
+        self.put_exchanged(damaged, records)?;
         if self.chance.below(2) == 0 {
-            self.change_octet(&mut damaged, head);
+            self.change_octet(damaged, head);
         }
-        Ok(damaged)
+        Ok(())
+    }
+
+    /// Puts records, of which one to three are left out, repeated or exchanged.
+    fn put_exchanged(&mut self, out: &mut Vec<u8>, records: &[u8]) -> Result<(), AllocError> {
+        let mut pieces = pieces_of(*out.allocator(), records)?;
+        self.exchange_some(&mut pieces)?;
+        put_pieces(out, pieces.as_slice())
+    }
+
+    /// Leaves one to three pieces out, repeats or exchanges them.
+    fn exchange_some(&mut self, pieces: &mut Vec<&[u8]>) -> Result<(), AllocError> {
+        for _ in 0..=self.chance.below(3) {
+            self.exchange(pieces)?;
+        }
+        Ok(())
     }
 
     /// Leaves a piece out, repeats one somewhere, or exchanges two that stand side by side or anywhere.
@@ -100,6 +134,22 @@ impl Damage {
             let place = head + self.chance.below(count);
             text[place] = self.chance.below(256) as u8;
         }
+    }
+}
+
+/// Puts these pieces, one behind the other.
+fn put_pieces(out: &mut Vec<u8>, pieces: &[&[u8]]) -> Result<(), AllocError> {
+    for piece in pieces {
+        out.extend_from_slice(piece)?;
+    }
+    Ok(())
+}
+
+/// Where the records begin in the text of a capture, if it has a head.
+fn head_of(alloc: Global, text: &[u8]) -> Option<usize> {
+    match Reader::start(alloc, text) {
+        Ok((rules, _)) => Some(len_of_head(&rules)),
+        Err(_) => None,
     }
 }
 

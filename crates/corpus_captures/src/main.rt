@@ -24,15 +24,24 @@ use std::{env, fs, io};
 const SEED: u32 = 42;
 
 fn main(rt: HostRuntime) -> io::Result<()> {
-    let alloc = rt.alloc();
     let names = names_of_captures(&rt)?;
-    for name in names.iter() {
-        let octets = fs::read(&rt, format!(in alloc; "{name}.cap")?)?;
-        rt.println(line_on(alloc, name.as_str(), octets.as_slice())?)?;
+    tell_captures(&rt, names.as_slice())
+}
+
+/// Writes the verdicts of captures, and how those are judged that come of damage to them.
+fn tell_captures(rt: &HostRuntime, names: &[String]) -> io::Result<()> {
+    for name in names {
+        tell_verdict(rt, name.as_str())?;
     }
-    let often = number_of(&rt, 1)?.unwrap_or(0);
-    let seed = number_of(&rt, 2)?.unwrap_or(SEED);
-    tell_damaged(&rt, names.as_slice(), often, seed)
+    let often = number_of(rt, 1)?.unwrap_or(0);
+    let seed = number_of(rt, 2)?.unwrap_or(SEED);
+    tell_damaged(rt, names, often, seed)
+}
+
+/// Writes the name of a capture, and the line of its verdict.
+fn tell_verdict(rt: &HostRuntime, name: &str) -> io::Result<()> {
+    let octets = fs::read(rt, format!(in rt.alloc(); "{name}.cap")?)?;
+    rt.println(line_on(rt.alloc(), name, octets.as_slice())?)
 }
 
 /// The word in this place, if it is a number.
@@ -47,12 +56,22 @@ fn tell_damaged(rt: &HostRuntime, names: &[String], often: u32, seed: u32) -> io
     let mut damage = Damage::new(u64::from(seed));
     let (mut alike, mut otherwise): (u64, u64) = (0, 0);
     for name in names {
-        let octets = fs::read(rt, format!(in rt.alloc(); "{name}.cap")?)?;
-        let unlike = damage.judged_otherwise(rt.alloc(), octets.as_slice(), often)?;
+        let unlike = judged_otherwise(rt, name.as_str(), &mut damage, often)?;
         alike = alike.wrapping_add(u64::from(often.wrapping_sub(unlike)));
         otherwise = otherwise.wrapping_add(u64::from(unlike));
     }
     println!(rt; "damaged: {alike} judged alike, {otherwise} otherwise")
+}
+
+/// Damages a capture so often, and answers how many of what comes of it are not judged alike.
+fn judged_otherwise(
+    rt: &HostRuntime,
+    name: &str,
+    damage: &mut Damage,
+    often: u32,
+) -> io::Result<u32> {
+    let octets = fs::read(rt, format!(in rt.alloc(); "{name}.cap")?)?;
+    Ok(damage.judged_otherwise(rt.alloc(), octets.as_slice(), often)?)
 }
 
 /// The name of a capture, and the line of the verdict of its octets.
@@ -69,11 +88,26 @@ fn names_of_captures(rt: &HostRuntime) -> io::Result<Vec<String>>
     ensures { IfOk result (λ names. IsSorted string_cmp names.items) }
 {
     let mut names = Vec::new(rt.alloc());
-    for entry in fs::read_dir(rt, ".")? {
-        if let Some(name) = entry?.file_name().strip_suffix(".cap") {
-            names.push(String::from_str(rt.alloc(), name)?)?;
-        }
-    }
+    put_names(rt, &mut names)?;
     names.sort()?;
     Ok(names)
+}
+
+/// The same in any order, put into a list without names.
+///
+/// It borrows the list: owned here, its drop would be proved on each way out.
+fn put_names(rt: &HostRuntime, names: &mut Vec<String>) -> io::Result<()> {
+    for entry in fs::read_dir(rt, ".")? {
+        put_name(names, entry?.file_name())?;
+    }
+    Ok(())
+}
+
+/// Puts the name of a capture, where the file is one.
+fn put_name(names: &mut Vec<String>, file: &str) -> Result<(), AllocError> {
+    if let Some(name) = file.strip_suffix(".cap") {
+        let name = String::from_str(*names.allocator(), name)?;
+        names.push(name)?;
+    }
+    Ok(())
 }
