@@ -3,7 +3,7 @@
 
 use amqp_perf::Outcome;
 use capture_form::{Capture, What, read_capture};
-use std::{fs, io};
+use std::{fmt, fs, io};
 use trace_law::{best_verdict_at, credit_at, slow_check, waiting_at, window_at};
 
 /// What changes from record to record.
@@ -38,6 +38,18 @@ impl State {
     }
 }
 
+/// As it is told: what stands from a record on.
+impl fmt::Display for State {
+    fn fmt<W: fmt::Write>(&self, f: &mut fmt::Formatter<W>) -> fmt::Result {
+        match self {
+            State::Nothing => write!(f, "no more"),
+            State::Count(count) => write!(f, "{count}"),
+            State::Waits => write!(f, "waits"),
+            State::Told(outcome) => write!(f, "{}", word_of(*outcome)),
+        }
+    }
+}
+
 impl Subject {
     fn at(self, capture: &Capture, below: usize) -> State {
         match self {
@@ -66,14 +78,7 @@ impl Subject {
                 if separator == ": " {
                     self.tell_name(rt)?;
                 }
-                match now {
-                    State::Nothing => print!(rt; "{separator}no more from {below}")?,
-                    State::Count(count) => print!(rt; "{separator}{count} from {below}")?,
-                    State::Waits => print!(rt; "{separator}waits from {below}")?,
-                    State::Told(outcome) => {
-                        print!(rt; "{separator}{} from {below}", word_of(outcome))?
-                    }
-                }
+                print!(rt; "{separator}{now} from {below}")?;
                 (state, separator) = (now, ", ");
             }
         }
@@ -84,37 +89,51 @@ impl Subject {
     }
 
     fn tell_name(self, rt: &HostRuntime) -> io::Result<()> {
-        match self {
-            Subject::Window(client) => print!(rt; "  window of client {client}"),
-            Subject::Credit(client) => print!(rt; "  credit of client {client}"),
-            Subject::Delivery(first) => print!(rt; "  delivery of record {first}"),
-            Subject::Verdicts(first) => print!(rt; "  copies of record {first}"),
-        }
+        let (name, number) = match self {
+            Subject::Window(client) => ("window of client", client as usize),
+            Subject::Credit(client) => ("credit of client", client as usize),
+            Subject::Delivery(first) => ("delivery of record", first),
+            Subject::Verdicts(first) => ("copies of record", first),
+        };
+        print!(rt; "  {name} {number}")
     }
 }
 
 /// Writes what is seen of a capture: a line for each subject that ever stands, and one for each record that breaks a
 /// clause. Clients have the numbers of their connections.
 pub fn tell_capture(rt: &HostRuntime, capture: &Capture) -> io::Result<()> {
-    let (records, mut clients) = (capture.records(), 0);
-    for entry in records {
+    let clients = tell_clients(rt, capture)?;
+    if has_others(capture, clients) {
+        println!(rt; "  a session or link that nobody began")?;
+    }
+    tell_records(rt, capture)
+}
+
+/// Writes a line for each window and each credit that ever stands, and answers how many clients there are.
+fn tell_clients(rt: &HostRuntime, capture: &Capture) -> io::Result<u32> {
+    let mut clients: u32 = 0;
+    for entry in capture.records() {
         if matches!(entry.what, What::Opened) {
             Subject::Window(clients).tell(rt, capture)?;
             Subject::Credit(clients).tell(rt, capture)?;
             clients = clients.wrapping_add(1);
         }
     }
-    // nobody connects as that client, nor uses another channel or handle
-    let beyond = [
-        window_at(capture, records.len(), clients, 0),
-        credit_at(capture, records.len(), clients, 0, 0),
-        window_at(capture, records.len(), 0, 1),
-        credit_at(capture, records.len(), 0, 0, 1),
-    ];
-    if beyond != [None; 4] {
-        println!(rt; "  a session or link that nobody began")?;
-    }
-    for (i, entry) in records.iter().enumerate() {
+    Ok(clients)
+}
+
+/// Whether a session or a link stands of a client behind so many, on another channel or of another handle, which nobody uses.
+fn has_others(capture: &Capture, clients: u32) -> bool {
+    let below = capture.records().len();
+    window_at(capture, below, clients, 0).is_some()
+        || credit_at(capture, below, clients, 0, 0).is_some()
+        || window_at(capture, below, 0, 1).is_some()
+        || credit_at(capture, below, 0, 0, 1).is_some()
+}
+
+/// Writes a line for each delivery that ever waits, and one for each record that breaks a clause.
+fn tell_records(rt: &HostRuntime, capture: &Capture) -> io::Result<()> {
+    for (i, entry) in capture.records().iter().enumerate() {
         if matches!(entry.what, What::In(_)) {
             Subject::Delivery(i).tell(rt, capture)?;
         }
@@ -138,13 +157,23 @@ fn word_of(outcome: Outcome) -> &'static str {
 /// Writes of each delivery of the capture `NAME.cap` what its producer would be told by the verdicts of its copies, if anything.
 pub fn tell_verdicts(rt: &HostRuntime, name: &str) -> io::Result<()> {
     let octets = fs::read(rt, format!(in rt.alloc(); "{name}.cap")?)?;
-    let Ok(capture) = read_capture(rt.alloc(), octets.as_slice()) else {
-        return println!(rt; "{name}: no capture");
-    };
+    tell_verdicts_of(rt, name, octets.as_slice())
+}
+
+/// The same of the capture that octets are, if they are one.
+fn tell_verdicts_of(rt: &HostRuntime, name: &str, octets: &[u8]) -> io::Result<()> {
+    match read_capture(rt.alloc(), octets) {
+        Ok(capture) => tell_verdicts_in(rt, name, &capture),
+        Err(_) => println!(rt; "{name}: no capture"),
+    }
+}
+
+/// The same of a capture.
+fn tell_verdicts_in(rt: &HostRuntime, name: &str, capture: &Capture) -> io::Result<()> {
     println!(rt; "{name}:")?;
     for (i, entry) in capture.records().iter().enumerate() {
         if matches!(entry.what, What::In(_)) {
-            Subject::Verdicts(i).tell(rt, &capture)?;
+            Subject::Verdicts(i).tell(rt, capture)?;
         }
     }
     Ok(())

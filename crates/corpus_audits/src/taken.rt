@@ -41,18 +41,20 @@ pub fn is_audited(alloc: Global, capture: &Capture, verdict: Verdict) -> bool {
 /// Whether this is what an auditor comes to that is handed the records of the text, and whether it stays with its refusal.
 pub fn is_taken(alloc: Global, octets: &[u8], verdict: Verdict) -> bool {
     match Reader::start(alloc, octets) {
-        Ok((rules, records)) => {
+        Ok((rules, mut records)) => {
             let mut auditor = Auditor::new(alloc, rules);
-            comes_to(&mut auditor, records, octets.len(), verdict)
+            comes_to(&mut auditor, &mut records, octets.len(), verdict)
         }
         Err(_) => matches!(verdict, Verdict::Malformed(..)),
     }
 }
 
 /// Whether an auditor comes to this verdict that takes the records, of which there are no more than this.
+///
+/// It borrows their reader: owned here, its drop would be proved on each way out of the loop.
 fn comes_to(
     auditor: &mut Auditor,
-    mut records: Reader<&[u8]>,
+    records: &mut Reader<&[u8]>,
     most: usize,
     verdict: Verdict,
 ) -> bool {

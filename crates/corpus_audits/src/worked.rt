@@ -3,34 +3,63 @@
 use crate::seen::tell_capture;
 use crate::taken::{is_audited, is_read, is_taken};
 use audit_core::{Verdict, audit_bytes};
-use capture_form::{read_capture, write_capture};
+use capture_form::{Capture, read_capture, write_capture};
+use std::alloc::{AllocError, Global};
 use std::{fs, io};
 
 /// Writes what is said of the capture `NAME.cap`, and whether its verdict is another than `NAME.line`.
 pub fn tell_worked(rt: &HostRuntime, name: &str) -> io::Result<()> {
     let octets = fs::read(rt, format!(in rt.alloc(); "{name}.cap")?)?;
-    let verdict = audit_bytes(rt.alloc(), octets.as_slice());
+    tell_octets(rt, name, octets.as_slice())
+}
+
+/// The same of its octets.
+fn tell_octets(rt: &HostRuntime, name: &str, octets: &[u8]) -> io::Result<()> {
+    let verdict = audit_bytes(rt.alloc(), octets);
     tell_verdict(rt, name, verdict)?;
-    let wanted = fs::read_to_string(rt, format!(in rt.alloc(); "{name}.line")?)?;
-    if wanted.as_str().trim_end() != format!(in rt.alloc(); "{verdict}")?.as_str() {
+    if !is_line_of(rt, name, verdict)? {
         println!(rt; "  another line than {name}.line")?;
     }
-    tell_other_verdicts(rt, octets.as_slice(), verdict)?;
-    tell_as_capture(rt, octets.as_slice(), verdict)
+    tell_other_verdicts(rt, octets, verdict)?;
+    tell_as_capture(rt, octets, verdict)
+}
+
+/// Whether `NAME.line` is the line of this verdict.
+fn is_line_of(rt: &HostRuntime, name: &str, verdict: Verdict) -> io::Result<bool> {
+    let wanted = fs::read_to_string(rt, format!(in rt.alloc(); "{name}.line")?)?;
+    Ok(is_line(rt.alloc(), wanted.as_str().trim_end(), verdict)?)
+}
+
+/// Whether a text is the line of this verdict.
+fn is_line(alloc: Global, text: &str, verdict: Verdict) -> Result<bool, AllocError> {
+    let line = format!(in alloc; "{verdict}")?;
+    Ok(text == line.as_str())
 }
 
 /// Writes what is seen of the capture that octets are, if they are one, and where another text or another verdict comes of it.
 fn tell_as_capture(rt: &HostRuntime, octets: &[u8], verdict: Verdict) -> io::Result<()> {
-    let Ok(capture) = read_capture(rt.alloc(), octets) else {
-        return Ok(());
-    };
-    if write_capture(rt.alloc(), &capture)?.as_slice() != octets {
+    match read_capture(rt.alloc(), octets) {
+        Ok(capture) => tell_read(rt, &capture, octets, verdict),
+        Err(_) => Ok(()),
+    }
+}
+
+/// The same of a capture that was read of these octets.
+///
+/// It borrows the capture: owned here, its drop would be proved on each way out.
+fn tell_read(
+    rt: &HostRuntime,
+    capture: &Capture,
+    octets: &[u8],
+    verdict: Verdict,
+) -> io::Result<()> {
+    if write_capture(rt.alloc(), capture)?.as_slice() != octets {
         println!(rt; "  another text of the capture that was read")?;
     }
-    if !is_audited(rt.alloc(), &capture, verdict) {
+    if !is_audited(rt.alloc(), capture, verdict) {
         println!(rt; "  another verdict of the capture than of its text")?;
     }
-    tell_capture(rt, &capture)
+    tell_capture(rt, capture)
 }
 
 /// Says where the octets, read or taken record by record, get another verdict.

@@ -22,8 +22,39 @@ pub fn agrees(
 ) -> Result<bool, AllocError>
     requires { 0 < most }
 {
-    let mut engine = Engine::new(alloc, CONNECTION, Router::new(alloc, CONNECTION));
     let mut given = Vec::new(alloc);
+    agrees_given(&mut given, chance, stream, most, reading)
+}
+
+/// The same where what is given is put into a list without octets.
+///
+/// It gives the engine away before anything is asked: kept, its drop would be proved on each way out.
+fn agrees_given(
+    given: &mut Vec<u8>,
+    chance: &mut Chance,
+    stream: &[u8],
+    most: usize,
+    reading: &Reading<'_>,
+) -> Result<bool, AllocError>
+    requires { 0 < most }
+{
+    let alloc = *given.allocator();
+    let mut engine = Engine::new(alloc, CONNECTION, Router::new(alloc, CONNECTION));
+    let fed = fed(&mut engine, given, chance, stream, most, reading);
+    agrees_behind(fed, &engine.into_port(), given.as_slice(), reading)
+}
+
+/// Feeds an engine a stream in pieces of this length, and then the device is gone: whether it answers what the reading says.
+fn fed(
+    engine: &mut Engine<Router>,
+    given: &mut Vec<u8>,
+    chance: &mut Chance,
+    stream: &[u8],
+    most: usize,
+    reading: &Reading<'_>,
+) -> Result<bool, AllocError>
+    requires { 0 < most }
+{
     let mut first_fault = None;
     for piece in stream.chunks(most) {
         let fed = engine.feed(piece);
@@ -31,17 +62,33 @@ pub fn agrees(
             return Ok(false);
         }
         first_fault = first_fault.or(fed.err());
-        engine.refill()?;
-        let len = chance.below(engine.give().len() + 1);
-        given.extend_from_slice(&engine.give()[..len])?;
-        engine.gave(len);
+        take_some(engine, given, chance)?;
     }
     given.extend_from_slice(engine.give())?;
-    if first_fault != reading.fault || engine.gone().is_err() || engine.gone().is_err() {
-        return Ok(false);
-    }
-    let port = engine.into_port();
-    Ok(gave_all(&given, port.given(), reading) && told_all(port.items(), reading))
+    Ok(first_fault == reading.fault && engine.gone().is_ok() && engine.gone().is_ok())
+}
+
+/// The device takes some of the octets that wait.
+fn take_some(
+    engine: &mut Engine<Router>,
+    given: &mut Vec<u8>,
+    chance: &mut Chance,
+) -> Result<(), AllocError> {
+    engine.refill()?;
+    let len = chance.below(engine.give().len() + 1);
+    given.extend_from_slice(&engine.give()[..len])?;
+    engine.gave(len);
+    Ok(())
+}
+
+/// Whether an engine that was fed a stream, and answered this, told its router and gave what the reading says.
+fn agrees_behind(
+    fed: Result<bool, AllocError>,
+    router: &Router,
+    given: &[u8],
+    reading: &Reading<'_>,
+) -> Result<bool, AllocError> {
+    Ok(fed? && gave_all(given, router.given(), reading) && told_all(router.items(), reading))
 }
 
 /// What is answered to a piece behind the fault.

@@ -26,23 +26,26 @@ use std::{env, io};
 const STREAMS: u64 = 1000;
 
 fn main(rt: HostRuntime) -> io::Result<()> {
-    let alloc = rt.alloc();
     let count = number_of(&rt, 1)?.unwrap_or(STREAMS);
     let first = number_of(&rt, 2)?.unwrap_or(0);
     for most in [1, 7, 4096] {
-        let others = others(alloc, most, first, count)?;
-        let line = match others.first() {
-            None => format!(in alloc; "pieces of {most}: {count} streams agree")?,
-            Some(seed) => {
-                let len = others.len();
-                format!(in alloc;
-                    "pieces of {most}: {len} of {count} streams do not agree, first {seed}"
-                )?
-            }
-        };
-        rt.println(line)?;
+        tell_pieces(&rt, most, first, count)?;
     }
     Ok(())
+}
+
+/// Tells how many streams agree that come in pieces of this length, or how many do not, and the first of them.
+fn tell_pieces(rt: &HostRuntime, most: usize, first: u64, count: u64) -> io::Result<()>
+    requires { 0 < most }
+{
+    let others = others(rt.alloc(), most, first, count)?;
+    let len = others.len();
+    match others.first() {
+        None => println!(rt; "pieces of {most}: {count} streams agree"),
+        Some(seed) => println!(rt;
+            "pieces of {most}: {len} of {count} streams do not agree, first {seed}"
+        ),
+    }
 }
 
 /// The word in this place, if it is a number.
@@ -58,12 +61,31 @@ fn others(alloc: Global, most: usize, first: u64, count: u64) -> Result<Vec<u64>
 {
     let mut others = Vec::new(alloc);
     for seed in first..first.saturating_add(count) {
-        let mut chance = Chance::new(seed);
-        let stream = streams::stream(alloc, &mut chance)?;
-        let reading = kit_clients::read(alloc, &stream)?;
-        if !agrees(alloc, &mut chance, &stream, most, &reading)? {
+        if !agrees_on(alloc, seed, most)? {
             others.push(seed)?;
         }
     }
     Ok(others)
+}
+
+/// Whether an engine that is fed pieces of this length agrees with the stream of this number.
+fn agrees_on(alloc: Global, seed: u64, most: usize) -> Result<bool, AllocError>
+    requires { 0 < most }
+{
+    let mut chance = Chance::new(seed);
+    let stream = streams::stream(alloc, &mut chance)?;
+    agrees_as_read(alloc, &mut chance, &stream, most)
+}
+
+/// The same of these octets.
+fn agrees_as_read(
+    alloc: Global,
+    chance: &mut Chance,
+    stream: &[u8],
+    most: usize,
+) -> Result<bool, AllocError>
+    requires { 0 < most }
+{
+    let reading = kit_clients::read(alloc, stream)?;
+    agrees(alloc, chance, stream, most, &reading)
 }

@@ -37,11 +37,7 @@ const NO_INITS: &[&[u8]] = &[
 /// A stream: what stands before the frames, frames, perhaps an octet changed, perhaps the end cut off.
 pub fn stream(alloc: Global, chance: &mut Chance) -> Result<Vec<u8>, AllocError> {
     let mut octets = Vec::new(alloc);
-    put_start(chance, &mut octets)?;
-    let start = octets.len();
-    for _ in 0..chance.below(12) {
-        put_frame(chance, &mut octets)?;
-    }
+    let start = put_all(chance, &mut octets)?;
     if chance.below(3) == 0 {
         change(chance, &mut octets, start);
     }
@@ -50,6 +46,16 @@ pub fn stream(alloc: Global, chance: &mut Chance) -> Result<Vec<u8>, AllocError>
         octets.truncate(len);
     }
     Ok(octets)
+}
+
+/// Puts what stands before the frames, and frames, and says where these begin.
+fn put_all(chance: &mut Chance, octets: &mut Vec<u8>) -> Result<usize, AllocError> {
+    put_start(chance, octets)?;
+    let start = octets.len();
+    for _ in 0..chance.below(12) {
+        put_frame(chance, octets)?;
+    }
+    Ok(start)
 }
 
 /// Puts a header, perhaps an exchange, and a header again.

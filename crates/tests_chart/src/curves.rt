@@ -14,16 +14,26 @@ const MOST_RECORDS: u64 = 9223372036854775807;
 pub fn tell_curves(rt: &HostRuntime) -> io::Result<()> {
     let cases = fs::read_to_string(rt, "curves.cases")?;
     for line in cases.lines() {
-        let words: Vec<&str> = line.split_whitespace().collect(rt.alloc())?;
-        match words.as_slice() {
-            [capture, connection, name] => {
-                println!(rt; "== {line}")?;
-                tell_curve(rt, line, capture, picked(connection, name))?;
-            }
-            _ => rt.println(line)?,
-        }
+        tell_line(rt, line)?;
     }
     Ok(())
+}
+
+/// Draws the link that a line picks, or tells the line.
+fn tell_line(rt: &HostRuntime, line: &str) -> io::Result<()> {
+    let words: Vec<&str> = line.split_whitespace().collect(rt.alloc())?;
+    tell_words(rt, line, words.as_slice())
+}
+
+/// The same of a line that has these words.
+fn tell_words(rt: &HostRuntime, line: &str, words: &[&str]) -> io::Result<()> {
+    match words {
+        [capture, connection, name] => {
+            println!(rt; "== {line}")?;
+            tell_curve(rt, line, capture, picked(connection, name))
+        }
+        _ => rt.println(line),
+    }
 }
 
 /// The links of this connection and name, where `-` is any.
@@ -37,12 +47,29 @@ fn picked<'a>(connection: &str, name: &'a str) -> Pick<'a> {
 /// Tells where the link stands that is picked of a capture, and draws what stood behind each record of it.
 fn tell_curve(rt: &HostRuntime, title: &str, capture: &str, pick: Pick<'_>) -> io::Result<()> {
     let octets = fs::read(rt, format!(in rt.alloc(); "{capture}.cap")?)?;
-    let Ok(capture) = read_capture(rt.alloc(), octets.as_slice()) else {
-        return rt.println("no capture");
-    };
-    let Some(levels) = levels_of(rt.alloc(), pick, &capture)? else {
+    tell_octets(rt, title, octets.as_slice(), pick)
+}
+
+/// The same of the octets of a capture.
+fn tell_octets(rt: &HostRuntime, title: &str, octets: &[u8], pick: Pick<'_>) -> io::Result<()> {
+    match read_capture(rt.alloc(), octets) {
+        Ok(capture) => tell_link(rt, title, &capture, &mut Levels::new(rt.alloc(), pick)),
+        Err(_) => rt.println("no capture"),
+    }
+}
+
+/// The same of a capture, with levels of no records yet.
+///
+/// It borrows them: owned here, their drop would be proved on each way out.
+fn tell_link(
+    rt: &HostRuntime,
+    title: &str,
+    capture: &Capture,
+    levels: &mut Levels<'_>,
+) -> io::Result<()> {
+    if !take_levels(rt.alloc(), levels, capture)? {
         return rt.println("no lawful capture");
-    };
+    }
     tell_place(rt, levels.place())?;
     rt.print(draw_levels(rt.alloc(), title, levels.levels())?.as_str())
 }
@@ -57,20 +84,29 @@ fn tell_place(rt: &HostRuntime, place: Option<Place>) -> io::Result<()> {
     }
 }
 
-/// What stood behind each record of a capture, if it is lawful.
-fn levels_of<'p>(
+/// Takes what stood behind each record of a capture, and says whether it is lawful.
+fn take_levels(
     alloc: Global,
-    pick: Pick<'p>,
+    levels: &mut Levels<'_>,
     capture: &Capture,
-) -> Result<Option<Levels<'p>>, AllocError> {
-    let mut ledger = Ledger::new(alloc);
-    let mut levels = Levels::new(alloc, pick);
+) -> Result<bool, AllocError> {
+    take_all(&mut Ledger::new(alloc), levels, capture)
+}
+
+/// The same with a ledger that has taken no record yet.
+///
+/// It borrows that: owned here, its drop would be proved on each way out.
+fn take_all(
+    ledger: &mut Ledger,
+    levels: &mut Levels<'_>,
+    capture: &Capture,
+) -> Result<bool, AllocError> {
     for entry in capture.records() {
-        if !take(&mut ledger, &mut levels, capture.rules(), entry)? {
-            return Ok(None);
+        if !take(ledger, levels, capture.rules(), entry)? {
+            return Ok(false);
         }
     }
-    Ok(Some(levels))
+    Ok(true)
 }
 
 /// Takes a record, and says whether it is lawful.

@@ -6,21 +6,43 @@ use std::{fs, io};
 /// Draws the levels that the lines of `levels.cases` tell.
 pub fn tell_levels(rt: &HostRuntime) -> io::Result<()> {
     let cases = fs::read_to_string(rt, "levels.cases")?;
-    let mut levels = Vec::new(rt.alloc());
+    tell_lines(rt, cases.as_str(), &mut Vec::new(rt.alloc()))
+}
+
+/// The same of lines, with no levels yet.
+///
+/// It borrows these: owned here, their drop would be proved on each way out.
+fn tell_lines(rt: &HostRuntime, cases: &str, levels: &mut Vec<Option<Level>>) -> io::Result<()> {
     for line in cases.lines() {
-        let words: Vec<&str> = line.split_whitespace().collect(rt.alloc())?;
-        match words.as_slice() {
-            [records, "records"] => levels.resize(number(records), None)?,
-            [record, credit, window, waits, drains] => {
-                if let Some(level) = levels.get_mut(number(record)) {
-                    *level = Some(level_of(credit, window, waits, drains));
-                }
-            }
-            _ => rt.println(line)?,
-        }
+        take_line(rt, line, levels)?;
     }
     println!(rt; "== levels")?;
     rt.print(draw_levels(rt.alloc(), "levels", levels.as_slice())?.as_str())
+}
+
+/// Takes what a line tells of levels, or tells the line.
+fn take_line(rt: &HostRuntime, line: &str, levels: &mut Vec<Option<Level>>) -> io::Result<()> {
+    let words: Vec<&str> = line.split_whitespace().collect(rt.alloc())?;
+    take_words(rt, line, words.as_slice(), levels)
+}
+
+/// The same of a line that has these words.
+fn take_words(
+    rt: &HostRuntime,
+    line: &str,
+    words: &[&str],
+    levels: &mut Vec<Option<Level>>,
+) -> io::Result<()> {
+    match words {
+        [records, "records"] => levels.resize(number(records), None)?,
+        [record, credit, window, waits, drains] => {
+            if let Some(level) = levels.get_mut(number(record)) {
+                *level = Some(level_of(credit, window, waits, drains));
+            }
+        }
+        _ => rt.println(line)?,
+    }
+    Ok(())
 }
 
 fn level_of(credit: &str, window: &str, waits: &str, drains: &str) -> Level {

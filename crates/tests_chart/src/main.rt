@@ -19,31 +19,63 @@ mod texts;
 use captures::chart_of;
 use curves::tell_curves;
 use levels::tell_levels;
+use std::alloc::AllocError;
 use std::{fs, io};
 use texts::tell_texts;
 
 fn main(rt: HostRuntime) -> io::Result<()> {
-    for name in names_of_captures(&rt)?.iter() {
-        let octets = fs::read(&rt, format!(in rt.alloc(); "{name}.cap")?)?;
-        println!(rt; "== {name}")?;
-        match chart_of(rt.alloc(), name, octets.as_slice())? {
-            Some(document) => rt.print(document.as_str())?,
-            None => rt.println("no capture, or too many records")?,
-        }
-    }
+    tell_captures(&rt)?;
     tell_texts(&rt)?;
     tell_curves(&rt)?;
     tell_levels(&rt)
 }
 
+/// Draws the captures of the folder that the program runs in, in the order of their names.
+fn tell_captures(rt: &HostRuntime) -> io::Result<()> {
+    for name in names_of_captures(rt)?.iter() {
+        tell_capture(rt, name)?;
+    }
+    Ok(())
+}
+
+/// Draws the capture of this name.
+fn tell_capture(rt: &HostRuntime, name: &str) -> io::Result<()> {
+    let octets = fs::read(rt, format!(in rt.alloc(); "{name}.cap")?)?;
+    tell_chart(rt, name, octets.as_slice())
+}
+
+/// The same of its octets.
+fn tell_chart(rt: &HostRuntime, name: &str, octets: &[u8]) -> io::Result<()> {
+    println!(rt; "== {name}")?;
+    match chart_of(rt.alloc(), name, octets)? {
+        Some(document) => rt.print(document.as_str()),
+        None => rt.println("no capture, or too many records"),
+    }
+}
+
 /// The names of the captures in the folder that the program runs in, in order.
 fn names_of_captures(rt: &HostRuntime) -> io::Result<Vec<String>> {
     let mut names = Vec::new(rt.alloc());
+    put_names(rt, &mut names)?;
+    Ok(names)
+}
+
+/// The same, put into a list without names.
+///
+/// It borrows the list: owned here, its drop would be proved on each way out.
+fn put_names(rt: &HostRuntime, names: &mut Vec<String>) -> io::Result<()> {
     for entry in fs::read_dir(rt, ".")? {
-        if let Some(name) = entry?.file_name().strip_suffix(".cap") {
-            names.push(String::from_str(rt.alloc(), name)?)?;
-        }
+        put_name(names, entry?.file_name())?;
     }
     names.sort()?;
-    Ok(names)
+    Ok(())
+}
+
+/// Puts the name of a capture, where the file is one.
+fn put_name(names: &mut Vec<String>, file: &str) -> Result<(), AllocError> {
+    if let Some(name) = file.strip_suffix(".cap") {
+        let name = String::from_str(*names.allocator(), name)?;
+        names.push(name)?;
+    }
+    Ok(())
 }

@@ -21,14 +21,25 @@ const TEXTS: [&str; 9] = [
 pub fn tell_texts(rt: &HostRuntime) -> io::Result<()> {
     for text in TEXTS {
         println!(rt; "== text")?;
-        rt.print(document_of(rt.alloc(), text)?.as_str())?;
+        tell_document(rt, text)?;
     }
-    let mut long = String::new(rt.alloc());
+    let long = long_text(rt.alloc())?;
+    println!(rt; "== {} octets", long.len())?;
+    tell_document(rt, long.as_str())
+}
+
+/// The text of 255 octets.
+fn long_text(alloc: Global) -> Result<String, AllocError> {
+    let mut long = String::new(alloc);
     for _ in 0..51 {
         long.push_str("<\">&'")?;
     }
-    println!(rt; "== {} octets", long.len())?;
-    rt.print(document_of(rt.alloc(), long.as_str())?.as_str())
+    Ok(long)
+}
+
+/// Draws a text.
+fn tell_document(rt: &HostRuntime, text: &str) -> io::Result<()> {
+    rt.print(document_of(rt.alloc(), text)?.as_str())
 }
 
 /// A document with a text in a title and in an attribute.

@@ -29,23 +29,60 @@ where
     let addr = listener.local_addr()?;
     let workers = subject.number().max(1) as usize;
     let mut slots = slots_at(rt, rt.alloc(), listener, workers, subject.count())?;
+    play_steps(rt, addr, slots.as_mut_slice(), steps)
+}
+
+/// Does what the steps say with gates, and clients that connect to this address.
+///
+/// It borrows the gates, and the function below the clients: owned together, their drops would be proved on each way out.
+fn play_steps<R, G: Gate>(
+    rt: &R,
+    addr: SocketAddr,
+    gates: &mut [G],
+    steps: &[&str],
+) -> io::Result<()>
+where
+    R: Net<Stream = TcpStream> + Print + AllocGlobal,
+{
     let mut clients = Vec::new(rt.alloc());
+    play_beside(rt, addr, gates, &mut clients, steps)
+}
+
+/// The same with these clients, and more.
+fn play_beside<R, G: Gate>(
+    rt: &R,
+    addr: SocketAddr,
+    gates: &mut [G],
+    clients: &mut Vec<TcpStream>,
+    steps: &[&str],
+) -> io::Result<()>
+where
+    R: Net<Stream = TcpStream> + Print + AllocGlobal,
+{
     for line in steps {
-        let step = Step::of(line);
-        let told = match step.verb {
-            "connect" | "leave" | "say" | "pour" | "hear" => {
-                client_told(rt, addr, &mut clients, &step)?
-            }
-            "each" => each_told(rt.alloc(), slots.as_mut_slice())?,
-            "turns" => turns_told(rt.alloc(), slots.as_mut_slice(), step.number())?,
-            _ => match slots.get_mut(step.number() as usize) {
-                Some(slot) => gate_told(rt.alloc(), slot, &step)?,
-                None => "no such gate".to_string(rt.alloc())?,
-            },
-        };
+        let told = step_told(rt, addr, gates, clients, &Step::of(line))?;
         tell(rt, line, told.as_str())?;
     }
     Ok(())
+}
+
+/// What comes of a step.
+fn step_told<R: Net<Stream = TcpStream> + AllocGlobal, G: Gate>(
+    rt: &R,
+    addr: SocketAddr,
+    gates: &mut [G],
+    clients: &mut Vec<TcpStream>,
+    step: &Step<'_>,
+) -> io::Result<String> {
+    match step.verb {
+        "connect" | "leave" | "say" | "pour" | "hear" => client_told(rt, addr, clients, step),
+        "each" => each_told(rt.alloc(), gates),
+        "turns" => turns_told(rt.alloc(), gates, step.number()),
+        _ => match gates.get_mut(step.number() as usize) {
+            Some(gate) => Ok(gate_told(rt.alloc(), gate, step)?),
+            None => Ok("no such gate".to_string(rt.alloc())?),
+        },
+    }
 }
 
 /// What comes of a step of a client: it connects or leaves, says a text or so many octets, or hears so many.
@@ -62,18 +99,24 @@ fn client_told<R: Net<Stream = TcpStream> + AllocGlobal>(
     } else if let Some(client) = clients.get_mut(step.number() as usize) {
         match step.verb {
             "say" => client.write_all(step.rest.as_bytes())?,
-            "pour" => {
-                let octets = vec![in rt.alloc(); b'7'; step.count() as usize]?;
-                client.write_all(octets.as_slice())?;
-            }
-            _ => {
-                let mut octets = vec![in rt.alloc(); 0u8; step.count() as usize]?;
-                client.read_exact(octets.as_mut_slice())?;
-                return Ok(heard_told(rt.alloc(), octets.as_slice())?);
-            }
+            "pour" => pour(rt.alloc(), client, step.count())?,
+            _ => return hear(rt.alloc(), client, step.count()),
         }
     }
     Ok("done".to_string(rt.alloc())?)
+}
+
+/// Writes so many octets.
+fn pour<W: Write>(alloc: Global, stream: &mut W, count: u32) -> io::Result<()> {
+    let octets = vec![in alloc; b'7'; count as usize]?;
+    stream.write_all(octets.as_slice())
+}
+
+/// What so many octets are that are read.
+fn hear<S: Read>(alloc: Global, stream: &mut S, count: u32) -> io::Result<String> {
+    let mut octets = vec![in alloc; 0u8; count as usize]?;
+    stream.read_exact(octets.as_mut_slice())?;
+    Ok(heard_told(alloc, octets.as_slice())?)
 }
 
 /// The text of these octets, or how many they are.

@@ -11,15 +11,28 @@ use std::io;
 /// connection. A step `asked` has none come.
 pub fn play_lives<R: Print + AllocGlobal>(rt: &R, steps: &[&str]) -> io::Result<()> {
     let mut lives = Lives::new(rt.alloc());
+    tell_lives(rt, &mut lives, steps)
+}
+
+/// The same.
+///
+/// It borrows the lives: owned here, their drop would be proved on each way out.
+fn tell_lives<R: Print + AllocGlobal>(rt: &R, lives: &mut Lives, steps: &[&str]) -> io::Result<()> {
     for line in steps {
         let step = Step::of(line);
-        let octets = step.octets(rt.alloc());
-        if let Some(item) = item_of(&step, octets.as_slice()) {
-            lives.come(item)?;
-        }
-        println!(rt; "{line}: {:?}", answers(&lives, step.number()))?;
+        come(rt.alloc(), lives, &step)?;
+        println!(rt; "{line}: {:?}", answers(lives, step.number()))?;
     }
     Ok(())
+}
+
+/// Has the item of a step come, if it has one.
+fn come(alloc: Global, lives: &mut Lives, step: &Step<'_>) -> Result<(), AllocError> {
+    let octets = step.octets(alloc);
+    match item_of(step, octets.as_slice()) {
+        Some(item) => lives.come(item),
+        None => Ok(()),
+    }
 }
 
 /// The item of a step.
@@ -47,22 +60,40 @@ fn answers(lives: &Lives, connection: u32) -> [bool; 4] {
 /// others. Prints for each step `next CONNECTION NUMBER` the first frame of the connection from that record on.
 pub fn play_outs<R: Print + AllocGlobal>(rt: &R, steps: &[&str]) -> io::Result<()> {
     let alloc = rt.alloc();
-    let mut outs = Outs::new(alloc);
-    let mut records = Vec::new(alloc);
-    let mut more = Vec::new(alloc);
-    for line in steps {
-        let step = Step::of(line);
-        match step.verb {
-            "opened" | "out" => more.push(record_of(alloc, &step)?)?,
-            "known" => outs.extend(records.len() as u64, &more)?,
-            "there" => records.append(&mut more)?,
-            _ => {
-                let next = outs.next(&records, step.number(), u64::from(step.count()));
-                println!(rt; "{line}: {next:?}")?;
+    let mut written = Written {
+        outs: Outs::new(alloc),
+        records: Vec::new(alloc),
+        more: Vec::new(alloc),
+    };
+    written.play(rt, steps)
+}
+
+/// Records that stand there, more that came, and where the frames that are known stand.
+#[derive(Drop)]
+struct Written {
+    outs: Outs,
+    records: Vec<Record>,
+    more: Vec<Record>,
+}
+
+impl Written {
+    /// Plays the steps. It is lent: in a function that owns it its drop would be proved on each way out.
+    fn play<R: Print + AllocGlobal>(&mut self, rt: &R, steps: &[&str]) -> io::Result<()> {
+        for line in steps {
+            let step = Step::of(line);
+            match step.verb {
+                "opened" | "out" => self.more.push(record_of(rt.alloc(), &step)?)?,
+                "known" => self.outs.extend(self.records.len() as u64, &self.more)?,
+                "there" => self.records.append(&mut self.more)?,
+                _ => {
+                    let from = u64::from(step.count());
+                    let next = self.outs.next(&self.records, step.number(), from);
+                    println!(rt; "{line}: {next:?}")?;
+                }
             }
         }
+        Ok(())
     }
-    Ok(())
 }
 
 /// The most octets of a frame here.

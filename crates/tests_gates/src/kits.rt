@@ -1,7 +1,7 @@
 //! Choices by chance, the frames of clients, and their streams read at once.
 
 use crate::step::{Step, octets_of, tell};
-use kit_clients::{Chance, Fields, framed, read};
+use kit_clients::{Chance, Fields, Reading, framed, read};
 use std::alloc::{AllocError, AllocGlobal, Global};
 use std::io;
 
@@ -38,26 +38,50 @@ fn chosen(alloc: Global, chance: &mut Chance, step: &Step<'_>) -> Result<String,
 /// BODY` those of a frame.
 pub fn play_fields<R: Print + AllocGlobal>(rt: &R, steps: &[&str]) -> io::Result<()> {
     let mut fields = Fields::new(rt.alloc());
+    tell_fields(rt, &mut fields, steps)
+}
+
+/// The same.
+///
+/// It borrows the fields: owned here, their drop would be proved on each way out.
+fn tell_fields<R: Print + AllocGlobal>(
+    rt: &R,
+    fields: &mut Fields,
+    steps: &[&str],
+) -> io::Result<()> {
     for line in steps {
         let step = Step::of(line);
-        let octets = match step.verb {
-            "described" => fields.described(octet_of(step.first))?,
-            "framed" => {
-                let channel = step.first.parse::<u16>().unwrap_or(0);
-                framed(rt.alloc(), channel, step.octets(rt.alloc()).as_slice())?
-            }
-            _ => {
-                put(rt.alloc(), &mut fields, &step)?;
-                continue;
-            }
-        };
-        tell(
-            rt,
-            line,
-            hex::encode(rt.alloc(), octets.as_slice())?.as_str(),
-        )?;
+        match step.verb {
+            "described" => tell_described(rt, line, fields, octet_of(step.first))?,
+            "framed" => tell_framed(rt, line, &step)?,
+            _ => put(rt.alloc(), fields, &step)?,
+        }
     }
     Ok(())
+}
+
+/// Prints the octets of all fields, as those of a value with this code.
+fn tell_described<R: Print + AllocGlobal>(
+    rt: &R,
+    line: &str,
+    fields: &Fields,
+    code: u8,
+) -> io::Result<()> {
+    let octets = fields.described(code)?;
+    tell_octets(rt, line, octets.as_slice())
+}
+
+/// Prints the octets of the frame of a step.
+fn tell_framed<R: Print + AllocGlobal>(rt: &R, line: &str, step: &Step<'_>) -> io::Result<()> {
+    let channel = step.first.parse::<u16>().unwrap_or(0);
+    let octets = framed(rt.alloc(), channel, step.octets(rt.alloc()).as_slice())?;
+    tell_octets(rt, line, octets.as_slice())
+}
+
+/// Prints that a step came to these octets.
+fn tell_octets<R: Print + AllocGlobal>(rt: &R, line: &str, octets: &[u8]) -> io::Result<()> {
+    let digits = hex::encode(rt.alloc(), octets)?;
+    tell(rt, line, digits.as_str())
 }
 
 /// Puts the field of a step.
@@ -80,16 +104,29 @@ fn octet_of(digits: &str) -> u8 {
 
 /// Prints what the octets of each step are as a client's stream, read at once.
 pub fn play_streams<R: Print + AllocGlobal>(rt: &R, steps: &[&str]) -> io::Result<()> {
-    let alloc = rt.alloc();
     for line in steps {
-        let stream = octets_of(alloc, line);
-        let reading = read(alloc, stream.as_slice())?;
-        println!(rt; "open {}, fault {:?}", reading.is_open, reading.fault)?;
-        let answers = hex::encode(alloc, reading.answers.as_slice())?;
-        println!(rt; "answers {answers}")?;
-        tell_frames(rt, reading.frames.as_slice())?;
+        let stream = octets_of(rt.alloc(), line);
+        tell_stream(rt, stream.as_slice())?;
     }
     Ok(())
+}
+
+/// Prints what the octets of a stream are.
+fn tell_stream<R: Print + AllocGlobal>(rt: &R, stream: &[u8]) -> io::Result<()> {
+    let reading = read(rt.alloc(), stream)?;
+    tell_reading(rt, &reading)
+}
+
+/// Prints what was read.
+///
+/// It borrows the reading: owned here, its drop would be proved on each way out.
+fn tell_reading<R: Print + AllocGlobal>(rt: &R, reading: &Reading<'_>) -> io::Result<()> {
+    println!(rt; "open {}, fault {:?}", reading.is_open, reading.fault)?;
+    println!(rt;
+        "answers {}",
+        hex::encode(rt.alloc(), reading.answers.as_slice())?
+    )?;
+    tell_frames(rt, reading.frames.as_slice())
 }
 
 /// Prints the octets of each frame.

@@ -27,22 +27,35 @@ use step::Step;
 
 fn main(rt: HostRuntime) -> io::Result<()> {
     let text = io::read_to_string(rt.alloc(), rt.stdin())?;
-    for script in text.as_str().split("\n\n") {
+    play_all(&rt, text.as_str())
+}
+
+/// Plays the scripts of a text.
+///
+/// It borrows the text, as the function below borrows the lines of a script: owned together, their drops would be proved on each
+/// way out.
+fn play_all<R>(rt: &R, text: &str) -> io::Result<()>
+where
+    R: Threads + Wait + Net<Stream = TcpStream> + Clock + Sync + Print + AllocGlobal,
+{
+    for script in text.split("\n\n") {
         let lines = script.lines().filter(|line| !line.starts_with('#'));
         let lines: Vec<&str> = lines.collect(rt.alloc())?;
-        if let Some((heading, steps)) = lines.split_first() {
-            println!(rt; "== {heading}")?;
-            play(&rt, &Step::of(heading), steps)?;
-        }
+        play(rt, lines.as_slice())?;
     }
     Ok(())
 }
 
-/// Plays a script of this subject.
-fn play<R>(rt: &R, subject: &Step<'_>, steps: &[&str]) -> io::Result<()>
+/// Plays a script of these lines, if there are any.
+fn play<R>(rt: &R, lines: &[&str]) -> io::Result<()>
 where
     R: Threads + Wait + Net<Stream = TcpStream> + Clock + Sync + Print + AllocGlobal,
 {
+    let Some((heading, steps)) = lines.split_first() else {
+        return Ok(());
+    };
+    println!(rt; "== {heading}")?;
+    let subject = Step::of(heading);
     match subject.verb {
         "lives" => inputs::play_lives(rt, steps),
         "outs" => inputs::play_outs(rt, steps),
@@ -50,7 +63,7 @@ where
         "fields" => kits::play_fields(rt, steps),
         "streams" => kits::play_streams(rt, steps),
         "exchange" => seats::play(rt, steps),
-        "gates" => gates::play(rt, subject, steps),
+        "gates" => gates::play(rt, &subject, steps),
         _ => println!(rt; "there is no such subject"),
     }
 }
