@@ -3,11 +3,10 @@
 //! The auditor has to accept the capture, and a plain scan of its records has to find that each delivery which begins carries the
 //! earliest one that waits, and goes to the consumer that is to get it. `README.md` says what the clients do.
 
-use crate::cores::{LIMIT, done, rule};
+use crate::cores::{LIMIT, audited, core_of_rule, done};
 use crate::{WORDS_FAULT, WRONG};
-use address_table::Rules;
-use audit_core::{Verdict, audit_bytes};
-use capture_form::{Capture, Distribution, write_capture};
+use audit_core::Verdict;
+use capture_form::{Capture, Distribution};
 use kit_talks::{CROWDED, Crowd, Deed, scan_picks};
 use route_core::Core;
 use std::alloc::{AllocError, Global};
@@ -23,26 +22,32 @@ pub(crate) fn serve_crowd(rt: &HostRuntime, numbers: &[u32]) -> io::Result<u8> {
     if *size == 0 {
         return Ok(WORDS_FAULT);
     }
-    let mut rules = Vec::new(rt.alloc());
-    rules.push(rule(rt.alloc(), Distribution::Balanced, CROWDED)?)?;
-    let Ok(rules) = Rules::new(rules) else {
-        return Err(io::Error::from(ErrorKind::InvalidInput));
-    };
+    let mut core = core_of_rule(rt.alloc(), Distribution::Balanced, CROWDED, LIMIT)?;
     let mut crowd = Crowd::new(rt.alloc(), u64::from(*seed), *size);
-    let core = Core::new(rt.alloc(), &rules, LIMIT)?;
-    let (served, capture) = run(rt.alloc(), core, &mut crowd, *deliveries);
-    served?;
+    tell_crowd(rt, &mut core, &mut crowd, *size, *deliveries)
+}
+
+/// Serves a crowd of this size by a core, and prints the same.
+///
+/// It borrows both: owned here, their drops would be proved on each way out.
+fn tell_crowd(
+    rt: &HostRuntime,
+    core: &mut Core,
+    crowd: &mut Crowd,
+    size: u32,
+    deliveries: u32,
+) -> io::Result<u8> {
+    serve(rt.alloc(), core, crowd, deliveries)?;
     println!(rt;
         "crowd of {size}: deliveries={deliveries} {}",
         crowd.counts()
     )?;
-    judged(rt, &capture, *deliveries)
+    judged(rt, core.capture(), deliveries)
 }
 
 /// Prints what is said of a capture, and gives the status.
 fn judged(rt: &HostRuntime, capture: &Capture, deliveries: u32) -> io::Result<u8> {
-    let text = write_capture(rt.alloc(), capture)?;
-    let verdict = audit_bytes(rt.alloc(), text.as_slice());
+    let verdict = audited(rt.alloc(), capture)?;
     let picks = scan_picks(rt.alloc(), capture)?;
     println!(rt; "the auditor: {verdict}")?;
     println!(rt; "the plain scan: {picks}")?;
@@ -54,22 +59,22 @@ fn judged(rt: &HostRuntime, capture: &Capture, deliveries: u32) -> io::Result<u8
     })
 }
 
-/// Lets the crowd do all that it does, and gives the capture.
-fn run(alloc: Global, core: Core, crowd: &mut Crowd, deliveries: u32) -> (io::Result<()>, Capture) {
-    let mut core = core;
-    let served = serve(alloc, &mut core, crowd, deliveries);
-    (served, core.into_capture())
-}
-
 /// Lets the consumers come, so many deliveries be sent, and all that wait go.
 fn serve(alloc: Global, core: &mut Core, crowd: &mut Crowd, deliveries: u32) -> io::Result<()> {
     let deeds = crowd.arrivals(alloc)?;
-    take(core, crowd, deeds.as_slice())?;
+    take_all(core, crowd, deeds)?;
     for number in 0..deliveries {
         let deeds = crowd.round(alloc, number)?;
-        take(core, crowd, deeds.as_slice())?;
+        take_all(core, crowd, deeds)?;
     }
     let deeds = crowd.last_credits(alloc, deliveries)?;
+    take_all(core, crowd, deeds)
+}
+
+/// The core takes what the clients do, which is let go then.
+///
+/// It takes the deeds themselves: owned in `serve`, their drop would be proved on each way out of it.
+fn take_all(core: &mut Core, crowd: &mut Crowd, deeds: Vec<Deed>) -> io::Result<()> {
     take(core, crowd, deeds.as_slice())
 }
 

@@ -20,10 +20,10 @@ mod talks;
 
 ghost use Rattle.std.specs.Prelude.{◌<◌};
 
-use crate::cores::{no_rules, text_in_form};
+use crate::cores::{audited, no_rules, text_in_form};
 use crate::{WORDS_FAULT, WRONG};
-use audit_core::{Verdict, audit_bytes};
-use capture_form::{Capture, read_capture, write_capture};
+use audit_core::Verdict;
+use capture_form::{Capture, read_capture};
 use exchange::exchanged;
 use kit_talks::{StreamCounts, are_served};
 use running::{Run, run_of_seed};
@@ -48,9 +48,14 @@ pub(crate) fn exchange_all(rt: &HostRuntime, numbers: &[u32]) -> io::Result<u8> 
 /// Plays the exchange in pieces of each length, and answers whether it is the worked one each time.
 fn play(rt: &HostRuntime) -> io::Result<bool> {
     let worked = fs::read(rt, "replayed/two_clients.cap")?;
+    are_worked(rt, worked.as_slice())
+}
+
+/// The same, where these are the octets of the worked one.
+fn are_worked(rt: &HostRuntime, worked: &[u8]) -> io::Result<bool> {
     let mut is_same = true;
     for most in [1, 7, 4096] {
-        is_same = is_worked(rt, most, worked.as_slice())? && is_same;
+        is_same = is_worked(rt, most, worked)? && is_same;
     }
     Ok(is_same)
 }
@@ -59,18 +64,26 @@ fn play(rt: &HostRuntime) -> io::Result<bool> {
 fn is_worked(rt: &HostRuntime, most: usize, worked: &[u8]) -> io::Result<bool>
     requires { 0 < most }
 {
-    let Some(capture) = exchanged(rt.alloc(), most)? else {
-        println!(rt; "pieces of {most}: a client did not come to its end")?;
-        return Ok(false);
-    };
-    let text = write_capture(rt.alloc(), &capture)?;
-    let is_same = is_made(rt.alloc(), &capture, worked)?;
+    match exchanged(rt.alloc(), most)? {
+        Some(capture) => tell(rt, most, &capture, worked),
+        None => {
+            println!(rt; "pieces of {most}: a client did not come to its end")?;
+            Ok(false)
+        }
+    }
+}
+
+/// Prints what is said of the capture of the exchange in pieces of this length, and answers whether it is the worked one.
+///
+/// It borrows the capture: owned here, its drop would be proved on each way out.
+fn tell(rt: &HostRuntime, most: usize, capture: &Capture, worked: &[u8]) -> io::Result<bool> {
+    let is_same = is_made(rt.alloc(), capture, worked)?;
     let name = if is_same {
         "the worked capture"
     } else {
         "another capture"
     };
-    match audit_bytes(rt.alloc(), text.as_slice()) {
+    match audited(rt.alloc(), capture)? {
         Verdict::Accepted(tally) => println!(rt;
             "pieces of {most}: {name}, accepted records={} deliveries={} outcomes={}",
             tally.records, tally.deliveries, tally.outcomes
@@ -82,10 +95,20 @@ fn is_worked(rt: &HostRuntime, most: usize, worked: &[u8]) -> io::Result<bool>
 
 /// Whether the worked capture is what the core made, without rules.
 fn is_made(alloc: Global, made: &Capture, worked: &[u8]) -> Result<bool, AllocError> {
-    let Ok(known) = read_capture(alloc, worked) else {
-        return Ok(false);
-    };
-    let text = text_in_form(alloc, &no_rules(alloc)?, &known, made)?;
+    match read_capture(alloc, worked) {
+        Ok(known) => is_known(alloc, made, &known, worked),
+        Err(_) => Ok(false),
+    }
+}
+
+/// Whether this known capture is, whose text this is.
+fn is_known(
+    alloc: Global,
+    made: &Capture,
+    known: &Capture,
+    worked: &[u8],
+) -> Result<bool, AllocError> {
+    let text = text_in_form(alloc, &no_rules(alloc)?, known, made)?;
     Ok(text.is_some_and(|text| text.as_slice() == worked))
 }
 
@@ -119,9 +142,7 @@ fn judged(rt: &HostRuntime, runs: u32, seed: u32) -> io::Result<u32> {
     let (mut counts, mut wrong): (StreamCounts, u32) = (StreamCounts::NOTHING, 0);
     for run in 0..runs {
         let seed = seed.wrapping_add(run);
-        let run = run_of_seed(rt.alloc(), u64::from(seed))?;
-        counts.count(&run.capture, run.served.as_slice());
-        if !is_right(rt.alloc(), &run)? {
+        if !is_right(rt.alloc(), seed, &mut counts)? {
             wrong = wrong.wrapping_add(1);
             println!(rt; "seed {seed} is wrong")?;
         }
@@ -130,10 +151,16 @@ fn judged(rt: &HostRuntime, runs: u32, seed: u32) -> io::Result<u32> {
     Ok(wrong)
 }
 
+/// Makes the run of a seed, counts what came of it, and answers whether it is right.
+fn is_right(alloc: Global, seed: u32, counts: &mut StreamCounts) -> Result<bool, AllocError> {
+    let run = run_of_seed(alloc, u64::from(seed))?;
+    counts.count(&run.capture, run.served.as_slice());
+    is_served(alloc, &run)
+}
+
 /// Whether the auditor accepts the capture of a run, and each client was served as its octets say.
-fn is_right(alloc: Global, run: &Run) -> Result<bool, AllocError> {
-    let text = write_capture(alloc, &run.capture)?;
-    let Verdict::Accepted(_) = audit_bytes(alloc, text.as_slice()) else {
+fn is_served(alloc: Global, run: &Run) -> Result<bool, AllocError> {
+    let Verdict::Accepted(_) = audited(alloc, &run.capture)? else {
         return Ok(false);
     };
     are_served(alloc, &run.capture, run.limit, run.served.as_slice())

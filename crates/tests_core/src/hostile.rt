@@ -13,7 +13,8 @@ use crate::{WORDS_FAULT, WRONG};
 use capture_form::write_capture;
 use judging::{is_diligent, is_lawful};
 use kit_talks::FrameCounts;
-use running::run_of_seed;
+use running::{Run, run_of_seed};
+use std::alloc::{AllocError, Global};
 use std::io;
 use std::io::Write;
 
@@ -41,7 +42,7 @@ pub(crate) fn drive_all(rt: &HostRuntime, numbers: &[u32]) -> io::Result<u8> {
     let mut wrong: u32 = 0;
     for run in 0..*runs {
         let seed = seed.wrapping_add(run);
-        if !summary.is_right(rt, seed, *items, *most as usize)? {
+        if !summary.is_right(rt.alloc(), seed, *items, *most as usize)? {
             wrong = wrong.wrapping_add(1);
             println!(rt; "seed {seed} is wrong")?;
         }
@@ -56,32 +57,48 @@ pub(crate) fn show(rt: &HostRuntime, numbers: &[u32]) -> io::Result<u8> {
     let [seed, items] = numbers else {
         return Ok(WORDS_FAULT);
     };
-    let Some((_, capture)) = run_of_seed(rt.alloc(), u64::from(*seed), *items)? else {
-        return Ok(WRONG);
-    };
-    let text = write_capture(rt.alloc(), &capture)?;
+    match run_of_seed(rt.alloc(), u64::from(*seed), *items)? {
+        Some(mut run) => write_run(rt, &mut run),
+        None => Ok(WRONG),
+    }
+}
+
+/// Makes a run, and writes its capture.
+///
+/// It borrows the run: owned here, its drop would be proved on each way out.
+fn write_run(rt: &HostRuntime, run: &mut Run) -> io::Result<u8> {
+    run.drive()?;
+    let text = write_capture(rt.alloc(), run.capture())?;
     rt.stdout().write_all(text.as_slice())?;
     Ok(0)
 }
 
 impl Summary {
-    /// Makes a run, counts what came of it, and answers whether it is right.
+    /// Makes the run of a seed, counts what came of it, and answers whether it is right.
     fn is_right(
         &mut self,
-        rt: &HostRuntime,
+        alloc: Global,
         seed: u32,
         items: u32,
         most: usize,
-    ) -> io::Result<bool> {
-        let Some((ran, capture)) = run_of_seed(rt.alloc(), u64::from(seed), items)? else {
-            return Ok(false);
-        };
+    ) -> Result<bool, AllocError> {
+        match run_of_seed(alloc, u64::from(seed), items)? {
+            Some(mut run) => self.judge(alloc, &mut run, most),
+            None => Ok(false),
+        }
+    }
+
+    /// The same of this run.
+    ///
+    /// It borrows the run: owned here, its drop would be proved on each way out.
+    fn judge(&mut self, alloc: Global, run: &mut Run, most: usize) -> Result<bool, AllocError> {
+        run.drive()?;
         self.runs = self.runs.wrapping_add(1);
-        self.taken = self.taken.wrapping_add(ran.taken);
-        self.refused = self.refused.wrapping_add(ran.refused);
-        self.counts.count(&capture);
-        let is_lawful = is_lawful(rt.alloc(), &capture, most)?;
-        Ok(is_lawful && ran.is_right && is_diligent(&capture, &ran.known, most))
+        self.taken = self.taken.wrapping_add(run.taken);
+        self.refused = self.refused.wrapping_add(run.refused);
+        self.counts.count(run.capture());
+        let is_lawful = is_lawful(alloc, run.capture(), most)?;
+        Ok(is_lawful && run.is_right && is_diligent(run.capture(), run.known(), most))
     }
 
     /// Prints the numbers.

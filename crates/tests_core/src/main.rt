@@ -40,10 +40,17 @@ fn main(rt: HostRuntime) -> ExitCode {
     })
 }
 
-/// Does what the words ask for, and answers the status.
+/// Does what the words of the command ask for, and answers the status.
 fn done(rt: &HostRuntime) -> io::Result<u8> {
     let words: Vec<String> = env::args(rt)?.skip(1).collect(rt.alloc())?;
-    let Some((part, behind)) = words.as_slice().split_first() else {
+    done_by(rt, words.as_slice())
+}
+
+/// Does what words ask for, and answers the status.
+///
+/// It borrows the words: owned here, their drop would be proved on each way out.
+fn done_by(rt: &HostRuntime, words: &[String]) -> io::Result<u8> {
+    let Some((part, behind)) = words.split_first() else {
         return done_all(rt);
     };
     match part.as_str() {

@@ -25,6 +25,7 @@ use std::alloc::{AllocError, Global};
 use std::{fs, io};
 
 /// What came of the inputs of a capture.
+#[derive(Clone, Copy)]
 enum Replayed {
     /// The octets are no capture, or memory was refused while they were read.
     Unread,
@@ -40,27 +41,52 @@ enum Replayed {
     Damaged(usize),
 }
 
+/// What a core answers to items, and to one that may come behind them.
+#[derive(Clone, Copy)]
+struct Answers {
+    ran: Result<(), (usize, StepFault)>,
+    again: Result<(), StepFault>,
+}
+
 /// Runs the inputs of the captures of these names, or of all, and prints what came of them; the status.
 pub(crate) fn replay_all(rt: &HostRuntime, words: &[String]) -> io::Result<u8> {
+    let names = names_in(rt, "replayed", ".cap", words)?;
+    replay_each(rt, names.as_slice())
+}
+
+/// The same of just these names.
+///
+/// It borrows the names: owned here, their drop would be proved on each way out.
+fn replay_each(rt: &HostRuntime, names: &[String]) -> io::Result<u8> {
     let mut status = 0;
-    for name in names_in(rt, "replayed", ".cap", words)?.iter() {
-        let octets = fs::read(rt, format!(in rt.alloc(); "replayed/{name}.cap")?)?;
-        let replayed = replay(rt.alloc(), octets.as_slice())?;
+    for name in names {
+        let replayed = replay_file(rt, name.as_str())?;
         if !is_run(&replayed) {
             status = WRONG;
         }
-        match replayed {
-            Replayed::Unread => println!(rt; "{name}: not read")?,
-            Replayed::Same(verdict) => println!(rt; "{name}: same; {verdict}")?,
-            Replayed::Other(octet, verdict) => {
-                println!(rt; "{name}: other from octet {octet}; {verdict}")?
-            }
-            Replayed::Refused(input) => println!(rt; "{name}: input {input} is refused")?,
-            Replayed::Stopped(input) => println!(rt; "{name}: no memory at input {input}")?,
-            Replayed::Damaged(input) => println!(rt; "{name}: damaged at input {input}")?,
-        }
+        tell(rt, name.as_str(), &replayed)?;
     }
     Ok(status)
+}
+
+/// What comes of the inputs of the capture of this name.
+fn replay_file(rt: &HostRuntime, name: &str) -> io::Result<Replayed> {
+    let octets = fs::read(rt, format!(in rt.alloc(); "replayed/{name}.cap")?)?;
+    Ok(replay(rt.alloc(), octets.as_slice())?)
+}
+
+/// Prints what came of the inputs of the capture of this name.
+fn tell(rt: &HostRuntime, name: &str, replayed: &Replayed) -> io::Result<()> {
+    match replayed {
+        Replayed::Unread => println!(rt; "{name}: not read"),
+        Replayed::Same(verdict) => println!(rt; "{name}: same; {verdict}"),
+        Replayed::Other(octet, verdict) => {
+            println!(rt; "{name}: other from octet {octet}; {verdict}")
+        }
+        Replayed::Refused(input) => println!(rt; "{name}: input {input} is refused"),
+        Replayed::Stopped(input) => println!(rt; "{name}: no memory at input {input}"),
+        Replayed::Damaged(input) => println!(rt; "{name}: damaged at input {input}"),
+    }
 }
 
 /// Whether the core took all inputs, or as many as there was memory for, and the auditor accepts what it made of them, be it
@@ -77,58 +103,93 @@ fn is_run(replayed: &Replayed) -> bool {
 /// What comes of the inputs of a capture's whole records.
 fn replay(alloc: Global, octets: &[u8]) -> Result<Replayed, AllocError> {
     let Reading { capture, fault } = read_whole_records(alloc, octets);
-    if fault.is_some() {
-        return Ok(Replayed::Unread);
+    match fault {
+        Some(_) => Ok(Replayed::Unread),
+        None => replay_capture(alloc, &capture, octets),
     }
-    let Some(rules) = rules_of(alloc, &capture)? else {
-        return Ok(Replayed::Refused(0));
+}
+
+/// The same of a capture that was read whole from these octets.
+///
+/// It borrows the capture, as the functions below borrow what it owns: owned by one, the drops of all would be proved on each of
+/// its ways out.
+fn replay_capture(alloc: Global, capture: &Capture, octets: &[u8]) -> Result<Replayed, AllocError> {
+    match rules_of(alloc, capture)? {
+        Some(rules) => replay_by(alloc, &rules, capture, octets),
+        None => Ok(Replayed::Refused(0)),
+    }
+}
+
+/// The same, by the rules of the capture.
+fn replay_by(
+    alloc: Global,
+    rules: &Rules,
+    capture: &Capture,
+    octets: &[u8],
+) -> Result<Replayed, AllocError> {
+    let mut core = Core::new(alloc, rules, LIMIT)?;
+    replay_over(alloc, &mut core, rules, capture, octets)
+}
+
+/// The same, over a core that has no records.
+fn replay_over(
+    alloc: Global,
+    core: &mut Core,
+    rules: &Rules,
+    capture: &Capture,
+    octets: &[u8],
+) -> Result<Replayed, AllocError> {
+    let Answers { ran, again } = run_inputs(alloc, core, capture)?;
+    let verdict = audit_core_text(alloc, core);
+    let text = text_in_form(alloc, rules, capture, core.capture())?;
+    let made = match &text {
+        Some(text) => text.as_slice(),
+        None => &[],
     };
-    let items = inputs_of(alloc, &capture)?;
-    let core = Core::new(alloc, &rules, LIMIT)?;
-    let (ran, again, verdict, made) = run(alloc, core, items.as_slice());
-    let text = text_in_form(alloc, &rules, &capture, &made)?;
     match ran {
-        Ok(()) => {
-            let text = text.unwrap_or(Vec::new(alloc));
-            Ok(compared(text.as_slice(), octets, verdict?))
-        }
+        Ok(()) => Ok(compared(made, octets, verdict?)),
         Err((place, StepFault::Memory)) => {
-            let inputs = inputs_of(alloc, &made)?;
-            let is_front = text.is_some_and(|text| octets.starts_with(text.as_slice()));
-            let stands = inputs.len() == place && is_front;
-            Ok(if stands && again == Err(StepFault::Failed) {
-                Replayed::Stopped(place)
-            } else {
-                Replayed::Damaged(place)
-            })
+            let is_front = text.is_some() && octets.starts_with(made);
+            let is_kept = is_front && again == Err(StepFault::Failed);
+            stopped(alloc, core.capture(), place, is_kept)
         }
         Err((place, _)) => Ok(Replayed::Refused(place)),
     }
 }
 
-/// Runs the items, and then one that may come: what is said of both, what the auditor says of what the core holds then, and
-/// the capture.
-fn run(
-    alloc: Global,
-    core: Core,
-    items: &[Item<'_>],
-) -> (
-    Result<(), (usize, StepFault)>,
-    Result<(), StepFault>,
-    Result<Verdict, AllocError>,
-    Capture,
-)
+/// Runs the inputs of a capture, and then one that may come where not all were taken.
+fn run_inputs(alloc: Global, core: &mut Core, capture: &Capture) -> Result<Answers, AllocError> {
+    let items = inputs_of(alloc, capture)?;
+    Ok(run(core, items.as_slice()))
+}
+
+/// Runs the items, and then one that may come where not all were taken.
+fn run(core: &mut Core, items: &[Item<'_>]) -> Answers
     requires { AllByRecursion IsShort items.now }
 {
-    let mut core = core;
     let ran = core.run(items);
     let again = if ran.is_ok() {
         Ok(())
     } else {
         core.step(Item::Opened(u32::MAX))
     };
-    let verdict = audit_core_text(alloc, &core);
-    (ran, again, verdict, core.into_capture())
+    Answers { ran, again }
+}
+
+/// What came of it where memory was refused at the input of this place: whether just the inputs before it stand in what was made,
+/// and all else is kept too.
+fn stopped(
+    alloc: Global,
+    made: &Capture,
+    place: usize,
+    is_kept: bool,
+) -> Result<Replayed, AllocError> {
+    let count = inputs_of(alloc, made)?.len();
+    Ok(if is_kept && count == place {
+        Replayed::Stopped(place)
+    } else {
+        Replayed::Damaged(place)
+    })
 }
 
 /// The rules of the capture, unless a router does not take them.

@@ -10,13 +10,11 @@
 mod shape;
 
 use crate::WORDS_FAULT;
-use crate::cores::rule;
-use address_table::Rules;
-use capture_form::{Capture, Distribution};
+use crate::cores::core_of_rule;
+use capture_form::Distribution;
 use route_core::Core;
 use shape::Shape;
 use std::io;
-use std::io::ErrorKind;
 use std::time::{Duration, Instant};
 
 /// As many records as a core may have here.
@@ -102,14 +100,22 @@ fn measured(rt: &HostRuntime, row: Row<'_>, is_timed: bool) -> io::Result<u8> {
     let Some(shape) = Shape::of(row.name) else {
         return Ok(WORDS_FAULT);
     };
-    let mut rules = Vec::new(rt.alloc());
-    rules.push(rule(rt.alloc(), Distribution::Multicast, "news")?)?;
-    let Ok(rules) = Rules::new(rules) else {
-        return Err(io::Error::from(ErrorKind::InvalidInput));
-    };
-    let core = Core::new(rt.alloc(), &rules, LIMIT)?;
-    let (taken, capture) = run(rt, core, shape, row);
-    let (taken, records) = (taken?, capture.records().len());
+    let mut core = core_of_rule(rt.alloc(), Distribution::Multicast, "news", LIMIT)?;
+    tell_routed(rt, &mut core, shape, row, is_timed)
+}
+
+/// Measures a row by a core, prints what came of it, and gives the status.
+///
+/// It borrows the core: owned here, its drop would be proved on each way out.
+fn tell_routed(
+    rt: &HostRuntime,
+    core: &mut Core,
+    shape: Shape,
+    row: Row<'_>,
+    is_timed: bool,
+) -> io::Result<u8> {
+    let taken = routed(rt, core, shape, row)?;
+    let records = core.capture().records().len();
     let Row { name, size, count } = row;
     print!(rt; "{name} {size}: ")?;
     if is_timed {
@@ -120,18 +126,6 @@ fn measured(rt: &HostRuntime, row: Row<'_>, is_timed: bool) -> io::Result<u8> {
     }
     println!(rt; "messages={count} records={records}")?;
     Ok(0)
-}
-
-/// Sets up and routes: how long the routing took, and the capture.
-fn run(
-    rt: &HostRuntime,
-    core: Core,
-    shape: Shape,
-    row: Row<'_>,
-) -> (io::Result<Duration>, Capture) {
-    let mut core = core;
-    let taken = routed(rt, &mut core, shape, row);
-    (taken, core.into_capture())
 }
 
 /// Sets up and routes: how long the routing took.

@@ -8,10 +8,19 @@ use route_core::Core;
 use std::alloc::{AllocError, Global};
 use std::cell::RefCell;
 
-#[derive(Drop)]
 pub struct Device<'a> {
     pub engine: Engine<CorePort<'a>>,
     given: Vec<u8>,
+}
+
+// Written out, and not derived, so that where one is let go the prover need not go through all that it owns.
+impl Drop for Device<'_> {
+    fn drop(self) {
+        let Device {
+            engine: _,
+            given: _,
+        } = self;
+    }
 }
 
 impl<'a> Device<'a> {

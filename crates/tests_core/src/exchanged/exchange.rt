@@ -128,6 +128,15 @@ fn take_turns(alloc: Global, core: &RefCell<Core>, most: usize) -> bool
 {
     let mut producer = Player::new(alloc, 0, core, PRODUCER);
     let mut consumer = Player::new(alloc, 1, core, CONSUMER);
+    come_to_ends(&mut producer, &mut consumer, most)
+}
+
+/// Lets both have their turns, and answers whether they come to their ends.
+///
+/// It borrows both: owned here, their drops would be proved on each way out.
+fn come_to_ends(producer: &mut Player<'_>, consumer: &mut Player<'_>, most: usize) -> bool
+    requires { 0 < most }
+{
     for _ in 0..ROUNDS {
         if producer.turn(most).is_err() || consumer.turn(most).is_err() {
             return false;

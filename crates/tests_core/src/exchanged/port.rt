@@ -1,6 +1,7 @@
 //! A connection's way to a core that several connections share on one thread.
 
 ghost use Rattle.std.specs.Prelude.{◌≡◌, ℕ, ◌^◌, ◌-◌, ◌<◌, ◌≤◌, length, IfOk, IfSome};
+ghost use Rattle.route_items.specs.Items.{IsShort};
 
 use capture_form::What;
 use conn_engine::{Port, PortFault};
@@ -64,23 +65,17 @@ impl Port for CorePort<'_> {
         let Ok(()) = self.items.reserve(1) else {
             return Err(PortFault::Memory);
         };
-        let Ok(mut core) = self.core.try_borrow_mut() else {
-            return Err(PortFault::Memory);
-        };
-        match core.step(item) {
+        match stepped(self.core, item) {
             Ok(()) => {
                 self.items.push_reserved(entry.what);
                 Ok(())
             }
-            Err(fault) => Err(PortFault::Step(fault)),
+            Err(fault) => Err(fault),
         }
     }
 
     fn next_out(&mut self, from: u64, out: &mut Vec<u8>) -> Result<Option<u64>, AllocError> {
-        let Ok(core) = self.core.try_borrow() else {
-            return Ok(None);
-        };
-        let Some((number, frame)) = frame_from(self.alloc, &core, self.connection, from)? else {
+        let Some((number, frame)) = found(self.alloc, self.core, self.connection, from)? else {
             return Ok(None);
         };
         self.frames.reserve(1)?;
@@ -88,6 +83,42 @@ impl Port for CorePort<'_> {
         self.frames.push_reserved(frame);
         Ok(Some(number))
     }
+}
+
+/// Hands an item to a core that is shared. In a function that owns more, what gives the core back would be proved on each way out.
+///
+/// # Errors
+///
+/// Why it was not taken.
+fn stepped(core: &RefCell<Core>, item: Item<'_>) -> Result<(), PortFault>
+    requires { IsShort item }
+{
+    let Ok(mut core) = core.try_borrow_mut() else {
+        return Err(PortFault::Memory);
+    };
+    match core.step(item) {
+        Ok(()) => Ok(()),
+        Err(fault) => Err(PortFault::Step(fault)),
+    }
+}
+
+/// What `frame_from` gives of a core that is shared; nothing where it is in use.
+///
+/// # Errors
+///
+/// As those of `frame_from`.
+fn found(
+    alloc: Global,
+    core: &RefCell<Core>,
+    connection: u32,
+    from: u64,
+) -> Result<Option<(u64, Vec<u8>)>, AllocError>
+    ensures { IfOk result (λ found. IfSome found (λ out. (from ≤ out.0) × (out.0 < 2 ^ 64 - 1))) }
+{
+    let Ok(core) = core.try_borrow() else {
+        return Ok(None);
+    };
+    frame_from(alloc, &core, connection, from)
 }
 
 /// The first frame that a core wrote to a connection in a record of this number or a later one: the record's number, and a

@@ -2,7 +2,7 @@
 
 ghost use Rattle.std.specs.Prelude.{◌<◌};
 
-use crate::cores::{LIMIT, rule};
+use crate::cores::{LIMIT, one_rule};
 use crate::exchanged::client::Client;
 use address_table::Rules;
 use capture_form::{Capture, Distribution, Rule};
@@ -31,15 +31,7 @@ pub struct Run {
 /// Where memory is refused.
 pub fn run_of_seed(alloc: Global, seed: u64) -> Result<Run, AllocError> {
     let mut chance = Chance::new(seed);
-    let Ok(rules) = Rules::new(some_rules(alloc, &mut chance)?) else {
-        return Err(AllocError);
-    };
-    let limit = if chance.once_in(8) {
-        chance.below(50) as u64
-    } else {
-        LIMIT
-    };
-    let core = Core::new(alloc, &rules, limit)?;
+    let (core, limit) = some_core(alloc, &mut chance)?;
     let (served, capture) = run_over(alloc, core, &mut chance);
     Ok(Run {
         limit,
@@ -48,13 +40,26 @@ pub fn run_of_seed(alloc: Global, seed: u64) -> Result<Run, AllocError> {
     })
 }
 
+/// A core, and as many records as it may have.
+fn some_core(alloc: Global, chance: &mut Chance) -> Result<(Core, u64), AllocError> {
+    let Ok(rules) = Rules::new(some_rules(alloc, chance)?) else {
+        return Err(AllocError);
+    };
+    let limit = if chance.once_in(8) {
+        chance.below(50) as u64
+    } else {
+        LIMIT
+    };
+    Ok((Core::new(alloc, &rules, limit)?, limit))
+}
+
 /// Rules, or none.
 fn some_rules(alloc: Global, chance: &mut Chance) -> Result<Vec<Rule>, AllocError> {
-    let mut rules = Vec::new(alloc);
     if chance.once_in(2) {
-        rules.push(rule(alloc, Distribution::Multicast, "news")?)?;
+        one_rule(alloc, Distribution::Multicast, "news")
+    } else {
+        Ok(Vec::new(alloc))
     }
-    Ok(rules)
 }
 
 /// Serves clients by a core, and gives its capture.
@@ -74,15 +79,52 @@ fn serve(
     core: &RefCell<Core>,
     chance: &mut Chance,
 ) -> Result<Vec<Served>, AllocError> {
-    let mut clients = some_clients(alloc, core, chance)?;
+    let mut clients = Vec::new(alloc);
+    // A `?` here would be one more way out on which the drop of the clients is proved.
+    let acted = act_all(core, &mut clients, chance);
+    acted.and(all_served(alloc, clients))
+}
+
+/// What came of each client.
+fn all_served(alloc: Global, clients: Vec<Client<'_>>) -> Result<Vec<Served>, AllocError> {
+    clients.into_iter().map(Client::served).collect(alloc)
+}
+
+/// Makes some clients, which act in any order, and then each comes to its end.
+fn act_all<'a>(
+    core: &'a RefCell<Core>,
+    clients: &mut Vec<Client<'a>>,
+    chance: &mut Chance,
+) -> Result<(), AllocError> {
+    put_clients(core, clients, chance)?;
+    act_some(clients, chance)?;
+    end_all(clients)
+}
+
+/// Puts one to five clients with streams.
+fn put_clients<'a>(
+    core: &'a RefCell<Core>,
+    clients: &mut Vec<Client<'a>>,
+    chance: &mut Chance,
+) -> Result<(), AllocError> {
+    let alloc = *clients.allocator();
+    for number in 0..=chance.below(5) {
+        let stream = stream(alloc, chance)?;
+        let most = LENGTHS[chance.below(LENGTHS.len())];
+        clients.push(Client::new(alloc, number as u32, core, stream, most))?;
+    }
+    Ok(())
+}
+
+/// Lets clients act in any order.
+fn act_some(clients: &mut [Client<'_>], chance: &mut Chance) -> Result<(), AllocError> {
     for _ in 0..some_acts(chance) {
         let place = chance.below(clients.len() + 1);
         if let Some(client) = clients.get_mut(place) {
             client.act(chance)?;
         }
     }
-    end_all(&mut clients)?;
-    clients.into_iter().map(Client::served).collect(alloc)
+    Ok(())
 }
 
 /// How often something is done by chance before the rest of the streams is sent.
@@ -103,19 +145,4 @@ fn end_all(clients: &mut [Client<'_>]) -> Result<(), AllocError> {
         client.finish()?;
     }
     Ok(())
-}
-
-/// One to five clients with streams.
-fn some_clients<'a>(
-    alloc: Global,
-    core: &'a RefCell<Core>,
-    chance: &mut Chance,
-) -> Result<Vec<Client<'a>>, AllocError> {
-    let mut clients = Vec::new(alloc);
-    for number in 0..=chance.below(5) {
-        let stream = stream(alloc, chance)?;
-        let most = LENGTHS[chance.below(LENGTHS.len())];
-        clients.push(Client::new(alloc, number as u32, core, stream, most))?;
-    }
-    Ok(clients)
 }

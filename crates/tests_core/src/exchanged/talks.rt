@@ -4,7 +4,6 @@ ghost use Rattle.std.specs.Prelude.{◌<◌};
 
 use crate::cores::core_without_rules;
 use crate::exchanged::device::Device;
-use capture_form::Capture;
 use conn_engine::EngineFault;
 use kit_clients::{AMQP_HEADER, MECHANISMS, REFUSAL, SASL_HEADER, WELCOME};
 use route_core::Core;
@@ -78,21 +77,22 @@ pub const TALKS: &[Talk] = &[
 pub fn goes_right(alloc: Global, talk: &Talk, most: usize) -> Result<bool, AllocError>
     requires { 0 < most }
 {
-    let core = core_without_rules(alloc)?;
-    let (is_right, capture) = hold(alloc, core, talk, most);
-    Ok(is_right? && capture.records().len() == talk.records)
+    let (is_right, records) = hold(alloc, core_without_rules(alloc)?, talk, most);
+    Ok(is_right? && records == talk.records)
 }
 
-/// Holds a talk over a core, and answers whether the octets are those that were worked out, and the capture.
-fn hold(alloc: Global, core: Core, talk: &Talk, most: usize) -> (Result<bool, AllocError>, Capture)
+/// Holds a talk over a core, and answers whether the octets are those that were worked out, and how many records the core has
+/// then.
+fn hold(alloc: Global, core: Core, talk: &Talk, most: usize) -> (Result<bool, AllocError>, usize)
     requires { 0 < most }
 {
     let core = RefCell::new(core);
     let is_right = is_talked(alloc, &core, talk, most);
-    (is_right, core.into_inner().into_capture())
+    let core = core.into_inner();
+    (is_right, core.capture().records().len())
 }
 
-/// Lets the client say all, take all, and leave.
+/// Lets a client say all, take all, and leave.
 fn is_talked(
     alloc: Global,
     core: &RefCell<Core>,
@@ -102,6 +102,15 @@ fn is_talked(
     requires { 0 < most }
 {
     let mut device = Device::new(alloc, 0, core);
+    is_said(&mut device, talk, most)
+}
+
+/// The same by this device.
+///
+/// It borrows the device: owned here, its drop would be proved on each way out.
+fn is_said(device: &mut Device<'_>, talk: &Talk, most: usize) -> Result<bool, AllocError>
+    requires { 0 < most }
+{
     let mut answer = Ok(());
     for text in talk.says {
         answer = answer.and(device.feed_pieces(text, most));

@@ -1,7 +1,8 @@
 //! Whether a capture that a core made is as it has to be.
 
-use audit_core::{Verdict, audit_bytes};
-use capture_form::{Capture, What, write_capture};
+use crate::cores::audited;
+use audit_core::Verdict;
+use capture_form::{Capture, What};
 use kit_talks::{Known, Life, Link};
 use route_core::Core;
 use std::alloc::{AllocError, Global};
@@ -10,8 +11,7 @@ use trace_law::{credit_at, slow_check, tally_capture, waiting_at, window_at};
 /// Whether the auditor accepts the text of a capture, and the plain checker so many of its first records. Where these are
 /// all, both have to count the same.
 pub(crate) fn is_lawful(alloc: Global, capture: &Capture, most: usize) -> Result<bool, AllocError> {
-    let text = write_capture(alloc, capture)?;
-    let Verdict::Accepted(tally) = audit_bytes(alloc, text.as_slice()) else {
+    let Verdict::Accepted(tally) = audited(alloc, capture)? else {
         return Ok(false);
     };
     if capture.records().len() <= most && tally != tally_capture(capture) {

@@ -24,22 +24,27 @@ impl<'t> Tables<'t> {
         let alloc = self.alloc;
         let (who, what) = (line.at(0), line.at(2));
         let mut telling = Telling::new(format!(in alloc; "{who} ? {what}")?);
-        let connection = who.parse::<u32>().unwrap_or(0);
-        let channel = (line.number("channel").unwrap_or(0) & 0xFFFF) as u16;
-        match what {
-            "connection" => self.connection(&mut telling, connection)?,
-            "channel" => self.channel(&mut telling, connection, channel)?,
-            "handle" => {
-                match self.ledger.looked().live_session(connection, channel) {
-                    Some(session) => self.handle(&mut telling, session, line)?,
-                    None => telling.value("session", "-")?,
-                }
-            }
-            "address" => self.address(&mut telling, line.at(3))?,
-            "delivery" => self.delivery(&mut telling, line)?,
-            _ => {}
-        }
+        self.tell(&mut telling, line)?;
         Ok(telling.into_text())
+    }
+
+    /// Tells what is answered.
+    ///
+    /// It borrows the words: owned here, their drop would be proved on each way out.
+    fn tell(&self, telling: &mut Telling, line: &Words<'_>) -> Result<(), AllocError> {
+        let connection = line.at(0).parse::<u32>().unwrap_or(0);
+        let channel = (line.number("channel").unwrap_or(0) & 0xFFFF) as u16;
+        match line.at(2) {
+            "connection" => self.connection(telling, connection),
+            "channel" => self.channel(telling, connection, channel),
+            "handle" => match self.ledger.looked().live_session(connection, channel) {
+                Some(session) => self.handle(telling, session, line),
+                None => telling.value("session", "-"),
+            },
+            "address" => self.address(telling, line.at(3)),
+            "delivery" => self.delivery(telling, line),
+            _ => Ok(()),
+        }
     }
 
     /// Of a connection: how far it is, and the largest frame that its client takes.
@@ -178,17 +183,28 @@ impl<'t> Tables<'t> {
         telling.fact("served", looked.has_consumer(octets))?;
         telling.fact("waiting", looked.has_waiting(self.rules, octets))?;
         let mut consumers = String::new(self.alloc);
-        for place in 0..looked.consumers.count(octets) {
-            if place > 0 {
-                consumers.push_str(",")?;
-            }
-            consumers.push_str(self.consumer(octets, place)?.as_str())?;
-        }
+        self.put_consumers(&mut consumers, octets)?;
         telling.value("consumers", consumers.as_str())
     }
 
-    /// A consumer's link, by its place at the address: `8@5` if record 8 opened it on handle 5.
-    fn consumer(&self, address: &[u8], place: usize) -> Result<String, AllocError> {
+    /// Puts the consumers' links of an address, in order.
+    fn put_consumers(&self, out: &mut String, address: &[u8]) -> Result<(), AllocError> {
+        for place in 0..self.ledger.looked().consumers.count(address) {
+            if place > 0 {
+                out.push_str(",")?;
+            }
+            self.put_consumer(out, address, place)?;
+        }
+        Ok(())
+    }
+
+    /// Puts a consumer's link, by its place at the address: `8@5` if record 8 opened it on handle 5.
+    fn put_consumer(
+        &self,
+        out: &mut String,
+        address: &[u8],
+        place: usize,
+    ) -> Result<(), AllocError> {
         let number = self
             .ledger
             .looked()
@@ -196,10 +212,8 @@ impl<'t> Tables<'t> {
             .get(address, place)
             .unwrap_or(0);
         match self.ledger.looked().consumer_links.get(number) {
-            Some(link) if link.address == address => {
-                format!(in self.alloc; "{number}@{}", link.handle)
-            }
-            _ => format!(in self.alloc; "{number}@?"),
+            Some(link) if link.address == address => { write!(out, "{number}@{}", link.handle) }
+            _ => write!(out, "{number}@?"),
         }
     }
 

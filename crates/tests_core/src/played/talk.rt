@@ -31,11 +31,19 @@ pub(crate) fn play(
         stage: Stage::new(alloc),
         ledger: Ledger::new(alloc),
     };
-    scene.play(core, lines)?;
-    Ok(scene.stage.into_differences())
+    // A `?` here would be one more way out on which the drop of the scene is proved.
+    let played = scene.play(core, lines);
+    let differences = scene.into_differences();
+    played?;
+    Ok(differences)
 }
 
 impl Scene {
+    /// All differences, in order.
+    fn into_differences(self) -> Vec<Difference> {
+        self.stage.into_differences()
+    }
+
     /// Plays the lines, behind which no record may stand that is not told.
     fn play(&mut self, core: &mut Core, lines: &[&str]) -> Result<(), AllocError> {
         for text in lines {
@@ -48,7 +56,12 @@ impl Scene {
     fn play_line(&mut self, core: &mut Core, text: &str) -> Result<(), AllocError> {
         self.stage.go_on();
         let lines = lines_meant(self.alloc, text)?;
-        for line in lines.iter() {
+        self.play_meant(core, lines.as_slice())
+    }
+
+    /// Plays the lines that a line stands for.
+    fn play_meant(&mut self, core: &mut Core, lines: &[String]) -> Result<(), AllocError> {
+        for line in lines {
             self.play_often(core, &Words::of(self.alloc, line.as_str())?)?;
         }
         Ok(())

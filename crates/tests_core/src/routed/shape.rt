@@ -88,10 +88,22 @@ impl Shape {
             return send(core, OTHER_CONSUMER, DETACH);
         }
         let mut frame = Vec::with_capacity(alloc, 200)?;
+        self.route_over(core, &mut frame, size, count)
+    }
+
+    /// The same where messages are sent. It writes over the frame, which it borrows: owned here, its drop would be proved on each
+    /// way out.
+    fn route_over(
+        self,
+        core: &mut Core,
+        frame: &mut Vec<u8>,
+        size: u32,
+        count: u32,
+    ) -> io::Result<()> {
         for id in 0..count {
-            put_transfer(&mut frame, 0, id)?;
+            put_transfer(frame, 0, id)?;
             send(core, PRODUCER, frame.as_slice())?;
-            self.decide(core, &mut frame, size, id)?;
+            self.decide(core, frame, size, id)?;
         }
         Ok(())
     }
@@ -128,13 +140,17 @@ fn other_messages(alloc: Global, core: &mut Core, count: u32, has_credit: bool) 
     if has_credit {
         credit(alloc, core, OTHER_CONSUMER, 0)?;
     }
-    let mut frame = Vec::new(alloc);
+    send_others(core, &mut Vec::new(alloc), count)
+}
+
+/// So many messages of other producers, each of whom attaches before its first one. It writes over the frame.
+fn send_others(core: &mut Core, frame: &mut Vec<u8>, count: u32) -> io::Result<()> {
     for id in 0..count {
         let handle = id / SENT;
         if id % SENT == 0 {
-            produce(alloc, core, OTHER_PRODUCER, handle, "other")?;
+            produce(*frame.allocator(), core, OTHER_PRODUCER, handle, "other")?;
         }
-        put_transfer(&mut frame, handle, id)?;
+        put_transfer(frame, handle, id)?;
         send(core, OTHER_PRODUCER, frame.as_slice())?;
     }
     Ok(())
@@ -149,12 +165,11 @@ fn copied(alloc: Global, core: &mut Core, count: u32, is_settled: bool) -> io::R
         if handle == 0 {
             connect(core, connection)?;
         }
-        let frame = if is_settled {
-            attaching_settled(alloc, handle, "news")?
+        if is_settled {
+            consume_settled(alloc, core, connection, handle, "news")?;
         } else {
-            attaching(alloc, handle, true, "news")?
-        };
-        send(core, connection, frame.as_slice())?;
+            consume(alloc, core, connection, handle, "news")?;
+        }
         credit(alloc, core, connection, handle)?;
     }
     Ok(())
@@ -216,6 +231,18 @@ fn consume(
     address: &str,
 ) -> io::Result<()> {
     let frame = attaching(alloc, handle, true, address)?;
+    send(core, connection, frame.as_slice())
+}
+
+/// It attaches as a consumer, and asks for settled deliveries.
+fn consume_settled(
+    alloc: Global,
+    core: &mut Core,
+    connection: u32,
+    handle: u32,
+    address: &str,
+) -> io::Result<()> {
+    let frame = attaching_settled(alloc, handle, address)?;
     send(core, connection, frame.as_slice())
 }
 
