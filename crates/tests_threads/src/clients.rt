@@ -2,15 +2,14 @@
 
 ghost use Rattle.std.specs.Prelude.{◌≡◌, [], All, IfOk, vec_len};
 
-use crate::gate::{Client, Pace, Post};
+use crate::gate::{Client, Pace, Post, stream_of};
 use crate::script::Script;
 use std::alloc::{AllocError, Global};
 use std::sync::Arc;
 
 /// What a client says, and how.
-#[derive(Drop)]
+#[derive(Clone, Copy)]
 pub struct Part {
-    pub stream: Vec<u8>,
     pub script: Script,
     pub pace: Pace,
 }
@@ -22,10 +21,25 @@ pub fn two_clients(alloc: Global, first: Part, second: Part) -> Result<(Client, 
 {
     let one = Arc::new(alloc, Post::new())?;
     let two = Arc::new(alloc, Post::new())?;
-    let (mine, theirs) = (Arc::try_clone(&one)?, Arc::try_clone(&two)?);
-    let first = Client::new(alloc, first.stream, first.script, first.pace, mine, theirs);
-    let second = Client::new(alloc, second.stream, second.script, second.pace, two, one);
+    let first = new_client(alloc, first, &one, &two)?;
+    let second = new_client(alloc, second, &two, &one)?;
     Ok((first, second))
+}
+
+/// A client with this post, which knows of the one with the other, and has said and taken nothing.
+///
+/// It borrows the posts: owned here, their drops would be proved on each way out.
+fn new_client(
+    alloc: Global,
+    part: Part,
+    mine: &Arc<Post, Global>,
+    theirs: &Arc<Post, Global>,
+) -> Result<Client, AllocError>
+    ensures { IfOk result (λ client. (client.at ≡ 0) × (client.taken.items ≡ [])) }
+{
+    let stream = stream_of(alloc, part.script)?;
+    let (mine, theirs) = (Arc::try_clone(mine)?, Arc::try_clone(theirs)?);
+    Ok(Client::new(alloc, stream, part.script, part.pace, mine, theirs))
 }
 
 /// Such clients as the gates of a run.

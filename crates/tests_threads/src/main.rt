@@ -3,6 +3,7 @@
 //! It prints a line for each kind of run. What a line says does not depend on which thread is first. The modules, in reading
 //! order:
 //!
+//! - `captures`: the rules of a run, and what the auditor says of its capture
 //! - `script`: what clients say and take
 //! - `gate`: a client as a gate in memory
 //! - `clients`: two of them
@@ -10,6 +11,7 @@
 //! - `served`: runs of workers
 #![tactic(auto)]
 
+mod captures;
 mod clients;
 mod gate;
 mod script;
@@ -19,12 +21,13 @@ mod shared;
 ghost use Rattle.std.specs.Prelude.{◌<◌, ◌≤◌};
 
 use address_table::Rules;
-use audit_core::{Verdict, audit_bytes};
-use capture_form::{Capture, Distribution, Rule, write_capture};
+use audit_core::Verdict;
+use capture_form::Capture;
+use captures::{Told, audited, rules};
 use clients::Part;
 use gate::{LOOKS, PATIENCE, Pace, stream_of};
-use script::{BEGINS_LATE, CONSUMER, OPENS_LATE, PRODUCER, QUIET, STRANGER, STRANGERS, Script};
-use served::{LIMIT, Served, serve_two};
+use script::{BEGINS_LATE, CONSUMER, OPENS_LATE, PRODUCER, QUIET, STRANGERS, Script};
+use served::{LIMIT, Pair, Served, serve_two};
 use shared::share_core;
 use std::alloc::{AllocError, Global};
 use std::process::ExitCode;
@@ -75,99 +78,106 @@ fn run_all<R: Threads + Wait + Sync + Print>(rt: &R, alloc: Global) -> io::Resul
     listen(rt, alloc)?;
     vanish(rt, alloc)?;
     fail(rt, alloc)?;
-    trouble(rt, alloc)?;
+    meet_strangers(rt, alloc)?;
+    take_nothing(rt, alloc)?;
     stop(rt, alloc)
 }
 
 /// The exchange, by two threads over one exchange of the core.
 fn share<R: Threads + Wait + Sync + Print>(rt: &R, alloc: Global) -> io::Result<()> {
-    for is_closest in [false, true] {
+    for (is_closest, name) in [(false, "no rules"), (true, "closest:q")] {
         let rules = rules(alloc, is_closest)?;
-        let (first, second) = (
-            part(alloc, PRODUCER, ONE_BY_ONE)?,
-            part(alloc, CONSUMER, ONE_BY_ONE)?,
-        );
-        let name = if is_closest { "closest:q" } else { "no rules" };
-        match share_core(rt, alloc, &rules, first, second)? {
-            Some(capture) => println!(rt; "two threads, {name}: {}", verdict(alloc, &capture)?)?,
-            None => println!(rt; "two threads, {name}: mismatch")?,
-        }
+        share_by(rt, alloc, name, &rules)?;
     }
     Ok(())
+}
+
+/// The same by these rules.
+///
+/// It borrows the rules, and the function below the capture: owned together, their drops would be proved on each way out.
+fn share_by<R: Threads + Wait + Sync + Print>(
+    rt: &R,
+    alloc: Global,
+    name: &str,
+    rules: &Rules,
+) -> io::Result<()> {
+    let Pair { first, second, .. } = exchanging(ONE_BY_ONE, ONE_BY_ONE);
+    match share_core(rt, alloc, rules, first, second)? {
+        Some(capture) => tell_shared(rt, alloc, name, &capture),
+        None => println!(rt; "two threads, {name}: mismatch"),
+    }
+}
+
+/// Prints what is said of the capture that two threads shared.
+fn tell_shared(rt: &impl Print, alloc: Global, name: &str, capture: &Capture) -> io::Result<()> {
+    let verdict = audited(alloc, capture)?;
+    println!(rt; "two threads, {name}: {}", Told(verdict))
 }
 
 /// The exchange, by two workers; at first each gate is read wherever the other is, and then both at once.
 fn exchange<R: Threads + Wait + Sync + Print>(rt: &R, alloc: Global) -> io::Result<()> {
     for (is_closest, meets, name) in [
-        (false, false, "no rules"),
-        (true, false, "closest:q"),
-        (false, true, "at once"),
+        (false, false, "two workers, no rules"),
+        (true, false, "two workers, closest:q"),
+        (false, true, "two workers, at once"),
     ] {
-        let rules = rules(alloc, is_closest)?;
         let pace = Pace {
             meets,
             ..ONE_BY_ONE
         };
-        let (first, second) = (part(alloc, PRODUCER, pace)?, part(alloc, CONSUMER, pace)?);
-        let served = serve_two(rt, alloc, 2, LIMIT, &rules, first, second)?;
-        println!(rt; "two workers, {name}: {}", told(alloc, &served)?)?;
+        let pair = Pair {
+            is_closest,
+            ..exchanging(pace, pace)
+        };
+        tell_pair(rt, alloc, name, 2, &pair)?;
     }
     Ok(())
 }
 
 /// Two clients that wait for each other, by one worker.
 fn take_turns<R: Threads + Wait + Sync + Print>(rt: &R, alloc: Global) -> io::Result<()> {
-    let rules = rules(alloc, false)?;
     let pace = Pace {
         patience: PATIENCE,
         ..ONE_BY_ONE
     };
-    let first = part(alloc, BEGINS_LATE, pace)?;
-    let second = part(alloc, OPENS_LATE, pace)?;
-    let served = serve_two(rt, alloc, 1, LIMIT, &rules, first, second)?;
-    println!(rt; "one worker, in turns: {}", told(alloc, &served)?)
+    let pair = two_of(part(BEGINS_LATE, pace), part(OPENS_LATE, pace));
+    tell_pair(rt, alloc, "one worker, in turns", 1, &pair)
 }
 
 /// Two clients that wait for signs of life, with clocks that move, and with clocks that stand still.
 fn listen<R: Threads + Wait + Sync + Print>(rt: &R, alloc: Global) -> io::Result<()> {
-    let rules = rules(alloc, false)?;
     for (passes, name) in [(90, "signs of life"), (0, "clocks that stand still")] {
         let pace = Pace { passes, ..IN_HASTE };
-        let (first, second) = (part(alloc, QUIET, pace)?, part(alloc, QUIET, pace)?);
-        let served = serve_two(rt, alloc, 1, LIMIT, &rules, first, second)?;
-        println!(rt; "{name}: {}", told(alloc, &served)?)?;
+        let pair = two_of(part(QUIET, pace), part(QUIET, pace));
+        tell_pair(rt, alloc, name, 1, &pair)?;
     }
     Ok(())
 }
 
 /// The exchange, where one of both is gone behind any octet.
 fn vanish<R: Threads + Wait + Sync + Print>(rt: &R, alloc: Global) -> io::Result<()> {
-    let rules = rules(alloc, false)?;
     let mut tally = Tally::NONE;
-    for (script, other, is_first) in [(PRODUCER, CONSUMER, true), (CONSUMER, PRODUCER, false)] {
-        let octets = stream_of(alloc, script)?.len();
-        for vanishes in 0..octets {
-            let gone = part(
-                alloc,
-                script,
-                Pace {
-                    vanishes,
-                    ..IN_HASTE
-                },
-            )?;
-            let stays = part(alloc, other, IN_HASTE)?;
-            let (first, second) = if is_first {
-                (gone, stays)
-            } else {
-                (stays, gone)
-            };
-            tally.count(
-                alloc,
-                &serve_two(rt, alloc, 2, LIMIT, &rules, first, second)?,
-            )?;
-        }
+    for is_first in [true, false] {
+        vanish_behind(rt, alloc, is_first, &mut tally)?;
     }
     println!(rt; "gone behind any octet: {tally}")
+}
+
+/// The producer or the consumer is gone behind any octet.
+fn vanish_behind<R: Threads + Wait + Sync>(
+    rt: &R,
+    alloc: Global,
+    is_first: bool,
+    tally: &mut Tally,
+) -> Result<(), AllocError> {
+    for vanishes in 0..stream_of(alloc, script_of(is_first))?.len() {
+        let pace = Pace {
+            vanishes,
+            ..IN_HASTE
+        };
+        tally.count_pair(rt, alloc, 2, &one_of_both(is_first, pace, IN_HASTE))?;
+    }
+    Ok(())
 }
 
 /// The exchange octet by octet, where each read that brings one, and then each write, of one of both fails in turn. By one
@@ -203,10 +213,9 @@ fn fail_reads<R: Threads + Wait + Sync>(
     requires some { 0 < workers }
     requires few { workers ≤ 64 }
 {
-    let script = if is_first { PRODUCER } else { CONSUMER };
-    for read_fails in 0..stream_of(alloc, script)?.len() {
-        let pace = Pace { read_fails, ..pace };
-        tally.count(alloc, &fail_once(rt, alloc, workers, pace, is_first)?)?;
+    for read_fails in 0..stream_of(alloc, script_of(is_first))?.len() {
+        let fails = Pace { read_fails, ..pace };
+        tally.count_pair(rt, alloc, workers, &one_of_both(is_first, fails, pace))?;
     }
     Ok(())
 }
@@ -223,96 +232,74 @@ fn fail_writes<R: Threads + Wait + Sync>(
     requires some { 0 < workers }
     requires few { workers ≤ 64 }
 {
-    let script = if is_first { PRODUCER } else { CONSUMER };
-    for write_fails in 0..script.wanted {
-        let pace = Pace {
+    for write_fails in 0..script_of(is_first).wanted {
+        let fails = Pace {
             write_fails,
             ..pace
         };
-        tally.count(alloc, &fail_once(rt, alloc, workers, pace, is_first)?)?;
+        tally.count_pair(rt, alloc, workers, &one_of_both(is_first, fails, pace))?;
     }
     Ok(())
 }
 
-/// The exchange, where the device of the producer or of the consumer fails at this pace, and the other's does not.
-fn fail_once<R: Threads + Wait + Sync>(
-    rt: &R,
-    alloc: Global,
-    workers: usize,
-    pace: Pace,
-    is_first: bool,
-) -> Result<Served, AllocError>
-    requires some { 0 < workers }
-    requires few { workers ≤ 64 }
-{
-    let rules = rules(alloc, false)?;
-    let other = Pace {
-        read_fails: usize::MAX,
-        write_fails: usize::MAX,
-        ..pace
-    };
-    let (first, second) = if is_first {
-        (pace, other)
-    } else {
-        (other, pace)
-    };
-    let (first, second) = (
-        part(alloc, PRODUCER, first)?,
-        part(alloc, CONSUMER, second)?,
-    );
-    serve_two(rt, alloc, workers, LIMIT, &rules, first, second)
+/// Clients that speak something else, beside one that keeps to its script.
+fn meet_strangers<R: Threads + Wait + Sync + Print>(rt: &R, alloc: Global) -> io::Result<()> {
+    let mut tally = Tally::NONE;
+    for script in STRANGERS {
+        let pair = two_of(part(script, IN_HASTE), part(CONSUMER, IN_HASTE));
+        tally.count_pair(rt, alloc, 2, &pair)?;
+    }
+    println!(rt; "strangers: {tally}")
 }
 
-/// Clients that speak something else, and clients that take nothing, beside one that keeps to its script.
-fn trouble<R: Threads + Wait + Sync + Print>(rt: &R, alloc: Global) -> io::Result<()> {
-    let rules = rules(alloc, false)?;
-    let mut strangers = Tally::NONE;
-    for octets in STRANGERS {
-        let first = Part {
-            stream: Vec::from_slice(alloc, octets)?,
-            script: STRANGER,
-            pace: IN_HASTE,
-        };
-        let second = part(alloc, CONSUMER, IN_HASTE)?;
-        strangers.count(
-            alloc,
-            &serve_two(rt, alloc, 2, LIMIT, &rules, first, second)?,
-        )?;
-    }
-    println!(rt; "strangers: {strangers}")?;
-    let mut deaf = Tally::NONE;
+/// Clients that take nothing, beside one that keeps to its script or another of them.
+fn take_nothing<R: Threads + Wait + Sync + Print>(rt: &R, alloc: Global) -> io::Result<()> {
     let silent = Pace {
         takes: false,
         ..IN_HASTE
     };
-    for (one, two) in [(silent, IN_HASTE), (IN_HASTE, silent), (silent, silent)] {
-        let (first, second) = (part(alloc, PRODUCER, one)?, part(alloc, CONSUMER, two)?);
-        deaf.count(
-            alloc,
-            &serve_two(rt, alloc, 2, LIMIT, &rules, first, second)?,
-        )?;
+    let mut tally = Tally::NONE;
+    for (first, second) in [(silent, IN_HASTE), (IN_HASTE, silent), (silent, silent)] {
+        tally.count_pair(rt, alloc, 2, &exchanging(first, second))?;
     }
-    println!(rt; "taking nothing: {deaf}")
+    println!(rt; "taking nothing: {tally}")
 }
 
 /// Cores that are full behind ten records, where no client comes to its end, and a device that fails.
 fn stop<R: Threads + Wait + Sync + Print>(rt: &R, alloc: Global) -> io::Result<()> {
-    let rules = rules(alloc, false)?;
-    for (workers, name) in [(1, "one worker"), (2, "two workers")] {
-        let first = part(alloc, PRODUCER, ONE_BY_ONE)?;
-        let second = part(alloc, CONSUMER, ONE_BY_ONE)?;
-        let served = serve_two(rt, alloc, workers, 10, &rules, first, second)?;
-        println!(rt; "{name}, a full core: {}", told(alloc, &served)?)?;
-    }
+    let full = Pair {
+        limit: 10,
+        ..exchanging(ONE_BY_ONE, ONE_BY_ONE)
+    };
+    tell_pair(rt, alloc, "one worker, a full core", 1, &full)?;
+    tell_pair(rt, alloc, "two workers, a full core", 2, &full)?;
     let broken = Pace {
         takes: false,
         breaks: true,
         ..IN_HASTE
     };
-    let first = part(alloc, PRODUCER, broken)?;
-    let second = part(alloc, CONSUMER, broken)?;
-    let served = serve_two(rt, alloc, 1, LIMIT, &rules, first, second)?;
-    println!(rt; "a device that fails: {}", told(alloc, &served)?)
+    tell_pair(
+        rt,
+        alloc,
+        "a device that fails",
+        1,
+        &exchanging(broken, broken),
+    )
+}
+
+/// Serves two clients by so many workers, and prints what came of it.
+fn tell_pair<R: Threads + Wait + Sync + Print>(
+    rt: &R,
+    alloc: Global,
+    name: &str,
+    workers: usize,
+    pair: &Pair,
+) -> io::Result<()>
+    requires some { 0 < workers }
+    requires few { workers ≤ 64 }
+{
+    let served = serve_two(rt, alloc, workers, pair)?;
+    println!(rt; "{name}: {served}")
 }
 
 /// How many runs came to a report whose capture the auditor accepts, and how many did not.
@@ -331,11 +318,26 @@ impl Tally {
         failures: 0,
     };
 
-    fn count(&mut self, alloc: Global, served: &Served) -> Result<(), AllocError> {
+    /// Serves two clients by so many workers, and counts what came of it.
+    fn count_pair<R: Threads + Wait + Sync>(
+        &mut self,
+        rt: &R,
+        alloc: Global,
+        workers: usize,
+        pair: &Pair,
+    ) -> Result<(), AllocError>
+        requires some { 0 < workers }
+        requires few { workers ≤ 64 }
+    {
+        self.count(serve_two(rt, alloc, workers, pair)?);
+        Ok(())
+    }
+
+    fn count(&mut self, served: Served) {
         let is_accepted = match served {
-            Served::Report(capture, _, failures) => {
-                self.failures = self.failures.saturating_add(*failures);
-                matches!(audited(alloc, capture)?, Verdict::Accepted(_))
+            Served::Report(verdict, _, failures) => {
+                self.failures = self.failures.saturating_add(failures);
+                matches!(verdict, Verdict::Accepted(_))
             }
             Served::NotAlone
             | Served::NotLost
@@ -349,7 +351,6 @@ impl Tally {
             &mut self.others
         };
         *count = count.saturating_add(1);
-        Ok(())
     }
 }
 
@@ -359,62 +360,36 @@ impl fmt::Display for Tally {
     }
 }
 
-/// What came of a run, as a line.
-fn told(alloc: Global, served: &Served) -> Result<String, AllocError> {
-    match served {
-        Served::Report(capture, content, _) => {
-            let verdict = verdict(alloc, capture)?;
-            let content = if *content {
-                "both content"
-            } else {
-                "not content"
-            };
-            format!(in alloc; "{content}, {verdict}")
-        }
-        Served::NotAlone => String::from_str(alloc, "called behind its end"),
-        Served::NotLost => String::from_str(alloc, "not lost, or other octets"),
-        Served::OtherOctets => String::from_str(alloc, "a report tells other octets"),
-        Served::CoreFailed(capture) => match audited(alloc, capture)? {
-            Verdict::Accepted(_) => String::from_str(alloc, "core failed, accepted"),
-            _ => String::from_str(alloc, "core failed, not accepted"),
-        },
-        Served::Fault(number) => format!(in alloc; "fault {number}"),
+/// A client of a script, at this pace.
+fn part(script: Script, pace: Pace) -> Part {
+    Part { script, pace }
+}
+
+/// These two clients over a core without rules, which does not fill.
+fn two_of(first: Part, second: Part) -> Pair {
+    Pair {
+        first,
+        second,
+        is_closest: false,
+        limit: LIMIT,
     }
 }
 
-/// What the auditor says of a capture, as a line.
-fn verdict(alloc: Global, capture: &Capture) -> Result<String, AllocError> {
-    match audited(alloc, capture)? {
-        Verdict::Accepted(tally) => format!(in alloc;
-            "accepted records={} deliveries={} outcomes={}",
-            tally.records, tally.deliveries, tally.outcomes
-        ),
-        _ => String::from_str(alloc, "not accepted"),
+/// A producer and a consumer, at these paces.
+fn exchanging(first: Pace, second: Pace) -> Pair {
+    two_of(part(PRODUCER, first), part(CONSUMER, second))
+}
+
+/// The same, where the first or the second has this pace, and the other that one.
+fn one_of_both(is_first: bool, pace: Pace, other: Pace) -> Pair {
+    if is_first {
+        exchanging(pace, other)
+    } else {
+        exchanging(other, pace)
     }
 }
 
-fn audited(alloc: Global, capture: &Capture) -> Result<Verdict, AllocError> {
-    let text = write_capture(alloc, capture)?;
-    Ok(audit_bytes(alloc, text.as_slice()))
-}
-
-/// What a client of a script says, at this pace.
-fn part(alloc: Global, script: Script, pace: Pace) -> Result<Part, AllocError> {
-    Ok(Part {
-        stream: stream_of(alloc, script)?,
-        script,
-        pace,
-    })
-}
-
-/// No rules, or one: `q` is closest.
-fn rules(alloc: Global, is_closest: bool) -> Result<Rules, AllocError> {
-    let mut rules = Vec::new(alloc);
-    if is_closest {
-        rules.push(Rule {
-            distribution: Distribution::Closest,
-            prefix: String::from_str(alloc, "q")?,
-        })?;
-    }
-    Rules::new(rules).ok().ok_or(AllocError)
+/// The script of the first or the second.
+fn script_of(is_first: bool) -> Script {
+    if is_first { PRODUCER } else { CONSUMER }
 }

@@ -155,24 +155,45 @@ pub const QUIET: Script = Script {
     wanted: 80,
 };
 
-/// It says all that it has at once.
-pub const STRANGER: Script = Script {
-    turns: &[Turn {
-        octets: &[0; 64],
-        taken: 0,
-        others: 0,
-    }],
-    wanted: usize::MAX,
-};
-
-/// Octets of another protocol; a SASL exchange that chooses PLAIN; a frame that is none; a frame that is no performative; and
-/// nothing at all.
-pub const STRANGERS: [&[u8]; 5] = [
-    b"GET / HTTP/1.1\r\n\r\n",
-    b"AMQP\x03\x01\x00\x00\x00\x00\x00\x15\x02\x01\x00\x00\x00\x53\x41\xc0\x08\x01\xa3\x05PLAIN",
-    b"AMQP\x00\x01\x00\x00\x00\x00\x00\x07\x01\x02",
-    b"AMQP\x00\x01\x00\x00\x00\x00\x00\x0c\x02\x00\x00\x00\xff\xff\xff\xff",
-    b"",
+/// Each says all that it has at once: octets of another protocol; a SASL exchange that chooses PLAIN; a frame that is none; a frame
+/// that is no performative; and nothing at all.
+pub const STRANGERS: [Script; 5] = [
+    Script {
+        turns: &[Turn {
+            octets: b"GET / HTTP/1.1\r\n\r\n",
+            taken: 0,
+            others: 0,
+        }],
+        wanted: usize::MAX,
+    },
+    Script {
+        turns: &[Turn {
+            octets: b"AMQP\x03\x01\x00\x00\x00\x00\x00\x15\x02\x01\x00\x00\x00\x53\x41\xc0\x08\x01\xa3\x05PLAIN",
+            taken: 0,
+            others: 0,
+        }],
+        wanted: usize::MAX,
+    },
+    Script {
+        turns: &[Turn {
+            octets: b"AMQP\x00\x01\x00\x00\x00\x00\x00\x07\x01\x02",
+            taken: 0,
+            others: 0,
+        }],
+        wanted: usize::MAX,
+    },
+    Script {
+        turns: &[Turn {
+            octets: b"AMQP\x00\x01\x00\x00\x00\x00\x00\x0c\x02\x00\x00\x00\xff\xff\xff\xff",
+            taken: 0,
+            others: 0,
+        }],
+        wanted: usize::MAX,
+    },
+    Script {
+        turns: &[],
+        wanted: usize::MAX,
+    },
 ];
 
 // ---- what clients say

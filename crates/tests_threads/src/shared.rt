@@ -31,7 +31,6 @@ pub fn share_core<R: Threads + Wait + Sync>(
     first: Part,
     second: Part,
 ) -> Result<Option<Capture>, AllocError> {
-    let (first, second) = two_clients(alloc, first, second)?;
     let exchange = Exchange::new(rt, alloc, rules, LIMIT)?;
     let seats = talk(rt, alloc, &exchange, first, second)?;
     Ok(closed(exchange, seats))
@@ -42,14 +41,20 @@ fn talk<W: Threads + Wait, R: Wait + Sync>(
     rt: &W,
     alloc: Global,
     exchange: &Exchange<R>,
-    first: Client,
-    second: Client,
+    first: Part,
+    second: Part,
 ) -> Result<Vec<Seat>, AllocError> {
+    let (first, second) = two_clients(alloc, first, second)?;
     let (one, two) = join(
         rt,
         || play(alloc, exchange, 0, first),
         || play(alloc, exchange, 1, second),
     );
+    both(alloc, one, two)
+}
+
+/// Both seats.
+fn both(alloc: Global, one: Seat, two: Seat) -> Result<Vec<Seat>, AllocError> {
     let mut seats = Vec::new(alloc);
     seats.push(one)?;
     seats.push(two)?;

@@ -1,0 +1,59 @@
+//! The rules of a run, and what the auditor says of its capture.
+
+use address_table::Rules;
+use audit_core::{Verdict, audit_bytes};
+use capture_form::{Capture, Distribution, Rule, write_capture};
+use std::alloc::{AllocError, Global};
+use std::fmt;
+
+/// No rules, or one: `q` is closest.
+///
+/// # Errors
+///
+/// Where memory is refused.
+pub fn rules(alloc: Global, is_closest: bool) -> Result<Rules, AllocError> {
+    let list = if is_closest {
+        closest(alloc)?
+    } else {
+        Vec::new(alloc)
+    };
+    Rules::new(list).ok().ok_or(AllocError)
+}
+
+/// `q` is closest.
+fn closest(alloc: Global) -> Result<Vec<Rule>, AllocError> {
+    let prefix = String::from_str(alloc, "q")?;
+    let mut rules = Vec::new(alloc);
+    rules.push(Rule {
+        distribution: Distribution::Closest,
+        prefix,
+    })?;
+    Ok(rules)
+}
+
+/// What the auditor says of a capture.
+///
+/// # Errors
+///
+/// Where the memory for its text is refused.
+pub fn audited(alloc: Global, capture: &Capture) -> Result<Verdict, AllocError> {
+    let text = write_capture(alloc, capture)?;
+    Ok(audit_bytes(alloc, text.as_slice()))
+}
+
+/// A verdict, in the words of these runs.
+#[derive(Clone, Copy)]
+pub struct Told(pub Verdict);
+
+impl fmt::Display for Told {
+    fn fmt<W: fmt::Write>(&self, f: &mut fmt::Formatter<W>) -> fmt::Result {
+        match &self.0 {
+            Verdict::Accepted(tally) => write!(
+                f,
+                "accepted records={} deliveries={} outcomes={}",
+                tally.records, tally.deliveries, tally.outcomes
+            ),
+            _ => f.write_str("not accepted"),
+        }
+    }
+}
