@@ -99,24 +99,39 @@ fn refuse(alloc: Global, words: &[&str], left: &mut Left) {
 /// Writes what the parser makes of words of the router, or the kind of their mistake.
 fn read(alloc: Global, words: &[&str], left: &mut Left) -> io::Result<()> {
     match Words::read(alloc, words) {
-        Ok(words) => {
-            let (workers, connections) = (words.workers, words.connections);
-            writeln!(left.out, "listen {}", words.listen)?;
-            writeln!(left.out, "capture {}", words.capture)?;
-            writeln!(left.out, "{workers} workers, {connections} connections")?;
-            writeln!(left.out, "rules {:?}", words.rules.as_slice())
-        }
+        Ok(words) => tell_words(&words, left),
         Err(error) => writeln!(left.out, "{:?}", error.kind()),
     }
+}
+
+/// Writes words of the router.
+///
+/// It borrows the words: owned here, their drop would be proved on each way out.
+fn tell_words(words: &Words<'_>, left: &mut Left) -> io::Result<()> {
+    let (workers, connections) = (words.workers, words.connections);
+    writeln!(left.out, "listen {}", words.listen)?;
+    writeln!(left.out, "capture {}", words.capture)?;
+    writeln!(left.out, "{workers} workers, {connections} connections")?;
+    writeln!(left.out, "rules {:?}", words.rules.as_slice())
 }
 
 /// Writes what the words ask the router to serve, and how it distributes the addresses behind them; or the line that tells
 /// why they do not.
 fn look_into(alloc: Global, case: &Case<'_>, left: &mut Left) -> io::Result<()> {
-    let Ok(words) = Words::read(alloc, case.words_from(0)) else {
-        return writeln!(left.out, "a mistake");
-    };
-    match Service::from_words(alloc, &words) {
+    match Words::read(alloc, case.words_from(0)) {
+        Ok(words) => look_into_words(alloc, case, &words, left),
+        Err(_) => writeln!(left.out, "a mistake"),
+    }
+}
+
+/// The same of these words, which stand in the case.
+fn look_into_words(
+    alloc: Global,
+    case: &Case<'_>,
+    words: &Words<'_>,
+    left: &mut Left,
+) -> io::Result<()> {
+    match Service::from_words(alloc, words) {
         Ok(service) => tell_service(&service, case.input.as_slice(), left),
         Err(fault) => writeln!(left.out, "{}", Outcome::Refused(fault)),
     }
@@ -127,6 +142,9 @@ fn tell_service(service: &Service<'_>, addresses: &[&str], left: &mut Left) -> i
     writeln!(left.out, "served at {}", service.address)?;
     writeln!(left.out, "capture {}", service.capture)?;
     writeln!(left.out, "{workers} workers, {connections} connections")?;
+    if service.rules.serves_anonymous() {
+        writeln!(left.out, "anonymous senders are served")?;
+    }
     for address in addresses {
         let distribution = service.rules.distribution(address);
         writeln!(left.out, "{address} is {distribution:?}")?;

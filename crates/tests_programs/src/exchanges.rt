@@ -4,7 +4,7 @@ use crate::case::{Case, number_at};
 use crate::fakes::{Input, Left, Output};
 use clients_program::Client;
 use clients_program::exchange::exchange as greet;
-use std::alloc::AllocGlobal;
+use std::alloc::{AllocGlobal, Global};
 use std::io::{Read, Write};
 use std::rt::Files;
 use std::{fs, io};
@@ -44,13 +44,34 @@ pub fn exchange<R: Files + AllocGlobal>(
     left: &mut Left,
 ) -> io::Result<()> {
     let mut consumer = client(rt, "to_consumer.hex", case, 0)?;
+    exchange_by(rt, case, &mut consumer, &mut left.out)
+}
+
+/// The same by this consumer.
+///
+/// It borrows the consumer, and the function below the producer: owned together, their drops would be proved on each way out.
+fn exchange_by<R: Files + AllocGlobal>(
+    rt: &R,
+    case: &Case<'_>,
+    consumer: &mut Client<Scripted>,
+    out: &mut Output,
+) -> io::Result<()> {
     let mut producer = client(rt, "to_producer.hex", case, 2)?;
-    let out = &mut left.out;
-    match greet(rt.alloc(), &mut consumer, &mut producer, COUNT, out) {
+    exchange_between(rt, consumer, &mut producer, out)
+}
+
+/// The same by both.
+fn exchange_between<R: Files + AllocGlobal>(
+    rt: &R,
+    consumer: &mut Client<Scripted>,
+    producer: &mut Client<Scripted>,
+    out: &mut Output,
+) -> io::Result<()> {
+    match greet(rt.alloc(), consumer, producer, COUNT, out) {
         Ok(tally) => {
             writeln!(out, "{tally}")?;
-            tell_heard(rt, "of_consumer.hex", &consumer, out)?;
-            tell_heard(rt, "of_producer.hex", &producer, out)
+            tell_heard(rt, "of_consumer.hex", consumer, out)?;
+            tell_heard(rt, "of_producer.hex", producer, out)
         }
         Err(fault) => writeln!(out, "{fault:?}"),
     }
@@ -78,8 +99,15 @@ fn client<R: Files + AllocGlobal>(
 /// The octets of so many of the lines of a file, each of which has a frame in hexadecimal digits behind its name.
 fn frames_of<R: Files + AllocGlobal>(rt: &R, path: &str, count: usize) -> io::Result<Vec<u8>> {
     let text = fs::read_to_string(rt, path)?;
-    let mut octets = Vec::new(rt.alloc());
-    for line in text.as_str().lines().take(count) {
+    joined(rt.alloc(), text.as_str(), count)
+}
+
+/// The octets of so many of the lines of a text.
+///
+/// It borrows the text: owned here, its drop would be proved on each way out.
+fn joined(alloc: Global, text: &str, count: usize) -> io::Result<Vec<u8>> {
+    let mut octets = Vec::new(alloc);
+    for line in text.lines().take(count) {
         let digits = line.split_once(' ').map_or(line, |(_, digits)| digits);
         put_hex(&mut octets, digits)?;
     }

@@ -29,9 +29,21 @@ use std::time::Clock;
 use std::{fs, io};
 
 fn main(rt: HostRuntime) -> io::Result<()> {
-    for path in words_of(&rt)?.iter() {
-        let text = fs::read_to_string(&rt, path.as_str())?;
-        play_all(&rt, text.as_str())?;
+    let paths = words_of(&rt)?;
+    play_files(&rt, paths.as_slice())
+}
+
+/// Plays the cases of files.
+///
+/// It borrows their names, as the functions below borrow what those above them own: owned together, the drops of all would be proved
+/// on each way out.
+fn play_files<R>(rt: &R, paths: &[String]) -> io::Result<()>
+where
+    R: Files + Print + AllocGlobal + Threads + Wait + Net + Clock + Sync,
+{
+    for path in paths {
+        let text = fs::read_to_string(rt, path.as_str())?;
+        play_all(rt, text.as_str())?;
     }
     Ok(())
 }
@@ -45,12 +57,29 @@ where
         if line.is_empty() || line.starts_with('#') {
             continue;
         }
-        println!(rt; "> {line}")?;
-        let case = Case::of(rt.alloc(), line)?;
-        let left = runs::left_by(rt, &case)?;
-        tell(rt, &left, case.piece)?;
+        play(rt, line)?;
     }
     Ok(())
+}
+
+/// Plays the case of a line.
+fn play<R>(rt: &R, line: &str) -> io::Result<()>
+where
+    R: Files + Print + AllocGlobal + Threads + Wait + Net + Clock + Sync,
+{
+    println!(rt; "> {line}")?;
+    let case = Case::of(rt.alloc(), line)?;
+    let mut left = Left::new(rt.alloc(), &case);
+    play_into(rt, &case, &mut left)
+}
+
+/// Plays a case, which leaves this.
+fn play_into<R>(rt: &R, case: &Case<'_>, left: &mut Left) -> io::Result<()>
+where
+    R: Files + Print + AllocGlobal + Threads + Wait + Net + Clock + Sync,
+{
+    runs::run(rt, case, left)?;
+    tell(rt, left, case.piece)
 }
 
 /// Prints what a run left.

@@ -3,7 +3,7 @@
 use crate::case::Case;
 use crate::fakes::{Input, Left};
 use crate::{ends, exchanges};
-use std::alloc::AllocGlobal;
+use std::alloc::{AllocGlobal, Global};
 use std::io::Write;
 use std::net::Net;
 use std::rt::Files;
@@ -12,29 +12,28 @@ use std::thread::Threads;
 use std::time::Clock;
 use std::{fs, io};
 
-/// What the run leaves that the case asks for.
-pub fn left_by<R>(rt: &R, case: &Case<'_>) -> io::Result<Left>
+/// Does what the case asks for.
+pub fn run<R>(rt: &R, case: &Case<'_>, left: &mut Left) -> io::Result<()>
 where
     R: Files + AllocGlobal + Threads + Wait + Net + Clock + Sync,
 {
-    let mut left = Left::new(rt.alloc(), case);
     match case.kind {
-        "audit" => audit(rt, case, &mut left)?,
-        "show" => show(rt, case, &mut left)?,
-        "router" => route(rt, case.words_from(0), &mut left),
-        "octets" => write_octets(rt, case, &mut left)?,
-        "text" => {
-            let text = fs::read_to_string(rt, case.word(0))?;
-            left.out.write_all(text.as_bytes())?;
+        "audit" => audit(rt, case, left),
+        "show" => show(rt, case, left),
+        "router" => {
+            route(rt, case.words_from(0), left);
+            Ok(())
         }
+        "octets" => write_octets(rt, case, left),
+        "text" => write_text(rt, case, left),
         "remove" => {
             // Nothing is to be said where it is not there.
             let _ = fs::remove_file(rt, case.word(0));
+            Ok(())
         }
-        "exchange" => exchanges::exchange(rt, case, &mut left)?,
-        _ => ends::run(rt.alloc(), case, &mut left)?,
+        "exchange" => exchanges::exchange(rt, case, left),
+        _ => ends::run(rt.alloc(), case, left),
     }
-    Ok(left)
 }
 
 /// The auditor.
@@ -85,10 +84,23 @@ fn write_octets<R: Files + AllocGlobal>(
     left: &mut Left,
 ) -> io::Result<()> {
     let octets = fs::read(rt, case.word(0))?;
+    tell_octets(rt.alloc(), octets.as_slice(), case.word(1) == "shown", left)
+}
+
+/// How many octets there are, and which, where that is asked for.
+///
+/// It borrows the octets: owned here, their drop would be proved on each way out.
+fn tell_octets(alloc: Global, octets: &[u8], are_shown: bool, left: &mut Left) -> io::Result<()> {
     writeln!(left.out, "{} octets", octets.len())?;
-    if case.word(1) == "shown" {
-        let text = hex::encode(rt.alloc(), octets.as_slice())?;
+    if are_shown {
+        let text = hex::encode(alloc, octets)?;
         writeln!(left.out, "{text}")?;
     }
     Ok(())
+}
+
+/// The text of a file.
+fn write_text<R: Files + AllocGlobal>(rt: &R, case: &Case<'_>, left: &mut Left) -> io::Result<()> {
+    let text = fs::read_to_string(rt, case.word(0))?;
+    left.out.write_all(text.as_bytes())
 }
