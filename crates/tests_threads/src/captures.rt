@@ -6,18 +6,32 @@ use capture_form::{Capture, Distribution, Rule, write_capture};
 use std::alloc::{AllocError, Global};
 use std::fmt;
 
-/// No rules, or one: `q` is closest.
+/// Which rules a run has.
+#[derive(Clone, Copy)]
+pub enum RunRules {
+    /// None.
+    Plain,
+    /// One: `q` is closest.
+    Closest,
+    /// None, and anonymous senders are served.
+    Anonymous,
+}
+
+/// These rules.
 ///
 /// # Errors
 ///
 /// Where memory is refused.
-pub fn rules(alloc: Global, is_closest: bool) -> Result<Rules, AllocError> {
-    let list = if is_closest {
-        closest(alloc)?
-    } else {
-        Vec::new(alloc)
+pub fn rules(alloc: Global, of: RunRules) -> Result<Rules, AllocError> {
+    let list = match of {
+        RunRules::Plain | RunRules::Anonymous => Vec::new(alloc),
+        RunRules::Closest => closest(alloc)?,
     };
-    Rules::new(list).ok().ok_or(AllocError)
+    let rules = Rules::new(list).ok().ok_or(AllocError)?;
+    Ok(match of {
+        RunRules::Plain | RunRules::Closest => rules,
+        RunRules::Anonymous => rules.with_anonymous(),
+    })
 }
 
 /// `q` is closest.

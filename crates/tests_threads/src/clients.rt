@@ -3,6 +3,7 @@
 ghost use Rattle.std.specs.Prelude.{◌≡◌, [], All, IfOk, vec_len};
 
 use crate::gate::{Client, Pace, Post, stream_of};
+use crate::parted::stream_parted;
 use crate::script::Script;
 use std::alloc::{AllocError, Global};
 use std::sync::Arc;
@@ -12,6 +13,8 @@ use std::sync::Arc;
 pub struct Part {
     pub script: Script,
     pub pace: Pace,
+    /// How many octets of its message stand in the first of two transfers, where the script is that of `RELAY_IN_TWO`.
+    pub parted: Option<usize>,
 }
 
 /// Two clients that know of each other, and have said and taken nothing.
@@ -37,7 +40,10 @@ fn new_client(
 ) -> Result<Client, AllocError>
     ensures { IfOk result (λ client. (client.at ≡ 0) × (client.taken.items ≡ [])) }
 {
-    let stream = stream_of(alloc, part.script)?;
+    let stream = match part.parted {
+        Some(front) => stream_parted(alloc, front)?,
+        None => stream_of(alloc, part.script)?,
+    };
     let (mine, theirs) = (Arc::try_clone(mine)?, Arc::try_clone(theirs)?);
     Ok(Client::new(alloc, stream, part.script, part.pace, mine, theirs))
 }

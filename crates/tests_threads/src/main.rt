@@ -5,6 +5,7 @@
 //!
 //! - `captures`: the rules of a run, and what the auditor says of its capture
 //! - `script`: what clients say and take
+//! - `parted`: what one says whose message comes in two transfers
 //! - `gate`: a client as a gate in memory
 //! - `clients`: two of them
 //! - `shared`: two threads, each with an engine over a port of one exchange
@@ -14,6 +15,7 @@
 mod captures;
 mod clients;
 mod gate;
+mod parted;
 mod script;
 mod served;
 mod shared;
@@ -23,10 +25,13 @@ ghost use Rattle.std.specs.Prelude.{◌<◌, ◌≤◌};
 use address_table::Rules;
 use audit_core::Verdict;
 use capture_form::Capture;
-use captures::{Told, audited, rules};
+use captures::{RunRules, Told, audited, rules};
 use clients::Part;
 use gate::{LOOKS, PATIENCE, Pace, stream_of};
-use script::{BEGINS_LATE, CONSUMER, OPENS_LATE, PRODUCER, QUIET, STRANGERS, Script};
+use script::{
+    BEGINS_LATE, CONSUMER, MESSAGE, OPENS_LATE, PRODUCER, QUIET, RELAY, RELAY_IN_TWO, RELAYED,
+    STRANGERS, Script,
+};
 use served::{LIMIT, Pair, Served, serve_two};
 use shared::share_core;
 use std::alloc::{AllocError, Global};
@@ -74,6 +79,8 @@ fn main(rt: HostRuntime) -> ExitCode {
 fn run_all<R: Threads + Wait + Sync + Print>(rt: &R, alloc: Global) -> io::Result<()> {
     share(rt, alloc)?;
     exchange(rt, alloc)?;
+    relay(rt, alloc)?;
+    relay_in_two(rt, alloc)?;
     take_turns(rt, alloc)?;
     listen(rt, alloc)?;
     vanish(rt, alloc)?;
@@ -85,8 +92,11 @@ fn run_all<R: Threads + Wait + Sync + Print>(rt: &R, alloc: Global) -> io::Resul
 
 /// The exchange, by two threads over one exchange of the core.
 fn share<R: Threads + Wait + Sync + Print>(rt: &R, alloc: Global) -> io::Result<()> {
-    for (is_closest, name) in [(false, "no rules"), (true, "closest:q")] {
-        let rules = rules(alloc, is_closest)?;
+    for (of, name) in [
+        (RunRules::Plain, "no rules"),
+        (RunRules::Closest, "closest:q"),
+    ] {
+        let rules = rules(alloc, of)?;
         share_by(rt, alloc, name, &rules)?;
     }
     Ok(())
@@ -116,22 +126,53 @@ fn tell_shared(rt: &impl Print, alloc: Global, name: &str, capture: &Capture) ->
 
 /// The exchange, by two workers; at first each gate is read wherever the other is, and then both at once.
 fn exchange<R: Threads + Wait + Sync + Print>(rt: &R, alloc: Global) -> io::Result<()> {
-    for (is_closest, meets, name) in [
-        (false, false, "two workers, no rules"),
-        (true, false, "two workers, closest:q"),
-        (false, true, "two workers, at once"),
+    for (rules, meets, name) in [
+        (RunRules::Plain, false, "two workers, no rules"),
+        (RunRules::Closest, false, "two workers, closest:q"),
+        (RunRules::Plain, true, "two workers, at once"),
     ] {
         let pace = Pace {
             meets,
             ..ONE_BY_ONE
         };
         let pair = Pair {
-            is_closest,
+            rules,
             ..exchanging(pace, pace)
         };
         tell_pair(rt, alloc, name, 2, &pair)?;
     }
     Ok(())
+}
+
+/// A producer without address and a consumer, by two workers: where such senders are served, and where they are not.
+fn relay<R: Threads + Wait + Sync + Print>(rt: &R, alloc: Global) -> io::Result<()> {
+    let served = Pair {
+        rules: RunRules::Anonymous,
+        ..two_of(part(RELAY, ONE_BY_ONE), part(RELAYED, ONE_BY_ONE))
+    };
+    tell_pair(rt, alloc, "two workers, anonymous", 2, &served)?;
+    let refused = two_of(part(RELAY, IN_HASTE), part(RELAYED, IN_HASTE));
+    tell_pair(rt, alloc, "two workers, anonymous not served", 2, &refused)
+}
+
+/// The same, where they are served, by two workers, with the message parted behind any octet.
+fn relay_in_two<R: Threads + Wait + Sync + Print>(rt: &R, alloc: Global) -> io::Result<()> {
+    let mut relays = Relays {
+        content: 0,
+        others: 0,
+    };
+    for front in 0..=MESSAGE.len() {
+        let first = Part {
+            parted: Some(front),
+            ..part(RELAY_IN_TWO, ONE_BY_ONE)
+        };
+        let pair = Pair {
+            rules: RunRules::Anonymous,
+            ..two_of(first, part(RELAYED, ONE_BY_ONE))
+        };
+        relays.count(serve_two(rt, alloc, 2, &pair)?);
+    }
+    println!(rt; "two workers, anonymous, parted behind any octet: {relays}")
 }
 
 /// Two clients that wait for each other, by one worker.
@@ -360,9 +401,41 @@ impl fmt::Display for Tally {
     }
 }
 
+/// In how many runs both clients were content, and the capture has one delivery to a client and two outcomes, and in how many not.
+#[derive(Clone, Copy)]
+struct Relays {
+    content: u64,
+    others: u64,
+}
+
+impl Relays {
+    fn count(&mut self, served: Served) {
+        let count = match served {
+            Served::Report(Verdict::Accepted(tally), true, _)
+                if tally.deliveries == 1 && tally.outcomes == 2 => { &mut self.content }
+            _ => &mut self.others,
+        };
+        *count = count.saturating_add(1);
+    }
+}
+
+impl fmt::Display for Relays {
+    fn fmt<W: fmt::Write>(&self, f: &mut fmt::Formatter<W>) -> fmt::Result {
+        write!(
+            f,
+            "{} of one delivery and two outcomes, {} others",
+            self.content, self.others
+        )
+    }
+}
+
 /// A client of a script, at this pace.
 fn part(script: Script, pace: Pace) -> Part {
-    Part { script, pace }
+    Part {
+        script,
+        pace,
+        parted: None,
+    }
 }
 
 /// These two clients over a core without rules, which does not fill.
@@ -370,7 +443,7 @@ fn two_of(first: Part, second: Part) -> Pair {
     Pair {
         first,
         second,
-        is_closest: false,
+        rules: RunRules::Plain,
         limit: LIMIT,
     }
 }

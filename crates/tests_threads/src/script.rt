@@ -94,6 +94,133 @@ pub const CONSUMER: Script = Script {
     wanted: 160,
 };
 
+/// A producer without address. Behind the router's flow, and once the consumer's link stands, it sends a message for `q` and one
+/// that names no address, and it closes behind both outcomes.
+pub const RELAY: Script = Script {
+    turns: &[
+        Turn {
+            octets: AMQP_HEADER,
+            taken: 0,
+            others: 0,
+        },
+        Turn {
+            octets: PRODUCER_OPEN,
+            taken: 8,
+            others: 0,
+        },
+        Turn {
+            octets: BEGIN,
+            taken: 44,
+            others: 0,
+        },
+        Turn {
+            octets: RELAY_ATTACH,
+            taken: 77,
+            others: 0,
+        },
+        Turn {
+            octets: TO_Q,
+            taken: 150,
+            others: 116,
+        },
+        Turn {
+            octets: TO_NOBODY,
+            taken: 150,
+            others: 116,
+        },
+        Turn {
+            octets: CLOSE,
+            taken: 195,
+            others: 0,
+        },
+    ],
+    wanted: 207,
+};
+
+/// The same, its message for `q` in two transfers, parted in front of its first octet.
+pub const RELAY_IN_TWO: Script = Script {
+    turns: &[
+        Turn {
+            octets: AMQP_HEADER,
+            taken: 0,
+            others: 0,
+        },
+        Turn {
+            octets: PRODUCER_OPEN,
+            taken: 8,
+            others: 0,
+        },
+        Turn {
+            octets: BEGIN,
+            taken: 44,
+            others: 0,
+        },
+        Turn {
+            octets: RELAY_ATTACH,
+            taken: 77,
+            others: 0,
+        },
+        Turn {
+            octets: TO_Q_IN_TWO,
+            taken: 150,
+            others: 116,
+        },
+        Turn {
+            octets: TO_NOBODY,
+            taken: 150,
+            others: 116,
+        },
+        Turn {
+            octets: CLOSE,
+            taken: 195,
+            others: 0,
+        },
+    ],
+    wanted: 207,
+};
+
+/// A consumer of `q` that accepts the message of such a producer, and closes.
+pub const RELAYED: Script = Script {
+    turns: &[
+        Turn {
+            octets: AMQP_HEADER,
+            taken: 0,
+            others: 0,
+        },
+        Turn {
+            octets: CONSUMER_OPEN,
+            taken: 8,
+            others: 0,
+        },
+        Turn {
+            octets: BEGIN,
+            taken: 44,
+            others: 0,
+        },
+        Turn {
+            octets: CONSUMER_ATTACH,
+            taken: 77,
+            others: 0,
+        },
+        Turn {
+            octets: ONE_CREDIT,
+            taken: 116,
+            others: 0,
+        },
+        Turn {
+            octets: ACCEPTED,
+            taken: 159,
+            others: 0,
+        },
+        Turn {
+            octets: CLOSE,
+            taken: 159,
+            others: 0,
+        },
+    ],
+    wanted: 171,
+};
+
 /// It says its begin only when the other client took the router's open, and ends behind the answer.
 pub const BEGINS_LATE: Script = Script {
     turns: &[
@@ -200,14 +327,15 @@ pub const STRANGERS: [Script; 5] = [
 
 pub const AMQP_HEADER: &[u8] = b"AMQP\x00\x01\x00\x00";
 
-const PRODUCER_OPEN: &[u8] = b"\x00\x00\x00\x11\x02\x00\x00\x00\x00\x53\x10\xc0\x04\x01\xa1\x01p";
+pub const PRODUCER_OPEN: &[u8] =
+    b"\x00\x00\x00\x11\x02\x00\x00\x00\x00\x53\x10\xc0\x04\x01\xa1\x01p";
 
 const CONSUMER_OPEN: &[u8] = b"\x00\x00\x00\x11\x02\x00\x00\x00\x00\x53\x10\xc0\x04\x01\xa1\x01c";
 
 const QUIET_OPEN: &[u8] =
     b"\x00\x00\x00\x19\x02\x00\x00\x00\x00\x53\x10\xc0\x0c\x05\xa1\x01s\x40\x40\x40\x70\x00\x00\x03\xe8";
 
-const BEGIN: &[u8] =
+pub const BEGIN: &[u8] =
     b"\x00\x00\x00\x14\x02\x00\x00\x00\x00\x53\x11\xc0\x07\x04\x40\x43\x52\x64\x52\x64";
 
 const PRODUCER_ATTACH: &[u8] =
@@ -222,7 +350,28 @@ const ONE_CREDIT: &[u8] =
 const TRANSFER: &[u8] =
     b"\x00\x00\x00\x1c\x02\x00\x00\x00\x00\x53\x14\xc0\x08\x05\x43\x43\xa0\x011\x43\x42\x00\x53\x77\xa1\x02hi";
 
+pub const RELAY_ATTACH: &[u8] =
+    b"\x00\x00\x00\x1d\x02\x00\x00\x00\x00\x53\x12\xc0\x10\x0a\xa1\x01s\x43\x42\x40\x40\x40\x00\x53\x29\x45\x40\x40\x43";
+
+/// A transfer of `MESSAGE`, whose properties say that it is for `q`.
+const TO_Q: &[u8] =
+    b"\x00\x00\x00\x27\x02\x00\x00\x00\x00\x53\x14\xc0\x08\x05\x43\x43\xa0\x011\x43\x42\x00\x53\x73\xc0\x06\x03\x40\x40\xa1\x01q\x00\x53\x77\xa1\x02hi";
+
+/// A transfer with none of its octets and more to come, and one with all of them.
+const TO_Q_IN_TWO: &[u8] =
+    b"\x00\x00\x00\x16\x02\x00\x00\x00\x00\x53\x14\xc0\x09\x06\x43\x43\xa0\x011\x43\x42\x41\x00\x00\x00\x21\x02\x00\x00\x00\x00\x53\x14\xc0\x02\x01\x43\x00\x53\x73\xc0\x06\x03\x40\x40\xa1\x01q\x00\x53\x77\xa1\x02hi";
+
+/// The performatives of these two.
+pub const FIRST_PART: &[u8] = b"\x00\x53\x14\xc0\x09\x06\x43\x43\xa0\x011\x43\x42\x41";
+
+pub const LATER_PART: &[u8] = b"\x00\x53\x14\xc0\x02\x01\x43";
+
+pub const MESSAGE: &[u8] = b"\x00\x53\x73\xc0\x06\x03\x40\x40\xa1\x01q\x00\x53\x77\xa1\x02hi";
+
+pub const TO_NOBODY: &[u8] =
+    b"\x00\x00\x00\x1d\x02\x00\x00\x00\x00\x53\x14\xc0\x09\x05\x43\x52\x01\xa0\x011\x43\x42\x00\x53\x77\xa1\x02hi";
+
 const ACCEPTED: &[u8] =
     b"\x00\x00\x00\x16\x02\x00\x00\x00\x00\x53\x15\xc0\x09\x05\x41\x43\x40\x41\x00\x53\x24\x45";
 
-const CLOSE: &[u8] = b"\x00\x00\x00\x0c\x02\x00\x00\x00\x00\x53\x18\x45";
+pub const CLOSE: &[u8] = b"\x00\x00\x00\x0c\x02\x00\x00\x00\x00\x53\x18\x45";

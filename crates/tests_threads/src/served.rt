@@ -2,7 +2,7 @@
 
 ghost use Rattle.std.specs.Prelude.{◌<◌, ◌≤◌};
 
-use crate::captures::{Told, audited, rules};
+use crate::captures::{RunRules, Told, audited, rules};
 use crate::clients::{Part, two_gates};
 use crate::gate::Client;
 use crate::script::AMQP_HEADER;
@@ -24,7 +24,7 @@ pub const LIMIT: u64 = 1000;
 pub struct Pair {
     pub first: Part,
     pub second: Part,
-    pub is_closest: bool,
+    pub rules: RunRules,
     pub limit: u64,
 }
 
@@ -75,7 +75,7 @@ pub fn serve_two<R: Threads + Wait + Sync>(
     requires some { 0 < workers }
     requires few { workers ≤ 64 }
 {
-    let rules = rules(alloc, pair.is_closest)?;
+    let rules = rules(alloc, pair.rules)?;
     serve_by(rt, alloc, workers, pair, &rules)
 }
 
