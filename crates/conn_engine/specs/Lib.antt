@@ -9,3 +9,4 @@ pub mod Feeding
 pub mod Closing
 pub mod Taking
 pub mod Ticking
+pub mod Pausing

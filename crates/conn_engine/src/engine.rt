@@ -24,6 +24,10 @@ use std::alloc::{AllocError, Global};
 use std::marker::Model;
 use stream_reading::{Phase, StreamReader};
 
+mod paused;
+
+pub use paused::PausedEngine;
+
 /// What lies between a device and a router on one connection: it is fed the octets that the device delivers, in whatever
 /// pieces, hands the router its items, and gives the octets that the device is to take.
 ///

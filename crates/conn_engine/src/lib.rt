@@ -19,7 +19,7 @@ mod said;
 mod silence;
 mod taking;
 
-pub use engine::Engine;
+pub use engine::{Engine, PausedEngine};
 pub use fault::EngineFault;
 pub use gate::{Delivered, Gate, Ready, Taken};
 pub use output::Output;

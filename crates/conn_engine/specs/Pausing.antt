@@ -1,0 +1,26 @@
+-- An engine between two turns, without its port.
+use Rattle.std.specs.Prelude.{ℕ, Bool, List, Option}
+use Rattle.capture_form.specs.declared.records.What.{What}
+use Rattle.stream_reading.specs.Steps.{Ahead}
+use Rattle.conn_engine.specs.declared.marks.Marks.{Marks}
+use Rattle.conn_engine.specs.declared.place.Place.{Place}
+use Rattle.conn_engine.specs.declared.silence.Silence.{Silence}
+use Rattle.conn_engine.specs.Serving.{Connection}
+
+-- what is of a connection, but what its port tells
+pub record Paused : Type 0 where
+  pub number : ℕ
+  pub ahead : Ahead
+  pub waiting : List ℕ
+  pub marks : Marks
+  pub place : Place
+  pub time_out : Option ℕ
+  pub silence : Silence
+
+abbrev pub paused : Connection → Paused
+paused c = record { number = c.number; ahead = c.ahead; waiting = c.waiting; marks = c.marks; place = c.place; time_out = c.time_out; silence = c.silence }
+
+-- the connection, with what a port tells
+abbrev pub resumed : Paused → List What → List (List ℕ) → Bool → Connection
+resumed p items frames is_idle =
+    record { number = p.number; items = items; frames = frames; ahead = p.ahead; waiting = p.waiting; is_idle = is_idle; marks = p.marks; place = p.place; time_out = p.time_out; silence = p.silence }
