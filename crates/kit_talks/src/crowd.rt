@@ -95,20 +95,37 @@ impl Crowd {
     ///
     /// Where memory is refused.
     pub fn arrivals(&mut self, alloc: Global) -> Result<Vec<Deed>, AllocError> {
-        let mut absent: Vec<u32> = (0..self.size).collect(alloc)?;
         let mut deeds = Vec::new(alloc);
+        let mut absent: Vec<u32> = (0..self.size).collect(alloc)?;
+        self.put_arrivals(&mut deeds, &mut absent)?;
+        Ok(deeds)
+    }
+
+    /// The consumers of these connections come.
+    ///
+    /// It borrows what they do, as all below: owned here, its drop would be proved on each way out.
+    fn put_arrivals(
+        &mut self,
+        deeds: &mut Vec<Deed>,
+        absent: &mut Vec<u32>,
+    ) -> Result<(), AllocError> {
         for _ in 0..self.size {
             let place = self.chance.place(absent.len());
             if place < absent.len() {
-                let connection = absent.swap_remove(place);
-                let member = Member { connection, got: 0 };
-                come(alloc, &mut deeds, connection, true)?;
-                let credit = self.chance.number(6);
-                self.give(alloc, &mut deeds, member, credit)?;
-                self.members.push(member)?;
+                self.put_arrival(deeds, absent.swap_remove(place))?;
             }
         }
-        Ok(deeds)
+        Ok(())
+    }
+
+    /// The consumer of a connection comes.
+    fn put_arrival(&mut self, deeds: &mut Vec<Deed>, connection: u32) -> Result<(), AllocError> {
+        let member = Member { connection, got: 0 };
+        come(deeds, connection, true)?;
+        let credit = self.chance.number(6);
+        self.give(deeds, member, credit)?;
+        self.members.push(member)?;
+        Ok(())
     }
 
     /// A producer sends the delivery of this number, the first one being 0; before it some consumer may decide, give credit
@@ -119,21 +136,27 @@ impl Crowd {
     /// Where memory is refused.
     pub fn round(&mut self, alloc: Global, number: u32) -> Result<Vec<Deed>, AllocError> {
         let mut deeds = Vec::new(alloc);
+        self.put_round(&mut deeds, number)?;
+        Ok(deeds)
+    }
+
+    /// What is done in a round.
+    fn put_round(&mut self, deeds: &mut Vec<Deed>, number: u32) -> Result<(), AllocError> {
         let id = number % SENT;
         let producer = self.size.wrapping_add(number / SENT);
         if id == 0 {
-            come(alloc, &mut deeds, producer, false)?;
+            come(deeds, producer, false)?;
         }
         if id == SENT - 1 {
-            self.leave(alloc, &mut deeds)?;
+            self.leave(deeds)?;
         } else {
-            self.decide(alloc, &mut deeds, number)?;
-            self.renew(alloc, &mut deeds)?;
+            self.decide(deeds, number)?;
+            self.renew(deeds)?;
         }
-        let mut frame = Vec::new(alloc);
+        let mut frame = Vec::new(*deeds.allocator());
         put_transfer(&mut frame, 0, id)?;
         deeds.push(Deed::In(producer, frame))?;
-        Ok(deeds)
+        Ok(())
     }
 
     /// Each consumer that is there gives credit, so that of so many deliveries none waits any more.
@@ -149,12 +172,18 @@ impl Crowd {
         let mut deeds = Vec::new(alloc);
         let count = u32::try_from(self.members.len()).unwrap_or(u32::MAX);
         let each = deliveries.checked_div(count).unwrap_or(0);
+        self.give_all(&mut deeds, each.saturating_add(2))?;
+        Ok(deeds)
+    }
+
+    /// Each consumer that is there gives this credit.
+    fn give_all(&mut self, deeds: &mut Vec<Deed>, credit: u32) -> Result<(), AllocError> {
         for place in 0..self.members.len() {
             if let Some(member) = self.members.get(place).copied() {
-                self.give(alloc, &mut deeds, member, each.saturating_add(2))?;
+                self.give(deeds, member, credit)?;
             }
         }
-        Ok(deeds)
+        Ok(())
     }
 
     /// Learns from a record whether a delivery came to a consumer that is there.
@@ -180,12 +209,7 @@ impl Crowd {
     }
 
     /// Some consumer decides a delivery and maybe the next ones, where fewer than a third are decided of those that were sent.
-    fn decide(
-        &mut self,
-        alloc: Global,
-        deeds: &mut Vec<Deed>,
-        sent: u32,
-    ) -> Result<(), AllocError> {
+    fn decide(&mut self, deeds: &mut Vec<Deed>, sent: u32) -> Result<(), AllocError> {
         let place = self.chance.place(self.held.len());
         let Some(Held { place, id }) = self.held.get(place).copied() else {
             return Ok(());
@@ -197,9 +221,9 @@ impl Crowd {
         let is_settled = state.is_empty() || !self.chance.once_in(3);
         let most = self.chance.number(4);
         let last = (most > 0).then_some(id.wrapping_add(most));
+        let alloc = *deeds.allocator();
         let body = said::disposition(alloc, true, Some(id), last, is_settled, state)?;
-        let frame = framed(alloc, 0, body.as_slice())?;
-        deeds.push(Deed::In(place.connection, frame))?;
+        send(deeds, place.connection, body)?;
         let before = self.held.len();
         self.held.retain(|held| held.place != place || held.id.wrapping_sub(id) > most);
         let decided = before.saturating_sub(self.held.len());
@@ -219,7 +243,7 @@ impl Crowd {
     }
 
     /// Once in eight times some consumer gives credit anew, for one to four deliveries.
-    fn renew(&mut self, alloc: Global, deeds: &mut Vec<Deed>) -> Result<(), AllocError> {
+    fn renew(&mut self, deeds: &mut Vec<Deed>) -> Result<(), AllocError> {
         if !self.chance.once_in(8) {
             return Ok(());
         }
@@ -228,13 +252,12 @@ impl Crowd {
             return Ok(());
         };
         let credit = self.chance.number(4).wrapping_add(1);
-        self.give(alloc, deeds, member, credit)
+        self.give(deeds, member, credit)
     }
 
     /// A consumer gives credit, from the count that it has come to, or from the one before that.
     fn give(
         &mut self,
-        alloc: Global,
         deeds: &mut Vec<Deed>,
         member: Member,
         credit: u32,
@@ -246,15 +269,15 @@ impl Crowd {
             credit: Some(credit),
             drains: false,
         };
+        let alloc = *deeds.allocator();
         let body = said::flow(alloc, Some(0), WINDOW, 0, Some(link), false)?;
-        let frame = framed(alloc, 0, body.as_slice())?;
-        deeds.push(Deed::In(member.connection, frame))?;
+        send(deeds, member.connection, body)?;
         self.counts.credits = self.counts.credits.wrapping_add(1);
         Ok(())
     }
 
     /// Some consumer detaches, or its connection is lost, while not too many have left.
-    fn leave(&mut self, alloc: Global, deeds: &mut Vec<Deed>) -> Result<(), AllocError> {
+    fn leave(&mut self, deeds: &mut Vec<Deed>) -> Result<(), AllocError> {
         let left = self.counts.detached.saturating_add(self.counts.lost);
         let place = self.chance.place(self.members.len());
         if left >= self.size / STAYING || place >= self.members.len() {
@@ -262,7 +285,7 @@ impl Crowd {
         }
         let connection = self.members.swap_remove(place).connection;
         if left % 2 == 0 {
-            deeds.push(Deed::In(connection, DETACH.to_vec(alloc)?))?;
+            send_frame(deeds, connection, DETACH)?;
             self.counts.detached = self.counts.detached.wrapping_add(1);
         } else {
             deeds.push(Deed::Lost(connection))?;
@@ -304,16 +327,25 @@ impl Display for CrowdCounts {
 }
 
 /// A client comes, with a session on channel 0, and attaches as a consumer or as a producer.
-fn come(
-    alloc: Global,
-    deeds: &mut Vec<Deed>,
-    connection: u32,
-    is_consumer: bool,
-) -> Result<(), AllocError> {
+fn come(deeds: &mut Vec<Deed>, connection: u32, is_consumer: bool) -> Result<(), AllocError> {
     deeds.push(Deed::Opened(connection))?;
-    deeds.push(Deed::In(connection, OPEN.to_vec(alloc)?))?;
-    deeds.push(Deed::In(connection, BEGIN.to_vec(alloc)?))?;
-    let frame = attaching(alloc, 0, is_consumer, CROWDED)?;
+    send_frame(deeds, connection, OPEN)?;
+    send_frame(deeds, connection, BEGIN)?;
+    let frame = attaching(*deeds.allocator(), 0, is_consumer, CROWDED)?;
+    deeds.push(Deed::In(connection, frame))?;
+    Ok(())
+}
+
+/// A client sends a frame of this body on channel 0.
+fn send(deeds: &mut Vec<Deed>, connection: u32, body: Vec<u8>) -> Result<(), AllocError> {
+    let frame = framed(*deeds.allocator(), 0, body.as_slice())?;
+    deeds.push(Deed::In(connection, frame))?;
+    Ok(())
+}
+
+/// A client sends this frame.
+fn send_frame(deeds: &mut Vec<Deed>, connection: u32, frame: &[u8]) -> Result<(), AllocError> {
+    let frame = frame.to_vec(*deeds.allocator())?;
     deeds.push(Deed::In(connection, frame))?;
     Ok(())
 }

@@ -2,7 +2,7 @@
 
 use crate::deed::Deed;
 use crate::known::{ADDRESSES, Client, Known};
-use kit_clients::Chance;
+use kit_clients::{Chance, framed};
 use std::alloc::{AllocError, Global};
 
 /// Makes items by chance.
@@ -58,6 +58,13 @@ impl Driver {
     pub(crate) fn length(&mut self) -> usize {
         let most = self.chance.one_of(&[1, 20, 100, 100, 700, 3000], 0);
         self.chance.number(most) as usize
+    }
+
+    /// A frame of this body on a channel.
+    ///
+    /// It takes the body: one that is owned by who makes it would have its drop proved on each way out there.
+    pub(crate) fn framed(&self, channel: u16, body: Vec<u8>) -> Result<Vec<u8>, AllocError> {
+        framed(self.alloc, channel, body.as_slice())
     }
 
     /// A frame that a client sends.

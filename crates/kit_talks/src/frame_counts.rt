@@ -1,6 +1,6 @@
 //! What captures tell, in numbers.
 
-use amqp_frames::FrameView;
+use crate::seen::spoken;
 use amqp_perf::Performative;
 use capture_form::{Capture, What};
 use pairing_cert::{Note, Why};
@@ -92,40 +92,45 @@ impl FrameCounts {
         for entry in capture.records() {
             self.records = self.records.wrapping_add(1);
             match &entry.what {
-                What::In(frame) => self.count_in(frame.octets()),
-                What::Out(frame) => self.count_out(frame.octets(), entry.note),
+                What::In(frame) => self.count_in(entry.connection, frame.octets()),
+                What::Out(frame) => {
+                    self.count_out(entry.connection, frame.octets(), entry.note);
+                }
                 What::Opened | What::Lost | What::Broken => {}
             }
         }
     }
 
     /// Counts a frame that came in.
-    fn count_in(&mut self, octets: &[u8]) {
-        if let Some(Performative::Transfer(_)) = said(octets) {
+    fn count_in(&mut self, connection: u32, octets: &[u8]) {
+        if let Some((_, Performative::Transfer(_))) = spoken(connection, octets) {
             self.transfers_in = self.transfers_in.wrapping_add(1);
         }
     }
 
     /// Counts a frame that went out.
-    fn count_out(&mut self, octets: &[u8], note: Note) {
-        match said(octets) {
-            Some(Performative::Transfer(transfer)) => {
+    fn count_out(&mut self, connection: u32, octets: &[u8], note: Note) {
+        let Some((_, said)) = spoken(connection, octets) else {
+            return;
+        };
+        match said {
+            Performative::Transfer(transfer) => {
                 self.transfers = self.transfers.wrapping_add(1);
                 if transfer.delivery_id.is_some() {
                     self.deliveries = self.deliveries.wrapping_add(1);
                 }
             }
-            Some(Performative::Flow(flow)) => {
+            Performative::Flow(flow) => {
                 self.flows = self.flows.wrapping_add(1);
                 if flow.drains() && flow.link_credit == Some(0) {
                     self.drain_answers = self.drain_answers.wrapping_add(1);
                 }
             }
-            Some(Performative::Disposition(_)) => self.count_told(note),
-            Some(Performative::Attach(_)) => self.attaches = self.attaches.wrapping_add(1),
-            Some(Performative::Detach(_)) => self.detaches = self.detaches.wrapping_add(1),
-            Some(Performative::End(_)) => self.ends = self.ends.wrapping_add(1),
-            Some(Performative::Close(_)) => self.closes = self.closes.wrapping_add(1),
+            Performative::Disposition(_) => self.count_told(note),
+            Performative::Attach(_) => self.attaches = self.attaches.wrapping_add(1),
+            Performative::Detach(_) => self.detaches = self.detaches.wrapping_add(1),
+            Performative::End(_) => self.ends = self.ends.wrapping_add(1),
+            Performative::Close(_) => self.closes = self.closes.wrapping_add(1),
             _ => {}
         }
     }
@@ -137,13 +142,6 @@ impl FrameCounts {
             Note::None | Note::Pair(_) => self.settlings = self.settlings.wrapping_add(1),
         }
     }
-}
-
-/// What a frame says.
-fn said(octets: &[u8]) -> Option<Performative<'_>> {
-    let frame = FrameView::whole(octets, u32::MAX)?;
-    let (said, _) = Performative::read(frame.body()).ok()?;
-    Some(said)
 }
 
 impl Display for FrameCounts {

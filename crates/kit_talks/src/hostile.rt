@@ -4,8 +4,7 @@ use crate::deed::Deed;
 use crate::driver::Driver;
 use crate::known::{Client, Life, Place};
 use crate::said;
-use crate::said::{Attaching, Crediting, Sending};
-use kit_clients::framed;
+use crate::said::{Attaching, Crediting, Sending, repeated};
 use std::alloc::AllocError;
 
 /// Numbers that are likely to be no right ones.
@@ -34,22 +33,29 @@ const DYNAMIC_TARGET: &[u8] = &[
 impl Driver {
     /// What a client does next that it may not do, or need not.
     pub(crate) fn hostile(&mut self, client: Client) -> Result<Deed, AllocError> {
-        let frame = match self.chance.number(24) {
-            0 => self.no_frame()?,
-            1 => self.no_performative()?,
-            2..=6 => self.damaged_frame(client)?,
-            7 => self.elsewhere(client)?,
-            8 | 9 => self.odd_attach(client)?,
-            10..=12 => self.odd_transfer(client)?,
-            13 | 14 => self.odd_flow(client)?,
-            15..=18 => self.odd_disposition(client)?,
-            19 => self.odd_opening()?,
-            20 => self.odd_begin()?,
-            21 => self.odd_ending(client)?,
-            22 => self.large_transfer(client)?,
-            _ => return Ok(self.odd_item(client)),
-        };
-        Ok(Driver::sent(client, frame))
+        let choice = self.chance.number(24);
+        if choice > 22 {
+            return Ok(self.odd_item(client));
+        }
+        Ok(Driver::sent(client, self.odd_frame(client, choice)?))
+    }
+
+    /// The frame of this choice, from 0 to 22.
+    fn odd_frame(&mut self, client: Client, choice: u32) -> Result<Vec<u8>, AllocError> {
+        match choice {
+            0 => self.no_frame(),
+            1 => self.no_performative(),
+            2..=6 => self.damaged_frame(client),
+            7 => self.elsewhere(client),
+            8 | 9 => self.odd_attach(client),
+            10..=12 => self.odd_transfer(client),
+            13 | 14 => self.odd_flow(client),
+            15..=18 => self.odd_disposition(client),
+            19 => self.odd_opening(),
+            20 => self.odd_begin(),
+            21 => self.odd_ending(client),
+            _ => self.large_transfer(client),
+        }
     }
 
     /// An item that is no frame, where it is not awaited.
@@ -66,30 +72,33 @@ impl Driver {
     /// Octets that are no frame.
     fn no_frame(&mut self) -> Result<Vec<u8>, AllocError> {
         let mut octets = Vec::new(self.alloc);
-        for _ in 0..self.chance.number(40) {
-            octets.push(self.chance.octet())?;
-        }
+        let count = self.chance.number(40);
+        self.put_octets(&mut octets, count)?;
         Ok(octets)
+    }
+
+    /// Puts so many octets.
+    fn put_octets(&mut self, out: &mut Vec<u8>, count: u32) -> Result<(), AllocError> {
+        for _ in 0..count {
+            out.push(self.chance.octet())?;
+        }
+        Ok(())
     }
 
     /// A frame whose body is no performative, mostly.
     fn no_performative(&mut self) -> Result<Vec<u8>, AllocError> {
         let mut body = Vec::new(self.alloc);
         body.extend_from_slice(&[0x00, 0x53, self.chance.octet(), 0xC0])?;
-        for _ in 0..self.chance.number(30) {
-            body.push(self.chance.octet())?;
-        }
-        framed(self.alloc, 0, body.as_slice())
+        let count = self.chance.number(30);
+        self.put_octets(&mut body, count)?;
+        self.framed(0, body)
     }
 
     /// A lawful frame of the client, or an open.
     fn some_lawful(&mut self, client: Client) -> Result<Vec<u8>, AllocError> {
         match self.some_frame(client)? {
             Some(frame) => Ok(frame),
-            None => {
-                let body = said::open(self.alloc, None)?;
-                framed(self.alloc, 0, body.as_slice())
-            }
+            None => self.framed(0, said::open(self.alloc, None)?),
         }
     }
 
@@ -164,15 +173,18 @@ impl Driver {
     /// An attach that is refused, or ends more than itself.
     fn odd_attach(&mut self, client: Client) -> Result<Vec<u8>, AllocError> {
         let place = self.some_place(client);
-        let mut text = Vec::new(self.alloc);
-        for _ in 0..self.chance.one_of(&[1, 1, 1, 160, 161, 255, 256], 0) {
-            text.push(b'n')?;
-        }
+        let length = self.chance.one_of(&[1, 1, 1, 160, 161, 255, 256], 0);
+        let name = repeated(self.alloc, b'n', length)?;
+        self.odd_attach_of(place, name.as_slice())
+    }
+
+    /// The same of a link of this name, which may be its address too.
+    fn odd_attach_of(&mut self, place: Place, name: &[u8]) -> Result<Vec<u8>, AllocError> {
         let source = self.odd_source();
         let target = self.odd_target();
-        let long = said::terminus(self.alloc, 0x28, text.as_slice(), false)?;
+        let long = said::terminus(self.alloc, 0x28, name, false)?;
         let attaching = Attaching {
-            name: text.as_slice(),
+            name,
             handle: self.some_handle(),
             is_receiver: self.chance.once_in(2),
             sender_mode: None,
@@ -189,8 +201,7 @@ impl Driver {
                 Some(0)
             },
         };
-        let body = said::attach(self.alloc, attaching)?;
-        framed(self.alloc, place.channel, body.as_slice())
+        self.framed(place.channel, said::attach(self.alloc, attaching)?)
     }
 
     /// The octets of a source that is empty, or none, or those of a target.
@@ -239,8 +250,7 @@ impl Driver {
             is_aborted: self.chance.once_in(6),
         };
         let payload = self.length();
-        let body = said::transfer(self.alloc, sending, payload)?;
-        framed(self.alloc, place.channel, body.as_slice())
+        self.framed(place.channel, said::transfer(self.alloc, sending, payload)?)
     }
 
     /// A transfer of nearly as many octets as a frame has, or of more.
@@ -267,8 +277,10 @@ impl Driver {
         let payload = self
             .chance
             .one_of(&[8000, 16_200, 16_320, 16_330, 17_000], 0);
-        let body = said::transfer(self.alloc, sending, payload)?;
-        framed(self.alloc, link.place.channel, body.as_slice())
+        self.framed(
+            link.place.channel,
+            said::transfer(self.alloc, sending, payload)?,
+        )
     }
 
     /// A flow with numbers that nobody told.
@@ -292,8 +304,9 @@ impl Driver {
         let window = self.chance.one_of(&NUMBERS, 0);
         let has_link = !self.chance.once_in(4);
         let link = if has_link { Some(crediting) } else { None };
-        let body = said::flow(self.alloc, awaited, window, 0, link, self.chance.once_in(2))?;
-        framed(self.alloc, place.channel, body.as_slice())
+        let wants_echo = self.chance.once_in(2);
+        let body = said::flow(self.alloc, awaited, window, 0, link, wants_echo)?;
+        self.framed(place.channel, body)
     }
 
     /// A disposition of ids that are not awaited, maybe of the other role.
@@ -324,25 +337,23 @@ impl Driver {
             is_settled,
             state.as_slice(),
         )?;
-        framed(self.alloc, place.channel, body.as_slice())
+        self.framed(place.channel, body)
     }
 
     /// The octets of a state that is none: described by something else, or not described.
     fn odd_state(&mut self) -> Result<Vec<u8>, AllocError> {
-        let mut state = Vec::new(self.alloc);
-        match self.chance.number(3) {
-            0 => state.extend_from_slice(&[0x00, 0x53, 0x28, 0x45])?,
-            1 => state.extend_from_slice(&[0x00, 0x53, 0x24, 0x43])?,
-            _ => state.extend_from_slice(&[0x45])?,
-        }
-        Ok(state)
+        let state: &[u8] = match self.chance.number(3) {
+            0 => &[0x00, 0x53, 0x28, 0x45],
+            1 => &[0x00, 0x53, 0x24, 0x43],
+            _ => &[0x45],
+        };
+        state.to_vec(self.alloc)
     }
 
     /// An open with some limit.
     fn odd_opening(&mut self) -> Result<Vec<u8>, AllocError> {
         let limit = self.chance.one_of(&[0, 511, 512, 16384], 0);
-        let body = said::open(self.alloc, Some(limit))?;
-        framed(self.alloc, 0, body.as_slice())
+        self.framed(0, said::open(self.alloc, Some(limit))?)
     }
 
     /// A begin on some channel, maybe with a remote one.
@@ -357,8 +368,10 @@ impl Driver {
             self.chance.one_of(&NUMBERS, 0),
             self.chance.one_of(&NUMBERS, 0),
         );
-        let body = said::begin(self.alloc, Some(first), Some(window), remote)?;
-        framed(self.alloc, channel, body.as_slice())
+        self.framed(
+            channel,
+            said::begin(self.alloc, Some(first), Some(window), remote)?,
+        )
     }
 
     /// A detach, an end or a close that nobody asked for.
@@ -369,6 +382,6 @@ impl Driver {
             1 => said::ending(self.alloc, 0x17)?,
             _ => said::detach(self.alloc, Some(self.some_handle()), self.chance.once_in(2))?,
         };
-        framed(self.alloc, place.channel, body.as_slice())
+        self.framed(place.channel, body)
     }
 }

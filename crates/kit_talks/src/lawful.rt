@@ -26,8 +26,8 @@ impl Driver {
                     .chance
                     .one_of(&[0, 512, 512, 600, 1000, 16384, 100_000], 0);
                 let limit = if limit == 0 { None } else { Some(limit) };
-                let body = said::open(self.alloc, limit)?;
-                Ok(Driver::sent(client, framed(self.alloc, 0, body.as_slice())?))
+                let frame = self.framed(0, said::open(self.alloc, limit)?)?;
+                Ok(Driver::sent(client, frame))
             }
             Stage::Open => self.speak(client),
             Stage::Closed => Ok(Deed::Lost(client.connection)),
@@ -98,25 +98,24 @@ impl Driver {
             .known
             .session_of(&mut self.chance, connection, Life::Over)
         {
-            let body = said::ending(self.alloc, 0x17)?;
-            return self.on(session.place, body.as_slice());
+            return self.on(session.place, said::ending(self.alloc, 0x17)?);
         }
         let is_producer = self.chance.once_in(2);
         match self
             .known
             .link_of(&mut self.chance, connection, Life::Over, is_producer)
         {
-            Some(link) => {
-                let body = said::detach(self.alloc, Some(link.handle), true)?;
-                self.on(link.place, body.as_slice())
-            }
+            Some(link) => self.on(
+                link.place,
+                said::detach(self.alloc, Some(link.handle), true)?,
+            ),
             None => Ok(None),
         }
     }
 
-    /// A frame on a place's channel.
-    pub(crate) fn on(&self, place: Place, body: &[u8]) -> Result<Option<Vec<u8>>, AllocError> {
-        Ok(Some(framed(self.alloc, place.channel, body)?))
+    /// A frame of this body on a place's channel.
+    pub(crate) fn on(&self, place: Place, body: Vec<u8>) -> Result<Option<Vec<u8>>, AllocError> {
+        Ok(Some(self.framed(place.channel, body)?))
     }
 
     /// A begin, on a channel that is free.
@@ -131,8 +130,10 @@ impl Driver {
         }
         let first = self.chance.one_of(&FIRST_NUMBERS, 0);
         let window = self.chance.one_of(&WINDOWS, 0);
-        let body = said::begin(self.alloc, Some(first), Some(window), None)?;
-        self.on(place, body.as_slice())
+        self.on(
+            place,
+            said::begin(self.alloc, Some(first), Some(window), None)?,
+        )
     }
 
     /// An attach, on a handle that is free.
@@ -174,8 +175,7 @@ impl Driver {
             target: target.as_slice(),
             initial_count: Some(self.chance.one_of(&FIRST_NUMBERS, 0)),
         };
-        let body = said::attach(self.alloc, attaching)?;
-        self.on(session.place, body.as_slice())
+        self.on(session.place, said::attach(self.alloc, attaching)?)
     }
 
     /// A consumer's attach.
@@ -199,8 +199,7 @@ impl Driver {
             target: &[0x40],
             initial_count: None,
         };
-        let body = said::attach(self.alloc, attaching)?;
-        self.on(session.place, body.as_slice())
+        self.on(session.place, said::attach(self.alloc, attaching)?)
     }
 
     /// A part of a delivery.
@@ -232,8 +231,7 @@ impl Driver {
             is_aborted: self.chance.once_in(60),
         };
         let length = self.length();
-        let body = said::transfer(self.alloc, sending, length)?;
-        self.on(link.place, body.as_slice())
+        self.on(link.place, said::transfer(self.alloc, sending, length)?)
     }
 
     /// A later part of one.
@@ -252,8 +250,7 @@ impl Driver {
             is_aborted: self.chance.once_in(8),
         };
         let length = self.length();
-        let body = said::transfer(self.alloc, sending, length)?;
-        self.on(link.place, body.as_slice())
+        self.on(link.place, said::transfer(self.alloc, sending, length)?)
     }
 
     /// A flow of a consumer, or of a session or a producer.
@@ -319,7 +316,7 @@ impl Driver {
             crediting,
             wants_echo,
         )?;
-        self.on(session.place, body.as_slice())
+        self.on(session.place, body)
     }
 
     /// A consumer's disposition.
@@ -343,26 +340,25 @@ impl Driver {
             is_settled,
             state.as_slice(),
         )?;
-        self.on(held.place, body.as_slice())
+        self.on(held.place, body)
     }
 
     /// The octets of a state, or none.
     pub(crate) fn state(&mut self) -> Result<Vec<u8>, AllocError> {
-        let mut state = Vec::new(self.alloc);
-        match self.chance.number(12) {
-            0..=2 => state.extend_from_slice(&[0x00, 0x53, 0x24, 0x45])?,
-            3 => state.extend_from_slice(&[0x00, 0x53, 0x25, 0x45])?,
-            4 => state.extend_from_slice(&[0x00, 0x53, 0x26, 0x45])?,
-            5 => state.extend_from_slice(&[0x00, 0x53, 0x27, 0xC0, 0x03, 0x02, 0x41, 0x42])?,
-            6 => state.extend_from_slice(b"\x00\xA3\x12amqp:released:list\x45")?,
-            7 => state.extend_from_slice(&[0x00, 0x53, 0x23, 0xC0, 0x03, 0x02, 0x43, 0x44])?,
+        let state: &[u8] = match self.chance.number(12) {
+            0..=2 => &[0x00, 0x53, 0x24, 0x45],
+            3 => &[0x00, 0x53, 0x25, 0x45],
+            4 => &[0x00, 0x53, 0x26, 0x45],
+            5 => &[0x00, 0x53, 0x27, 0xC0, 0x03, 0x02, 0x41, 0x42],
+            6 => b"\x00\xA3\x12amqp:released:list\x45",
+            7 => &[0x00, 0x53, 0x23, 0xC0, 0x03, 0x02, 0x43, 0x44],
             8..=10 => {
                 let length = self.chance.one_of(&[10, 440, 560, 1000, 1000], 0);
                 return said::rejection(self.alloc, length);
             }
-            _ => {}
-        }
-        Ok(state)
+            _ => &[],
+        };
+        state.to_vec(self.alloc)
     }
 
     /// A detach of some link.
@@ -376,15 +372,16 @@ impl Driver {
             return Ok(None);
         };
         let is_closed = self.chance.once_in(2);
-        let body = said::detach(self.alloc, Some(link.handle), is_closed)?;
-        self.on(link.place, body.as_slice())
+        self.on(
+            link.place,
+            said::detach(self.alloc, Some(link.handle), is_closed)?,
+        )
     }
 
     /// The end of some session, and now and then of the connection.
     fn end(&mut self, client: Client) -> Result<Option<Vec<u8>>, AllocError> {
         if self.chance.once_in(4) {
-            let body = said::ending(self.alloc, 0x18)?;
-            return Ok(Some(framed(self.alloc, 0, body.as_slice())?));
+            return Ok(Some(self.framed(0, said::ending(self.alloc, 0x18)?)?));
         }
         let connection = client.connection;
         let found = self
@@ -392,8 +389,7 @@ impl Driver {
             .session_of(&mut self.chance, connection, Life::Live);
         match found {
             Some(session) if self.chance.once_in(2) => {
-                let body = said::ending(self.alloc, 0x17)?;
-                self.on(session.place, body.as_slice())
+                self.on(session.place, said::ending(self.alloc, 0x17)?)
             }
             _ => Ok(None),
         }

@@ -3,7 +3,7 @@
 use crate::known::{ADDRESSES, Held, Known, Life, Link, NO_ADDRESS, Place, Sent, Session, Stage};
 use amqp_frames::FrameView;
 use amqp_perf::{
-    Address, Attach, Detach, Disposition, Flow, Performative, Role, Target, Terminus, Transfer,
+    Address, Attach, Disposition, Flow, Performative, Role, Target, Terminus, Transfer,
 };
 use capture_form::{Record, What};
 use std::alloc::AllocError;
@@ -75,8 +75,12 @@ impl Known {
             (Stage::Open, Performative::Disposition(disposition)) => {
                 self.decide(place, disposition);
             }
-            (Stage::Open, Performative::Detach(detach)) => self.detach(place, detach),
-            (Stage::Open, Performative::End(_)) => self.end(place),
+            (Stage::Open, Performative::Detach(detach)) => {
+                self.turn_link(place, detach.handle, Life::Over, Life::Leaving);
+            }
+            (Stage::Open, Performative::End(_)) => {
+                self.turn_session(place, Life::Over, Life::Leaving);
+            }
             (_, Performative::Close(_)) => self.leave(place.connection, Stage::Closed),
             _ => {}
         }
@@ -157,25 +161,24 @@ impl Known {
         }
     }
 
-    /// The client detached a link, or let go of one that the router had detached.
-    fn detach(&mut self, place: Place, detach: &Detach<'_>) {
-        let handle = detach.handle;
-        self.links.retain(|link| {
-            link.place != place || link.handle != handle || link.life != Life::Over
-        });
+    /// A link was detached. Where the other end had detached it before, it has come so far, and is gone; else it comes so far as
+    /// is told last.
+    fn turn_link(&mut self, place: Place, handle: u32, gone: Life, fresh: Life) {
+        self.links.retain(|link| link.place != place || link.handle != handle || link.life != gone);
         for link in self.links.iter_mut() {
             if link.place == place && link.handle == handle {
-                link.life = Life::Leaving;
+                link.life = fresh;
             }
         }
     }
 
-    /// The client ended a session, or let go of one that the router had ended.
-    fn end(&mut self, place: Place) {
-        self.sessions.retain(|session| session.place != place || session.life != Life::Over);
+    /// A session was ended, in the same way.
+    fn turn_session(&mut self, place: Place, gone: Life, fresh: Life) {
+        self.sessions
+            .retain(|session| session.place != place || session.life != gone);
         for session in self.sessions.iter_mut() {
             if session.place == place {
-                session.life = Life::Leaving;
+                session.life = fresh;
             }
         }
     }
@@ -188,7 +191,9 @@ impl Known {
             Performative::Begin(_) => self.begun(place),
             Performative::End(_) => self.ended(place),
             Performative::Attach(attach) => self.attached(place, attach.handle),
-            Performative::Detach(detach) => self.detached(place, detach.handle),
+            Performative::Detach(detach) => {
+                self.turn_link(place, detach.handle, Life::Leaving, Life::Over);
+            }
             Performative::Flow(flow) => self.credited(place, flow),
             Performative::Transfer(transfer) => self.received(place, transfer)?,
             Performative::Disposition(disposition) => {
@@ -213,12 +218,7 @@ impl Known {
 
     /// A session ends.
     fn ended(&mut self, place: Place) {
-        self.sessions.retain(|session| session.place != place || session.life != Life::Leaving);
-        for session in self.sessions.iter_mut() {
-            if session.place == place {
-                session.life = Life::Over;
-            }
-        }
+        self.turn_session(place, Life::Leaving, Life::Over);
         self.links.retain(|link| link.place != place);
         self.held.retain(|held| held.place != place);
     }
@@ -228,18 +228,6 @@ impl Known {
         for link in self.links.iter_mut() {
             if link.place == place && link.handle == handle {
                 link.life = Life::Live;
-            }
-        }
-    }
-
-    /// A link ends.
-    fn detached(&mut self, place: Place, handle: u32) {
-        self.links.retain(|link| {
-            link.place != place || link.handle != handle || link.life != Life::Leaving
-        });
-        for link in self.links.iter_mut() {
-            if link.place == place && link.handle == handle {
-                link.life = Life::Over;
             }
         }
     }

@@ -138,16 +138,40 @@ fn is_served(
     let recorded = recorded_of(alloc, capture, served.connection)?;
     let fed = served.stream.get(..served.seen.fed).unwrap_or(&[]);
     let reading = kit_clients::read(alloc, fed)?;
-    let read = told_of(alloc, &reading)?;
     Ok(
         served.seen.is_steady
             && is_answered(&served.seen, &reading, is_full)
-            && is_told(&served.seen, &read, &recorded.told)
-            && is_told_by_port(&recorded.told, &served.items)
-            && is_given(&served.given, &reading, &recorded.written)
-            && recorded.written.as_slice() == slices_of(alloc, &served.frames)?.as_slice()
-            && is_over_in_time(&served.seen, &reading, &recorded.written),
+            && is_told_of(alloc, &served.seen, &reading, &recorded.told)?
+            && is_recorded(served, &reading, &recorded)
+            && is_given_by_port(alloc, &recorded.written, &served.frames)?,
     )
+}
+
+/// Whether what was recorded is what the port told, and what was given, in time.
+fn is_recorded(served: &Served, reading: &Reading<'_>, recorded: &Recorded<'_>) -> bool {
+    is_told_by_port(&recorded.told, &served.items)
+        && is_given(&served.given, reading, &recorded.written)
+        && is_over_in_time(&served.seen, reading, &recorded.written)
+}
+
+/// Whether the core was told what was read.
+fn is_told_of(
+    alloc: Global,
+    seen: &Seen,
+    reading: &Reading<'_>,
+    told: &[Told<'_>],
+) -> Result<bool, AllocError> {
+    let read = told_of(alloc, reading)?;
+    Ok(is_told(seen, &read, told))
+}
+
+/// Whether a port gives these frames.
+fn is_given_by_port(
+    alloc: Global,
+    written: &[&[u8]],
+    frames: &[Vec<u8>],
+) -> Result<bool, AllocError> {
+    Ok(written == slices_of(alloc, frames)?.as_slice())
 }
 
 /// What stands in a capture of a connection.
