@@ -1,27 +1,30 @@
 //! Frames, protocol headers and the frames of a SASL exchange.
 
-use crate::words::{Hex, lent, no_case, number, octets, octets_of_each, parted, word};
+use crate::words::{Hex, NoAnswer, lent, number, octets, octets_of_each, parted, word};
 use crate::{changed, performatives, pieces, written};
-use amqp_frames::{FrameFault, FrameView, ProtocolHeader, cut_stream, sasl_read};
+use amqp_frames::{CutStream, FrameFault, FrameView, ProtocolHeader, cut_stream, sasl_read};
 use std::alloc::{AllocError, Global};
-use std::io;
 
 /// What comes of a case about frames.
-pub(crate) fn answer(alloc: Global, words: &[&str]) -> io::Result<String> {
+pub(crate) fn answer(alloc: Global, words: &[&str]) -> Result<String, NoAnswer> {
     let (verb, rest) = parted(words);
     match verb {
-        "read" => {
-            let limit = number(word(rest, 0))?;
-            Ok(read(alloc, limit, &octets(alloc, word(rest, 1))?)?)
-        }
-        "change" => {
-            let limit = number(word(rest, 0))?;
-            Ok(changed::told(alloc, limit, &octets(alloc, word(rest, 1))?)?)
-        }
+        "read" | "change" => within(alloc, verb, rest),
         "cut" => cut(alloc, rest),
         "write" => written::in_frames(alloc, rest),
         _ => pieces::answer(alloc, verb, rest),
     }
+}
+
+/// What is read of octets within a limit, or where one of them is another.
+fn within(alloc: Global, verb: &str, words: &[&str]) -> Result<String, NoAnswer> {
+    let (limit, octets) = (number(word(words, 0))?, octets(alloc, word(words, 1))?);
+    let told = if verb == "read" {
+        read(alloc, limit, &octets)
+    } else {
+        changed::told(alloc, limit, &octets)
+    };
+    Ok(told?)
 }
 
 /// A fault, behind its number.
@@ -56,32 +59,53 @@ fn tell_front(out: &mut String, limit: u32, octets: &[u8]) -> Result<(), AllocEr
 }
 
 /// The frames of a stream that comes in these pieces, and the fault behind them.
-fn cut(alloc: Global, words: &[&str]) -> io::Result<String> {
+fn cut(alloc: Global, words: &[&str]) -> Result<String, NoAnswer> {
     let pieces = octets_of_each(alloc, words)?;
-    let cut = cut_stream(alloc, &lent(alloc, &pieces)?)?;
+    Ok(cut_told(alloc, &cut_of(alloc, &pieces)?)?)
+}
+
+/// The frames that pieces are cut into.
+fn cut_of(alloc: Global, pieces: &[Vec<u8>]) -> Result<CutStream, AllocError> {
+    let pieces = lent(alloc, pieces)?;
+    cut_stream(alloc, &pieces)
+}
+
+/// The frames of a stream that was cut, and the fault behind them.
+fn cut_told(alloc: Global, cut: &CutStream) -> Result<String, AllocError> {
     let mut out = String::new(alloc);
-    for frame in &cut.frames {
-        write!(out, "{:?} ", Hex(frame))?;
-    }
-    write!(out, "{:?}", cut.fault)?;
+    tell_cut(&mut out, cut)?;
     Ok(out)
 }
 
+/// Tells them.
+fn tell_cut(out: &mut String, cut: &CutStream) -> Result<(), AllocError> {
+    for frame in &cut.frames {
+        write!(out, "{:?} ", Hex(frame))?;
+    }
+    write!(out, "{:?}", cut.fault)
+}
+
 /// The protocol header that the octets are, and its octets.
-pub(crate) fn header(alloc: Global, word: &str) -> io::Result<String> {
-    match ProtocolHeader::of(&octets(alloc, word)?) {
-        Some(header) => Ok(format!(in alloc; "{header:?} {:?}", Hex(&header.octets()))?),
-        None => Ok("no header".to_string(alloc)?),
+pub(crate) fn header(alloc: Global, word: &str) -> Result<String, NoAnswer> {
+    let octets = octets(alloc, word)?;
+    Ok(header_told(alloc, ProtocolHeader::of(&octets))?)
+}
+
+/// A protocol header, and its octets.
+fn header_told(alloc: Global, header: Option<ProtocolHeader>) -> Result<String, AllocError> {
+    match header {
+        Some(header) => format!(in alloc; "{header:?} {:?}", Hex(&header.octets())),
+        None => "no header".to_string(alloc),
     }
 }
 
 /// What comes of a case about frames of a SASL exchange.
-pub(crate) fn sasl(alloc: Global, words: &[&str]) -> io::Result<String> {
+pub(crate) fn sasl(alloc: Global, words: &[&str]) -> Result<String, NoAnswer> {
     let (verb, rest) = parted(words);
     match verb {
         "read" => Ok(sasl_told(alloc, &octets(alloc, word(rest, 0))?)?),
         "write" => written::sasl(alloc, word(rest, 0)),
-        _ => Err(no_case()),
+        _ => Err(NoAnswer::NoCase),
     }
 }
 

@@ -27,25 +27,28 @@ mod written;
 
 use std::alloc::Global;
 use std::io;
-use words::{no_case, parted, word};
+use words::{NoAnswer, parted, word};
 
 fn main(rt: HostRuntime) -> io::Result<()> {
-    let alloc = rt.alloc();
-    for line in rt.lines(alloc) {
-        let line = line?;
-        let words: Vec<&str> = line.split_whitespace().collect(alloc)?;
-        let (subject, rest) = parted(&words);
-        if subject.is_empty() || subject == "#" {
-            rt.println(line.as_str())?;
-        } else {
-            println!(rt; "{line}: {}", answer(alloc, subject, rest)?)?;
-        }
+    for line in rt.lines(rt.alloc()) {
+        tell(&rt, line?.as_str())?;
     }
     Ok(())
 }
 
+/// Writes a line again, with what came of it where it is a case.
+fn tell(rt: &HostRuntime, line: &str) -> io::Result<()> {
+    let words: Vec<&str> = line.split_whitespace().collect(rt.alloc())?;
+    let (subject, rest) = parted(&words);
+    if subject.is_empty() || subject == "#" {
+        rt.println(line)
+    } else {
+        println!(rt; "{line}: {}", answer(rt.alloc(), subject, rest)?)
+    }
+}
+
 /// What comes of a case of this subject.
-fn answer(alloc: Global, subject: &str, words: &[&str]) -> io::Result<String> {
+fn answer(alloc: Global, subject: &str, words: &[&str]) -> Result<String, NoAnswer> {
     match subject {
         "value" => values::answer(alloc, words),
         "performative" => performatives::answer(alloc, words),
@@ -54,6 +57,6 @@ fn answer(alloc: Global, subject: &str, words: &[&str]) -> io::Result<String> {
         "header" => frames::header(alloc, word(words, 0)),
         "sasl" => frames::sasl(alloc, words),
         "stream" => streams::answer(alloc, words),
-        _ => Err(no_case()),
+        _ => Err(NoAnswer::NoCase),
     }
 }

@@ -1,19 +1,18 @@
 //! Performatives that are read.
 
-use crate::words::{Hex, behind, hex_if, no_case, octets, parted, tell, tell_if, word};
+use crate::words::{Hex, NoAnswer, behind, hex_if, octets, parted, tell, tell_if, word};
 use crate::written;
 use amqp_perf::{Attach, Disposition, PerfFault, Performative};
 use std::alloc::{AllocError, Global};
-use std::io;
 
 /// What comes of a case about performatives.
-pub(crate) fn answer(alloc: Global, words: &[&str]) -> io::Result<String> {
+pub(crate) fn answer(alloc: Global, words: &[&str]) -> Result<String, NoAnswer> {
     let (verb, rest) = parted(words);
     match verb {
         "read" => Ok(read(alloc, &octets(alloc, word(rest, 0))?)?),
         "fits" => fits(alloc, word(rest, 0), behind(rest, 1)),
         "write" => written::answer(alloc, rest),
-        _ => Err(no_case()),
+        _ => Err(NoAnswer::NoCase),
     }
 }
 
@@ -77,7 +76,7 @@ fn tell_disposition(out: &mut String, disposition: &Disposition<'_>) -> Result<(
 
 /// Whether fields are those of the performative that has this code, or which fault there is. The list is of the short
 /// form.
-fn fits(alloc: Global, code: &str, fields: &[&str]) -> io::Result<String> {
+fn fits(alloc: Global, code: &str, fields: &[&str]) -> Result<String, NoAnswer> {
     let mut list = octets(alloc, code)?;
     put_list(&mut list, fields)?;
     match Performative::read(&list) {
@@ -87,14 +86,14 @@ fn fits(alloc: Global, code: &str, fields: &[&str]) -> io::Result<String> {
 }
 
 /// Puts a list of the short form.
-fn put_list(out: &mut Vec<u8>, fields: &[&str]) -> io::Result<()> {
+fn put_list(out: &mut Vec<u8>, fields: &[&str]) -> Result<(), NoAnswer> {
     let items = joined(*out.allocator(), fields)?;
     let sizes = (
         u8::try_from(items.len().saturating_add(1)),
         u8::try_from(fields.len()),
     );
     let (Ok(size), Ok(count)) = sizes else {
-        return Err(no_case());
+        return Err(NoAnswer::NoCase);
     };
     out.extend_from_slice(&[0xC0, size, count])?;
     out.extend_from_slice(&items)?;
@@ -102,7 +101,7 @@ fn put_list(out: &mut Vec<u8>, fields: &[&str]) -> io::Result<()> {
 }
 
 /// The octets of all words, one behind the other.
-fn joined(alloc: Global, words: &[&str]) -> io::Result<Vec<u8>> {
+fn joined(alloc: Global, words: &[&str]) -> Result<Vec<u8>, NoAnswer> {
     let mut all = Vec::new(alloc);
     for word in words {
         all.extend_from_slice(&octets(alloc, word)?)?;

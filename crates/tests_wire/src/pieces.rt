@@ -1,21 +1,20 @@
 //! Streams of many frames that come in pieces, and what a splitter gives of them and keeps.
 
 use crate::frames::fault_told;
-use crate::words::{Hex, behind, no_case, number, octets, word};
+use crate::words::{Hex, NoAnswer, behind, number, octets, word};
 use amqp_frames::{Splitter, cut_stream};
 use std::alloc::{AllocError, Global};
-use std::io;
 
 /// What comes of a case about streams of frames.
-pub(crate) fn answer(alloc: Global, verb: &str, words: &[&str]) -> io::Result<String> {
+pub(crate) fn answer(alloc: Global, verb: &str, words: &[&str]) -> Result<String, NoAnswer> {
     if verb == "pieces" {
         return in_pieces(alloc, words);
     }
     let (count, frame) = (number(word(words, 0))?, octets(alloc, word(words, 1))?);
     match verb {
-        "batch" => batch(alloc, count, &frame),
+        "batch" => Ok(batch(alloc, count, &frame)?),
         "rounds" => rounds(alloc, count, &frame, behind(words, 2)),
-        _ => Err(no_case()),
+        _ => Err(NoAnswer::NoCase),
     }
 }
 
@@ -68,13 +67,13 @@ fn pieces_of<'a>(
 
 /// How many frames a stream of many is cut into that comes in pieces of these lengths, and whether they are those that
 /// were joined.
-fn in_pieces(alloc: Global, words: &[&str]) -> io::Result<String> {
+fn in_pieces(alloc: Global, words: &[&str]) -> Result<String, NoAnswer> {
     let lengths = lengths_of(alloc, words)?;
     Ok(cut_told(alloc, &many_frames(alloc)?, &lengths)?)
 }
 
 /// The lengths that words are.
-fn lengths_of(alloc: Global, words: &[&str]) -> io::Result<Vec<usize>> {
+fn lengths_of(alloc: Global, words: &[&str]) -> Result<Vec<usize>, NoAnswer> {
     let mut lengths = Vec::new(alloc);
     for word in words {
         lengths.push(number::<usize>(word)?)?;
@@ -97,16 +96,32 @@ fn cut_told(alloc: Global, frames: &[Vec<u8>], lengths: &[usize]) -> Result<Stri
 
 /// How many of so many frames are given back that come in one piece, and what is given behind them. Where a long stream
 /// were moved for each of its small frames, this would not end in time.
-fn batch(alloc: Global, count: u32, frame: &[u8]) -> io::Result<String> {
-    let mut splitter = Splitter::new(alloc);
-    splitter.feed(&repeated(alloc, count, frame)?)?;
+fn batch(alloc: Global, count: u32, frame: &[u8]) -> Result<String, AllocError> {
+    let stream = repeated(alloc, count, frame)?;
+    batch_told(&mut Splitter::new(alloc), alloc, count, (&stream, frame))
+}
+
+/// The same of a splitter that was given nothing, of the stream and the frame that it is made of.
+fn batch_told(
+    splitter: &mut Splitter,
+    alloc: Global,
+    count: u32,
+    (stream, frame): (&[u8], &[u8]),
+) -> Result<String, AllocError> {
+    splitter.feed(stream)?;
+    let given = all_given(splitter, count, frame)?;
+    let behind = next_told(alloc, splitter)?;
+    format!(in alloc; "{given} given back, then {behind}")
+}
+
+/// How many of so many frames are given back.
+fn all_given(splitter: &mut Splitter, count: u32, frame: &[u8]) -> Result<u32, AllocError> {
     let mut given = 0u32;
     for _ in 0..count {
         given = given.saturating_add(u32::from(splitter.next() == Ok(Some(frame))));
         splitter.feed(&[])?;
     }
-    let behind = next_told(alloc, &mut splitter)?;
-    Ok(format!(in alloc; "{given} given back, then {behind}")?)
+    Ok(given)
 }
 
 fn repeated(alloc: Global, count: u32, octets: &[u8]) -> Result<Vec<u8>, AllocError> {
@@ -119,7 +134,7 @@ fn repeated(alloc: Global, count: u32, octets: &[u8]) -> Result<Vec<u8>, AllocEr
 
 /// How many of so many frames are given back that come one by one, and how many octets are kept then; and the same of
 /// further pieces.
-fn rounds(alloc: Global, count: u32, frame: &[u8], words: &[&str]) -> io::Result<String> {
+fn rounds(alloc: Global, count: u32, frame: &[u8], words: &[&str]) -> Result<String, NoAnswer> {
     rounds_told(&mut Splitter::new(alloc), alloc, count, frame, words)
 }
 
@@ -130,13 +145,19 @@ fn rounds_told(
     count: u32,
     frame: &[u8],
     words: &[&str],
-) -> io::Result<String> {
+) -> Result<String, NoAnswer> {
     let given = one_by_one(splitter, count, frame)?;
     let mut out = format!(in alloc; "{given} given back, {:?} kept", kept(alloc, splitter)?)?;
-    for word in words {
-        tell_piece(&mut out, splitter, &octets(alloc, word)?)?;
-    }
+    tell_pieces(&mut out, splitter, words)?;
     Ok(out)
+}
+
+/// Tells what a splitter gives behind each further piece.
+fn tell_pieces(out: &mut String, splitter: &mut Splitter, words: &[&str]) -> Result<(), NoAnswer> {
+    for word in words {
+        tell_piece(out, splitter, &octets(*out.allocator(), word)?)?;
+    }
+    Ok(())
 }
 
 /// Tells what a splitter gives behind a further piece, and how many octets it keeps then.

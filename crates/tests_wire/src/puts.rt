@@ -5,20 +5,19 @@ ghost use Rattle.amqp_types.specs.Grammar.{IsValue, AreItems};
 ghost use Rattle.amqp_types.specs.Writing.{levels_in_list, levels_in_described};
 
 use crate::words::{
-    between_commas, hexed, lent, no_case, number, octets, octets_of_each, parted, word,
+    NoAnswer, between_commas, hexed, lent, number, octets, octets_of_each, parted, word,
 };
 use amqp_types::{
     put_binary, put_bool, put_described_list, put_list, put_null, put_parts, put_str, put_symbol,
     put_ubyte, put_uint, put_ulong, put_ushort,
 };
 use std::alloc::{AllocError, Global};
-use std::io;
 
 /// The most octets of a text.
 const LONGEST: usize = 1000;
 
 /// The octets of values, which are written one behind the other; a comma stands between them.
-pub(crate) fn answer(alloc: Global, words: &[&str]) -> io::Result<String> {
+pub(crate) fn answer(alloc: Global, words: &[&str]) -> Result<String, NoAnswer> {
     let mut out = Vec::new(alloc);
     for value in &between_commas(alloc, words)? {
         put(&mut out, *value)?;
@@ -26,7 +25,7 @@ pub(crate) fn answer(alloc: Global, words: &[&str]) -> io::Result<String> {
     Ok(hexed(alloc, &out)?)
 }
 
-fn put(out: &mut Vec<u8>, value: &[&str]) -> io::Result<()> {
+fn put(out: &mut Vec<u8>, value: &[&str]) -> Result<(), NoAnswer> {
     let (kind, rest) = parted(value);
     let first = word(rest, 0);
     match kind {
@@ -40,7 +39,7 @@ fn put(out: &mut Vec<u8>, value: &[&str]) -> io::Result<()> {
 }
 
 /// A value of this type.
-fn put_one(out: &mut Vec<u8>, kind: &str, word: &str) -> io::Result<()> {
+fn put_one(out: &mut Vec<u8>, kind: &str, word: &str) -> Result<(), NoAnswer> {
     match kind {
         "boolean" => put_bool(out, number(word)?)?,
         "ubyte" => put_ubyte(out, number(word)?)?,
@@ -53,29 +52,29 @@ fn put_one(out: &mut Vec<u8>, kind: &str, word: &str) -> io::Result<()> {
     Ok(())
 }
 
-fn put_octets(out: &mut Vec<u8>, word: &str) -> io::Result<()> {
+fn put_octets(out: &mut Vec<u8>, word: &str) -> Result<(), NoAnswer> {
     let octets = octets(*out.allocator(), word)?;
     if octets.len() > LONGEST {
-        return Err(no_case());
+        return Err(NoAnswer::NoCase);
     }
     put_binary(out, &octets)?;
     Ok(())
 }
 
-fn put_text(out: &mut Vec<u8>, kind: &str, word: &str) -> io::Result<()> {
+fn put_text(out: &mut Vec<u8>, kind: &str, word: &str) -> Result<(), NoAnswer> {
     if word.len() > LONGEST {
-        return Err(no_case());
+        return Err(NoAnswer::NoCase);
     }
     match kind {
         "string" => put_str(out, word)?,
         "symbol" if word.is_ascii() => put_symbol(out, word)?,
-        _ => return Err(no_case()),
+        _ => return Err(NoAnswer::NoCase),
     }
     Ok(())
 }
 
 /// Parts of octets, all at once.
-fn put_pieces(out: &mut Vec<u8>, words: &[&str]) -> io::Result<()> {
+fn put_pieces(out: &mut Vec<u8>, words: &[&str]) -> Result<(), NoAnswer> {
     let alloc = *out.allocator();
     let parts = octets_of_each(alloc, words)?;
     put_parts(out, &lent(alloc, &parts)?)?;

@@ -1,28 +1,27 @@
 //! The steps of a client's stream.
 
-use crate::words::{Hex, no_case, number, octets, parted, word};
+use crate::words::{Hex, NoAnswer, number, octets, parted, word};
 use std::alloc::{AllocError, Global};
-use std::io;
 use stream_reading::{Phase, StreamReader, answer_to, answer_to_fault, front};
 
 /// What comes of a case about streams.
-pub(crate) fn answer(alloc: Global, words: &[&str]) -> io::Result<String> {
+pub(crate) fn answer(alloc: Global, words: &[&str]) -> Result<String, NoAnswer> {
     let (verb, rest) = parted(words);
     let octets = octets(alloc, word(rest, 1))?;
     match verb {
         "front" => Ok(at_front(alloc, phase(word(rest, 0))?, &octets)?),
         "steps" => steps(alloc, number(word(rest, 0))?, &octets),
-        _ => Err(no_case()),
+        _ => Err(NoAnswer::NoCase),
     }
 }
 
-fn phase(name: &str) -> io::Result<Phase> {
+fn phase(name: &str) -> Result<Phase, NoAnswer> {
     match name {
         "FirstHeader" => Ok(Phase::FirstHeader),
         "Exchange" => Ok(Phase::Exchange),
         "SecondHeader" => Ok(Phase::SecondHeader),
         "Open" => Ok(Phase::Open),
-        _ => Err(no_case()),
+        _ => Err(NoAnswer::NoCase),
     }
 }
 
@@ -46,9 +45,9 @@ fn at_front(alloc: Global, phase: Phase, octets: &[u8]) -> Result<String, AllocE
 }
 
 /// The steps of a stream that comes in pieces of this length, and what comes next behind them.
-fn steps(alloc: Global, most: usize, octets: &[u8]) -> io::Result<String> {
+fn steps(alloc: Global, most: usize, octets: &[u8]) -> Result<String, NoAnswer> {
     if most == 0 {
-        return Err(no_case());
+        return Err(NoAnswer::NoCase);
     }
     let mut out = String::new(alloc);
     let mut reader = StreamReader::new(alloc);

@@ -1,10 +1,9 @@
 //! Values that are read.
 
 use crate::puts;
-use crate::words::{Hex, behind, hex_if, no_case, octets, parted, tell, tell_if, word};
+use crate::words::{Hex, NoAnswer, behind, hex_if, octets, parted, tell, tell_if, word};
 use amqp_types::{Items, Value, ValueFault, read_described_list};
 use std::alloc::{AllocError, Global};
-use std::io;
 
 /// How many octets are printed in hex; of more only their number.
 const FEW: usize = 16;
@@ -13,18 +12,25 @@ const FEW: usize = 16;
 const MOST: u32 = 1000;
 
 /// What comes of a case about values.
-pub(crate) fn answer(alloc: Global, words: &[&str]) -> io::Result<String> {
+pub(crate) fn answer(alloc: Global, words: &[&str]) -> Result<String, NoAnswer> {
     let (verb, rest) = parted(words);
     if verb == "put" {
         return puts::answer(alloc, rest);
     }
     let octets = octets(alloc, word(rest, 0))?;
+    told_of(alloc, verb, &octets, behind(rest, 1))
+}
+
+/// What comes of octets.
+///
+/// It borrows them: owned here, their drop would be proved on each way out.
+fn told_of(alloc: Global, verb: &str, octets: &[u8], steps: &[&str]) -> Result<String, NoAnswer> {
     match verb {
-        "read" => Ok(read(alloc, &octets)?),
-        "why" => why(alloc, &octets),
-        "take" => take(alloc, &octets, behind(rest, 1)),
-        "listed" => Ok(listed(alloc, &octets)?),
-        _ => Err(no_case()),
+        "read" => Ok(read(alloc, octets)?),
+        "why" => why(alloc, octets),
+        "take" => take(alloc, octets, steps),
+        "listed" => Ok(listed(alloc, octets)?),
+        _ => Err(NoAnswer::NoCase),
     }
 }
 
@@ -56,6 +62,14 @@ fn read(alloc: Global, octets: &[u8]) -> Result<String, AllocError> {
 fn tell_all(out: &mut String, value: Value<'_>) -> Result<(), AllocError> {
     let mut waiting = Vec::new(*out.allocator());
     waiting.push((0usize, value))?;
+    tell_waiting(out, &mut waiting)
+}
+
+/// The same of what waits, the last one first, each behind so many spaces.
+fn tell_waiting<'a>(
+    out: &mut String,
+    waiting: &mut Vec<(usize, Value<'a>)>,
+) -> Result<(), AllocError> {
     for _ in 0..MOST {
         let Some((indent, value)) = waiting.pop() else {
             break;
@@ -64,7 +78,7 @@ fn tell_all(out: &mut String, value: Value<'_>) -> Result<(), AllocError> {
             write!(out, "\n{:indent$}", "")?;
         }
         tell_value(out, &value)?;
-        put_parts(&mut waiting, indent.saturating_add(2), &value)?;
+        put_parts(waiting, indent.saturating_add(2), &value)?;
     }
     Ok(())
 }
@@ -76,9 +90,7 @@ fn put_parts<'a>(
     value: &Value<'a>,
 ) -> Result<(), AllocError> {
     let items: Vec<Value<'a>> = value.items().collect(*waiting.allocator())?;
-    for item in items.iter().rev() {
-        waiting.push((indent, *item))?;
-    }
+    put_items(waiting, indent, &items)?;
     if let Some(described) = value.described() {
         waiting.push((indent, described))?;
     }
@@ -88,14 +100,21 @@ fn put_parts<'a>(
     Ok(())
 }
 
+/// Puts items in front of what waits, the first one foremost.
+fn put_items<'a>(
+    waiting: &mut Vec<(usize, Value<'a>)>,
+    indent: usize,
+    items: &[Value<'a>],
+) -> Result<(), AllocError> {
+    for item in items.iter().rev() {
+        waiting.push((indent, *item))?;
+    }
+    Ok(())
+}
+
 /// A value's octets, and what it says, by each question that it answers.
 fn tell_value(out: &mut String, value: &Value<'_>) -> Result<(), AllocError> {
-    let raw = value.raw();
-    if raw.len() <= FEW {
-        write!(out, "{:?}", Hex(raw))?;
-    } else {
-        write!(out, "{} octets", raw.len())?;
-    }
+    tell_raw(out, value.raw())?;
     if value.is_null() {
         out.push_str(" null")?;
     }
@@ -105,11 +124,24 @@ fn tell_value(out: &mut String, value: &Value<'_>) -> Result<(), AllocError> {
     tell_parts(out, value)
 }
 
+/// Octets in hex, or of many how many they are.
+fn tell_raw(out: &mut String, raw: &[u8]) -> Result<(), AllocError> {
+    if raw.len() <= FEW {
+        write!(out, "{:?}", Hex(raw))
+    } else {
+        write!(out, "{} octets", raw.len())
+    }
+}
+
 fn tell_numbers(out: &mut String, value: &Value<'_>) -> Result<(), AllocError> {
     tell_if(out, "ubyte", value.as_ubyte())?;
     tell_if(out, "ushort", value.as_ushort())?;
     tell_if(out, "uint", value.as_uint())?;
     tell_if(out, "ulong", value.as_ulong())?;
+    tell_signed(out, value)
+}
+
+fn tell_signed(out: &mut String, value: &Value<'_>) -> Result<(), AllocError> {
     tell_if(out, "byte", value.as_byte())?;
     tell_if(out, "short", value.as_short())?;
     tell_if(out, "int", value.as_int())?;
@@ -140,42 +172,51 @@ fn count(items: Option<Items<'_>>) -> Option<usize> {
 }
 
 /// Why the octets are no value, in words.
-fn why(alloc: Global, octets: &[u8]) -> io::Result<String> {
+fn why(alloc: Global, octets: &[u8]) -> Result<String, NoAnswer> {
     match Value::read(octets) {
-        Ok(_) => Err(no_case()),
+        Ok(_) => Err(NoAnswer::NoCase),
         Err(fault) => Ok(format!(in alloc; "{fault}")?),
     }
 }
 
 /// What each step gives that takes an item of a value.
-fn take(alloc: Global, octets: &[u8], steps: &[&str]) -> io::Result<String> {
+fn take(alloc: Global, octets: &[u8], steps: &[&str]) -> Result<String, NoAnswer> {
     let Ok((value, [])) = Value::read(octets) else {
-        return Err(no_case());
+        return Err(NoAnswer::NoCase);
     };
     let mut out = String::new(alloc);
-    let mut items = value.items();
+    take_each(&mut out, &mut value.items(), steps)?;
+    Ok(out)
+}
+
+/// Tells what each step gives.
+fn take_each(out: &mut String, items: &mut Items<'_>, steps: &[&str]) -> Result<(), NoAnswer> {
     for step in steps {
         if !out.is_empty() {
             out.push_str(", ")?;
         }
-        take_one(&mut out, &mut items, step)?;
+        take_one(out, items, step)?;
     }
-    Ok(out)
+    Ok(())
 }
 
 /// What a step gives, behind its name, and the value that the step `next` gives.
-fn take_one(out: &mut String, items: &mut Items<'_>, step: &str) -> io::Result<()> {
+fn take_one(out: &mut String, items: &mut Items<'_>, step: &str) -> Result<(), NoAnswer> {
     match step {
         "simple" => write!(out, "simple {:?}", items.next_simple())?,
         "uint" => write!(out, "uint {:?}", items.next_uint())?,
         "bool" => write!(out, "bool {:?}", items.next_bool())?,
-        "next" => match items.next() {
-            Some(value) => tell_value(out, &value)?,
-            None => out.push_str("none left")?,
-        },
-        _ => return Err(no_case()),
+        "next" => tell_next(out, items)?,
+        _ => return Err(NoAnswer::NoCase),
     }
     Ok(())
+}
+
+fn tell_next(out: &mut String, items: &mut Items<'_>) -> Result<(), AllocError> {
+    match items.next() {
+        Some(value) => tell_value(out, &value),
+        None => out.push_str("none left"),
+    }
 }
 
 /// What is read as a described list: the descriptor's number, how many items there are, and how many octets are behind.

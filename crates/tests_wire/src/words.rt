@@ -1,14 +1,41 @@
 //! Octets and numbers as words, and as text.
 
-use std::alloc::{AllocError, Global};
+use std::alloc::{AllocError, AllocFailed, Global};
 use std::fmt::{Debug, Formatter};
 use std::io::ErrorKind;
 use std::str::FromStr;
 use std::{fmt, io};
 
-/// What is wrong with a line that is no case.
-pub(crate) fn no_case() -> io::Error {
-    io::Error::from(ErrorKind::InvalidInput)
+/// Why a line has no answer.
+///
+/// It is no `io::Error`, since that has a drop, which would be proved on each way out of all functions that answer.
+#[derive(Clone, Copy)]
+pub(crate) enum NoAnswer {
+    /// It is no case.
+    NoCase,
+    /// Memory was refused.
+    Memory,
+}
+
+impl From<AllocError> for NoAnswer {
+    fn from(_fault: AllocError) -> NoAnswer {
+        NoAnswer::Memory
+    }
+}
+
+impl<T: Drop> From<AllocFailed<T>> for NoAnswer {
+    fn from(_fault: AllocFailed<T>) -> NoAnswer {
+        NoAnswer::Memory
+    }
+}
+
+impl From<NoAnswer> for io::Error {
+    fn from(fault: NoAnswer) -> io::Error {
+        match fault {
+            NoAnswer::NoCase => io::Error::from(ErrorKind::InvalidInput),
+            NoAnswer::Memory => io::Error::from(AllocError),
+        }
+    }
 }
 
 /// The first word, which says what is done, and those behind it.
@@ -30,18 +57,18 @@ pub(crate) fn behind<'a>(words: &'a [&'a str], place: usize) -> &'a [&'a str] {
 }
 
 /// The octets that a word is in hex, none where it is `-`.
-pub(crate) fn octets(alloc: Global, word: &str) -> io::Result<Vec<u8>> {
+pub(crate) fn octets(alloc: Global, word: &str) -> Result<Vec<u8>, NoAnswer> {
     if word == "-" {
         return Ok(Vec::new(alloc));
     }
     match hex::decode(alloc, word) {
         Ok(octets) => Ok(octets),
-        Err(_) => Err(no_case()),
+        Err(_) => Err(NoAnswer::NoCase),
     }
 }
 
 /// The octets of each word.
-pub(crate) fn octets_of_each(alloc: Global, words: &[&str]) -> io::Result<Vec<Vec<u8>>> {
+pub(crate) fn octets_of_each(alloc: Global, words: &[&str]) -> Result<Vec<Vec<u8>>, NoAnswer> {
     let mut pieces = Vec::new(alloc);
     for word in words {
         pieces.push(octets(alloc, word)?)?;
@@ -67,13 +94,13 @@ pub(crate) fn between_commas<'a>(
 }
 
 /// The number or truth value that a word is.
-pub(crate) fn number<T: FromStr>(word: &str) -> io::Result<T>
+pub(crate) fn number<T: FromStr>(word: &str) -> Result<T, NoAnswer>
 where
     T::Err: Drop,
 {
     match word.parse::<T>() {
         Ok(number) => Ok(number),
-        Err(_) => Err(no_case()),
+        Err(_) => Err(NoAnswer::NoCase),
     }
 }
 

@@ -5,7 +5,7 @@ ghost use Rattle.flow_counts.specs.declared.profile.TheConstants.{MAX_ADDRESS};
 ghost use Rattle.amqp_perf.specs.View.{view};
 ghost use Rattle.amqp_perf.specs.Writing.{IsWritable};
 
-use crate::words::{behind, between_commas, hexed, no_case, number, octets, parted, word};
+use crate::words::{NoAnswer, behind, between_commas, hexed, number, octets, parted, word};
 use amqp_frames::{SASL_OK, SaslFrame, put_frame, sasl_write};
 use amqp_perf::{
     Attach, Begin, Detach, Disposition, ErrorCondition, Flow, Open, Outcome, Performative, Role,
@@ -13,13 +13,12 @@ use amqp_perf::{
 };
 use flow_counts::{MAX_ADDRESS, MAX_FRAME_SIZE};
 use std::alloc::{AllocError, Global};
-use std::io;
 
 /// The tag of each delivery.
 const TAG: &[u8] = &[0, 0, 0, 0];
 
 /// The octets of performatives, which are written one behind the other; a comma stands between them.
-pub(crate) fn answer(alloc: Global, words: &[&str]) -> io::Result<String> {
+pub(crate) fn answer(alloc: Global, words: &[&str]) -> Result<String, NoAnswer> {
     let mut out = Vec::new(alloc);
     for performative in &between_commas(alloc, words)? {
         write(&mut out, *performative)?;
@@ -27,22 +26,29 @@ pub(crate) fn answer(alloc: Global, words: &[&str]) -> io::Result<String> {
     Ok(hexed(alloc, &out)?)
 }
 
-fn write(out: &mut Vec<u8>, performative: &[&str]) -> io::Result<()> {
+fn write(out: &mut Vec<u8>, performative: &[&str]) -> Result<(), NoAnswer> {
     let (kind, rest) = parted(performative);
     match kind {
+        "open" | "begin" | "end" | "close" => write_beside_links(out, kind, word(rest, 0)),
+        "attach" => write_attach(out, word(rest, 0), behind(rest, 1)),
+        "flow" => write_flow(out, rest),
+        "detach" => write_detach(out, rest),
+        _ => write_of_delivery(out, kind, rest),
+    }
+}
+
+/// A performative of a connection or a session.
+fn write_beside_links(out: &mut Vec<u8>, kind: &str, word: &str) -> Result<(), NoAnswer> {
+    match kind {
         "open" => Open::of_router().write(out)?,
-        "begin" => Begin::answering(number(word(rest, 0))?).write(out)?,
+        "begin" => Begin::answering(number(word)?).write(out)?,
         "end" => Performative::end(None).write(out)?,
-        "close" => Performative::close(condition(word(rest, 0))?).write(out)?,
-        "attach" => write_attach(out, word(rest, 0), behind(rest, 1))?,
-        "flow" => write_flow(out, rest)?,
-        "detach" => write_detach(out, rest)?,
-        _ => write_of_delivery(out, kind, rest)?,
+        _ => Performative::close(condition(word)?).write(out)?,
     }
     Ok(())
 }
 
-fn write_flow(out: &mut Vec<u8>, words: &[&str]) -> io::Result<()> {
+fn write_flow(out: &mut Vec<u8>, words: &[&str]) -> Result<(), NoAnswer> {
     let (handle, count) = (number(word(words, 0))?, number(word(words, 1))?);
     let (credit, drains) = (number(word(words, 2))?, number(word(words, 3))?);
     let link = Flow::of_session(0, 0).of_link(handle, count, credit, drains);
@@ -50,32 +56,54 @@ fn write_flow(out: &mut Vec<u8>, words: &[&str]) -> io::Result<()> {
     Ok(())
 }
 
-fn write_detach(out: &mut Vec<u8>, words: &[&str]) -> io::Result<()> {
+fn write_detach(out: &mut Vec<u8>, words: &[&str]) -> Result<(), NoAnswer> {
     let (handle, error) = (number(word(words, 0))?, condition(word(words, 1))?);
     Detach::with(handle, true, error).write(out)?;
     Ok(())
 }
 
-fn write_attach(out: &mut Vec<u8>, name: &str, words: &[&str]) -> io::Result<()> {
+fn write_attach(out: &mut Vec<u8>, name: &str, words: &[&str]) -> Result<(), NoAnswer> {
     if name.len() > 8 {
-        return Err(no_case());
+        return Err(NoAnswer::NoCase);
     }
     let (kind, rest) = parted(words);
     match kind {
-        "to-producer" => {
-            let attach = asked(name, Role::Sender).to_producer(short(word(rest, 0))?);
-            Performative::Attach(attach).write(out)?;
-        }
-        "to-consumer" => {
-            let (address, dynamic) = (short(word(rest, 0))?, number(word(rest, 1))?);
-            let asked = asked(name, Role::Receiver);
-            let attach = asked.to_consumer(address, dynamic, SenderSettleMode::Mixed);
-            attach.write(out)?;
-        }
-        "refused-sender" => asked(name, Role::Sender).refused().write(out)?,
-        "refused-receiver" => asked(name, Role::Receiver).refused().write(out)?,
-        _ => return Err(no_case()),
+        "to-producer" => write_to_producer(out, name, word(rest, 0)),
+        "to-consumer" => write_to_consumer(out, name, word(rest, 0), word(rest, 1)),
+        "refused-sender" => write_refused(out, name, Role::Sender),
+        "refused-receiver" => write_refused(out, name, Role::Receiver),
+        _ => Err(NoAnswer::NoCase),
     }
+}
+
+fn write_to_producer(out: &mut Vec<u8>, name: &str, address: &str) -> Result<(), NoAnswer>
+    requires { length name.now ≤ 8 }
+{
+    let attach = asked(name, Role::Sender).to_producer(short(address)?);
+    Performative::Attach(attach).write(out)?;
+    Ok(())
+}
+
+fn write_to_consumer(
+    out: &mut Vec<u8>,
+    name: &str,
+    address: &str,
+    dynamic: &str,
+) -> Result<(), NoAnswer>
+    requires { length name.now ≤ 8 }
+{
+    let (address, dynamic) = (short(address)?, number(dynamic)?);
+    let asked = asked(name, Role::Receiver);
+    asked
+        .to_consumer(address, dynamic, SenderSettleMode::Mixed)
+        .write(out)?;
+    Ok(())
+}
+
+fn write_refused(out: &mut Vec<u8>, name: &str, role: Role) -> Result<(), NoAnswer>
+    requires { length name.now ≤ 8 }
+{
+    asked(name, role).refused().write(out)?;
     Ok(())
 }
 
@@ -97,35 +125,35 @@ fn asked(name: &str, role: Role) -> Attach<'_>
 }
 
 /// A text that fits an attach.
-fn short(text: &str) -> io::Result<&str>
+fn short(text: &str) -> Result<&str, NoAnswer>
     ensures { IfOk result (λ x. (length x.now ≤ MAX_ADDRESS) × (x.now ≡ text.now)) }
 {
     if text.len() > MAX_ADDRESS {
-        return Err(no_case());
+        return Err(NoAnswer::NoCase);
     }
     Ok(text)
 }
 
-fn write_of_delivery(out: &mut Vec<u8>, kind: &str, words: &[&str]) -> io::Result<()> {
+fn write_of_delivery(out: &mut Vec<u8>, kind: &str, words: &[&str]) -> Result<(), NoAnswer> {
     let first = number(word(words, 0))?;
     match kind {
         "transfer" if words.len() > 2 => write_first(out, first, words)?,
         "transfer" => Transfer::later(first, number(word(words, 1))?).write(out)?,
         "disposition" => write_disposition(out, first, word(words, 1))?,
-        _ => return Err(no_case()),
+        _ => return Err(NoAnswer::NoCase),
     }
     Ok(())
 }
 
 /// A transfer that begins a delivery on the link of this handle.
-fn write_first(out: &mut Vec<u8>, handle: u32, words: &[&str]) -> io::Result<()> {
+fn write_first(out: &mut Vec<u8>, handle: u32, words: &[&str]) -> Result<(), NoAnswer> {
     let (settled, more) = (number(word(words, 2))?, number(word(words, 3))?);
     Transfer::first(handle, number(word(words, 1))?, TAG, 0, settled, more).write(out)?;
     Ok(())
 }
 
 /// A disposition of one delivery: it is settled, where there is no outcome.
-fn write_disposition(out: &mut Vec<u8>, id: u32, outcome: &str) -> io::Result<()> {
+fn write_disposition(out: &mut Vec<u8>, id: u32, outcome: &str) -> Result<(), NoAnswer> {
     match outcome {
         "" => Disposition::settling(id).write(out)?,
         "failed" => Disposition::outcome(id, Some(State::delivery_failed())).write(out)?,
@@ -135,23 +163,23 @@ fn write_disposition(out: &mut Vec<u8>, id: u32, outcome: &str) -> io::Result<()
         "accepted" => {
             Disposition::outcome(id, Some(State::of_outcome(Outcome::Accepted))).write(out)?;
         }
-        _ => return Err(no_case()),
+        _ => return Err(NoAnswer::NoCase),
     }
     Ok(())
 }
 
 /// The error of this name, none where there is no name.
-fn condition(name: &str) -> io::Result<Option<ErrorCondition>> {
+fn condition(name: &str) -> Result<Option<ErrorCondition>, NoAnswer> {
     match name {
         "" => Ok(None),
         "amqp:invalid-field" => Ok(Some(ErrorCondition::InvalidField)),
         "amqp:not-allowed" => Ok(Some(ErrorCondition::NotAllowed)),
-        _ => Err(no_case()),
+        _ => Err(NoAnswer::NoCase),
     }
 }
 
 /// The octets of frames on channels, one behind the other, each with a payload; a comma stands between them.
-pub(crate) fn in_frames(alloc: Global, words: &[&str]) -> io::Result<String> {
+pub(crate) fn in_frames(alloc: Global, words: &[&str]) -> Result<String, NoAnswer> {
     let mut out = Vec::new(alloc);
     for frame in &between_commas(alloc, words)? {
         write_frame(&mut out, *frame)?;
@@ -159,7 +187,7 @@ pub(crate) fn in_frames(alloc: Global, words: &[&str]) -> io::Result<String> {
     Ok(hexed(alloc, &out)?)
 }
 
-fn write_frame(out: &mut Vec<u8>, frame: &[&str]) -> io::Result<()> {
+fn write_frame(out: &mut Vec<u8>, frame: &[&str]) -> Result<(), NoAnswer> {
     let (channel, payload) = (number(word(frame, 0))?, word(frame, 1));
     match word(frame, 2) {
         "open" => put(
@@ -172,7 +200,7 @@ fn write_frame(out: &mut Vec<u8>, frame: &[&str]) -> io::Result<()> {
             let transfer = Transfer::first(0, 0, TAG, 0, false, false);
             put(out, channel, &Performative::Transfer(transfer), payload)
         }
-        _ => Err(no_case()),
+        _ => Err(NoAnswer::NoCase),
     }
 }
 
@@ -181,7 +209,7 @@ fn put(
     channel: u16,
     performative: &Performative<'_>,
     payload: &str,
-) -> io::Result<()>
+) -> Result<(), NoAnswer>
     requires { IsWritable (view performative.now) }
 {
     let alloc = *out.allocator();
@@ -189,14 +217,14 @@ fn put(
     let mut body = Vec::new(alloc);
     performative.write(&mut body)?;
     if body.len() > MAX_FRAME_SIZE as usize || payload.len() > MAX_FRAME_SIZE as usize {
-        return Err(no_case());
+        return Err(NoAnswer::NoCase);
     }
     put_frame(out, channel, performative, &payload)?;
     Ok(())
 }
 
 /// The octets of a frame of a SASL exchange.
-pub(crate) fn sasl(alloc: Global, frame: &str) -> io::Result<String> {
+pub(crate) fn sasl(alloc: Global, frame: &str) -> Result<String, NoAnswer> {
     let mut out = Vec::new(alloc);
     match frame {
         "mechanisms" => sasl_write(SaslFrame::Mechanisms { anonymous: true }, &mut out)?,
@@ -209,7 +237,7 @@ pub(crate) fn sasl(alloc: Global, frame: &str) -> io::Result<String> {
             sasl_write(init, &mut out)?;
         }
         "outcome" => sasl_write(SaslFrame::Outcome { code: SASL_OK }, &mut out)?,
-        _ => return Err(no_case()),
+        _ => return Err(NoAnswer::NoCase),
     }
     Ok(hexed(alloc, &out)?)
 }
