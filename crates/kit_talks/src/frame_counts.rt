@@ -146,21 +146,21 @@ impl FrameCounts {
 
 impl Display for FrameCounts {
     fn fmt<W: fmt::Write>(&self, f: &mut Formatter<W>) -> fmt::Result {
-        writeln!(
-            f,
-            "records={} transfers in={} out={} deliveries out={}",
-            self.records, self.transfers_in, self.transfers, self.deliveries
-        )?;
-        writeln!(f, "outcomes {} settlings={}", self.told, self.settlings)?;
-        writeln!(
-            f,
-            "flows={} drain answers={}",
-            self.flows, self.drain_answers
-        )?;
         write!(
             f,
-            "attaches={} detaches={} ends={} closes={}",
-            self.attaches, self.detaches, self.ends, self.closes
+            "records={} transfers in={} out={} deliveries out={}\noutcomes {} settlings={}\nflows={} drain answers={}\nattaches={} detaches={} ends={} closes={}",
+            self.records,
+            self.transfers_in,
+            self.transfers,
+            self.deliveries,
+            self.told,
+            self.settlings,
+            self.flows,
+            self.drain_answers,
+            self.attaches,
+            self.detaches,
+            self.ends,
+            self.closes
         )
     }
 }

@@ -10,6 +10,9 @@ use std::alloc::AllocError;
 /// Numbers that are likely to be no right ones.
 const NUMBERS: [u32; 10] = [0, 1, 2, 3, 7, 250, 1023, 1024, 0x8000_0000, 0xFFFF_FFFF];
 
+/// The octets of a tag, one more than one may have.
+const TAG: [u8; 33] = [b't'; 33];
+
 /// Channels, the last three of them none that the router takes.
 const CHANNELS: [u32; 7] = [0, 1, 2, 255, 256, 257, 65535];
 
@@ -64,9 +67,28 @@ impl Driver {
             0 => Deed::Lost(client.connection),
             1 => Deed::Broken(client.connection),
             2 | 3 => Deed::Opened(client.connection),
-            4 => Deed::Lost(self.chance.one_of(&NUMBERS, 0)),
-            _ => Deed::Broken(self.chance.one_of(&NUMBERS, 0)),
+            4 => Deed::Lost(self.odd_number()),
+            _ => Deed::Broken(self.odd_number()),
         }
+    }
+
+    /// A number that is likely to be no right one.
+    fn odd_number(&mut self) -> u32 {
+        self.chance.one_of(&NUMBERS, 0)
+    }
+
+    /// The same, or none, once in so many times.
+    fn odd_number_or_none(&mut self, times: u32) -> Option<u32> {
+        if self.chance.once_in(times) {
+            None
+        } else {
+            Some(self.odd_number())
+        }
+    }
+
+    /// A channel, likely of no session.
+    fn odd_channel(&mut self) -> u16 {
+        (self.chance.one_of(&CHANNELS, 0) & 0xFFFF) as u16
     }
 
     /// Octets that are no frame.
@@ -135,7 +157,7 @@ impl Driver {
     /// A lawful frame on another channel.
     fn elsewhere(&mut self, client: Client) -> Result<Vec<u8>, AllocError> {
         let mut frame = self.some_lawful(client)?;
-        let channel = (self.chance.one_of(&CHANNELS, 0) & 0xFFFF) as u16;
+        let channel = self.odd_channel();
         let [high, low] = channel.to_be_bytes();
         if let Some(octet) = frame.get_mut(6) {
             *octet = high;
@@ -164,7 +186,7 @@ impl Driver {
     /// Some handle, of a link or not.
     fn some_handle(&mut self) -> u32 {
         if self.chance.once_in(3) {
-            self.chance.one_of(&NUMBERS, 0)
+            self.odd_number()
         } else {
             self.chance.number(4)
         }
@@ -229,7 +251,6 @@ impl Driver {
     /// A transfer on some handle, with some id.
     fn odd_transfer(&mut self, client: Client) -> Result<Vec<u8>, AllocError> {
         let place = self.some_place(client);
-        let tag = [b't'; 33];
         let length = self.chance.one_of(&[0, 4, 32, 33], 0);
         let next_id = match self.known.session_at(place) {
             Some(session) => session.next_id,
@@ -237,13 +258,8 @@ impl Driver {
         };
         let sending = Sending {
             handle: self.some_handle(),
-            id: match self.chance.number(6) {
-                0 => None,
-                1 => Some(self.chance.one_of(&NUMBERS, 0)),
-                2 | 3 => Some(next_id.wrapping_sub(self.chance.number(4))),
-                _ => Some(next_id),
-            },
-            tag: tag.get(..length).unwrap_or(&[]),
+            id: self.odd_id(next_id),
+            tag: TAG.get(..length).unwrap_or(&[]),
             is_settled: self.chance.once_in(3),
             has_more: self.chance.once_in(3),
             is_resumed: self.chance.once_in(12),
@@ -251,6 +267,16 @@ impl Driver {
         };
         let payload = self.length();
         self.framed(place.channel, said::transfer(self.alloc, sending, payload)?)
+    }
+
+    /// An id of a delivery, where the next one has this.
+    fn odd_id(&mut self, next_id: u32) -> Option<u32> {
+        match self.chance.number(6) {
+            0 => None,
+            1 => Some(self.odd_number()),
+            2 | 3 => Some(next_id.wrapping_sub(self.chance.number(4))),
+            _ => Some(next_id),
+        }
     }
 
     /// A transfer of nearly as many octets as a frame has, or of more.
@@ -288,20 +314,12 @@ impl Driver {
         let place = self.some_place(client);
         let crediting = Crediting {
             handle: self.some_handle(),
-            count: if self.chance.once_in(3) {
-                None
-            } else {
-                Some(self.chance.one_of(&NUMBERS, 0))
-            },
-            credit: Some(self.chance.one_of(&NUMBERS, 0)),
+            count: self.odd_number_or_none(3),
+            credit: Some(self.odd_number()),
             drains: self.chance.once_in(2),
         };
-        let awaited = if self.chance.once_in(4) {
-            None
-        } else {
-            Some(self.chance.one_of(&NUMBERS, 0))
-        };
-        let window = self.chance.one_of(&NUMBERS, 0);
+        let awaited = self.odd_number_or_none(4);
+        let window = self.odd_number();
         let has_link = !self.chance.once_in(4);
         let link = if has_link { Some(crediting) } else { None };
         let wants_echo = self.chance.once_in(2);
@@ -316,19 +334,15 @@ impl Driver {
         let first = if self.chance.once_in(2) {
             self.chance.number(8)
         } else {
-            self.chance.one_of(&NUMBERS, 0)
+            self.odd_number()
         };
         let last = if self.chance.once_in(2) {
-            Some(self.chance.one_of(&NUMBERS, 0))
+            Some(self.odd_number())
         } else {
             None
         };
         let is_settled = self.chance.once_in(2);
-        let state = if self.chance.once_in(8) {
-            self.odd_state()?
-        } else {
-            self.state()?
-        };
+        let state = self.any_state()?;
         let body = said::disposition(
             self.alloc,
             is_receiver,
@@ -338,6 +352,15 @@ impl Driver {
             state.as_slice(),
         )?;
         self.framed(place.channel, body)
+    }
+
+    /// The octets of a state, now and then of one that is none.
+    fn any_state(&mut self) -> Result<Vec<u8>, AllocError> {
+        if self.chance.once_in(8) {
+            self.odd_state()
+        } else {
+            self.state()
+        }
     }
 
     /// The octets of a state that is none: described by something else, or not described.
@@ -358,16 +381,13 @@ impl Driver {
 
     /// A begin on some channel, maybe with a remote one.
     fn odd_begin(&mut self) -> Result<Vec<u8>, AllocError> {
-        let channel = (self.chance.one_of(&CHANNELS, 0) & 0xFFFF) as u16;
+        let channel = self.odd_channel();
         let remote = if self.chance.once_in(4) {
             Some(0)
         } else {
             None
         };
-        let (first, window) = (
-            self.chance.one_of(&NUMBERS, 0),
-            self.chance.one_of(&NUMBERS, 0),
-        );
+        let (first, window) = (self.odd_number(), self.odd_number());
         self.framed(
             channel,
             said::begin(self.alloc, Some(first), Some(window), remote)?,

@@ -83,6 +83,13 @@ pub struct Link {
     pub is_in_progress: bool,
 }
 
+impl Link {
+    /// Whether it has this handle of this place.
+    pub(crate) fn is_on(&self, place: Place, handle: u32) -> bool {
+        self.place == place && self.handle == handle
+    }
+}
+
 /// A delivery of a producer: the record where it begins, and the address.
 #[derive(Clone, Copy)]
 pub struct Sent {
@@ -173,9 +180,7 @@ impl Known {
 
     /// Whether a handle is in use.
     pub fn has_link(&self, place: Place, handle: u32) -> bool {
-        self.links
-            .iter()
-            .any(|link| link.place == place && link.handle == handle)
+        self.links.iter().any(|link| link.is_on(place, handle))
     }
 
     /// Whether nothing that a client asked for, or ended, is without the router's answer.

@@ -160,16 +160,11 @@ impl Driver {
     fn produce(&mut self, session: Session, handle: u32) -> Result<Option<Vec<u8>>, AllocError> {
         let address = self.address();
         let target = said::terminus(self.alloc, 0x29, address.as_bytes(), false)?;
-        let mode = self.chance.one_of(&[0, 1, 2, 3], 0);
         let attaching = Attaching {
             name: b"producer",
             handle,
             is_receiver: false,
-            sender_mode: if mode < 3 {
-                Some((mode & 3) as u8)
-            } else {
-                None
-            },
+            sender_mode: self.sender_mode(&[0, 1, 2, 3]),
             receiver_mode: None,
             source: &[0x40],
             target: target.as_slice(),
@@ -183,23 +178,31 @@ impl Driver {
         let address = self.address();
         let is_dynamic = self.chance.once_in(12);
         let source = said::terminus(self.alloc, 0x28, address.as_bytes(), is_dynamic)?;
-        let mode = self.chance.one_of(&[0, 0, 1, 2, 3], 0);
-        let second = self.chance.number(2);
         let attaching = Attaching {
             name: b"consumer",
             handle,
             is_receiver: true,
-            sender_mode: if mode < 3 {
-                Some((mode & 3) as u8)
+            sender_mode: self.sender_mode(&[0, 0, 1, 2, 3]),
+            receiver_mode: if self.chance.number(2) == 1 {
+                Some(1)
             } else {
                 None
             },
-            receiver_mode: if second == 1 { Some(1) } else { None },
             source: source.as_slice(),
             target: &[0x40],
             initial_count: None,
         };
         self.on(session.place, said::attach(self.alloc, attaching)?)
+    }
+
+    /// One of these sender settle modes, of which 3 is none.
+    fn sender_mode(&mut self, modes: &[u32]) -> Option<u8> {
+        let mode = self.chance.one_of(modes, 0);
+        if mode < 3 {
+            Some((mode & 3) as u8)
+        } else {
+            None
+        }
     }
 
     /// A part of a delivery.

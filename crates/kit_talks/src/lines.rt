@@ -49,16 +49,22 @@ fn meant(
     address: &str,
     place: usize,
 ) -> Result<Vec<String>, AllocError> {
-    let who = words.at(0);
     let further = words.from(alloc, place)?;
     let mut lines = Vec::new(alloc);
     for part in told {
-        let further = if part.starts_with("<") {
-            ""
-        } else {
-            further.as_str()
-        };
-        lines.push(format!(in alloc; "{who} {part}{address}{further}")?)?;
+        lines.push(line(alloc, words.at(0), part, address, further.as_str())?)?;
     }
     Ok(lines)
+}
+
+/// A line: who speaks, what is said, of which address, and what else, which belongs to a client alone.
+fn line(
+    alloc: Global,
+    who: &str,
+    part: &str,
+    address: &str,
+    further: &str,
+) -> Result<String, AllocError> {
+    let further = if part.starts_with("<") { "" } else { further };
+    format!(in alloc; "{who} {part}{address}{further}")
 }

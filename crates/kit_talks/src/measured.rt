@@ -26,33 +26,33 @@ pub const DETACH: &[u8] = &[
 
 /// Puts a transfer of a whole message there, in place of what was there.
 pub fn put_transfer(out: &mut Vec<u8>, handle: u32, id: u32) -> Result<(), AllocError> {
+    let ([a, b, c, d], [e, f, g, h]) = (handle.to_be_bytes(), id.to_be_bytes());
     out.clear();
-    out.extend_from_slice(&[0, 0, 0, 127, 2, 0, 0, 0, 0, 0x53, 0x14, 0xC0, 14, 3, 0x70])?;
-    out.extend_from_slice(&handle.to_be_bytes())?;
-    out.extend_from_slice(&[0x70])?;
-    out.extend_from_slice(&id.to_be_bytes())?;
-    out.extend_from_slice(&[0xA0, 1, b'1'])?;
+    out.extend_from_slice(&[
+        0, 0, 0, 127, 2, 0, 0, 0, 0, 0x53, 0x14, 0xC0, 14, 3, 0x70, a, b, c, d, 0x70, e, f, g, h,
+        0xA0, 1, b'1',
+    ])?;
     out.extend_from_slice(&MESSAGE)
 }
 
 /// Puts a disposition there that accepts a delivery and settles it.
 pub fn put_accepted(out: &mut Vec<u8>, id: u32) -> Result<(), AllocError> {
+    let [a, b, c, d] = id.to_be_bytes();
     out.clear();
     out.extend_from_slice(&[
-        0, 0, 0, 26, 2, 0, 0, 0, 0, 0x53, 0x15, 0xC0, 13, 5, 0x41, 0x70,
-    ])?;
-    out.extend_from_slice(&id.to_be_bytes())?;
-    out.extend_from_slice(&[0x40, 0x41, 0x00, 0x53, 0x24, 0x45])
+        0, 0, 0, 26, 2, 0, 0, 0, 0, 0x53, 0x15, 0xC0, 13, 5, 0x41, 0x70, a, b, c, d, 0x40, 0x41,
+        0x00, 0x53, 0x24, 0x45,
+    ])
 }
 
 /// A flow that gives a link as much credit as there may be.
 pub fn crediting(alloc: Global, handle: u32) -> Result<Vec<u8>, AllocError> {
-    let mut out = Vec::new(alloc);
-    out.extend_from_slice(&[0, 0, 0, 34, 2, 0, 0, 0, 0, 0x53, 0x13, 0xC0, 21, 7, 0x43])?;
-    out.extend_from_slice(&[0x70, 0x7F, 0xFF, 0xFF, 0xFF, 0x43, 0x52, 100, 0x70])?;
-    out.extend_from_slice(&handle.to_be_bytes())?;
-    out.extend_from_slice(&[0x43, 0x70, 0x7F, 0xFF, 0xFF, 0xFF])?;
-    Ok(out)
+    let [a, b, c, d] = handle.to_be_bytes();
+    let flow = [
+        0, 0, 0, 34, 2, 0, 0, 0, 0, 0x53, 0x13, 0xC0, 21, 7, 0x43, 0x70, 0x7F, 0xFF, 0xFF, 0xFF,
+        0x43, 0x52, 100, 0x70, a, b, c, d, 0x43, 0x70, 0x7F, 0xFF, 0xFF, 0xFF,
+    ];
+    flow.to_vec(alloc)
 }
 
 /// A consumer's attach to an address, or a producer's.

@@ -122,6 +122,16 @@ impl Telling {
         Ok(())
     }
 
+    /// The same of numbers that are no larger than what a frame tells.
+    ///
+    /// They are values of one list, here and above: where each is put by a call of its own, each of these is a way out.
+    fn small_numbers(&mut self, numbers: &[(&str, Option<u32>)]) -> Result<(), AllocError> {
+        for number in numbers {
+            self.number(number.0, number.1)?;
+        }
+        Ok(())
+    }
+
     /// The same, and nothing where it isn't said.
     fn flag(&mut self, word: &str, said: Option<bool>) -> Result<(), AllocError> {
         match said {
@@ -140,16 +150,20 @@ impl Telling {
     fn open(&mut self, open: Open<'_>) -> Result<(), AllocError> {
         self.word("open")?;
         self.value("container", open.container_id)?;
-        self.number("frame", open.max_frame_size)?;
-        self.number("channels", open.channel_max.map(u32::from))
+        self.small_numbers(&[
+            ("frame", open.max_frame_size),
+            ("channels", open.channel_max.map(u32::from)),
+        ])
     }
 
     fn begin(&mut self, begin: Begin) -> Result<(), AllocError> {
         self.word("begin")?;
-        self.number("remote", begin.remote_channel.map(u32::from))?;
-        self.number("first-out", Some(begin.next_outgoing_id))?;
-        self.number("window", Some(begin.incoming_window))?;
-        self.number("handles", begin.handle_max)
+        self.small_numbers(&[
+            ("remote", begin.remote_channel.map(u32::from)),
+            ("first-out", Some(begin.next_outgoing_id)),
+            ("window", Some(begin.incoming_window)),
+            ("handles", begin.handle_max),
+        ])
     }
 
     fn attach(&mut self, attach: Attach<'_>) -> Result<(), AllocError> {
@@ -157,21 +171,27 @@ impl Telling {
         self.value("name", attach.name)?;
         self.number("handle", Some(attach.handle))?;
         self.role(attach.role)?;
-        self.number(
-            "snd",
-            attach.snd_settle_mode.map(|mode| u32::from(mode as u8)),
-        )?;
-        self.number(
-            "rcv",
-            attach.rcv_settle_mode.map(|mode| u32::from(mode as u8)),
-        )?;
+        self.small_numbers(&[
+            (
+                "snd",
+                attach.snd_settle_mode.map(|mode| u32::from(mode as u8)),
+            ),
+            (
+                "rcv",
+                attach.rcv_settle_mode.map(|mode| u32::from(mode as u8)),
+            ),
+        ])?;
         self.terminus("source", attach.source)?;
-        match attach.target {
-            Some(Target::Coordinator) => self.value("target", "coordinator")?,
-            Some(Target::Terminus(target)) => self.terminus("target", Some(target))?,
-            None => self.terminus("target", None)?,
-        }
+        self.target(attach.target)?;
         self.number("count", attach.initial_delivery_count)
+    }
+
+    fn target(&mut self, target: Option<Target<'_>>) -> Result<(), AllocError> {
+        match target {
+            Some(Target::Coordinator) => self.value("target", "coordinator"),
+            Some(Target::Terminus(target)) => self.terminus("target", Some(target)),
+            None => self.terminus("target", None),
+        }
     }
 
     fn terminus(&mut self, name: &str, terminus: Option<Terminus<'_>>) -> Result<(), AllocError> {
@@ -188,20 +208,24 @@ impl Telling {
 
     fn flow(&mut self, flow: Flow) -> Result<(), AllocError> {
         self.word("flow")?;
-        self.number("awaited", flow.next_incoming_id)?;
-        self.number("window", Some(flow.incoming_window))?;
-        self.number("first-out", Some(flow.next_outgoing_id))?;
-        self.number("handle", flow.handle)?;
-        self.number("count", flow.delivery_count)?;
-        self.number("credit", flow.link_credit)?;
+        self.small_numbers(&[
+            ("awaited", flow.next_incoming_id),
+            ("window", Some(flow.incoming_window)),
+            ("first-out", Some(flow.next_outgoing_id)),
+            ("handle", flow.handle),
+            ("count", flow.delivery_count),
+            ("credit", flow.link_credit),
+        ])?;
         self.word(if flow.drains() { "drain" } else { "not-drain" })
     }
 
     fn transfer(&mut self, transfer: Transfer<'_>, payload: &[u8]) -> Result<(), AllocError> {
         self.word("transfer")?;
-        self.number("handle", Some(transfer.handle))?;
-        self.number("id", transfer.delivery_id)?;
-        self.number("format", transfer.message_format)?;
+        self.small_numbers(&[
+            ("handle", Some(transfer.handle)),
+            ("id", transfer.delivery_id),
+            ("format", transfer.message_format),
+        ])?;
         self.flag("settled", transfer.settled)?;
         self.flag("more", transfer.more)?;
         self.number("payload", u32::try_from(payload.len()).ok())
@@ -210,8 +234,10 @@ impl Telling {
     fn disposition(&mut self, disposition: Disposition<'_>) -> Result<(), AllocError> {
         self.word("disposition")?;
         self.role(disposition.role)?;
-        self.number("first", Some(disposition.first))?;
-        self.number("last", disposition.last)?;
+        self.small_numbers(&[
+            ("first", Some(disposition.first)),
+            ("last", disposition.last),
+        ])?;
         self.flag("settled", disposition.settled)?;
         match disposition.state {
             Some(state) => self.state(state),
@@ -268,8 +294,27 @@ impl Telling {
             Ok((said, payload)) => self.said(said, payload)?,
             Err(_) => self.word("nonsense")?,
         }
-        self.number("channel", Some(u32::from(view.channel())))?;
-        self.number("size", u32::try_from(octets.len()).ok())
+        self.small_numbers(&[
+            ("channel", Some(u32::from(view.channel()))),
+            ("size", u32::try_from(octets.len()).ok()),
+        ])
+    }
+
+    /// What happened.
+    fn happened(&mut self, what: &What) -> Result<(), AllocError> {
+        match what {
+            What::Opened => self.word("opened"),
+            What::Broken => self.word("broken"),
+            What::Lost => self.word("lost"),
+            What::In(frame) => {
+                self.word(">")?;
+                self.frame(frame.octets())
+            }
+            What::Out(frame) => {
+                self.word("<")?;
+                self.frame(frame.octets())
+            }
+        }
     }
 
     /// What is certified.
@@ -291,19 +336,7 @@ pub fn told(alloc: Global, entry: &Record, names: &Names) -> Result<String, Allo
     let mut telling = Telling {
         text: format!(in alloc; "{connection}")?,
     };
-    match &entry.what {
-        What::Opened => telling.word("opened")?,
-        What::Broken => telling.word("broken")?,
-        What::Lost => telling.word("lost")?,
-        What::In(frame) => {
-            telling.word(">")?;
-            telling.frame(frame.octets())?;
-        }
-        What::Out(frame) => {
-            telling.word("<")?;
-            telling.frame(frame.octets())?;
-        }
-    }
+    telling.happened(&entry.what)?;
     telling.note(entry.note, names)?;
     Ok(telling.text)
 }

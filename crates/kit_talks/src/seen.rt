@@ -118,7 +118,7 @@ impl Known {
     ) -> Result<(), AllocError> {
         let mut begun = None;
         for link in self.links.iter_mut() {
-            if link.place == place && link.handle == transfer.handle && link.is_producer {
+            if link.is_on(place, transfer.handle) && link.is_producer {
                 if link.begun.is_none() {
                     begun = Some(Sent {
                         number,
@@ -164,9 +164,10 @@ impl Known {
     /// A link was detached. Where the other end had detached it before, it has come so far, and is gone; else it comes so far as
     /// is told last.
     fn turn_link(&mut self, place: Place, handle: u32, gone: Life, fresh: Life) {
-        self.links.retain(|link| link.place != place || link.handle != handle || link.life != gone);
+        self.links
+            .retain(|link| !link.is_on(place, handle) || link.life != gone);
         for link in self.links.iter_mut() {
-            if link.place == place && link.handle == handle {
+            if link.is_on(place, handle) {
                 link.life = fresh;
             }
         }
@@ -226,7 +227,7 @@ impl Known {
     /// A link begins.
     fn attached(&mut self, place: Place, handle: u32) {
         for link in self.links.iter_mut() {
-            if link.place == place && link.handle == handle {
+            if link.is_on(place, handle) {
                 link.life = Life::Live;
             }
         }
@@ -248,31 +249,24 @@ impl Known {
                 session.seen = session.seen.wrapping_add(1);
             }
         }
-        self.go_on(place, transfer.handle, transfer.has_more());
-        let Some(id) = transfer.delivery_id else {
-            return Ok(());
-        };
-        self.count_received(place, transfer.handle);
-        if transfer.settled != Some(true) {
-            self.held.push(Held { place, id })?;
+        self.go_on(place, transfer);
+        match transfer.delivery_id {
+            Some(id) if transfer.settled != Some(true) => {
+                self.held.push(Held { place, id })?;
+            }
+            _ => {}
         }
         Ok(())
     }
 
-    /// A part goes to a consumer's link, of which more are to come or not.
-    fn go_on(&mut self, place: Place, handle: u32, has_more: bool) {
+    /// A part goes to a consumer's link: more are to come or not, and maybe a delivery begins with it.
+    fn go_on(&mut self, place: Place, transfer: &Transfer<'_>) {
         for link in self.links.iter_mut() {
-            if link.place == place && link.handle == handle {
-                link.is_in_progress = has_more;
-            }
-        }
-    }
-
-    /// A delivery begins on a consumer's link.
-    fn count_received(&mut self, place: Place, handle: u32) {
-        for link in self.links.iter_mut() {
-            if link.place == place && link.handle == handle {
-                link.count = link.count.wrapping_add(1);
+            if link.is_on(place, transfer.handle) {
+                link.is_in_progress = transfer.has_more();
+                if transfer.delivery_id.is_some() {
+                    link.count = link.count.wrapping_add(1);
+                }
             }
         }
     }

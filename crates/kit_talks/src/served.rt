@@ -180,17 +180,33 @@ fn recorded_of<'a>(
     capture: &'a Capture,
     connection: u32,
 ) -> Result<Recorded<'a>, AllocError> {
-    let mut told = Vec::new(alloc);
-    let mut written = Vec::new(alloc);
-    for entry in capture.records() {
-        if entry.connection == connection {
-            match &entry.what {
-                What::Out(frame) => written.push(frame.octets())?,
-                what => told.push(told_in(what))?,
+    let mut recorded = Recorded {
+        told: Vec::new(alloc),
+        written: Vec::new(alloc),
+    };
+    recorded.put_all(capture, connection)?;
+    Ok(recorded)
+}
+
+impl<'a> Recorded<'a> {
+    /// Puts what stands in a capture of a connection.
+    fn put_all(&mut self, capture: &'a Capture, connection: u32) -> Result<(), AllocError> {
+        for entry in capture.records() {
+            if entry.connection == connection {
+                self.put(&entry.what)?;
             }
         }
+        Ok(())
     }
-    Ok(Recorded { told, written })
+
+    /// Puts what a record tells.
+    fn put(&mut self, what: &'a What) -> Result<(), AllocError> {
+        match what {
+            What::Out(frame) => self.written.push(frame.octets())?,
+            what => self.told.push(told_in(what))?,
+        }
+        Ok(())
+    }
 }
 
 /// What a record tells that is not of a frame that was written.
@@ -206,9 +222,14 @@ fn told_in(what: &What) -> Told<'_> {
 /// What the core is to be told of octets.
 fn told_of<'a>(alloc: Global, reading: &Reading<'a>) -> Result<Vec<Told<'a>>, AllocError> {
     let mut told = Vec::new(alloc);
-    if !reading.is_open {
-        return Ok(told);
+    if reading.is_open {
+        put_told(&mut told, reading)?;
     }
+    Ok(told)
+}
+
+/// Puts it, where the octets come to frames.
+fn put_told<'a>(told: &mut Vec<Told<'a>>, reading: &Reading<'a>) -> Result<(), AllocError> {
     told.push(Told::Opened)?;
     for frame in reading.frames.iter() {
         told.push(Told::In(frame))?;
@@ -216,7 +237,7 @@ fn told_of<'a>(alloc: Global, reading: &Reading<'a>) -> Result<Vec<Told<'a>>, Al
     if reading.fault.is_some() {
         told.push(Told::Broken)?;
     }
-    Ok(told)
+    Ok(())
 }
 
 /// Whether a client was answered as its octets say, or else because the core is full.

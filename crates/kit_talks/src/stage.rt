@@ -82,10 +82,16 @@ impl Stage {
     /// Each of these records that isn't told by now differs.
     pub fn pass_untold(&mut self, records: &[Record]) -> Result<(), AllocError> {
         for entry in records.iter().skip(self.told) {
-            let wrote = told(self.alloc, entry, &self.names)?;
-            self.put(format!(in self.alloc; "before it stands `{wrote}`")?)?;
-            self.told = self.told.saturating_add(1);
+            self.pass(entry)?;
         }
+        Ok(())
+    }
+
+    /// This record, which isn't told by now, differs.
+    fn pass(&mut self, entry: &Record) -> Result<(), AllocError> {
+        let wrote = told(self.alloc, entry, &self.names)?;
+        self.put(format!(in self.alloc; "before it stands `{wrote}`")?)?;
+        self.told = self.told.saturating_add(1);
         Ok(())
     }
 

@@ -69,10 +69,16 @@ impl<'a> Words<'a> {
     /// The words from this place on, with a space before each.
     pub fn from(&self, alloc: Global, place: usize) -> Result<String, AllocError> {
         let mut text = String::new(alloc);
+        self.put_from(&mut text, place)?;
+        Ok(text)
+    }
+
+    /// Puts them.
+    fn put_from(&self, text: &mut String, place: usize) -> Result<(), AllocError> {
         for word in self.words.iter().skip(place) {
             text.push_str(" ")?;
             text.push_str(word)?;
         }
-        Ok(text)
+        Ok(())
     }
 }
