@@ -1,6 +1,8 @@
 //! The credit of a consumer's link and of a producer's.
 
-use crate::words::{Answer, Subject, behind, done, optional, parted, parts, small, told, word};
+use crate::words::{
+    Answer, Event, Subject, behind, done, events, optional, parted, small, told, word,
+};
 use link_credit::{
     ConsumerEvent, GivenCredit, Over, ProducerEvent, SenderCredit, given_credit_after,
     sender_credit_after,
@@ -78,13 +80,9 @@ impl Credits {
 
     /// All of these events happen on a consumer's link.
     fn sender_after(&self, count: u32, words: &[&str]) -> Answer {
-        let mut events = Vec::new(self.alloc);
-        for word in words {
-            let Some(event) = consumer_event(parts(self.alloc, word)?.as_slice()) else {
-                return Ok(None);
-            };
-            events.push(event)?;
-        }
+        let Some(events) = events::<ConsumerEvent>(self.alloc, words)? else {
+            return Ok(None);
+        };
         let credit = sender_credit_after(count, events.as_slice());
         told(self.alloc, credit.map(|credit| sender_counts(&credit)))
     }
@@ -114,13 +112,9 @@ impl Credits {
 
     /// All of these events happen on a producer's link.
     fn given_after(&self, count: u32, words: &[&str]) -> Answer {
-        let mut events = Vec::new(self.alloc);
-        for word in words {
-            let Some(event) = producer_event(parts(self.alloc, word)?.as_slice()) else {
-                return Ok(None);
-            };
-            events.push(event)?;
-        }
+        let Some(events) = events::<ProducerEvent>(self.alloc, words)? else {
+            return Ok(None);
+        };
         let credit = given_credit_after(count, events.as_slice());
         told(self.alloc, credit.map(|credit| given_counts(&credit)))
     }
@@ -136,34 +130,38 @@ fn given_counts(credit: &GivenCredit) -> (u32, u32) {
     (credit.rcv(), credit.left())
 }
 
-/// What happens on a consumer's link, by the parts of its word.
-fn consumer_event(parts: &[&str]) -> Option<ConsumerEvent> {
-    let (verb, rest) = parted(parts);
-    match verb {
-        "flow" => Some(ConsumerEvent::TheirFlow {
-            delivery_count: optional(word(rest, 0)),
-            link_credit: optional(word(rest, 1)),
-            drain: word(rest, 2) == "drain",
-        }),
-        "begun" => Some(ConsumerEvent::Begun),
-        "told" => Some(ConsumerEvent::Told),
-        "drain-answer" => Some(ConsumerEvent::DrainAnswer),
-        _ => None,
+/// What happens on a consumer's link.
+impl Event for ConsumerEvent {
+    fn of(parts: &[&str]) -> Option<ConsumerEvent> {
+        let (verb, rest) = parted(parts);
+        match verb {
+            "flow" => Some(ConsumerEvent::TheirFlow {
+                delivery_count: optional(word(rest, 0)),
+                link_credit: optional(word(rest, 1)),
+                drain: word(rest, 2) == "drain",
+            }),
+            "begun" => Some(ConsumerEvent::Begun),
+            "told" => Some(ConsumerEvent::Told),
+            "drain-answer" => Some(ConsumerEvent::DrainAnswer),
+            _ => None,
+        }
     }
 }
 
-/// What happens on a producer's link, by the parts of its word.
-fn producer_event(parts: &[&str]) -> Option<ProducerEvent> {
-    let (verb, rest) = parted(parts);
-    match verb {
-        "flow" => Some(ProducerEvent::TheirFlow {
-            delivery_count: optional(word(rest, 0)),
-            link_credit: optional(word(rest, 1)),
-            drain: word(rest, 2) == "drain",
-        }),
-        "begun" => Some(ProducerEvent::Begun),
-        "told" => Some(ProducerEvent::Told),
-        "topped-up" => Some(ProducerEvent::ToppedUp(small(word(rest, 0)))),
-        _ => None,
+/// What happens on a producer's link.
+impl Event for ProducerEvent {
+    fn of(parts: &[&str]) -> Option<ProducerEvent> {
+        let (verb, rest) = parted(parts);
+        match verb {
+            "flow" => Some(ProducerEvent::TheirFlow {
+                delivery_count: optional(word(rest, 0)),
+                link_credit: optional(word(rest, 1)),
+                drain: word(rest, 2) == "drain",
+            }),
+            "begun" => Some(ProducerEvent::Begun),
+            "told" => Some(ProducerEvent::Told),
+            "topped-up" => Some(ProducerEvent::ToppedUp(small(word(rest, 0)))),
+            _ => None,
+        }
     }
 }

@@ -3,7 +3,9 @@
 //! A payload is the text of its word, and `-` an empty one; `-` is also a transfer without a delivery-id. `cuts` tells how
 //! many octets each cut has of the delivery that was completed last.
 
-use crate::words::{Answer, Subject, done, number, optional, parted, parts, small, told, word};
+use crate::words::{
+    Answer, Event, Subject, done, events, number, optional, parted, parts, small, told, word,
+};
 use bytes::Bytes;
 use flow_counts::SentEvent;
 use std::alloc::{AllocError, Global};
@@ -100,13 +102,15 @@ impl Deliveries {
     fn inbound_after(&mut self, words: &[&str]) -> Answer {
         let payloads = payloads_of(self.alloc, words)?;
         let mut events = Vec::new(self.alloc);
-        for (word, payload) in words.iter().zip(payloads.iter()) {
-            let Some(event) = part_event(parts(self.alloc, word)?.as_slice(), payload) else {
-                return Ok(None);
-            };
-            events.push(event)?;
+        if !put_events(&mut events, words, payloads.as_slice())? {
+            return Ok(None);
         }
-        match inbound_after(self.alloc, events.as_slice()) {
+        self.become_after(events.as_slice())
+    }
+
+    /// The deliveries become those of a new session on which these events happen.
+    fn become_after(&mut self, events: &[PartEvent<'_>]) -> Answer {
+        match inbound_after(self.alloc, events) {
             Ok(inbound) => {
                 self.inbound = inbound;
                 done(self.alloc)
@@ -137,13 +141,9 @@ impl Deliveries {
 
     /// All of these events happen on a new session.
     fn sent_after(&mut self, words: &[&str]) -> Answer {
-        let mut events = Vec::new(self.alloc);
-        for word in words {
-            let Some(event) = sent_event(parts(self.alloc, word)?.as_slice()) else {
-                return Ok(None);
-            };
-            events.push(event)?;
-        }
+        let Some(events) = events::<SentEvent>(self.alloc, words)? else {
+            return Ok(None);
+        };
         self.sent = outstanding_after(self.alloc, events.as_slice())?;
         done(self.alloc)
     }
@@ -166,10 +166,31 @@ fn payload_of(alloc: Global, word: &str) -> Result<Bytes, AllocError> {
 fn payloads_of(alloc: Global, words: &[&str]) -> Result<Vec<Bytes>, AllocError> {
     let mut payloads = Vec::new(alloc);
     for event in words {
-        let parts = parts(alloc, event)?;
-        payloads.push(payload_of(alloc, word(parts.as_slice(), 4))?)?;
+        payloads.push(payload_in(alloc, event)?)?;
     }
     Ok(payloads)
+}
+
+/// The payload of an event's word.
+fn payload_in(alloc: Global, event: &str) -> Result<Bytes, AllocError> {
+    let parts = parts(alloc, event)?;
+    payload_of(alloc, word(parts.as_slice(), 4))
+}
+
+/// Puts what these words tell with these payloads, and answers whether each of them tells something.
+fn put_events<'a>(
+    events: &mut Vec<PartEvent<'a>>,
+    words: &[&str],
+    payloads: &'a [Bytes],
+) -> Result<bool, AllocError> {
+    for (word, payload) in words.iter().zip(payloads.iter()) {
+        let parts = parts(*events.allocator(), word)?;
+        match part_event(parts.as_slice(), payload) {
+            Some(event) => events.push(event)?,
+            None => return Ok(false),
+        }
+    }
+    Ok(true)
 }
 
 /// The octets of these cuts, one behind the other.
@@ -201,16 +222,18 @@ fn part_event<'a>(parts: &[&str], payload: &'a Bytes) -> Option<PartEvent<'a>> {
     }
 }
 
-/// What happens to the deliveries that were sent, by the parts of its word.
-fn sent_event(parts: &[&str]) -> Option<SentEvent> {
-    let (verb, rest) = parted(parts);
-    let number = number(word(rest, 0));
-    match verb {
-        "added" => Some(SentEvent::Added {
-            number,
-            id: small(word(rest, 1)),
-        }),
-        "removed" => Some(SentEvent::Removed { number }),
-        _ => None,
+/// What happens to the deliveries that were sent.
+impl Event for SentEvent {
+    fn of(parts: &[&str]) -> Option<SentEvent> {
+        let (verb, rest) = parted(parts);
+        let number = number(word(rest, 0));
+        match verb {
+            "added" => Some(SentEvent::Added {
+                number,
+                id: small(word(rest, 1)),
+            }),
+            "removed" => Some(SentEvent::Removed { number }),
+            _ => None,
+        }
     }
 }

@@ -1,6 +1,8 @@
 //! The windows of a session.
 
-use crate::words::{Answer, Subject, behind, done, optional, parted, parts, small, told, word};
+use crate::words::{
+    Answer, Event, Subject, behind, done, events, optional, parted, small, told, word,
+};
 use flow_counts::WindowEvent;
 use session_window::{Violation, Window, window_after};
 use std::alloc::Global;
@@ -64,13 +66,9 @@ impl Windows {
 
     /// All of these events happen on a new session.
     fn after(&self, next_out: u32, next_in: u32, remote: u32, words: &[&str]) -> Answer {
-        let mut events = Vec::new(self.alloc);
-        for word in words {
-            let Some(event) = window_event(parts(self.alloc, word)?.as_slice()) else {
-                return Ok(None);
-            };
-            events.push(event)?;
-        }
+        let Some(events) = events::<WindowEvent>(self.alloc, words)? else {
+            return Ok(None);
+        };
         let window = window_after(next_out, next_in, remote, events.as_slice());
         told(self.alloc, window.map(|window| counts_of(&window)))
     }
@@ -86,17 +84,19 @@ fn counts_of(window: &Window) -> (u32, u32, u32, u32) {
     )
 }
 
-/// What happens on a session, by the parts of its word.
-fn window_event(parts: &[&str]) -> Option<WindowEvent> {
-    let (verb, rest) = parted(parts);
-    match verb {
-        "flow" => Some(WindowEvent::TheirFlow {
-            next_incoming: optional(word(rest, 0)),
-            incoming_window: small(word(rest, 1)),
-        }),
-        "sent" => Some(WindowEvent::Sent),
-        "told" => Some(WindowEvent::OurFlow),
-        "received" => Some(WindowEvent::Received),
-        _ => None,
+/// What happens on a session.
+impl Event for WindowEvent {
+    fn of(parts: &[&str]) -> Option<WindowEvent> {
+        let (verb, rest) = parted(parts);
+        match verb {
+            "flow" => Some(WindowEvent::TheirFlow {
+                next_incoming: optional(word(rest, 0)),
+                incoming_window: small(word(rest, 1)),
+            }),
+            "sent" => Some(WindowEvent::Sent),
+            "told" => Some(WindowEvent::OurFlow),
+            "received" => Some(WindowEvent::Received),
+            _ => None,
+        }
     }
 }

@@ -22,6 +22,41 @@ pub fn done(alloc: Global) -> Answer {
     Ok(Some(String::new(alloc)))
 }
 
+/// What happens, as a word tells it.
+pub trait Event: Sized {
+    /// What the parts of a word tell.
+    fn of(parts: &[&str]) -> Option<Self>;
+}
+
+/// What these words tell; none where one of them tells nothing.
+pub fn events<E: Event + Drop>(
+    alloc: Global,
+    words: &[&str],
+) -> Result<Option<Vec<E>>, AllocError> {
+    let mut events = Vec::new(alloc);
+    let are_all = put_events(&mut events, words)?;
+    Ok(if are_all { Some(events) } else { None })
+}
+
+/// Puts what these words tell, and answers whether each of them tells something.
+///
+/// It borrows the list: owned here, its drop would be proved on each way out.
+fn put_events<E: Event + Drop>(events: &mut Vec<E>, words: &[&str]) -> Result<bool, AllocError> {
+    for word in words {
+        match event_of(*events.allocator(), word)? {
+            Some(event) => events.push(event)?,
+            None => return Ok(false),
+        }
+    }
+    Ok(true)
+}
+
+/// What a word tells.
+fn event_of<E: Event>(alloc: Global, word: &str) -> Result<Option<E>, AllocError> {
+    let parts = parts(alloc, word)?;
+    Ok(E::of(parts.as_slice()))
+}
+
 /// The first word, which says what is done, and those behind it.
 pub fn parted<'w, 'a>(words: &'w [&'a str]) -> (&'a str, &'w [&'a str]) {
     match words {
