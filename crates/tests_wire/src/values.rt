@@ -62,14 +62,6 @@ fn read(alloc: Global, octets: &[u8]) -> Result<String, AllocError> {
 fn tell_all(out: &mut String, value: Value<'_>) -> Result<(), AllocError> {
     let mut waiting = Vec::new(*out.allocator());
     waiting.push((0usize, value))?;
-    tell_waiting(out, &mut waiting)
-}
-
-/// The same of what waits, the last one first, each behind so many spaces.
-fn tell_waiting<'a>(
-    out: &mut String,
-    waiting: &mut Vec<(usize, Value<'a>)>,
-) -> Result<(), AllocError> {
     for _ in 0..MOST {
         let Some((indent, value)) = waiting.pop() else {
             break;
@@ -78,7 +70,7 @@ fn tell_waiting<'a>(
             write!(out, "\n{:indent$}", "")?;
         }
         tell_value(out, &value)?;
-        put_parts(waiting, indent.saturating_add(2), &value)?;
+        put_parts(&mut waiting, indent.saturating_add(2), &value)?;
     }
     Ok(())
 }
@@ -90,24 +82,14 @@ fn put_parts<'a>(
     value: &Value<'a>,
 ) -> Result<(), AllocError> {
     let items: Vec<Value<'a>> = value.items().collect(*waiting.allocator())?;
-    put_items(waiting, indent, &items)?;
+    for item in items.iter().rev() {
+        waiting.push((indent, *item))?;
+    }
     if let Some(described) = value.described() {
         waiting.push((indent, described))?;
     }
     if let Some(descriptor) = value.descriptor() {
         waiting.push((indent, descriptor))?;
-    }
-    Ok(())
-}
-
-/// Puts items in front of what waits, the first one foremost.
-fn put_items<'a>(
-    waiting: &mut Vec<(usize, Value<'a>)>,
-    indent: usize,
-    items: &[Value<'a>],
-) -> Result<(), AllocError> {
-    for item in items.iter().rev() {
-        waiting.push((indent, *item))?;
     }
     Ok(())
 }
@@ -138,10 +120,6 @@ fn tell_numbers(out: &mut String, value: &Value<'_>) -> Result<(), AllocError> {
     tell_if(out, "ushort", value.as_ushort())?;
     tell_if(out, "uint", value.as_uint())?;
     tell_if(out, "ulong", value.as_ulong())?;
-    tell_signed(out, value)
-}
-
-fn tell_signed(out: &mut String, value: &Value<'_>) -> Result<(), AllocError> {
     tell_if(out, "byte", value.as_byte())?;
     tell_if(out, "short", value.as_short())?;
     tell_if(out, "int", value.as_int())?;
