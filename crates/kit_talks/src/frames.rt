@@ -101,7 +101,11 @@ fn begin(alloc: Global, words: &Words<'_>) -> Result<Vec<u8>, AllocError> {
         words.number_or("first-out", 0),
         words.number_or("window", 100),
     );
-    let remote = words.value("remote").map(|_| 0);
+    let remote = if words.value("remote").is_some() {
+        Some(0)
+    } else {
+        None
+    };
     said::begin(alloc, first, window, remote)
 }
 

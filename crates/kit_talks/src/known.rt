@@ -37,6 +37,13 @@ pub enum Life {
     Over,
 }
 
+impl Life {
+    /// Whether it waits for no answer of the router.
+    fn is_answered(self) -> bool {
+        self == Life::Live || self == Life::Over
+    }
+}
+
 /// A client.
 #[derive(Clone, Copy)]
 pub struct Client {
@@ -185,11 +192,10 @@ impl Known {
 
     /// Whether nothing that a client asked for, or ended, is without the router's answer.
     pub fn is_answered(&self) -> bool {
-        let sessions = self.sessions.iter().map(|session| session.life);
-        let links = self.links.iter().map(|link| link.life);
-        sessions
-            .chain(links)
-            .all(|life| life == Life::Live || life == Life::Over)
+        self.sessions
+            .iter()
+            .all(|session| session.life.is_answered())
+            && self.links.iter().all(|link| link.life.is_answered())
     }
 
     /// Some session of a connection that has come so far.

@@ -97,25 +97,23 @@ fn one_more(count: &mut u64) {
 
 impl Display for StreamCounts {
     fn fmt<W: fmt::Write>(&self, f: &mut Formatter<W>) -> fmt::Result {
-        writeln!(
-            f,
-            "runs={} streams={} octets fed={}",
-            self.runs, self.streams, self.octets
-        )?;
-        writeln!(
-            f,
-            "items opened={} in={} broken={} lost={}",
-            self.opened, self.frames, self.broken, self.lost
-        )?;
-        writeln!(
-            f,
-            "frames written={} transfers={} dispositions={}",
-            self.written, self.transfers, self.dispositions
-        )?;
         write!(
             f,
-            "refused headers={} frames={} mechanisms={} by a full core={}",
-            self.headers, self.no_frames, self.mechanisms, self.full
+            "runs={} streams={} octets fed={}\nitems opened={} in={} broken={} lost={}\nframes written={} transfers={} dispositions={}\nrefused headers={} frames={} mechanisms={} by a full core={}",
+            self.runs,
+            self.streams,
+            self.octets,
+            self.opened,
+            self.frames,
+            self.broken,
+            self.lost,
+            self.written,
+            self.transfers,
+            self.dispositions,
+            self.headers,
+            self.no_frames,
+            self.mechanisms,
+            self.full
         )
     }
 }

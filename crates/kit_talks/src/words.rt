@@ -45,12 +45,12 @@ impl<'a> Words<'a> {
 
     /// The number that stands behind the name; none where something else stands there.
     pub fn number(&self, name: &str) -> Option<u32> {
-        self.value(name).and_then(|value| value.parse::<u32>().ok())
+        self.value(name)?.parse::<u32>().ok()
     }
 
     /// The number that stands behind the name; none where something else stands there, or more than 255.
     pub fn octet(&self, name: &str) -> Option<u8> {
-        self.value(name).and_then(|value| value.parse::<u8>().ok())
+        self.value(name)?.parse::<u8>().ok()
     }
 
     /// The number that stands behind the name, or this one where no word has the name.
