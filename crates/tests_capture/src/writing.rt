@@ -4,6 +4,7 @@ use crate::fakes::Room;
 use crate::runs::Runs;
 use crate::words::{Answer, count, parted, told, word};
 use capture_form::{Capture, Reader, WriteFault, append, append_head, read_capture, write_capture};
+use capture_journal::Journal;
 use capture_packets::{PacketFault, PacketWriter};
 use capture_recorder::Recorder;
 use std::alloc::{AllocError, Global};
@@ -59,6 +60,43 @@ fn record_all(recorder: &mut Recorder<Room>, capture: &Capture) -> Result<u64, W
     recorder.write_from(capture, 0)
 }
 
+/// Writes by a journal: what stands in front of the records, and then all of these. It answers how many records there are.
+fn journaled(alloc: Global, capture: &Capture, room: Room) -> Result<Written, AllocError> {
+    let base = Capture::new(alloc, capture.rules().copied(alloc)?);
+    let mut journal = Journal::new(alloc, base, room)?;
+    let answer = hand_over_all(&mut journal, capture)?;
+    let is_kept = match answer {
+        Ok(_) => journal.waiting().is_empty(),
+        Err(_) => journal.hand_over() == Err(NONE_TAKEN),
+    };
+    let waits = journal.waiting().len();
+    let octets = journal.into_writer().octets;
+    // What was taken and what waits is the whole text.
+    let is_whole = waits.saturating_add(octets.len()) == write_capture(alloc, capture)?.len();
+    Ok(Written {
+        octets,
+        answer: answer.map_err(PacketFault::Write),
+        is_kept: is_kept && is_whole,
+    })
+}
+
+/// Hands over what stands in front of the records, and then, where that was taken, the records.
+fn hand_over_all(
+    journal: &mut Journal<Room>,
+    capture: &Capture,
+) -> Result<Result<u64, WriteFault>, AllocError> {
+    let head = journal.hand_over();
+    journal.note(capture.records())?;
+    let written = match head {
+        Ok(()) => journal.hand_over(),
+        Err(fault) => Err(fault),
+    };
+    Ok(match written {
+        Ok(()) => Ok(journal.count()),
+        Err(fault) => Err(fault),
+    })
+}
+
 /// Writes as packets. It answers how many records there are.
 pub fn packed(alloc: Global, capture: &Capture, room: Room) -> Written {
     let mut packets = PacketWriter::new(alloc, room);
@@ -102,7 +140,7 @@ impl Written {
 /// By what a capture is written, and to what writer.
 #[derive(Clone, Copy)]
 pub struct Way {
-    /// By `append`, by a recorder, or as packets.
+    /// By `append`, by a recorder, by a journal, or as packets.
     by: By,
     /// The most octets of a call.
     most: usize,
@@ -114,6 +152,7 @@ pub struct Way {
 enum By {
     Append,
     Record,
+    Journal,
     Pack,
 }
 
@@ -124,6 +163,7 @@ impl Way {
         let by = match by {
             "append" => By::Append,
             "record" => By::Record,
+            "journal" => By::Journal,
             "pack" => By::Pack,
             _ => return None,
         };
@@ -139,19 +179,20 @@ impl Way {
         })
     }
 
-    fn write(self, alloc: Global, capture: &Capture, left: usize) -> Written {
+    fn write(self, alloc: Global, capture: &Capture, left: usize) -> Result<Written, AllocError> {
         let room = Room::new(alloc, self.most, left, self.fault);
         match self.by {
-            By::Append => appended(capture, room),
-            By::Record => recorded(capture, room),
-            By::Pack => packed(alloc, capture, room),
+            By::Append => Ok(appended(capture, room)),
+            By::Record => Ok(recorded(capture, room)),
+            By::Journal => journaled(alloc, capture, room),
+            By::Pack => Ok(packed(alloc, capture, room)),
         }
     }
 
     /// What is written of a capture's text.
     fn whole_of(self, alloc: Global, capture: &Capture) -> Result<Vec<u8>, AllocError> {
         match self.by {
-            By::Append | By::Record => write_capture(alloc, capture),
+            By::Append | By::Record | By::Journal => write_capture(alloc, capture),
             By::Pack => Ok(packed(alloc, capture, Room::new(alloc, 4096, 1000000, None)).octets),
         }
     }
@@ -165,7 +206,7 @@ impl Way {
         let mut runs = Runs::new(alloc);
         let end = whole.len().saturating_add(1);
         for left in 0..end {
-            let written = self.write(alloc, &capture, left);
+            let written = self.write(alloc, &capture, left)?;
             runs.add(left, written.in_words(alloc, left, whole.as_slice())?)?;
         }
         runs.told(end)
