@@ -3,20 +3,10 @@
 //! It prints a line for each kind of run. What a line says does not depend on which thread is first. The modules, in reading
 //! order:
 //!
-//! - `captures`: the rules of a run, and what the auditor says of its capture
-//! - `script`: what clients say and take
-//! - `parted`: what one says whose message comes in two transfers
-//! - `gate`: a client as a gate in memory
-//! - `clients`: two of them
 //! - `shared`: two threads, each with an engine over a port of one exchange
 //! - `served`: runs of workers
 #![tactic(auto)]
 
-mod captures;
-mod clients;
-mod gate;
-mod parted;
-mod script;
 mod served;
 mod shared;
 
@@ -25,12 +15,9 @@ ghost use Rattle.std.specs.Prelude.{◌<◌, ◌≤◌};
 use address_table::Rules;
 use audit_core::Verdict;
 use capture_form::Capture;
-use captures::{RunRules, Told, audited, rules};
-use clients::Part;
-use gate::{LOOKS, PATIENCE, Pace, stream_of};
-use script::{
-    BEGINS_LATE, CONSUMER, MESSAGE, OPENS_LATE, PRODUCER, QUIET, RELAY, RELAY_IN_TWO, RELAYED,
-    STRANGERS, Script,
+use kit_gates::{
+    BEGINS_LATE, CONSUMER, LOOKS, MESSAGE, OPENS_LATE, PATIENCE, PRODUCER, Pace, Part, QUIET,
+    RELAY, RELAY_IN_TWO, RELAYED, RunRules, STRANGERS, Script, Told, audited, rules, stream_of,
 };
 use served::{LIMIT, Pair, Served, serve_two};
 use shared::share_core;

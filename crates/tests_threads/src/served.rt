@@ -2,15 +2,12 @@
 
 ghost use Rattle.std.specs.Prelude.{◌<◌, ◌≤◌};
 
-use crate::captures::{RunRules, Told, audited, rules};
-use crate::clients::{Part, two_gates};
-use crate::gate::Client;
-use crate::script::AMQP_HEADER;
 use address_table::Rules;
 use audit_core::Verdict;
 use capture_form::{Capture, What};
 use conn_engine::Gate;
 use conn_workers::{ConnReport, RunFault, RunReport, run_workers};
+use kit_gates::{AMQP_HEADER, Client, Part, RunRules, Told, audited, rules, two_gates};
 use std::alloc::{AllocError, Global};
 use std::fmt;
 use std::sync::Wait;

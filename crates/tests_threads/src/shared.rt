@@ -2,12 +2,11 @@
 
 ghost use Rattle.std.specs.Prelude.{◌<◌, length};
 
-use crate::clients::{Part, two_clients};
-use crate::gate::Client;
 use address_table::Rules;
 use capture_form::Capture;
 use conn_engine::{Delivered, Engine, Gate, Port, Taken};
 use core_exchange::{Exchange, Seat};
+use kit_gates::{Client, Part, two_clients};
 use std::alloc::{AllocError, Global};
 use std::sync::Wait;
 use std::thread::{Threads, join};

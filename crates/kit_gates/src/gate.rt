@@ -4,7 +4,7 @@ ghost use Rattle.std.specs.Prelude.{◌≡◌, ◌≤◌, ◌+◌, ◌++◌, [],
 
 use crate::script::{Script, Turn};
 use conn_engine::{Delivered, Gate, Ready, Taken};
-use std::alloc::{AllocError, Global};
+use std::alloc::Global;
 use std::sync::Arc;
 use std::sync::atomic::{AtomicU64, Ordering};
 use std::thread;
@@ -25,6 +25,9 @@ pub struct Post {
     alone: AtomicU64,
     /// How many octets it took.
     taken: AtomicU64,
+    /// How often it was shut, and how often it was called where nothing more was to be asked of it.
+    shuts: AtomicU64,
+    late_calls: AtomicU64,
 }
 
 /// How a client reads and writes.
@@ -62,9 +65,6 @@ pub struct Client {
     /// So many reads in a row brought nothing.
     idle: u64,
     has_ended: bool,
-    /// How often it was shut, and how often it was called where nothing more was to be asked of it.
-    shuts: u64,
-    late_calls: u64,
     failures: u64,
     /// What its clock shows next.
     moment: AtomicU64,
@@ -80,7 +80,19 @@ impl Post {
             read: AtomicU64::new(0),
             alone: AtomicU64::new(0),
             taken: AtomicU64::new(0),
+            shuts: AtomicU64::new(0),
+            late_calls: AtomicU64::new(0),
         }
+    }
+
+    /// How many octets it took.
+    pub fn taken(&self) -> u64 {
+        self.taken.load(Ordering::SeqCst)
+    }
+
+    /// Whether it was shut once, and nothing was asked of it behind its end.
+    pub fn is_left_alone(&self) -> bool {
+        self.shuts.load(Ordering::SeqCst) == 1 && self.late_calls.load(Ordering::SeqCst) == 0
     }
 }
 
@@ -105,8 +117,6 @@ impl Client {
             taken: Vec::new(alloc),
             idle: 0,
             has_ended: false,
-            shuts: 0,
-            late_calls: 0,
             failures: 0,
             moment: AtomicU64::new(0),
             mine,
@@ -131,15 +141,13 @@ impl Client {
 
     /// Whether it was shut once, and nothing was asked of it behind its end.
     pub fn is_left_alone(&self) -> bool {
-        self.shuts == 1 && self.late_calls == 0
+        self.mine.is_left_alone()
     }
 
     /// Counts a call that should not come any more.
-    fn note_call(&mut self)
-        ensures { self.new ≡ record self.old { late_calls = self.new.late_calls } }
-    {
-        if self.has_ended || self.shuts > 0 {
-            self.late_calls = self.late_calls.saturating_add(1);
+    fn note_call(&self) {
+        if self.has_ended || self.mine.shuts.load(Ordering::SeqCst) > 0 {
+            self.mine.late_calls.fetch_add(1, Ordering::SeqCst);
         }
     }
 
@@ -237,7 +245,7 @@ impl Gate for Client {
     }
 
     fn shut(&mut self) {
-        self.shuts = self.shuts.saturating_add(1);
+        self.mine.shuts.fetch_add(1, Ordering::SeqCst);
     }
 
     fn failures(&self) -> u64 {
@@ -291,13 +299,4 @@ fn put_front(stream: &[u8], at: usize, most: usize, buffer: &mut [u8]) -> usize
     let (part, _) = rest.split_at(n);
     buffer[..n].copy_from_slice(part);
     n
-}
-
-/// All that a script says, joined.
-pub fn stream_of(alloc: Global, script: Script) -> Result<Vec<u8>, AllocError> {
-    let mut stream = Vec::new(alloc);
-    for turn in script.turns {
-        stream.extend_from_slice(turn.octets)?;
-    }
-    Ok(stream)
 }

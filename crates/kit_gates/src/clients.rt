@@ -2,9 +2,9 @@
 
 ghost use Rattle.std.specs.Prelude.{◌≡◌, [], All, IfOk, vec_len};
 
-use crate::gate::{Client, Pace, Post, stream_of};
+use crate::gate::{Client, Pace, Post};
 use crate::parted::stream_parted;
-use crate::script::Script;
+use crate::script::{Script, stream_of};
 use std::alloc::{AllocError, Global};
 use std::sync::Arc;
 
@@ -24,8 +24,22 @@ pub fn two_clients(alloc: Global, first: Part, second: Part) -> Result<(Client, 
 {
     let one = Arc::new(alloc, Post::new())?;
     let two = Arc::new(alloc, Post::new())?;
-    let first = new_client(alloc, first, &one, &two)?;
-    let second = new_client(alloc, second, &two, &one)?;
+    clients_at(alloc, first, second, &one, &two)
+}
+
+/// The same, where these posts are theirs.
+pub fn clients_at(
+    alloc: Global,
+    first: Part,
+    second: Part,
+    one: &Arc<Post, Global>,
+    two: &Arc<Post, Global>,
+) -> Result<(Client, Client), AllocError>
+    ensures first { IfOk result (λ both. (both.0.at ≡ 0) × (both.0.taken.items ≡ [])) }
+    ensures second { IfOk result (λ both. (both.1.at ≡ 0) × (both.1.taken.items ≡ [])) }
+{
+    let first = new_client(alloc, first, one, two)?;
+    let second = new_client(alloc, second, two, one)?;
     Ok((first, second))
 }
 

@@ -1,5 +1,7 @@
 //! What clients say and take, in an exchange of two: a message goes from a producer to a consumer, and its outcome back.
 
+use std::alloc::{AllocError, Global};
+
 /// Octets that a client says as soon as it has taken so many, and the other client has.
 #[derive(Clone, Copy)]
 pub struct Turn {
@@ -13,6 +15,15 @@ pub struct Turn {
 pub struct Script {
     pub turns: &'static [Turn],
     pub wanted: usize,
+}
+
+/// All that a script says, joined.
+pub fn stream_of(alloc: Global, script: Script) -> Result<Vec<u8>, AllocError> {
+    let mut stream = Vec::new(alloc);
+    for turn in script.turns {
+        stream.extend_from_slice(turn.octets)?;
+    }
+    Ok(stream)
 }
 
 /// A producer of `q`. It sends its message behind the router's flow, and closes behind the outcome.

@@ -1,0 +1,23 @@
+//! Clients in memory, as gates, which keep to a script: what programs of tests stand on that serve some.
+//!
+//! - `captures`: the rules of a run, and what the auditor says of its capture;
+//! - `script`: what clients say and take;
+//! - `parted`: what one says whose message comes in two transfers;
+//! - `gate`: a client as a gate in memory;
+//! - `clients`: two of them.
+#![tactic(auto)]
+
+mod captures;
+mod clients;
+mod gate;
+mod parted;
+mod script;
+
+pub use captures::{RunRules, Told, audited, rules};
+pub use clients::{Part, clients_at, two_clients, two_gates};
+pub use gate::{Client, LOOKS, PATIENCE, Pace, Post};
+pub use parted::stream_parted;
+pub use script::{
+    AMQP_HEADER, BEGINS_LATE, CONSUMER, MESSAGE, OPENS_LATE, PRODUCER, QUIET, RELAY, RELAY_IN_TWO,
+    RELAYED, STRANGERS, Script, Turn, stream_of,
+};
