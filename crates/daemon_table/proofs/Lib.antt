@@ -1,0 +1,4 @@
+mod Records
+mod Lines
+mod Tables
+mod Examples

@@ -1,0 +1,83 @@
+-- The lines of one owner, beside the records of its core (own rules).
+use Rattle.std.specs.Prelude.{◌≡◌, ℕ, ◌-◌, ◌<◌, Bool, List, [], ◌∷◌, ◌++◌, Option, Some, None, All, Contains, ◌⊎◌, length, take, map, filter, nat_eq, ◌==◌}
+use Rattle.indexmap.specs.IndexMap.{get}
+use Rattle.capture_form.specs.declared.records.Record.{Record}
+use Rattle.capture_form.specs.declared.records.What.{What}
+use Rattle.capture_form.specs.Text.{frame_of}
+use Rattle.route_items.specs.Inputs.{inputs}
+use Rattle.route_items.specs.Outs.{writes_on}
+use Rattle.conn_engine.specs.Pausing.{Paused, resumed}
+use Rattle.conn_serving.specs.declared.serving.Status.TheVariants.{Ended}
+use Rattle.conn_serving.specs.Served.{LineHolds}
+use Rattle.daemon_desk.specs.Desks.{IsEntry, told_by}
+use Rattle.daemon_table.specs.declared.line.Line.{Line}
+use Rattle.daemon_table.specs.declared.table.Table.{Table}
+
+-- ---- what the records of a core have of a connection
+
+-- what happened on it, in order
+abbrev pub inputs_of : ℕ → List Record → List What
+inputs_of n records = told_by (filter (λ r. r.connection == n) (inputs records))
+
+-- the frames that were written to it, in order
+abbrev pub frames_to : ℕ → List Record → List (List ℕ)
+frames_to n records = map (λ r. frame_of r.what) (filter (writes_on n) records)
+
+-- all records are of connections below n
+abbrev pub AreBelow : ℕ → List Record → Type 0
+AreBelow n records = All (λ r. r.connection < n) records
+
+-- what stands in front of these, where they are the last
+abbrev pub front_of : List (List ℕ) → List (List ℕ) → List (List ℕ)
+front_of all last = take (length all - length last) all
+
+-- the connection is open, or was let go
+abbrev pub IsKnown : {G : Type 0} → Table G → ℕ → Type 0
+IsKnown {G = G} table n = ((line : Line G) × (get nat_eq table.lines n ≡ Some line)) ⊎ Contains (map (λ p. p.0.number) table.over.items) n
+
+module _ {G : Type 0} (Delivered Took : G → List ℕ → Type 0) (ended : G → Bool) where
+  -- ---- one line
+
+  -- These items were taken of a connection, and these frames were written to it: its engine told these and those of the inbox, and
+  -- was given all of the frames but those of the outbox, as its gate delivered and took octets.
+  pub record IsLine (taken : List What) (written : List (List ℕ)) (line : Line G) : Type 0 where
+    pub engine : Paused
+    pub is_there : line.engine ≡ Some engine
+    pub own : engine.number ≡ line.number
+    pub given : List (List ℕ)
+    pub is_idle : Bool
+    pub holds : LineHolds Delivered Took ended line.status line.gate (resumed engine (taken ++ told_by line.inbox.items) given is_idle) line.script
+    pub due : given ++ line.outbox.items ≡ written
+    pub entries : All (IsEntry line.number) line.inbox.items
+
+  -- ---- all lines
+
+  -- it is connection n's, of these records, of which these are laid
+  pub record IsLineOf (records laid : List Record) (n : ℕ) (line : Line G) : Type 0 where
+    pub number : line.number ≡ n
+    pub holds : IsLine (inputs_of n records) (frames_to n laid) line
+
+  -- a connection that was let go: it had ended, and has no other inputs than those that its gate delivered
+  pub record IsOver (records laid : List Record) (line : Line G) : Type 0 where
+    pub status : line.status ≡ Ended
+    pub taken_all : line.inbox.items ≡ []
+    pub before : List Record
+    pub behind : List Record
+    pub parts : laid ≡ before ++ behind
+    pub holds : IsLine (inputs_of line.number records) (frames_to line.number before) line
+
+  -- one that was let go, beside those that are open
+  pub record IsGone (records laid : List Record) (table : Table G) (line : Line G) : Type 0 where
+    pub over : IsOver records laid line
+    pub gone : get nat_eq table.lines line.number ≡ None
+    pub below : line.number < table.next
+
+  -- The connections of these records, of which the last ones are not laid yet: each that is open is served so far, each that was let
+  -- go was served to its end, and there are no inputs of others.
+  pub record Serves (records given : List Record) (table : Table G) : Type 0 where
+    pub laid : List Record
+    pub parts : laid ++ given ≡ records
+    pub lines : (n : ℕ) (line : Line G) → get nat_eq table.lines n ≡ Some line → (n < table.next) × IsLineOf records laid n line
+    pub over : All (λ p. IsGone records laid table p.0) table.over.items
+    pub known : All (λ r. IsKnown table r.connection) (inputs records)
+    pub below : AreBelow table.next laid
