@@ -1,0 +1,48 @@
+//! Runs of a kind.
+
+use crate::run::Came;
+use audit_core::Verdict;
+use std::fmt;
+
+/// How many runs came to what.
+#[derive(Clone, Copy)]
+pub struct Tally {
+    /// The auditor accepts the capture.
+    accepted: u64,
+    /// It ends in the middle of a record, and is accepted up to there.
+    cut: u64,
+    /// None of this.
+    others: u64,
+}
+
+impl Tally {
+    pub const NONE: Tally = Tally {
+        accepted: 0,
+        cut: 0,
+        others: 0,
+    };
+
+    /// One more run. Where a client was not shut once, or was called behind its end, it is among the others.
+    pub fn count(&mut self, came: Came) {
+        match came.verdict {
+            Verdict::Accepted(_) if came.is_right() => {
+                self.accepted = self.accepted.saturating_add(1);
+            }
+            Verdict::Malformed(..) if came.is_right() => {
+                self.cut = self.cut.saturating_add(1);
+            }
+            _ => self.others = self.others.saturating_add(1),
+        }
+    }
+}
+
+impl fmt::Display for Tally {
+    fn fmt<W: fmt::Write>(&self, f: &mut fmt::Formatter<W>) -> fmt::Result {
+        let Tally {
+            accepted,
+            cut,
+            others,
+        } = self;
+        write!(f, "{accepted} accepted, {cut} cut, {others} others")
+    }
+}
