@@ -1,4 +1,4 @@
-//! One socket of a worker.
+//! One socket of a poll.
 
 ghost use Rattle.std.specs.Prelude.{length};
 ghost use Rattle.socket_gates.specs.Moved.{IsWithin};
@@ -16,7 +16,7 @@ const LEFTOVERS: usize = 64;
 
 /// What a call on a socket did.
 #[derive(Clone, Copy, Debug, PartialEq, Eq)]
-pub(crate) enum Moved {
+pub enum Moved {
     /// It moved so many octets.
     Octets(usize),
     /// It moved none now.
@@ -28,14 +28,15 @@ pub(crate) enum Moved {
 
 /// A socket that does not block, with its key in the poll and its signs.
 #[derive(Drop)]
-pub(crate) struct Connection {
+pub struct Connection {
     stream: TcpStream,
     key: usize,
     signs: Arc<Signs, Global>,
 }
 
 impl Connection {
-    pub(crate) fn new(stream: TcpStream, key: usize, signs: Arc<Signs, Global>) -> Connection {
+    /// A socket that stands in a poll under this key, and whose signs the poll's owner notes.
+    pub fn new(stream: TcpStream, key: usize, signs: Arc<Signs, Global>) -> Connection {
         Connection { stream, key, signs }
     }
 
@@ -44,7 +45,7 @@ impl Connection {
     }
 
     /// Reads into the front of the buffer, if there may be anything.
-    pub(crate) fn read(&mut self, buffer: &mut [u8]) -> Moved
+    pub fn read(&mut self, buffer: &mut [u8]) -> Moved
         ensures { IsWithin result (length buffer.new) }
     {
         if !self.signs.may_read() {
@@ -67,7 +68,7 @@ impl Connection {
     }
 
     /// Writes octets from the front of these, if there are any and there may be room.
-    pub(crate) fn write(&mut self, octets: &[u8]) -> Moved
+    pub fn write(&mut self, octets: &[u8]) -> Moved
         ensures { IsWithin result (length octets.now) }
     {
         if octets.is_empty() || !self.signs.may_write() {
@@ -90,7 +91,7 @@ impl Connection {
 
     /// Ends the connection. It says that no more comes, and reads away what the peer has sent meanwhile: a socket that is
     /// closed with octets unread takes back what the peer has not received yet.
-    pub(crate) fn shut(&mut self) {
+    pub fn shut(&mut self) {
         // One that the peer has ended may refuse it.
         let _ = self.stream.shutdown(Shutdown::Write);
         let mut rest = [0u8; 4096];

@@ -6,18 +6,25 @@
 //! asks the system only where it may do something, and a wait ends at the first sign of any socket. It ends too where a
 //! socket of another worker has delivered octets, since the router may have written frames because of them.
 //!
-//! In reading order: `signs` is what is known of one socket; `watch` is a worker's poll; `station` is what its slots share;
-//! `connection` is one socket; `slot` is a gate; `opening` makes the slots of a listener; `serving` runs the workers.
+//! In reading order: `signs` is what is known of one socket; `connection` is one socket; `refusal` is why a listener gave none;
+//! `millis` is the moment; `watch` is a worker's poll; `station` is what its slots share; `slot` is a gate; `opening` makes the
+//! slots of a listener; `serving` runs the workers. The first four serve a router of one thread too (`daemon_sockets`).
 #![tactic(auto)]
 
 mod connection;
+mod millis;
 mod opening;
+mod refusal;
 mod serving;
 mod signs;
 mod slot;
 mod station;
 mod watch;
 
+pub use connection::{Connection, Moved};
+pub use millis::moment;
 pub use opening::{open_slots, slots_at};
+pub use refusal::{Refusal, refusal_of};
 pub use serving::serve;
+pub use signs::Signs;
 pub use slot::Slot;

@@ -6,7 +6,7 @@ use std::sync::atomic::{AtomicBool, Ordering};
 /// Whether a read or a write may do something. Polls report a change once, so a sign stands until a call has used up what
 /// it told of.
 #[derive(Drop)]
-pub(crate) struct Signs {
+pub struct Signs {
     readable: AtomicBool,
     writable: AtomicBool,
     // The peer sends no more: behind all octets there is an end to be read, which is not reported again.
@@ -15,7 +15,7 @@ pub(crate) struct Signs {
 
 impl Signs {
     /// Those of a new socket, at which anything may be.
-    pub(crate) const fn new() -> Signs {
+    pub const fn new() -> Signs {
         Signs {
             readable: AtomicBool::new(true),
             writable: AtomicBool::new(true),
@@ -45,7 +45,7 @@ impl Signs {
     }
 
     /// Notes what a poll reports.
-    pub(crate) fn note(&self, event: &Event) {
+    pub fn note(&self, event: &Event) {
         let fails = event.is_error();
         if fails || event.is_read_closed() {
             self.ends.store(true, Ordering::SeqCst);

@@ -4,14 +4,15 @@ ghost use Rattle.std.specs.Prelude.{◌≡◌, ◌<◌};
 ghost use Rattle.std.specs.Bool.{OnTrue};
 
 use crate::connection::{Connection, Moved};
+use crate::millis::moment;
+use crate::refusal::{Refusal, refusal_of};
 use crate::station::{Station, Stations};
 use conn_engine::{Delivered, Gate, Ready, Taken};
 use mio::net::{TcpListener, TcpStream};
 use std::alloc::Global;
-use std::io::ErrorKind;
+use std::mem;
 use std::sync::{Arc, Mutex, Wait};
-use std::time::{Clock, Duration};
-use std::{io, mem};
+use std::time::Clock;
 
 /// Where a slot is.
 #[derive(Drop)]
@@ -79,27 +80,19 @@ impl<R: Wait> Slot<R> {
         drop(listener);
         match accepted {
             Ok((stream, _)) => self.take_in(stream),
-            Err(error) => self.note_refusal(&error),
+            Err(error) => self.note_refusal(refusal_of(&error)),
         }
     }
 
-    /// Notes why no connection was accepted. What befell a client that is gone already, or the network between, is no fault of
-    /// the listener. Where no descriptor or no memory was left, the connection goes on waiting.
-    fn note_refusal(&mut self, error: &io::Error)
+    /// Notes why no connection was accepted.
+    fn note_refusal(&mut self, refusal: Refusal)
         ensures ended { self.new.ended ≡ self.old.ended }
         ensures failed { self.new.failed ≡ self.old.failed }
     {
-        match error.kind() {
-            ErrorKind::ConnectionAborted
-            | ErrorKind::ConnectionReset
-            | ErrorKind::TimedOut
-            | ErrorKind::Interrupted
-            | ErrorKind::HostUnreachable
-            | ErrorKind::NetworkUnreachable
-            | ErrorKind::NetworkDown => {}
-            ErrorKind::WouldBlock => self.station.none_is_there(),
-            _ if lacks_means(error) => self.station.none_is_there(),
-            _ => self.is_broken = true,
+        match refusal {
+            Refusal::Client => {}
+            Refusal::NoneWaits | Refusal::Means => self.station.none_is_there(),
+            Refusal::Listener => self.is_broken = true,
         }
     }
 
@@ -241,37 +234,10 @@ impl<R: Wait + Clock> Gate for Slot<R> {
     }
 
     fn now(&self) -> u64 {
-        match self.rt.monotonic() {
-            Ok(time) => whole_millis(time),
-            Err(_) => 0,
-        }
+        moment(&self.rt)
     }
 
     ghost follows_itself = { λ slot. tt };
 
     ghost follows_on = { λ first second third before then. tt };
-}
-
-/// The whole milliseconds of a time, or as many as can be counted.
-fn whole_millis(time: Duration) -> u64 {
-    time.as_secs()
-        .saturating_mul(1000)
-        .saturating_add(time.subsec_millis() as u64)
-}
-
-/// The system's numbers for no memory left, for no descriptors left, in all and in this process, and for no room for sockets.
-const NO_MEMORY: i32 = 12;
-
-const TOO_MANY_IN_ALL: i32 = 23;
-
-const TOO_MANY_HERE: i32 = 24;
-
-const NO_BUFFERS: i32 = 105;
-
-/// Whether the system had not what a connection takes.
-fn lacks_means(error: &io::Error) -> bool {
-    matches!(
-        error.raw_os_error(),
-        Some(NO_MEMORY | TOO_MANY_IN_ALL | TOO_MANY_HERE | NO_BUFFERS)
-    )
 }
