@@ -1,0 +1,4 @@
+pub mod Endings
+pub mod Orders
+pub mod Run
+pub mod Words
