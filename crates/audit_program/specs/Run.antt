@@ -22,11 +22,14 @@ IsStatus status = (status ≤ 4) ⊎ (status ≡ 64) ⊎ (status ≡ 74)
 abbrev pub IsVerdictOnInput : Option (List ℕ) → Verdict → Type 0
 IsVerdictOnInput held verdict = IfSome held (λ octets. AnswersRead octets verdict)
 
+-- the verdict on standard input is told (own format)
+abbrev pub TellsInput : Option (List ℕ) → Option (List ℕ) → Option (List ℕ) → ℕ → Type 0
+TellsInput held before after status = (verdict : Verdict) × Tells before after status verdict × IsVerdictOnInput held verdict
+
 -- without words the verdict on standard input is told; with one word the line of a verdict; two words are a
 -- mistake, unless memory for the parser was refused; all this where standard output could be written (own format)
 abbrev pub IsRunOn : List (List ℕ) → Option (List ℕ) → Option (List ℕ) → Option (List ℕ) → ℕ → Type 0
-IsRunOn [] held before after status =
-    status ≢ 74 → (verdict : Verdict) × Tells before after status verdict × IsVerdictOnInput held verdict
+IsRunOn [] held before after status = status ≢ 74 → TellsInput held before after status
 IsRunOn (word ∷ []) held before after status = is_option word ≡ false → status ≢ 74 → TellsSome before after status
 IsRunOn (first ∷ second ∷ more) held before after status =
     is_option first ≡ false → is_option second ≡ false → (status ≡ 64) ⊎ (status ≡ 3) ⊎ (status ≡ 74)

@@ -1,34 +1,71 @@
-use Rattle.std.specs.Prelude.{◌≡◌, ◌⊎◌, ℕ, false, List, [], ◌∷◌, Option, Some, None, Result, MatchResult, codes, true}
+-- What the words of the command line ask for.
+use Rattle.std.specs.Prelude.{◌≡◌, ◌⊎◌, ℕ, Bool, false, true, List, [], ◌∷◌, Option, Some, None, Result, MatchResult, codes}
 use Rattle.clap.specs.Words.{App, Rule, kind_of, new_app, new_rule, with_rule}
-use Rattle.clap.specs.declared.builder.ArgAction.TheVariants.{Set}
+use Rattle.clap.specs.declared.builder.ArgAction.TheVariants.{Set, SetTrue}
+use Rattle.clap.specs.declared.builder.value_parser.ValueParser.{ValueParser}
+use Rattle.clap.specs.declared.builder.value_parser.ValueParser.TheVariants.{Unsigned}
 use Rattle.clap.specs.declared.error.Error.{Error}
 use Rattle.clap.specs.declared.error.kind.ErrorKind.TheVariants.{OutOfMemory, UnknownArgument}
 use Rattle.program_ends.specs.Words.{is_option}
 use Rattle.program_ends.specs.Source.{path_of}
-use Rattle.program_ends.specs.declared.source.Source.{Source}
+use Rattle.audit_program.specs.declared.words.End.{End}
+use Rattle.audit_program.specs.declared.words.End.TheVariants.{First, Idle, Never}
+use Rattle.audit_program.specs.declared.words.Words.{Words}
 
--- the words ask for this source, want of memory aside (own format)
-abbrev pub AsksFor : Option (List ℕ) → Result Source Error → Type 0
-AsksFor path result = MatchResult result (λ source. path_of source ≡ path) (λ error. kind_of error ≡ OutOfMemory)
+-- where a capture ends, by whether it is to be followed, and for how many seconds (own format)
+abbrev pub end_asked : Bool → Option ℕ → End
+end_asked followed (Some seconds) = Idle seconds
+end_asked true None = Never
+end_asked false None = First
+
+-- the words ask for this source, and for this end of it, want of memory aside (own format)
+abbrev pub AsksFor : Option (List ℕ) → End → Result Words Error → Type 0
+AsksFor path end result = MatchResult result
+    (λ words. (path_of words.source ≡ path) × (words.end ≡ end))
+    (λ error. kind_of error ≡ OutOfMemory)
 
 -- the words are a mistake, or memory was refused (own format)
-abbrev pub IsMistake : Result Source Error → Type 0
-IsMistake result = MatchResult result (λ source. ⊥)
+abbrev pub IsMistake : Result Words Error → Type 0
+IsMistake result = MatchResult result (λ words. ⊥)
     (λ error. (kind_of error ≡ OutOfMemory) ⊎ (kind_of error ≡ UnknownArgument))
 
--- no word asks for standard input and one word that is no option for the file that it names; two are a mistake (own format)
-abbrev pub AnswersWords : List (List ℕ) → Result Source Error → Type 0
-AnswersWords [] result = AsksFor None result
-AnswersWords (word ∷ []) result = is_option word ≡ false → AsksFor (Some word) result
+-- no word asks for standard input and one word that is no option for the file that it names, up to the end that is there; two are
+-- a mistake (own format)
+abbrev pub AnswersWords : List (List ℕ) → Result Words Error → Type 0
+AnswersWords [] result = AsksFor None First result
+AnswersWords (word ∷ []) result = is_option word ≡ false → AsksFor (Some word) First result
 AnswersWords (first ∷ second ∷ more) result =
     is_option first ≡ false → is_option second ≡ false → IsMistake result
 
--- the one argument of the command line (own format)
+-- the word that asks to follow, alone or in front of a file: then more may always come (own format)
+abbrev pub AsksToFollow : List (List ℕ) → Result Words Error → Type 0
+AsksToFollow words result =
+    (words ≡ codes "--follow" ∷ [] → AsksFor None Never result)
+    × ((file : List ℕ) → is_option file ≡ false → words ≡ codes "--follow" ∷ file ∷ [] → AsksFor (Some file) Never result)
+
+-- the one argument of the command line that is no option (own format)
 abbrev pub file_argument : Rule
 file_argument = record (new_rule (codes "FILE")) { action = Some Set }
 
--- the command line, as the parser reads it: one optional file, and no word for the program's name (own format)
+-- an option without a value (own format)
+abbrev pub flag_argument : List ℕ → Rule
+flag_argument name = record (new_rule name) { long = Some name; action = Some SetTrue }
+
+-- an option with a value, which this parser checks (own format)
+abbrev pub asking_argument : List ℕ → ValueParser → Rule
+asking_argument name parser = record (new_rule name) { long = Some name; action = Some Set; parser = Some parser; value_names = 1 }
+
+-- that of seconds, whose value is a number of 64 bits (own format)
+abbrev pub idle_argument : Rule
+idle_argument = asking_argument (codes "idle") (Unsigned 0 18446744073709551615)
+
+-- the name alone, and no word for the program's name (own format)
+abbrev pub bare_command : App
+bare_command =
+    let named = new_app (codes "amqp_audit") in
+    record named { top = record named.top { no_binary_name = true } }
+
+-- the command line, as the parser reads it: one optional file, and whether it is followed (own format)
 abbrev pub command_line : App
 command_line =
-    let named = new_app (codes "amqp_audit") in
-    with_rule (record named { top = record named.top { no_binary_name = true } }) file_argument
+    with_rule (with_rule (with_rule bare_command file_argument) (flag_argument (codes "follow"))) idle_argument

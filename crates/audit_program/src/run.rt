@@ -1,13 +1,14 @@
 //! A run over any words, reader and writers.
-ghost use Rattle.std.specs.Prelude.{◌≡◌, ◌≢◌, ◌<◌, ◌≤◌, ◌⊎◌, ◌↔◌, None, map};
+ghost use Rattle.std.specs.Prelude.{◌≡◌, ◌≢◌, ◌<◌, ◌≤◌, ◌⊎◌, ◌↔◌, ◌∷◌, [], None, codes, map};
 ghost use Rattle.program_ends.specs.Growth.{IsRefusedGrowth};
 ghost use Rattle.audit_core.specs.declared.verdict.Verdict.TheVariants.{NoMemory, Unreadable};
 ghost use Rattle.audit_core.specs.Report.{status_of};
-ghost use Rattle.audit_program.specs.Run.{IsRunOn, IsStatus, IsVerdictOnInput, Tells, TellsSome};
+ghost use Rattle.audit_program.specs.Run.{IsRunOn, IsStatus, IsVerdictOnInput, Tells, TellsInput, TellsSome};
 ghost use Rattle.program_ends.specs.Source.{path_of};
 
-use crate::words::source_of;
+use crate::words::{End, Words};
 use audit_core::{Verdict, audit_stream};
+use audit_following::audit_growing_file;
 use program_ends::{
     NOT_WRITTEN, Source, WORDS_FAULT, is_refused_growth, tell_line, tell_refused_words,
 };
@@ -15,15 +16,18 @@ use std::alloc::Global;
 use std::convert::AsStr;
 use std::io::{Read, Write};
 use std::rt::Files;
+use std::time::Clock;
 use std::{fs, io};
 
 /// Audits the capture that `words`, those behind the program's name, ask for: the file that they name,
-/// or `input`. Writes the line of its verdict to `out`, and answers the exit status.
+/// or `input`. Writes the line of its verdict to `out`, and answers the exit status. A capture that is followed is waited for by
+/// `clock`, record by record.
 ///
 /// A fault of the words is told on `err` alone, with `WORDS_FAULT`; the help goes to `out`, with status 0. Where `out` fails
 /// the status is `NOT_WRITTEN`, and nothing is said of what stands there.
-pub fn run_words<F: Files, S: AsStr, R: Read, O: Write, E: Write>(
+pub fn run_words<F: Files, C: Clock, S: AsStr, R: Read, O: Write, E: Write>(
     files: &F,
+    clock: &C,
     alloc: Global,
     words: &[S],
     input: &mut R,
@@ -32,33 +36,51 @@ pub fn run_words<F: Files, S: AsStr, R: Read, O: Write, E: Write>(
 ) -> u8
     ensures run { IsRunOn (map S.text words.now) (R.remaining input.old) (O.contents out.old) (O.contents out.new) result }
 
+    // The word --follow alone has standard input followed, and the verdict is on all that it gives.
+    ensures followed { map S.text words.now ≡ codes "--follow" ∷ [] → result ≢ NOT_WRITTEN
+        → TellsInput (R.remaining input.old) (O.contents out.old) (O.contents out.new) result }
+
     // Statuses 1 to 4 come only with the line of a verdict, which has that status.
     ensures told { 0 < result → result ≤ 4 → TellsSome (O.contents out.old) (O.contents out.new) result }
     ensures mistake { result ≡ WORDS_FAULT → out.new ≡ out.old }
     ensures quiet { result ≢ WORDS_FAULT → err.new ≡ err.old }
     ensures status { IsStatus result }
 {
-    match source_of(alloc, words) {
-        Ok(source) => tell(&verdict_on(files, alloc, source, input), out),
+    match Words::read(alloc, words) {
+        Ok(words) => tell(&verdict_on(files, clock, alloc, words, input), out),
         Err(error) => tell_refused_words(&error, out, err),
     }
 }
 
-/// The verdict on what is read from the source, record by record.
-fn verdict_on<F: Files, R: Read>(
+/// The verdict on what is read from the source that the words ask for, record by record.
+fn verdict_on<F: Files, C: Clock, R: Read>(
     files: &F,
+    clock: &C,
     alloc: Global,
-    source: Source<'_>,
+    words: Words<'_>,
     input: &mut R,
 ) -> Verdict
-    ensures { path_of source.entry ≡ None → IsVerdictOnInput (R.remaining input.old) result }
+    ensures { path_of words.entry.source ≡ None → IsVerdictOnInput (R.remaining input.old) result }
 {
-    match source {
-        Source::StandardInput => audit_stream(alloc, input),
+    match words.source {
+        Source::StandardInput => verdict_up_to(clock, alloc, words.end, input),
         Source::File(path) => match fs::open(files, path) {
-            Ok(file) => audit_stream(alloc, file),
+            Ok(file) => verdict_up_to(clock, alloc, words.end, file),
             Err(error) => verdict_unopened(&error),
         },
+    }
+}
+
+/// The verdict on what the reader gives up to this end.
+fn verdict_up_to<C: Clock, R: Read>(clock: &C, alloc: Global, end: End, reader: R) -> Verdict
+where
+    R: Drop,
+    ensures { IsVerdictOnInput (R.remaining reader) result }
+{
+    match end {
+        End::First => audit_stream(alloc, reader),
+        End::Idle(seconds) => audit_growing_file(clock, alloc, reader, Some(seconds)),
+        End::Never => audit_growing_file(clock, alloc, reader, None),
     }
 }
 

@@ -122,8 +122,9 @@ A line has the number of the record, its connection, and what happened: opened, 
 follow the channel, the performative with those of its fields that are read and there, the octets of a transfer's payload, \
 the link or the session that it names, and what the record notes: which delivery a transfer carries, or why an outcome is told.
 
-Without --why and --credit the whole capture is read, whatever is asked for. Status 0: it is whole. 2: malformed. 3: no memory. \
-4: unreadable. 5: OUT could not be written. 6: more records than a chart may have. 7: no such link. 64: a mistake in the words. \
+Without --why and --credit the whole capture is read, whatever is asked for. Of one that breaks off, as where its router was killed, \
+--summary counts the records that are whole, and behind it stands where they end: malformed offset=O. Status 0: it is whole. 2: \
+malformed. 3: no memory. 4: unreadable. 5: OUT could not be written. 6: more records than a chart may have. 7: no such link. 64: a mistake in the words. \
 74: standard output could not be written.
 
 With --why and --credit the first line and the status are those of amqp_audit: 0 accepted, 1 refused, or 2, 3 or 4 as above. With \

@@ -1,18 +1,22 @@
-use Rattle.std.proofs.Common.{rules, ap, ap₂, codes, true, ◌≡◌, ◌∙◌}
+use Rattle.std.proofs.Common.{ap, ap₂, codes, ◌≡◌, ◌∙◌}
 use Rattle.std.proofs.lemmas.Result.{IfOk-weaker}
-use Rattle.clap.specs.Simple.{app_of_fields}
-use Rattle.clap.specs.Words.{App, app_of, new_app, rule_of, with_rule}
-use Rattle.audit_program.specs.Words.{file_argument}
+use Rattle.std.specs.Prelude.{Bool, Some}
+use Rattle.clap.specs.Words.{Rule, rule_of, with_rule}
+use Rattle.clap.specs.declared.builder.arg.Arg.{Arg}
+use Rattle.clap.specs.declared.builder.ArgAction.TheVariants.{Set}
+use Rattle.audit_program.specs.Words.{asking_argument, file_argument, flag_argument, idle_argument}
 use Rattle.audit_program.proofs.words.command_line.Goals as goal
 
--- the command takes no word for the program's name
-abbrev without_name : App → App
-without_name app = record app { top = record app.top { no_binary_name = true } }
+abbrev is_global : Arg → Bool
+is_global argument = argument.global
 
 pub returns : goal.returns
 returns c =
-    let file_is : rule_of c.help-file.result ≡ file_argument = search rules in
-    let about_is : app_of c.about.result ≡ new_app (codes "amqp_audit") = ap app_of_fields c.about.ensures ∙ c.new-2.ensures.app in
-    let named_is : app_of c.no_binary_name.result ≡ without_name (new_app (codes "amqp_audit")) =
-    ap app_of_fields c.no_binary_name.ensures ∙ ap without_name about_is in
-    IfOk-weaker c.arg.result _ _ (λ command adds. adds.shape (search rules) ∙ ap₂ with_rule named_is file_is) c.arg.ensures
+    let file_is : rule_of c.help.result ≡ file_argument =
+    ap rule_of c.help.ensures ∙ ap rule_of c.action.ensures ∙ ap (λ (r : Rule). record r { action = Some Set }) c.new.ensures.rule in
+    let follow_is : rule_of c.help-2.result ≡ flag_argument (codes "follow") = ap rule_of c.help-2.ensures ∙ c.flag.ensures.rule in
+    let idle_is : rule_of c.help-3.result ≡ idle_argument =
+    ap rule_of c.help-3.ensures ∙ (c.asking.ensures.rule ∙ ap (asking_argument (codes "idle")) c.value_parser.ensures) in
+    let with_file = c.in_ok-arg.ensures.shape (ap is_global c.help.ensures ∙ ap is_global c.action.ensures ∙ c.new.ensures.optional.1) ∙ ap₂ with_rule c.bare_command.ensures file_is in
+    let with_follow = c.in_ok-arg-2.ensures.shape (ap is_global c.help-2.ensures ∙ c.flag.ensures.local) ∙ ap₂ with_rule with_file follow_is in
+    IfOk-weaker c.arg-3.result _ _ (λ command adds. adds.shape (ap is_global c.help-3.ensures ∙ c.asking.ensures.local) ∙ ap₂ with_rule with_follow idle_is) c.arg-3.ensures
