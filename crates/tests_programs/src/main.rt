@@ -7,6 +7,7 @@
 //! - `case`: a line in its parts
 //! - `fakes`: the reader and the writers that it asks for
 //! - `runs`: the programs
+//! - `growing`: a file that grows while the auditor follows it
 //! - `exchanges`: greetings over a router whose octets were worked out beforehand
 //! - `ends`: what the programs do alike at their ends, and the words of the router
 #![tactic(auto)]
@@ -15,6 +16,7 @@ mod case;
 mod ends;
 mod exchanges;
 mod fakes;
+mod growing;
 mod runs;
 
 use case::Case;

@@ -2,7 +2,7 @@
 
 use crate::case::Case;
 use crate::fakes::{Input, Left};
-use crate::{ends, exchanges};
+use crate::{ends, exchanges, growing};
 use std::alloc::{AllocGlobal, Global};
 use std::io::Write;
 use std::net::Net;
@@ -19,9 +19,14 @@ where
 {
     match case.kind {
         "audit" => audit(rt, case, left),
+        "follow" => growing::follow(rt, case, left),
         "show" => show(rt, case, left),
         "router" => {
             route(rt, case.words_from(0), left);
+            Ok(())
+        }
+        "daemon" => {
+            stay_up(rt, case.words_from(0), left);
             Ok(())
         }
         "octets" => write_octets(rt, case, left),
@@ -37,10 +42,15 @@ where
 }
 
 /// The auditor.
-fn audit<R: Files + AllocGlobal>(rt: &R, case: &Case<'_>, left: &mut Left) -> io::Result<()> {
+fn audit<R: Files + Clock + AllocGlobal>(
+    rt: &R,
+    case: &Case<'_>,
+    left: &mut Left,
+) -> io::Result<()> {
     let mut input = Input::of(rt, case)?;
     let (out, err) = (&mut left.out, &mut left.err);
     left.status = audit_program::run_words(
+        rt,
         rt,
         rt.alloc(),
         case.words_from(0),
@@ -75,6 +85,13 @@ fn route<R: Files + AllocGlobal + Threads + Wait + Net + Clock + Sync>(
 ) {
     let (out, err) = (&mut left.out, &mut left.err);
     left.status = router_program::run_words(rt, rt.alloc(), words, out, err);
+}
+
+/// The router that stays up. No standard input tells it to end.
+fn stay_up<R: Files + AllocGlobal + Wait + Net + Clock>(rt: &R, words: &[&str], left: &mut Left) {
+    let mut input = Input::new(Vec::new(rt.alloc()));
+    let (out, err) = (&mut left.out, &mut left.err);
+    left.status = daemon_program::run_words(rt, rt.alloc(), words, None, &mut input, out, err);
 }
 
 /// How many octets a file has, and where no number of them is asked for, which.
