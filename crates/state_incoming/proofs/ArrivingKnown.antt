@@ -30,6 +30,7 @@ use Rattle.state_incoming.specs.Held.{Held, held, held_at, is_held, fate_of, say
 use Rattle.state_incoming.proofs.FateSteps.{arriving-fate}
 use Rattle.state_incoming.proofs.HeldAnswers.{held-of, held-complete}
 use Rattle.state_incoming.proofs.GroupAnswers.{found-passes}
+use Rattle.state_incoming.proofs.OverKnown.{kept-law, kept-there}
 use Rattle.state_incoming.specs.Grouped.{is_of_link}
 
 or_none : (a b : Bool) → a || b ≡ false → (a ≡ false) × (b ≡ false)
@@ -160,8 +161,8 @@ arriving-progress rules (e ∷ past) are d incomplete whole at live =
 
 -- ---- by the group of those that arrive
 
-module _ (rules : RuleSet) (past : List Event) (are : AreJudged rules past) (kept : ℕ → Option Held) (were : (n : ℕ) → kept n ≡ held_at rules n past)
-    (l : Link) (on : IsLiveLink l past) (ns : List ℕ) (grouped : (n : ℕ) → list_any (nat_eq n) ns ≡ is_some_and (kept n) (λ x. is_of_link l.number x.delivery && says_arriving x.fate)) where
+module _ (rules : RuleSet) (past : List Event) (are : AreJudged rules past) (gone : ℕ → Bool) (kept : ℕ → Option Held) (were : (n : ℕ) → kept n ≡ (if gone n then None else held_at rules n past))
+    (there : (d : Incoming) → incoming_at d.number past ≡ Some d → is_complete d past ≡ false → gone d.number ≡ false) (l : Link) (on : IsLiveLink l past) (ns : List ℕ) (grouped : (n : ℕ) → list_any (nat_eq n) ns ≡ is_some_and (kept n) (λ x. is_of_link l.number x.delivery && says_arriving x.fate)) where
   known : link_at l.number past ≡ Some l
   known =
       ((judged-stands rules past are).known l.session l.handle l
@@ -186,8 +187,9 @@ module _ (rules : RuleSet) (past : List Event) (are : AreJudged rules past) (kep
       ∙ (ap (λ b. not b && is_live past d.link) whole ∙ live) in
       let entry : kept d.number ≡ Some (held rules past d) =
       were d.number
+      ∙ (kept-there (gone d.number) (held_at rules d.number past) (there d of.at incomplete)
       ∙ (ap (λ o. option_map (held rules past) (where_passes (is_held rules past) o)) of.at
-      ∙ ap (λ b. option_map (held rules past) (if b then Some d else None)) holds) in
+      ∙ ap (λ b. option_map (held rules past) (if b then Some d else None)) holds)) in
       grouped d.number
       ∙ (ap (λ o. is_some_and o (λ x. is_of_link l.number x.delivery && says_arriving x.fate)) entry
       ∙ (ap (λ (m : Link). (m.number == l.number) && says_arriving (fate_of rules d past)) link
@@ -200,7 +202,7 @@ module _ (rules : RuleSet) (past : List Event) (are : AreJudged rules past) (kep
       by : (o : Option Held) → kept n ≡ o → is_some_and o (λ x. is_of_link l.number x.delivery && says_arriving x.fate) ≡ true → (x : Held) × (kept n ≡ Some x) × (in_progress l past ≡ Some x.delivery)
       by None none is = absurd cc
       by (Some x) some is =
-          let of = held-of rules n past x (sym (were n) ∙ some) in
+          let of = held-of rules n past x (kept-law (gone n) (held_at rules n past) x (sym (were n) ∙ some)).1 in
           let d = x.delivery in
           let parts = and_both (is_of_link l.number d) (says_arriving x.fate) is in
           let incomplete : is_complete d past ≡ false = held-complete rules n past x of ∙ ap not parts.1 in

@@ -27,10 +27,11 @@ use Rattle.trace_clauses.proofs.PartsGoOn.{MayGoOn, part-goes_on, unbegun-payloa
 use Rattle.trace_clauses.proofs.Undecided.{all_before}
 use Rattle.state_addresses.specs.Addressed.{IsAddressed}
 use Rattle.state_incoming.specs.Held.{held, is_held, held_at}
-use Rattle.state_incoming.specs.HeldTables.{AreHeld, held_in}
+use Rattle.state_incoming.specs.HeldTables.{AreHeld, AreOver, held_in}
 use Rattle.state_incoming.specs.EntryAnswers.{payload_of}
 use Rattle.state_incoming.specs.declared.deliveries.Deliveries.{Deliveries}
 use Rattle.state_incoming.proofs.HeldKnown.{unheld}
+use Rattle.state_incoming.proofs.OverKnown.{table-there, table-none, arriving-kept}
 
 -- ---- how long it may be
 
@@ -98,7 +99,7 @@ part-fits rules e past ((r, is), are) d p whole =
 
 -- ---- what the table has of it
 
-module _ (rules : RuleSet) (e : Event) (past : List Event) (are : AreJudged rules (e ∷ past)) (table : Deliveries) (were : AreHeld rules table past) where
+module _ (rules : RuleSet) (e : Event) (past : List Event) (are : AreJudged rules (e ∷ past)) (table : Deliveries) (were : AreHeld rules table past) (over : AreOver rules table past) where
   -- one that goes on is kept, with its parts so far
   going-payload : (d : Incoming) → MayGoOn past d → IsKept past d → payload_of (held_in table d.number) ≡ payload d past
   going-payload d may kept =
@@ -106,14 +107,14 @@ module _ (rules : RuleSet) (e : Event) (past : List Event) (are : AreJudged rule
       ap (λ b. if b then not (is_gone rules d past && is_closed past d) else not (is_aborted d past) && is_live past d.link) may.incomplete
       ∙ (ap (λ b. not b && is_live past d.link) may.whole ∙ may.live) in
       ap payload_of
-      (were d.number
+      (table-there rules past table were d.number (arriving-kept rules past are.1 table over d.number d kept.at may.incomplete)
       ∙ (ap (λ o. option_map (held rules past) (where_passes (is_held rules past) o)) kept.at
       ∙ ap (λ b. option_map (held rules past) (if b then Some d else None)) holds))
 
   -- one that begins is not, and has none
   new-payload : (d : Incoming) → d.number ≡ e.number → payload_of (held_in table d.number) ≡ payload d past
   new-payload d own =
-      ap payload_of (were d.number ∙ (ap (λ n. held_at rules n past) own ∙ unheld rules e past are)) ∙ sym (first-payload rules e past are d own)
+      ap payload_of (table-none rules past table were d.number (ap (λ n. held_at rules n past) own ∙ unheld rules e past are)) ∙ sym (first-payload rules e past are d own)
 
   part-kept : (d : Incoming) → e.incoming ≡ Some d → payload_of (held_in table d.number) ≡ payload d past
   part-kept d here = by (judged_is_part rules e past are d here).part.kind

@@ -1,5 +1,5 @@
 -- The links that an event ends are those whose deliveries it touches by their end.
-use Rattle.std.proofs.Common.{subst, ◌≡◌, refl, sym, ap, ◌∙◌, ◌<◌, ℕ, Bool, true, false, ◌&&◌, ◌||◌, not, List, [], ◌∷◌, length, Option, Some, None, IfSome, bytes_eq, inl, inr, eq-eqb, ◌==◌}
+use Rattle.std.proofs.Common.{subst, ◌≡◌, refl, sym, ap, ◌∙◌, ◌<◌, ℕ, Bool, true, false, ◌&&◌, ◌||◌, not, List, [], ◌∷◌, length, Option, Some, None, IfSome, bytes_eq, inl, inr, eq-eqb, ◌==◌, if◌then◌else◌}
 use Rattle.std.specs.Prelude.{Contains}
 use Rattle.std.specs.List.{AllByRecursion, cons_option, list_any}
 use Rattle.capture_form.specs.Rules.{RuleSet}
@@ -116,10 +116,18 @@ module _ (rules : RuleSet) (e : Event) (past : List Event) (are : AreJudged rule
       by P None each = tt
       by P (Some x) each = each x refl
 
--- of a table that has what the law keeps
-pub ended-of : (rules : RuleSet) (e : Event) (past : List Event) (has : List ℕ → Bool) (ended : List Link) (kept : ℕ → Option Held) → ((n : ℕ) → kept n ≡ held_at rules n past)
-    → AreEnded e has ended (λ n. held_at rules n past) → AreEnded e has ended kept
-ended-of rules e past has ended kept were are = record {
-  producers = λ n. subst (λ (o : Option Held). IfSome o (λ (x : Held). x.is_undecided && ends_link x.delivery.link e ≡ true → list_any (λ (l : Link). l.number == x.delivery.link.number) ended ≡ true)) (sym (were n)) (are.producers n);
-  consumers = λ n. subst (λ (o : Option Held). IfSome o (λ (x : Held). says_waiting x.fate && not (has x.address) ≡ true → list_any (λ (l : Link). bytes_eq l.address x.address) ended ≡ true)) (sym (were n)) (are.consumers n);
+if-there : (P : Held → Type 0) (gone : Bool) (o : Option Held) → IfSome o P → IfSome (if gone then None else o) P
+if-there P true o each = tt
+if-there P false o each = each
+
+-- of a table that has what the law keeps, but for what is gone
+pub ended-of : (rules : RuleSet) (e : Event) (past : List Event) (has : List ℕ → Bool) (ended : List Link) (kept : ℕ → Option Held) (gone : ℕ → Bool)
+    → ((n : ℕ) → kept n ≡ (if gone n then None else held_at rules n past)) → AreEnded e has ended (λ n. held_at rules n past) → AreEnded e has ended kept
+ended-of rules e past has ended kept gone were are = record {
+  producers = λ n.
+      let P = λ (x : Held). x.is_undecided && ends_link x.delivery.link e ≡ true → list_any (λ (l : Link). l.number == x.delivery.link.number) ended ≡ true in
+      subst (λ (o : Option Held). IfSome o P) (sym (were n)) (if-there P (gone n) (held_at rules n past) (are.producers n));
+  consumers = λ n.
+      let P = λ (x : Held). says_waiting x.fate && not (has x.address) ≡ true → list_any (λ (l : Link). bytes_eq l.address x.address) ended ≡ true in
+      subst (λ (o : Option Held). IfSome o P) (sym (were n)) (if-there P (gone n) (held_at rules n past) (are.consumers n));
 }

@@ -17,6 +17,7 @@ use Rattle.state_incoming.specs.Grouped.{is_for}
 use Rattle.state_incoming.specs.HeldTables.{IsHistory}
 use Rattle.state_incoming.proofs.HeldAnswers.{held-of, held-address}
 use Rattle.state_incoming.proofs.IncomingNumbers.{length-counted}
+use Rattle.state_incoming.proofs.OverKnown.{kept-law, kept-there}
 
 -- they are judged
 pub judged-of : (rules : RuleSet) (past : List Event) → IsHistory rules past → AreJudged rules past
@@ -78,17 +79,19 @@ one-of {A = A} P test (x ∷ xs) all is = by (test x) refl is (one-of P test xs 
     by false here is later = later is
 
 -- the address of an entry is that of its delivery
-pub address-at : (rules : RuleSet) (past : List Event) (kept : ℕ → Option Held) → ((n : ℕ) → kept n ≡ held_at rules n past) → (address : List ℕ) (mark : Held → Bool) (n : ℕ)
+pub address-at : (rules : RuleSet) (past : List Event) (gone : ℕ → Bool) (kept : ℕ → Option Held) → ((n : ℕ) → kept n ≡ (if gone n then None else held_at rules n past)) → (address : List ℕ) (mark : Held → Bool) (n : ℕ)
     → is_some_and (kept n) (λ x. is_for address x && mark x) ≡ is_some_and (kept n) (λ x. bytes_eq (address_of x.delivery past) address && mark x)
-address-at rules past kept were address mark n = by (kept n) refl
+address-at rules past gone kept were address mark n = by (kept n) refl
   where
     by : (o : Option Held) → kept n ≡ o → is_some_and o (λ x. is_for address x && mark x) ≡ is_some_and o (λ x. bytes_eq (address_of x.delivery past) address && mark x)
     by None is = refl
-    by (Some x) is = ap (λ a. bytes_eq a address && mark x) (sym (held-address rules n past x (held-of rules n past x (sym (were n) ∙ is))))
+    by (Some x) is = ap (λ a. bytes_eq a address && mark x) (sym (held-address rules n past x (held-of rules n past x (kept-law (gone n) (held_at rules n past) x (sym (were n) ∙ is)).1)))
 
--- the tests of one group: of a delivery's key, of what the law says of it, and of what its entry says
-module _ (rules : RuleSet) (past : List Event) (are : AreJudged rules past) (kept : ℕ → Option Held) (were : (n : ℕ) → kept n ≡ held_at rules n past)
+-- the tests of one group: of a delivery's key, of what the law says of it, and of what its entry says; it is said of none
+-- that is gone
+module _ (rules : RuleSet) (past : List Event) (are : AreJudged rules past) (gone : ℕ → Bool) (kept : ℕ → Option Held) (were : (n : ℕ) → kept n ≡ (if gone n then None else held_at rules n past))
     (key law : Incoming → Bool) (mark : Held → Bool) (same : (d : Incoming) → law d ≡ mark (held rules past d)) (holds : (d : Incoming) → law d ≡ true → is_held rules past d ≡ true)
+    (there : (d : Incoming) → incoming_at d.number past ≡ Some d → law d ≡ true → gone d.number ≡ false)
     (member : ℕ → Bool) (grouped : (n : ℕ) → member n ≡ is_some_and (kept n) (λ x. key x.delivery && mark x)) where
   abbrev test : Incoming → Bool
   test d = key d && law d
@@ -98,8 +101,9 @@ module _ (rules : RuleSet) (past : List Event) (are : AreJudged rules past) (kep
       let parts = and_both (key d) (law d) is in
       let entry : kept d.number ≡ Some (held rules past d) =
       were d.number
+      ∙ (kept-there (gone d.number) (held_at rules d.number past) (there d at parts.1)
       ∙ (ap (λ o. option_map (held rules past) (where_passes (is_held rules past) o)) at
-      ∙ ap (λ b. option_map (held rules past) (if b then Some d else None)) (holds d parts.1)) in
+      ∙ ap (λ b. option_map (held rules past) (if b then Some d else None)) (holds d parts.1))) in
       grouped d.number ∙ (ap (λ o. is_some_and o (λ x. key x.delivery && mark x)) entry ∙ both (key d) (mark (held rules past d)) parts.0 (sym (same d) ∙ parts.1))
 
   pub record IsMember (n : ℕ) : Type 0 where
@@ -114,7 +118,7 @@ module _ (rules : RuleSet) (past : List Event) (are : AreJudged rules past) (kep
       by : (o : Option Held) → kept n ≡ o → is_some_and o (λ x. key x.delivery && mark x) ≡ true → IsMember n
       by None none is = absurd cc
       by (Some x) some is =
-          let of = held-of rules n past x (sym (were n) ∙ some) in
+          let of = held-of rules n past x (kept-law (gone n) (held_at rules n past) x (sym (were n) ∙ some)).1 in
           let parts = and_both (key x.delivery) (mark x) is in record {
             delivery = x.delivery;
             at = of.at;

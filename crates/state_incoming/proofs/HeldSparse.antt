@@ -61,7 +61,7 @@ kept_by true false false false false true false false whole is = absurd cc
 kept_by true false false false false false true false whole is = refl
 kept_by true false false false false false false false whole is = absurd cc
 
-entry-kept : (rules : RuleSet) (past : List Event) → AreJudged rules past → (n : ℕ) (x : Held) → held_at rules n past ≡ Some x → is_kept x ≡ true
+pub entry-kept : (rules : RuleSet) (past : List Event) → AreJudged rules past → (n : ℕ) (x : Held) → held_at rules n past ≡ Some x → is_kept x ≡ true
 entry-kept rules past are n x entry =
     let of = held-of rules n past x entry in
     let d = x.delivery in
@@ -88,10 +88,10 @@ module _ (rules : RuleSet) (e : Event) (past : List Event) (are : AreJudged rule
       by None found none = refl
       by (Some x) found none = untouched rules e to (has (address_behind e to x)) x none (entry-kept rules past are.1 n x found)
 
-  pub moved-held : (old new : ℕ → Option Held) → ((n : ℕ) → old n ≡ held_at rules n past)
-      → ((n : ℕ) → (new n ≡ held_behind rules e to has n (old n)) ⊎ (IsApart n (old n) × (new n ≡ old n)))
-      → (n : ℕ) → new n ≡ held_at rules n (e ∷ past)
-  moved-held old new were moved n = elim (moved n) [
-    | inl here ↦ here ∙ (ap (held_behind rules e to has n) (were n) ∙ sym (held-behind rules e past are lawful to addressed n))
-    | inr apart ↦ apart.1 ∙ (were n ∙ (sym (apart-stays n (subst (IsApart n) (were n) apart.0)) ∙ sym (held-behind rules e past are lawful to addressed n)))
+  -- of one number, what the table had of it and what it has
+  pub moved-held : (n : ℕ) (old new : Option Held) → old ≡ held_at rules n past
+      → (new ≡ held_behind rules e to has n old) ⊎ (IsApart n old × (new ≡ old)) → new ≡ held_at rules n (e ∷ past)
+  moved-held n old new was moved = elim moved [
+    | inl here ↦ here ∙ (ap (held_behind rules e to has n) was ∙ sym (held-behind rules e past are lawful to addressed n))
+    | inr apart ↦ apart.1 ∙ (was ∙ (sym (apart-stays n (subst (IsApart n) was apart.0)) ∙ sym (held-behind rules e past are lawful to addressed n)))
   ]

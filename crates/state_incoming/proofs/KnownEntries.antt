@@ -11,9 +11,11 @@ use Rattle.trace_clauses.specs.TransferClause.{to_carry}
 use Rattle.state_incoming.specs.Held.{Held, may_go}
 use Rattle.state_incoming.specs.HeldTables.{AreHeld, held_in}
 use Rattle.state_incoming.specs.EntryAnswers.{Knows, delivery_in, has_number, says_complete, says_closed, has_gone, address_in, payload_of, is_before, carried, carried_by}
+use Rattle.state_incoming.specs.LetGo.{names_let_go}
 use Rattle.state_incoming.specs.declared.deliveries.Deliveries.{Deliveries}
 use Rattle.state_incoming.proofs.HeldAnswers.{IsHeldOf, held-of, held-address, held-payload, held-closed, held-complete, held-gone, held-before, to_carry-held}
 use Rattle.state_incoming.proofs.GroupAnswers.{found-passes}
+use Rattle.state_incoming.proofs.OverKnown.{table-law, table-there}
 
 -- the entry of a delivery that the table can tell of
 pub record IsKnownAs (rules : RuleSet) (past : List Event) (table : Deliveries) (d : Incoming) : Type 0 where
@@ -28,7 +30,7 @@ module _ (rules : RuleSet) (past : List Event) (table : Deliveries) (are : AreHe
     where
       by : (o : Option Held) → held_in table d.number ≡ o → option_map (λ (x : Held). x.delivery) o ≡ Some d → IsKnownAs rules past table d
       by None is knows = absurd cc
-      by (Some x) is knows = record { entry = x; is = is; same = cc; of = held-of rules d.number past x (sym (are d.number) ∙ is) }
+      by (Some x) is knows = record { entry = x; is = is; same = cc; of = held-of rules d.number past x (table-law rules past table are d.number x is) }
 
   -- it is one of the capture
   pub knows-at : (d : Incoming) → Knows table d → incoming_at d.number past ≡ Some d
@@ -75,12 +77,12 @@ module _ (rules : RuleSet) (past : List Event) (table : Deliveries) (are : AreHe
     where
       by : (o : Option Held) → held_in table n ≡ o → is_some o ≡ true → option_map (λ (x : Held). x.delivery) (held_in table n) ≡ incoming_at n past
       by None is has = absurd cc
-      by (Some x) is has = ap (option_map (λ (x : Held). x.delivery)) is ∙ sym (held-of rules n past x (sym (are n) ∙ is)).at
+      by (Some x) is has = ap (option_map (λ (x : Held). x.delivery)) is ∙ sym (held-of rules n past x (table-law rules past table are n x is)).at
 
   number-of : (n : ℕ) (x : Held) → held_in table n ≡ Some x → x.delivery.number ≡ n
   number-of n x is =
       eqb-true x.delivery.number n
-      (found-passes (λ (d : Incoming). d.number == n) (incoming_deliveries past) x.delivery (held-of rules n past x (sym (are n) ∙ is)).at)
+      (found-passes (λ (d : Incoming). d.number == n) (incoming_deliveries past) x.delivery (held-of rules n past x (table-law rules past table are n x is)).at)
 
   knows-entry : (n : ℕ) (x : Held) → held_in table n ≡ Some x → Knows table x.delivery
   knows-entry n x is = ap (delivery_in table) (number-of n x is) ∙ ap (option_map (λ (y : Held). y.delivery)) is
@@ -113,7 +115,22 @@ module _ (rules : RuleSet) (past : List Event) (table : Deliveries) (are : AreHe
   knows-carried notes.None = tt
   knows-carried (notes.Told why) = tt
 
-  pub known-carried : (note : Note) → carried_by table note ≡ to_carry rules note past
-  known-carried (notes.Pair n) = ap carried (are n) ∙ sym (to_carry-held rules n past)
-  known-carried notes.None = refl
-  known-carried (notes.Told why) = refl
+  -- what it gives, the law gives
+  same-given : (law given : Option Incoming) → law ≡ given → IfSome given (λ d. law ≡ Some d)
+  same-given law None is = tt
+  same-given law (Some d) is = is
+
+  pub given-carried : (note : Note) → IfSome (carried_by table note) (λ d. to_carry rules note past ≡ Some d)
+  given-carried (notes.Pair n) = by (held_in table n) refl
+    where
+      by : (o : Option Held) → held_in table n ≡ o → IfSome (carried o) (λ d. to_carry rules (notes.Pair n) past ≡ Some d)
+      by None is = tt
+      by (Some x) is = same-given (to_carry rules (notes.Pair n) past) (carried (Some x)) (to_carry-held rules n past ∙ ap carried (table-law rules past table are n x is))
+  given-carried notes.None = tt
+  given-carried (notes.Told why) = tt
+
+  -- of one that was not let go
+  pub known-carried : (note : Note) → names_let_go table.let_go.items note ≡ false → carried_by table note ≡ to_carry rules note past
+  known-carried (notes.Pair n) there = ap carried (table-there rules past table are n there) ∙ sym (to_carry-held rules n past)
+  known-carried notes.None there = refl
+  known-carried (notes.Told why) there = refl

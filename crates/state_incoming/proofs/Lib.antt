@@ -7,6 +7,10 @@ mod HeldKnown
 mod CompletedKnown
 mod HeldUntouched
 mod HeldSparse
+pub mod OverKnown
+pub mod OverLasts
+mod LetGo
+mod LetGoExamples
 mod Regrouped
 mod GroupExamples
 mod GroupLists

@@ -1,5 +1,5 @@
 -- The deliveries that an event may touch are moved one after the other, and then the table has what the law keeps behind it.
-use Rattle.std.proofs.Common.{◌≡◌, refl, sym, ap, ◌∙◌, ◌⊎◌, inl, inr, ℕ, Bool, true, false, ◌&&◌, ◌||◌, ◌<◌, not, List, [], ◌∷◌, ◌++◌, length, arith, Option, Some, None, IfSome, cond, nat_eq, option_and_then, if◌then◌else◌, ◌==◌, eqb-true, eq-eqb}
+use Rattle.std.proofs.Common.{◌≡◌, refl, sym, ap, ◌∙◌, ◌⊎◌, inl, inr, ℕ, Bool, true, false, ◌&&◌, ◌||◌, ◌<◌, not, List, [], ◌∷◌, ◌++◌, length, arith, Option, Some, None, IfSome, cond, nat_eq, option_and_then, if◌then◌else◌, ◌==◌, eqb-true, eq-eqb, ne_eqb}
 use Rattle.std.specs.List.{list_any}
 use Rattle.std.proofs.lemmas.List.Folds.{list_any-append}
 use Rattle.capture_form.specs.Rules.{RuleSet}
@@ -7,7 +7,7 @@ use Rattle.trace_events.specs.Words.{is_some_and, or_else}
 use Rattle.trace_events.specs.Event.{Event, Incoming}
 use Rattle.trace_events.specs.Incoming.{incoming_begun}
 use Rattle.trace_events.specs.Address.{has_consumer}
-use Rattle.trace_events.proofs.Judged.{AreJudged}
+use Rattle.trace_events.proofs.Judged.{AreJudged, judged-number}
 use Rattle.trace_events.proofs.Links.{passing}
 use Rattle.trace_clauses.specs.Clauses.{first_broken}
 use Rattle.state_addresses.specs.Addressed.{IsAddressed}
@@ -15,6 +15,7 @@ use Rattle.state_incoming.specs.Held.{Held, held_at, address_behind, held_begun,
 use Rattle.state_incoming.specs.HeldTouched.{is_touched}
 use Rattle.state_incoming.proofs.HeldKnown.{unheld}
 use Rattle.state_incoming.proofs.HeldSparse.{moved-held}
+use Rattle.state_incoming.proofs.OverKnown.{kept-none}
 
 -- ---- one after the other
 
@@ -88,13 +89,16 @@ module _ (rules : RuleSet) (e : Event) (past : List Event) (are : AreJudged rule
       ap (λ b. if begins_number e n then held_begun rules e to b else on rules e to has o) (begun-same (incoming_begun e))
       ∙ ap (λ p. if begins_number e n then held_begun rules e to (is_begun_served e to law) else p) (on-same o)
 
-  module _ (old mid new : ℕ → Option Held) (all : ℕ → Bool) (were : (n : ℕ) → old n ≡ held_at rules n past)
+  -- what is gone began before the event
+  module _ (old mid new : ℕ → Option Held) (all gone : ℕ → Bool) (were : (n : ℕ) → old n ≡ (if gone n then None else held_at rules n past)) (before : (n : ℕ) → gone n ≡ true → n < length past)
       (found : (n : ℕ) (x : Held) → old n ≡ Some x → all n ≡ false → is_touched e (has (address_behind e to x)) x ≡ false)
       (moved : (n : ℕ) → mid n ≡ (if all n then on rules e to has (old n) else old n))
       (put : (n : ℕ) → new n ≡ (if e.number == n then or_else begun (mid n) else mid n)) where
     -- before the event nothing has its number
     pub mid-none : mid e.number ≡ None
-    mid-none = moved e.number ∙ (ap (λ o. if all e.number then on rules e to has o else o) (were e.number ∙ unheld rules e past are) ∙ both (all e.number))
+    mid-none =
+        moved e.number
+        ∙ (ap (λ o. if all e.number then on rules e to has o else o) (were e.number ∙ kept-none (gone e.number) (held_at rules e.number past) (unheld rules e past are)) ∙ both (all e.number))
       where
         both : (b : Bool) → (if b then on rules e to has None else None) ≡ None
         both true = refl
@@ -110,7 +114,7 @@ module _ (rules : RuleSet) (e : Event) (past : List Event) (are : AreJudged rule
     at-number n is =
         let one = eqb-true e.number n is in
         let none : mid n ≡ None = sym (ap mid one) ∙ mid-none in
-        let empty : old n ≡ None = were n ∙ (sym (ap (λ m. held_at rules m past) one) ∙ unheld rules e past are) in
+        let empty : old n ≡ None = were n ∙ kept-none (gone n) (held_at rules n past) (sym (ap (λ m. held_at rules m past) one) ∙ unheld rules e past are) in
         put n ∙ (ap (λ b. if b then or_else begun (mid n) else mid n) is ∙ (ap (or_else begun) none ∙ (or_else-none begun ∙ by (incoming_begun e) refl empty)))
       where
         by : (o : Option Incoming) → incoming_begun e ≡ o → old n ≡ None → begun ≡ held_behind rules e to has n (old n)
@@ -149,8 +153,25 @@ module _ (rules : RuleSet) (e : Event) (past : List Event) (are : AreJudged rule
         at true is = inl (at-number n is ∙ behind-same n (old n))
         at false off = off-at off (all n) refl
 
-    pub taken : (n : ℕ) → new n ≡ held_at rules n (e ∷ past)
-    taken = moved-held rules e past are lawful to addressed old new were moves
+    -- what is gone stays so
+    gone-stays : (n : ℕ) → gone n ≡ true → new n ≡ None
+    gone-stays n went =
+        let lt = before n went in
+        let number = judged-number rules e past are in
+        let off : (e.number == n) ≡ false = ne_eqb e.number n (λ same. omega (arith, same, lt, number)) in
+        let empty : old n ≡ None = were n ∙ ap (λ b. if b then None else held_at rules n past) went in
+        other n off ∙ (moved n ∙ (ap (λ o. if all n then on rules e to has o else o) empty ∙ both (all n)))
+      where
+        both : (b : Bool) → (if b then on rules e to has None else None) ≡ None
+        both true = refl
+        both false = refl
+
+    pub taken : (n : ℕ) → new n ≡ (if gone n then None else held_at rules n (e ∷ past))
+    taken n = by (gone n) refl
+      where
+        by : (b : Bool) → gone n ≡ b → new n ≡ (if b then None else held_at rules n (e ∷ past))
+        by true went = gone-stays n went
+        by false there = moved-held rules e past are lawful to addressed n (old n) (new n) (were n ∙ ap (λ b. if b then None else held_at rules n past) there) (moves n)
 
 -- ---- before the first and behind the last
 

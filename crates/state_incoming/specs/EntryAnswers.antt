@@ -2,7 +2,7 @@
 use Rattle.std.specs.Prelude.{◌≡◌, ℕ, ◌+◌, Bool, List, [], length, not, nat_lt, Option, Some, None, is_some, option_map, unwrap_or}
 use Rattle.pairing_cert.specs.declared.note.Note.{Note}
 use Rattle.pairing_cert.specs.declared.note.Note.TheVariants as notes
-use Rattle.trace_events.specs.Words.{is_some_and, where_passes}
+use Rattle.trace_events.specs.Words.{is_none_or, is_some_and, where_passes}
 use Rattle.trace_events.specs.Event.{Incoming}
 use Rattle.state_incoming.specs.Held.{Held, says_arriving, says_gone, may_go, comes_before}
 use Rattle.state_incoming.specs.HeldTables.{held_in}
@@ -27,6 +27,10 @@ says_complete o = is_some_and o (λ x. not (says_arriving x.fate))
 
 abbrev pub says_closed : Option Held → Bool
 says_closed o = is_some_and o (λ x. x.is_closed)
+
+-- nothing more is to be told of it, as of one that is not kept
+abbrev pub is_shut : Option Held → Bool
+is_shut o = is_none_or o (λ x. x.is_closed)
 
 abbrev pub has_gone : Option Held → Bool
 has_gone o = is_some_and o (λ x. says_gone x.fate)

@@ -1,5 +1,5 @@
 -- What the table of deliveries from clients stands for.
-use Rattle.std.specs.Prelude.{◌≡◌, ◌⊎◌, ℕ, Bool, true, List, length, Option, option_and_then, option_map, is_some, nat_eq, if◌then◌else◌, ◌==◌}
+use Rattle.std.specs.Prelude.{◌≡◌, ◌⊎◌, ℕ, Bool, true, List, length, Option, None, option_and_then, option_map, is_some, nat_eq, if◌then◌else◌, ◌==◌}
 use Rattle.indexmap.specs.IndexMap.{get}
 use Rattle.capture_form.specs.Rules.{RuleSet}
 use Rattle.capture_form.specs.declared.records.Record.{Record}
@@ -9,6 +9,7 @@ use Rattle.trace_events.specs.History.{history}
 use Rattle.state_incoming.specs.Grouped.{AreGrouped}
 use Rattle.state_incoming.specs.Held.{Held, held_at, held_on}
 use Rattle.state_incoming.specs.HeldViews.{held_view}
+use Rattle.state_incoming.specs.LetGo.{IsOver, is_let_go}
 use Rattle.state_incoming.specs.Touched.{may_touch}
 use Rattle.state_incoming.specs.declared.deliveries.Deliveries.{Deliveries}
 
@@ -24,13 +25,21 @@ held_in table n = option_map held_view (get nat_eq table.entries n)
 abbrev pub count_of : Deliveries → ℕ
 count_of table = length table.entries.entries
 
--- the table has what the law keeps of these events
-abbrev pub AreHeld : RuleSet → Deliveries → List Event → Type 0
-AreHeld rules table past = (n : ℕ) → held_in table n ≡ held_at rules n past
+-- what the law keeps of the delivery of this number, unless it is one of those that were let go
+abbrev pub kept_at : List (ℕ × Unit {0}) → RuleSet → ℕ → List Event → Option Held
+kept_at gone rules n past = if is_let_go gone n then None else held_at rules n past
 
--- and its groups have just these
+-- the table has what the law keeps of these events, but for what was let go
+abbrev pub AreHeld : RuleSet → Deliveries → List Event → Type 0
+AreHeld rules table past = (n : ℕ) → held_in table n ≡ kept_at table.let_go.items rules n past
+
+-- nothing can come any more of what was let go
+abbrev pub AreOver : RuleSet → Deliveries → List Event → Type 0
+AreOver rules table past = (n : ℕ) → is_let_go table.let_go.items n ≡ true → IsOver rules n past
+
+-- and its groups have just what the table has
 abbrev pub IsTable : RuleSet → Deliveries → List Event → Type 0
-IsTable rules table past = AreHeld rules table past × AreGrouped table.groups (held_in table)
+IsTable rules table past = AreHeld rules table past × (AreGrouped table.groups (held_in table) × AreOver rules table past)
 
 -- the event begins a delivery, or may touch one that is kept
 abbrev pub BeginsOrTouches : Deliveries → (List ℕ → Bool) → List Link → Event → Type 0

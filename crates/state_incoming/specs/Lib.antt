@@ -3,6 +3,7 @@ pub mod HeldViews
 pub mod HeldTouched
 pub mod Grouped
 pub mod Touched
+pub mod LetGo
 pub mod HeldTables
 pub mod EntryAnswers
 pub mod Completed

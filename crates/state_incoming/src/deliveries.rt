@@ -1,6 +1,6 @@
 //! The deliveries from clients that are kept, by the record that began each, and in groups.
 
-ghost use Rattle.std.specs.Prelude.{◌≡◌, ◌∷◌, ℕ, List, [], None, OnOk, OnErr, is_some, true, map, nat_eq, option_and_then, option_map};
+ghost use Rattle.std.specs.Prelude.{◌≡◌, ◌∷◌, ◌++◌, ℕ, List, [], None, IfSome, OnOk, OnErr, is_some, true, map, nat_eq, option_and_then, option_map};
 ghost use Rattle.number_groups.specs.Numbers.{is_among};
 ghost use Rattle.std.specs.Option.{option_copied};
 ghost use Rattle.capture_form.specs.Rules.{RuleSet};
@@ -9,6 +9,7 @@ ghost use Rattle.trace_events.specs.Address.{has_consumer};
 ghost use Rattle.trace_events.specs.History.{history};
 ghost use Rattle.trace_events.specs.Incoming.{incoming_begun};
 ghost use Rattle.trace_events.specs.Words.{is_some_and, or_else};
+ghost use Rattle.trace_clauses.specs.Clauses.{first_broken};
 ghost use Rattle.state_tables.specs.Connections.{IsLawfulNext};
 ghost use Rattle.state_incoming.specs.Grouped.{AreGrouped};
 ghost use Rattle.state_addresses.specs.Addressed.{IsAddressed};
@@ -16,22 +17,26 @@ ghost use Rattle.state_incoming.specs.Held.{address_behind, held_begun, held_nex
 ghost use Rattle.state_incoming.specs.HeldTables.{AreMovedBy, BeginsOrTouches, IsTable, MovesAt, count_of, held_in};
 ghost use Rattle.state_incoming.specs.HeldTouched.{EndWith};
 ghost use Rattle.state_incoming.specs.HeldViews.{held_view};
+ghost use Rattle.state_incoming.specs.LetGo.{IsOver, is_spent};
 ghost use Rattle.trace_values.specs.View.{event_view, link_view};
 
 use crate::groups::{HeldGroups, Marks};
 use crate::held::{HeldDelivery, first_address};
 use capture_form::RuleSet;
+use http_server::Log;
 use number_groups::NumberSet;
 use number_map::NumberMap;
 use state_addresses::Addresses;
 use std::alloc::{AllocError, Global};
 use trace_values::{Event, Link};
 
-/// The deliveries from clients that are kept.
+/// The deliveries from clients that are kept. Of those that were let go only proofs know.
 pub struct Deliveries {
     alloc: Global,
     entries: NumberMap<u64, HeldDelivery>,
     pub(crate) groups: HeldGroups,
+    /// The numbers of those that were let go. They take no memory.
+    let_go: Log<u64, ()>,
 }
 
 // Written out, and not derived, so that where one is let go the prover need not go through all that it owns.
@@ -41,6 +46,7 @@ impl Drop for Deliveries {
             alloc: _,
             entries: _,
             groups: _,
+            let_go: _,
         } = self;
     }
 }
@@ -48,12 +54,14 @@ impl Drop for Deliveries {
 impl Deliveries {
     /// No records.
     pub fn new(alloc: Global) -> Deliveries
-        ensures { (rules : RuleSet) → IsTable rules result [] }
+        ensures table { (rules : RuleSet) → IsTable rules result [] }
+        ensures gone { result.let_go.items ≡ [] }
     {
         Deliveries {
             alloc,
             entries: NumberMap::new(alloc),
             groups: HeldGroups::new(alloc),
+            let_go: Log::new(),
         }
     }
 
@@ -69,6 +77,38 @@ impl Deliveries {
         ensures { result ≡ count_of self.now }
     {
         self.entries.len()
+    }
+
+    /// The number of the delivery at this place, if it is spent: of anycast, it went to a consumer, and nothing more is to be
+    /// told of it. Places count those that are kept from 0, in any order; where one goes, the last takes its place. How
+    /// long it takes doesn't depend on how many are kept.
+    pub fn spent_at(&self, place: usize) -> Option<u64>
+        ensures { IfSome result (λ n. is_some_and (held_in self.now n) is_spent ≡ true) }
+    {
+        let found = self.entries.values().as_slice().get(place)?;
+        self.spent(found.number())
+    }
+
+    /// The number, if the delivery that began in its record is kept, and spent.
+    fn spent(&self, number: u64) -> Option<u64>
+        ensures { IfSome result (λ n. is_some_and (held_in self.now n) is_spent ≡ true) }
+    {
+        if self.get(number)?.is_spent() {
+            Some(number)
+        } else {
+            None
+        }
+    }
+
+    /// The delivery of this number is let go, since nothing can come of it any more. It takes no memory.
+    pub fn let_go(&mut self, number: u64)
+        ensures gone { self.new.let_go.items ≡ self.old.let_go.items ++ (number, tt) ∷ [] }
+        ensures stands { (rules : RuleSet) (records : List Record) → first_broken rules (history rules records) ≡ None →
+            IsTable rules self.old (history rules records) → IsOver rules number (history rules records) →
+            IsTable rules self.new (history rules records) }
+    {
+        let _ = self.entries.swap_remove(&number);
+        self.let_go = self.let_go.and(&number, &());
     }
 
     /// The event follows those so far. What it completes is for this address, these links live before it and end with it, and
@@ -93,6 +133,8 @@ impl Deliveries {
             EndWith (history rules.now records) (event_view event.now) (map link_view ended.now) →
             IsTable rules.now self.new (event_view event.now ∷ history rules.now records)) }
         ensures refused { OnErr result (BeginsOrTouches self.old (A.has_one addresses.now) (map link_view ended.now) (event_view event.now)) }
+        // The event lets none go.
+        ensures gone { self.new.let_go.items ≡ self.old.let_go.items }
     {
         let touched = self.groups.touched(self.alloc, addresses, ended, event)?;
         self.touch_all(touched, rules, event, address, addresses)?;
@@ -119,6 +161,7 @@ impl Deliveries {
         ensures grouped { OnOk result (AreGrouped self.old.groups (held_in self.old) → held_in self.old (event_view event.now).number ≡ None →
             AreGrouped self.new.groups (held_in self.new)) }
         ensures refused { OnErr result (is_some (incoming_begun (event_view event.now)) ≡ true) }
+        ensures gone { self.new.let_go.items ≡ self.old.let_go.items }
     {
         if let Some(held) = HeldDelivery::begin(self.alloc, rules, event, address, has_consumer)? {
             let marks = Marks::of(&held, true);
@@ -146,6 +189,7 @@ impl Deliveries {
         ensures touched { OnOk result (MovesAt number
             (option_and_then (held_next rules.now (event_view event.now) address.now has_consumer)) self.old self.new) }
         ensures grouped { OnOk result (AreGrouped self.old.groups (held_in self.old) → AreGrouped self.new.groups (held_in self.new)) }
+        ensures gone { self.new.let_go.items ≡ self.old.let_go.items }
     {
         let Some(held) = self.entries.get_mut(&number) else {
             return Ok(());
@@ -173,6 +217,7 @@ impl Deliveries {
         ensures touched { OnOk result (AreMovedBy (is_among touched) rules.now (event_view event.now) address.now (A.has_one addresses.now) self.old self.new) }
         ensures grouped { OnOk result (AreGrouped self.old.groups (held_in self.old) → AreGrouped self.new.groups (held_in self.new)) }
         ensures refused { OnErr result ((n : ℕ) × (is_among touched n ≡ true)) }
+        ensures gone { self.new.let_go.items ≡ self.old.let_go.items }
     {
         while let Some(number) = touched.pop() {
             let has_consumer = self.is_served(number, event, address, addresses);

@@ -1,6 +1,6 @@
 //! What the entries of the table answer, each of its delivery.
 
-ghost use Rattle.std.specs.Prelude.{◌≡◌, ◌+◌, List, true, IfSome, bytes_eq, length, nat_lt, option_map};
+ghost use Rattle.std.specs.Prelude.{◌≡◌, ◌+◌, List, true, false, Some, IfSome, bytes_eq, length, nat_lt, option_map};
 ghost use Rattle.capture_form.specs.Rules.{RuleSet};
 ghost use Rattle.trace_clauses.specs.TransferClause as transfers;
 ghost use Rattle.trace_events.specs.Incoming as received;
@@ -10,6 +10,7 @@ ghost use Rattle.trace_values.specs.View.{Events, incoming_view};
 ghost use Rattle.state_incoming.specs.EntryAnswers as entries;
 ghost use Rattle.state_incoming.specs.EntryAnswers.{Knows, delivery_in, has_number};
 ghost use Rattle.state_incoming.specs.HeldTables.{AreHeld, held_in};
+ghost use Rattle.state_incoming.specs.LetGo.{names_let_go};
 
 use crate::deliveries::Deliveries;
 use crate::held::is_multicast;
@@ -103,8 +104,10 @@ impl Deliveries {
 
     /// The delivery that a note names, where it may go to consumers: it is complete, and not gone.
     pub fn to_carry(&self, note: Note) -> Option<Incoming<'_>>
-        ensures value { (rules : RuleSet) (history : Events) → AreHeld rules self.now history →
+        ensures value { (rules : RuleSet) (history : Events) → AreHeld rules self.now history → names_let_go self.now.let_go.items note ≡ false →
             option_map incoming_view result ≡ transfers.to_carry rules note history }
+        ensures given { (rules : RuleSet) (history : Events) → AreHeld rules self.now history →
+            IfSome (option_map incoming_view result) (λ d. transfers.to_carry rules note history ≡ Some d) }
         ensures known { (rules : RuleSet) (history : Events) → AreHeld rules self.now history →
             IfSome (option_map incoming_view result) (Knows self.now) }
     {
@@ -131,13 +134,22 @@ impl Deliveries {
         }
     }
 
-    /// Nothing more is to be told of the delivery that began in the record of this number, if it is kept.
-    pub fn says_closed(&self, number: u64) -> bool
+    fn says_closed(&self, number: u64) -> bool
         ensures { result ≡ entries.says_closed (held_in self.now number) }
     {
         match self.get(number) {
             Some(held) => held.is_closed(),
             None => false,
+        }
+    }
+
+    /// Nothing more is to be told of the delivery that began in the record of this number; nor is it of one that is not kept.
+    pub fn is_shut(&self, number: u64) -> bool
+        ensures { result ≡ entries.is_shut (held_in self.now number) }
+    {
+        match self.get(number) {
+            Some(held) => held.is_closed(),
+            None => true,
         }
     }
 

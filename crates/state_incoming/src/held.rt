@@ -19,6 +19,7 @@ ghost use Rattle.capture_form.specs.declared.records.Record.{Record};
 ghost use Rattle.state_incoming.specs.Held as kept;
 ghost use Rattle.state_incoming.specs.Held.{IsEntry, Follows, Begins};
 ghost use Rattle.state_incoming.specs.HeldViews.{held_view};
+ghost use Rattle.state_incoming.specs.LetGo.{is_spent};
 ghost use Rattle.trace_values.specs.View.{Events, incoming_view, event_view};
 
 use capture_form::{Distribution, RuleSet, distribution_of};
@@ -221,6 +222,13 @@ impl HeldDelivery {
         self.completion
     }
 
+    /// The record that it began in.
+    pub(crate) fn number(&self) -> u64
+        ensures { result ≡ self.now.number }
+    {
+        self.number
+    }
+
     /// Its last part has come.
     pub fn is_complete(&self) -> bool
         ensures stored { result ≡ not (kept.says_arriving self.now.fate) }
@@ -276,6 +284,13 @@ impl HeldDelivery {
             result ≡ sent.is_paired (held_view self.now).delivery (history rules records) }
     {
         self.fate.is_paired()
+    }
+
+    /// Of anycast, it went to a consumer, or began to, and nothing more is to be told of it.
+    pub fn is_spent(&self) -> bool
+        ensures { result ≡ is_spent (held_view self.now) }
+    {
+        self.fate.is_paired() && self.is_closed
     }
 
     /// It may go to consumers: it is complete, and not gone.

@@ -4,7 +4,7 @@
 //! - `held`: a delivery that is kept, and what one event makes of it;
 //! - `groups`: which of those that are kept arrive, are undecided, or wait;
 //! - `touched`: which of them an event may touch;
-//! - `deliveries`: all of them, by number;
+//! - `deliveries`: all of them, by number, until they are let go;
 //! - `completed`: the address of the delivery that an event completes;
 //! - `entry_answers`: what their entries answer to the questions of `trace_judge`;
 //! - `group_answers`: what their groups answer to the questions of `trace_judge`.

@@ -16,7 +16,7 @@ returns-in_ok-insert-clause-grouped c = λ grouped none.
     let x = held_view c.in-Some.held in
     let begun : held_begun c.args.rules.now e c.args.address.now c.args.has_consumer ≡ Some x = search rules in
     let number : x.delivery.number ≡ c.args.event.now.number = begun-number c.args.rules.now e c.args.address.now c.args.has_consumer x begun in
-    let moved : (n : ℕ) → held_in (record { alloc = c.args.self.now.alloc; entries = c.insert.new.self; groups = c.put.new.self }) n ≡ (if c.args.event.now.number == n then Some x else held_in c.args.self.now n) = search rules in
+    let moved : (n : ℕ) → held_in (record { alloc = c.args.self.now.alloc; entries = c.insert.new.self; groups = c.put.new.self; let_go = c.args.self.now.let_go }) n ≡ (if c.args.event.now.number == n then Some x else held_in c.args.self.now n) = search rules in
     let unkept : held_in c.args.self.now x.delivery.number ≡ None = ap (held_in c.args.self.now) number ∙ none in
     let stood : IsMarked (incoming_view c.delivery.result) c.address.result.now c.none.result c.args.self.now.groups =
     subst (λ (d : Incoming). IsMarked d c.address.result.now c.none.result c.args.self.now.groups) (sym c.delivery.ensures)

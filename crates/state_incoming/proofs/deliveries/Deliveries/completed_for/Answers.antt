@@ -22,5 +22,5 @@ returns-in-Some c = record {
       let done : completed_by e ≡ Some d = search rules in
       let anonymous : is_anonymous d.link ≡ true = search rules in
       let octets : octets_of c.cut_address.result ≡ unwrap_or (to_of (payload_of (held_in c.args.self.now d.number) ++ part_payload (in_spoken e))) [] = search rules in
-      is-addressed given e past are c.args.self.now table.0 d done anonymous (octets_of c.cut_address.result) octets;
+      is-addressed given e past are c.args.self.now table.0 table.1.1 d done anonymous (octets_of c.cut_address.result) octets;
 }

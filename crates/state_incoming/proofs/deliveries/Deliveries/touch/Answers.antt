@@ -14,7 +14,7 @@ returns-then-not-stays-clause-grouped c = λ grouped.
     let x = held_view c.in-Some.held.now in
     let at : held_in c.args.self.now c.args.number ≡ Some x = search rules in
     let number : x.delivery.number ≡ c.args.number = subst (λ (o : _). IfSome o (λ (y : Held). y.delivery.number ≡ c.args.number)) at (grouped.numbered c.args.number) in
-    let moved : (n : ℕ) → held_in (record { alloc = c.args.self.now.alloc; entries = c.swap_remove.new.self; groups = c.put.new.self }) n ≡ (if c.args.number == n then None else held_in c.args.self.now n) = search rules in
+    let moved : (n : ℕ) → held_in (record { alloc = c.args.self.now.alloc; entries = c.swap_remove.new.self; groups = c.put.new.self; let_go = c.args.self.now.let_go }) n ≡ (if c.args.number == n then None else held_in c.args.self.now n) = search rules in
     let same : (held_view c.take.new.self).delivery ≡ x.delivery = c.in_ok-stays.ensures.same in
     let kept : held_in c.args.self.now x.delivery.number ≡ Some x = ap (held_in c.args.self.now) number ∙ at in
     let own = (held_view c.take.new.self).address in
@@ -37,7 +37,7 @@ returns-else-not-stays-clause-grouped c = λ grouped.
     let later = held_view c.take.new.self in
     let at : held_in c.args.self.now c.args.number ≡ Some x = search rules in
     let number : x.delivery.number ≡ c.args.number = subst (λ (o : _). IfSome o (λ (y : Held). y.delivery.number ≡ c.args.number)) at (grouped.numbered c.args.number) in
-    let moved : (n : ℕ) → held_in (record { alloc = c.args.self.now.alloc; entries = c.get_mut.follows.lender c.take.new.self; groups = c.put.new.self }) n ≡ (if c.args.number == n then Some later else held_in c.args.self.now n) = search rules in
+    let moved : (n : ℕ) → held_in (record { alloc = c.args.self.now.alloc; entries = c.get_mut.follows.lender c.take.new.self; groups = c.put.new.self; let_go = c.args.self.now.let_go }) n ≡ (if c.args.number == n then Some later else held_in c.args.self.now n) = search rules in
     let same : later.delivery ≡ x.delivery = c.in_ok-stays.ensures.same in
     let kept : held_in c.args.self.now x.delivery.number ≡ Some x = ap (held_in c.args.self.now) number ∙ at in
     let own = later.address in

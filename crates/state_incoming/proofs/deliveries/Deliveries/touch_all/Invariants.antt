@@ -12,6 +12,7 @@ invariant-loop-number g l =
     × ((n : ℕ) → held_in l.self n
     ≡ (if is_among l.fn.touched n && not (is_among l.touched n) then on l.rules (event_view l.event) l.address (g.A.Addresses.has_one l.addresses) (held_in l.fn.self n) else held_in l.fn.self n))
     × (AreGrouped l.fn.self.groups (held_in l.fn.self) → AreGrouped l.self.groups (held_in l.self))
+    × (l.self.let_go.items ≡ l.fn.self.let_go.items)
 
 abbrev pub decreases-loop-number : goal.decreases-loop-number
 decreases-loop-number g l = length l.touched

@@ -1,0 +1,113 @@
+-- Of which deliveries from clients nothing can come any more, and of which something can.
+use Rattle.std.specs.Prelude.{◌≡◌, ℕ, Bool, true, false, List, [], ◌∷◌, ◌++◌, Option, Some, None, option_map, refl}
+use Rattle.std.specs.Fmt.{digits}
+use Rattle.amqp_frames.specs.Writing.{frame_octets}
+use Rattle.amqp_frames.specs.Reading.{whole_frame, frame_at, sized_frame, headed_frame}
+use Rattle.amqp_perf.proofs.Opened.{read, written}
+use Rattle.amqp_perf.specs.declared.attach.Role.TheVariants.{Sender, Receiver}
+use Rattle.amqp_perf.specs.declared.attach.SenderSettleMode.TheVariants.{Settled}
+use Rattle.amqp_perf.specs.Meaning.{ADisposition}
+use Rattle.pairing_cert.specs.declared.note.Note.TheVariants as notes
+use Rattle.pairing_cert.specs.declared.note.Why.TheVariants.{C}
+use Rattle.capture_form.specs.declared.records.Record.{Record}
+use Rattle.capture_form.specs.Rules.{no_rules}
+use Rattle.trace_events.specs.Frame.{frame_read}
+use Rattle.trace_events.specs.History.{history}
+use Rattle.trace_clauses.specs.Written.{spoken_octets}
+use Rattle.trace_clauses.proofs.Captures.{outgoing_of}
+use Rattle.trace_clauses.proofs.Made.{from, carry, tell, first, with_more, as_settled, disposes, accepted, detach_of, hi, sent, sent_by}
+use Rattle.state_incoming.specs.Held.{held_at}
+use Rattle.state_incoming.specs.LetGo.{is_finished, is_let_go, is_spent, names_let_go}
+
+-- ---- which were let go
+
+abbrev gone : List (ℕ × Unit {0})
+gone = (16, tt) ∷ (20, tt) ∷ []
+
+first_is_gone : is_let_go gone 16 ≡ true
+first_is_gone = refl
+
+last_is_gone : is_let_go gone 20 ≡ true
+last_is_gone = refl
+
+other_is_not : is_let_go gone 18 ≡ false
+other_is_not = refl
+
+none_is : is_let_go [] 16 ≡ false
+none_is = refl
+
+note_of_it : names_let_go gone (notes.Pair 20) ≡ true
+note_of_it = refl
+
+note_of_another : names_let_go gone (notes.Pair 18) ≡ false
+note_of_another = refl
+
+note_of_none : names_let_go gone notes.None ≡ false
+note_of_none = refl
+
+note_of_why : names_let_go gone (notes.Told C) ≡ false
+note_of_why = refl
+
+-- ---- what carries it: delivery 16, carried by delivery 17
+
+abbrev carried : List Record
+carried = sent ++ (carry 1 16 (first 0) hi ∷ [])
+
+abbrev part_carried : List Record
+part_carried = sent ++ (carry 1 16 (with_more (first 0)) hi ∷ [])
+
+abbrev settles : Record
+settles = from 1 (ADisposition (disposes Receiver 0 true accepted))
+
+abbrev accepts : Record
+accepts = from 1 (ADisposition (disposes Receiver 0 false accepted))
+
+abbrev tells : Record
+tells = tell 0 C (disposes Receiver 0 true accepted)
+
+abbrev producer_settles : Record
+producer_settles = from 0 (ADisposition (disposes Sender 0 true None))
+
+unfoldable finished_in : List Record → ℕ → Option Bool
+unfolding frame_read whole_frame frame_at sized_frame headed_frame read digits spoken_octets frame_octets written
+finished_in records n = let past = history no_rules records in option_map (is_finished past) (outgoing_of n past)
+
+is_done : finished_in (carried ++ (settles ∷ [])) 17 ≡ Some true
+unfolding finished_in
+is_done = refl
+
+stands_unsettled : finished_in (carried ++ (accepts ∷ [])) 17 ≡ Some false
+unfolding finished_in
+stands_unsettled = refl
+
+not_all_sent : finished_in (part_carried ++ (settles ∷ [])) 17 ≡ Some false
+unfolding finished_in
+not_all_sent = refl
+
+-- its link is over
+ends_with_its_link : finished_in (carried ++ (from 1 (detach_of true) ∷ [])) 17 ≡ Some true
+unfolding finished_in
+ends_with_its_link = refl
+
+-- sent settled, it is so with its last part
+is_sent_settled : finished_in (sent_by Settled ++ (carry 1 16 (as_settled (first 0)) hi ∷ [])) 17 ≡ Some true
+unfolding finished_in
+is_sent_settled = refl
+
+-- ---- the delivery itself
+
+unfoldable spent_in : List Record → ℕ → Option Bool
+unfolding frame_read whole_frame frame_at sized_frame headed_frame read digits spoken_octets frame_octets written
+spent_in records n = option_map is_spent (held_at no_rules n (history no_rules records))
+
+went_and_told : spent_in (carried ++ (accepts ∷ tells ∷ [])) 16 ≡ Some true
+unfolding spent_in
+went_and_told = refl
+
+not_told : spent_in (carried ++ (accepts ∷ [])) 16 ≡ Some false
+unfolding spent_in
+not_told = refl
+
+still_waits : spent_in (sent ++ (producer_settles ∷ [])) 16 ≡ Some false
+unfolding spent_in
+still_waits = refl

@@ -1,0 +1,39 @@
+-- Which deliveries from clients a table may let go: those of which nothing can come any more.
+use Rattle.std.specs.Prelude.{◌≡◌, ℕ, Bool, true, false, ◌&&◌, not, List, Some, Contains, ◌==◌}
+use Rattle.std.specs.List.{list_any}
+use Rattle.capture_form.specs.Rules.{RuleSet}
+use Rattle.pairing_cert.specs.declared.note.Note.{Note}
+use Rattle.pairing_cert.specs.declared.note.Note.TheVariants as notes
+use Rattle.trace_events.specs.Event.{Event, Outgoing}
+use Rattle.trace_events.specs.Outgoing.{is_sent, names, outgoing_deliveries}
+use Rattle.trace_events.specs.Work.{stands_unsettled}
+use Rattle.state_incoming.specs.Held.{Held, held_at, says_paired}
+
+-- the delivery of this number is one of those that were let go
+abbrev pub is_let_go : List (ℕ × Unit {0}) → ℕ → Bool
+is_let_go gone n = list_any (λ p. p.0 == n) gone
+
+-- the note names one of them
+abbrev pub names_let_go : List (ℕ × Unit {0}) → Note → Bool
+names_let_go gone (notes.Pair n) = is_let_go gone n
+names_let_go gone notes.None = false
+names_let_go gone (notes.Told why) = false
+
+-- a delivery to a client is finished: its last part is written, and it is not unsettled any more
+abbrev pub is_finished : List Event → Outgoing → Bool
+is_finished past j = is_sent j past && not (not j.link.is_pre_settled && stands_unsettled past j)
+
+-- all that carries the delivery of this number is finished
+abbrev pub AreFinished : ℕ → List Event → Type 0
+AreFinished n past = (j : Outgoing) → Contains (outgoing_deliveries past) j → names n j.note ≡ true → is_finished past j ≡ true
+
+-- of anycast, it went to a consumer, and nothing more is to be told of it
+abbrev pub is_spent : Held → Bool
+is_spent x = says_paired x.fate && x.is_closed
+
+-- nothing can come of the delivery of this number any more
+pub record IsOver (rules : RuleSet) (n : ℕ) (past : List Event) : Type 0 where
+  pub entry : Held
+  pub at : held_at rules n past ≡ Some entry
+  pub spent : is_spent entry ≡ true
+  pub finished : AreFinished n past
