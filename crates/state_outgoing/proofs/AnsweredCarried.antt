@@ -10,16 +10,14 @@ use Rattle.trace_events.specs.Words.{is_some_and}
 use Rattle.trace_events.specs.Event.{Event, Outgoing}
 use Rattle.trace_events.specs.Outgoing.{answering, names, outgoing_deliveries}
 use Rattle.trace_events.proofs.Judged.{AreJudged}
-use Rattle.trace_clauses.proofs.WaitingQueue.{all_contained}
 use Rattle.state_outgoing.specs.Sent.{is_left_unsettled, outgoing_at, sent}
 use Rattle.state_outgoing.specs.SentAnswers.{carried, number_of}
 use Rattle.state_outgoing.specs.SentTables.{IsTable, sent_in}
 use Rattle.state_outgoing.specs.SentTouched.{answered_id, is_spoken_of}
 use Rattle.state_outgoing.specs.declared.deliveries.SentDeliveries.{SentDeliveries}
 use Rattle.state_outgoing.proofs.GroupLists.{swapped}
-use Rattle.state_outgoing.proofs.OutgoingNumbers.{known-entry}
-use Rattle.state_outgoing.proofs.SentBegun.{all-found}
 use Rattle.state_outgoing.proofs.SentFound.{speaks}
+use Rattle.state_outgoing.proofs.SentKept.{contained-at, unfinished-entry, unsettled-unfinished}
 use Rattle.state_outgoing.proofs.VerdictsGiven.{any-at}
 
 named-number : (note : Note) (n : ℕ) → names n note ≡ true → is_some_and (number_of note) (nat_eq n) ≡ true
@@ -32,9 +30,8 @@ module _ (rules : RuleSet) (past : List Event) (are : AreJudged rules past) (tab
   pub carries-answered : (j : Outgoing) → Contains (outgoing_deliveries past) j → is_left_unsettled past j ≡ true → is_some (answering j e) ≡ true → (n : ℕ) → names n j.note ≡ true
       → list_any (λ m. is_some_and (carried (sent_in table m)) (nat_eq n)) spoken ≡ true
   carries-answered j has opens says n named =
-      let at : outgoing_at j.number past ≡ Some j =
-      all_contained (λ (k : Outgoing). outgoing_at k.number past ≡ Some k) (outgoing_deliveries past) j (all-found rules past are) has in
-      let entry : sent_in table j.number ≡ Some (sent past j) = known-entry past (sent_in table) is_table.entries j at in
+      let at : outgoing_at j.number past ≡ Some j = contained-at rules past are j has in
+      let entry : sent_in table j.number ≡ Some (sent past j) = unfinished-entry table past is_table j.number j at (unsettled-unfinished past j opens) in
       any-at (λ m. is_some_and (carried (sent_in table m)) (nat_eq n)) j.number
       (ap (λ o. is_some_and (carried o) (nat_eq n)) entry ∙ named-number j.note n named) spoken
       (among j.number ∙ speaks table.groups (sent_in table) is_table.groups j.number (sent past j) entry opens e small says)

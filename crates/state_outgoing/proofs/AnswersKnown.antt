@@ -1,5 +1,6 @@
 -- What the table of deliveries to clients answers is what the law says.
-use Rattle.std.proofs.Common.{◌≡◌, refl, sym, ap, subst, ◌∙◌, ◌⊎◌, inl, inr, ℕ, Bool, true, false, ◌&&◌, not, List, length, Option, Some, None, IfSome, is_some, option_and_then, option_map, if◌then◌else◌, arith}
+use Rattle.std.proofs.Common.{◌≡◌, refl, sym, ap, subst, ◌∙◌, ◌⊎◌, inl, inr, ℕ, Bool, true, false, ◌&&◌, not, List, [], length, Option, Some, None, IfSome, is_some, nat_eq, option_and_then, option_map, if◌then◌else◌, arith}
+use Rattle.indexmap.specs.IndexMap.{get}
 use Rattle.pairing_cert.specs.declared.note.Note.{Note}
 use Rattle.pairing_cert.specs.declared.note.Note.TheVariants as notes
 use Rattle.capture_form.specs.Rules.{RuleSet}
@@ -20,14 +21,16 @@ use Rattle.trace_clauses.specs.TransferClause.{carried_before}
 use Rattle.number_groups.specs.Groups.{numbers}
 use Rattle.state_outgoing.specs.Earliest.{least}
 use Rattle.number_groups.specs.Ids.{same_id}
-use Rattle.state_outgoing.specs.LastBegun.{carrier_number, last_number}
+use Rattle.state_outgoing.specs.LastBegun.{carrier, carrier_number, last_number}
+use Rattle.state_outgoing.specs.LetGo.{is_let_go, names_let_go, where_kept, kept_at, is_finished, is_done}
 use Rattle.state_outgoing.specs.Sent.{IsKnownTo, Sent, sent, outgoing_at, sent_at, is_left_unsettled}
 use Rattle.state_outgoing.specs.SentAnswers.{AreClosings, Knows, KnowsOrBegins, carried, closes, decided, delivery_in, is_settleable, number_of, says_sent, unsent}
 use Rattle.state_outgoing.specs.SentTables.{AreSent, IsTable, sent_in}
 use Rattle.state_outgoing.specs.declared.deliveries.SentDeliveries.{SentDeliveries}
 use Rattle.number_groups.specs.declared.id_on.IdOn.{IdOn}
-use Rattle.state_outgoing.proofs.Carriers.{paired-entry, pairing-entry}
-use Rattle.state_outgoing.proofs.LastBegun.{carried-entry, progress-entry, progress-known}
+use Rattle.state_outgoing.proofs.Carriers.{finished-entry, paired-entry, pairing-entry}
+use Rattle.state_outgoing.proofs.LastBegun.{carried-entry, progress-entry, progress-known, progress-unsent}
+use Rattle.state_outgoing.proofs.SentKept.{entry-law, found-kept, unfinished-entry, unsent-unfinished, unsettled-unfinished}
 use Rattle.state_outgoing.proofs.SentBegun.{at-number, found-below, sent-none}
 use Rattle.state_outgoing.proofs.SentKnown.{entry_to_settle, sent-of}
 use Rattle.state_outgoing.proofs.ToSettle.{to_settle-entry}
@@ -52,18 +55,25 @@ module _ (table : SentDeliveries) where
       by None none own = tt
       by (Some x) entry own = ap (delivery_in table) own ∙ ap (option_map (λ (x : Sent). x.delivery)) entry
 
--- what has begun can be told of
-pub begun-knows : (table : SentDeliveries) (past : List Event) → AreSent table past → (j : Outgoing) → outgoing_at j.number past ≡ Some j → Knows table j
-begun-knows table past are j at = ap (option_map (λ (x : Sent). x.delivery)) (are j.number ∙ ap (option_map (sent past)) at)
+-- what has begun can be told of, where what it carries was not let go
+pub begun-knows : (table : SentDeliveries) (past : List Event) → AreSent table past → (j : Outgoing) → outgoing_at j.number past ≡ Some j → names_let_go table.let_go.items j.note ≡ false → Knows table j
+begun-knows table past are j at none = ap (option_map (λ (x : Sent). x.delivery)) (found-kept table past are j.number j at none)
+
+-- of what can be told there is the law's entry
+pub knows-entry : (table : SentDeliveries) (past : List Event) → AreSent table past → (j : Outgoing) → Knows table j → sent_in table j.number ≡ Some (sent past j)
+knows-entry table past are j knows = by (sent_in table j.number) refl knows
+  where
+    by : (o : Option Sent) → sent_in table j.number ≡ o → option_map (λ (x : Sent). x.delivery) o ≡ Some j → sent_in table j.number ≡ Some (sent past j)
+    by None is knows = absurd cc
+    by (Some x) is knows =
+        let of = sent-of j.number past x (entry-law table past are j.number x is) in
+        let own : x.delivery ≡ j = same_some x.delivery j knows in
+        is ∙ ap Some (sym of.is ∙ ap (sent past) own)
 
 -- what can be told of has begun, or begins behind these events
 pub knows-begun : (table : SentDeliveries) (past : List Event) → AreSent table past → (j : Outgoing) → KnowsOrBegins table past j → IsKnownTo past j
 knows-begun table past are j (inr next) = inr next
-knows-begun table past are j (inl knows) = by (outgoing_at j.number past) refl (sym (ap (option_map (λ (x : Sent). x.delivery)) (are j.number)) ∙ knows)
-  where
-    by : (o : Option Outgoing) → outgoing_at j.number past ≡ o → option_map (λ (x : Sent). x.delivery) (option_map (sent past) o) ≡ Some j → IsKnownTo past j
-    by None none is = absurd cc
-    by (Some k) at is = inl (at ∙ is)
+knows-begun table past are j (inl knows) = inl ((sent-of j.number past (sent past j) (entry-law table past are j.number (sent past j) (knows-entry table past are j knows))).at)
 
 -- ---- the number that a note names
 
@@ -92,15 +102,17 @@ module _ (rules : RuleSet) (past : List Event) (are : AreJudged rules past) wher
 
   module _ (table : SentDeliveries) (were : AreSent table past) (j : Outgoing) where
     is-known : KnowsOrBegins table past j → IsKnown past j (sent_in table j.number)
-    is-known (inr next) = inr (were j.number ∙ (ap (λ n. sent_at n past) next ∙ ap (option_map (sent past)) none-next), next)
-    is-known (inl knows) = by (sent_in table j.number) refl knows
-      where
-        by : (o : Option Sent) → sent_in table j.number ≡ o → option_map (λ (x : Sent). x.delivery) o ≡ Some j → IsKnown past j (sent_in table j.number)
-        by None is knows = absurd cc
-        by (Some x) is knows =
-            let of = sent-of j.number past x (sym (were j.number) ∙ is) in
-            let own : x.delivery ≡ j = same_some x.delivery j knows in
-            inl (is ∙ ap Some (sym of.is ∙ ap (sent past) own))
+    is-known (inr next) = inr (were j.number ∙ (ap (λ n. kept_at table.let_go.items n past) next ∙ ap (λ o. where_kept table.let_go.items (option_map (sent past) o)) none-next), next)
+    is-known (inl knows) = inl (knows-entry table past were j knows)
+
+    -- so there is its entry, or none yet
+    pub told-entry : KnowsOrBegins table past j → sent_in table j.number ≡ sent_at j.number past
+    told-entry (inr next) =
+        let none : sent_at j.number past ≡ None = ap (λ n. sent_at n past) next ∙ ap (option_map (sent past)) none-next in
+        were j.number ∙ (ap (where_kept table.let_go.items) none ∙ sym none)
+    told-entry (inl knows) =
+        let entry = knows-entry table past were j knows in
+        entry ∙ sym (entry-law table past were j.number (sent past j) entry)
 
     pub sent-known : KnowsOrBegins table past j → says_sent (sent_in table j.number) ≡ law.is_sent j past
     sent-known knows = elim (is-known knows) [
@@ -132,17 +144,24 @@ bears-mark past j is = unsettled-bits j.link.is_pre_settled (stands_unsettled pa
 
 module _ (rules : RuleSet) (past : List Event) (are : AreJudged rules past) (table : SentDeliveries) (is_table : IsTable table past) where
   pub progress-table : (l : Link) (last : Option ℕ) → last ≡ last_number l.number past → unsent (option_and_then (sent_in table) last) ≡ law.in_progress l past
-  progress-table l last is = progress-entry rules past are (sent_in table) is_table.entries l.number last is l refl
+  progress-table l last is = progress-entry rules past are table.let_go.items (sent_in table) is_table.entries l.number last is is_table.finished l refl
 
-  pub carried-table : (l : Link) (last : Option ℕ) → last ≡ last_number l.number past → option_and_then (λ n. incoming_at n past) (carried (option_and_then (sent_in table) last)) ≡ carried_before l past
-  carried-table l last is =
-      carried-noted (option_and_then (sent_in table) last) past ∙ carried-entry rules past are (sent_in table) is_table.entries l.number last is l refl
+  pub carried-table : table.let_go.items ≡ [] → (l : Link) (last : Option ℕ) → last ≡ last_number l.number past → option_and_then (λ n. incoming_at n past) (carried (option_and_then (sent_in table) last)) ≡ carried_before l past
+  carried-table none l last is =
+      carried-noted (option_and_then (sent_in table) last) past ∙ carried-entry rules past are table.let_go.items (sent_in table) is_table.entries l.number last is none l refl
 
-  pub pairing-table : (d : Incoming) (last : Option ℕ) → last ≡ carrier_number d.number past → option_and_then (delivery_in table) last ≡ pairing d past
-  pairing-table d last is = given-entry table last ∙ pairing-entry rules past are (sent_in table) is_table.entries d last is
+  module _ (d : Incoming) (stays : is_let_go table.let_go.items d.number ≡ false) (last : Option ℕ)
+      (is : last ≡ (if is_let_go table.let_go.items d.number then None else carrier_number d.number past)) where
+    pub pairing-table : option_and_then (delivery_in table) last ≡ pairing d past
+    pairing-table = given-entry table last ∙ pairing-entry rules past are table.let_go.items (sent_in table) is_table.entries d.number stays last is
 
-  pub paired-table : (d : Incoming) (last : Option ℕ) → last ≡ carrier_number d.number past → is_some last ≡ law.is_paired d past
-  paired-table d last is = paired-entry rules past are (sent_in table) is_table.entries d last is
+    pub paired-table : is_some last ≡ law.is_paired d past
+    paired-table = paired-entry rules past are table.let_go.items (sent_in table) is_table.entries d.number stays last is
+
+  pub finished-table : (number : ℕ) → is_let_go table.let_go.items number ≡ false → is_some_and (option_and_then (sent_in table) (get nat_eq table.begun.carriers number)) is_done
+      ≡ is_some_and (carrier number past) (is_finished past)
+  finished-table number stays =
+      finished-entry rules past are table.let_go.items (sent_in table) is_table.entries number stays (get nat_eq table.begun.carriers number) (is_table.begun.carriers number)
 
   asks : (does_close : ℕ → Bool) → AreClosings does_close past → (n : ℕ) → is_settleable does_close (sent_in table n) ≡ is_some_and (sent_in table n) (λ x. is_to_settle past x.delivery)
   asks does_close closes_them n = by (sent_in table n) refl
@@ -150,7 +169,7 @@ module _ (rules : RuleSet) (past : List Event) (are : AreJudged rules past) (tab
       by : (o : Option Sent) → sent_in table n ≡ o → is_settleable does_close o ≡ is_some_and o (λ x. is_to_settle past x.delivery)
       by None none = refl
       by (Some x) entry =
-          let at : sent_at n past ≡ Some x = sym (is_table.entries n) ∙ entry in
+          let at : sent_at n past ≡ Some x = entry-law table past is_table.entries n x entry in
           let of = sent-of n past x at in
           let own : x.delivery.number ≡ n = at-number past n x.delivery of.at in
           entry_to_settle past x (ap (λ m. sent_at m past) own ∙ at) (closes does_close x.delivery.note)
@@ -160,7 +179,8 @@ module _ (rules : RuleSet) (past : List Event) (are : AreJudged rules past) (tab
       → option_and_then (delivery_in table) (least (λ n. is_settleable does_close (sent_in table n)) (numbers same_id table.groups.of_id at)) ≡ settling.to_settle s id past
   settle-table s id at session own does_close closes_them =
       given-entry table (least (λ n. is_settleable does_close (sent_in table n)) (numbers same_id table.groups.of_id at))
-      ∙ to_settle-entry rules past are (sent_in table) is_table.entries s id (λ x. x.is_unsettled) (bears-mark past) (numbers same_id table.groups.of_id at)
+      ∙ to_settle-entry rules past are (sent_in table) (entry-law table past is_table.entries)
+      (λ n j found asked. unfinished-entry table past is_table n j found (unsettled-unfinished past j (bears-mark past j asked))) s id (λ x. x.is_unsettled) (bears-mark past) (numbers same_id table.groups.of_id at)
       (λ n. is_table.groups.of_id at n ∙ rw (session, own) refl) (λ n. is_settleable does_close (sent_in table n)) (asks does_close closes_them)
 
 -- ---- the delivery in progress on a link can be told of
@@ -168,6 +188,8 @@ module _ (rules : RuleSet) (past : List Event) (are : AreJudged rules past) (tab
 known : {A : Type 0} (P : A → Type 0) (o : Option A) (x : A) → o ≡ Some x → IfSome o P → P x
 known P o x is h = subst (λ (p : Option _). IfSome p P) is h
 
-pub progress-knows : (rules : RuleSet) (past : List Event) → AreJudged rules past → (table : SentDeliveries) → AreSent table past → (l : Link) (j : Outgoing) → law.in_progress l past ≡ Some j → Knows table j
-progress-knows rules past are table were l j is =
-    begun-knows table past were j (known (λ (k : Outgoing). outgoing_at k.number past ≡ Some k) (law.in_progress l past) j is (progress-known rules past are l))
+pub progress-knows : (rules : RuleSet) (past : List Event) → AreJudged rules past → (table : SentDeliveries) → IsTable table past → (l : Link) (j : Outgoing) → law.in_progress l past ≡ Some j → Knows table j
+progress-knows rules past are table is_table l j is =
+    ap (option_map (λ (x : Sent). x.delivery))
+    (unfinished-entry table past is_table j.number j (known (λ (k : Outgoing). outgoing_at k.number past ≡ Some k) (law.in_progress l past) j is (progress-known rules past are l))
+    (unsent-unfinished past j (progress-unsent rules past are l j is)))

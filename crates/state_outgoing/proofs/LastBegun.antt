@@ -17,8 +17,11 @@ use Rattle.trace_events.proofs.Links.{passing}
 use Rattle.trace_events.proofs.OutgoingLinks.{IsOnEarlier, judged-on_earlier, deliveries-earlier}
 use Rattle.trace_events.proofs.OutgoingSteps.{in_progress-same, is_sent-no_part}
 use Rattle.trace_clauses.proofs.OutgoingProgress.{IsPartOf, judged-outgoing_part, noted_pair}
-use Rattle.state_outgoing.specs.Sent.{Sent, sent, outgoing_at, sent_at}
-use Rattle.state_outgoing.specs.LastBegun.{last_on, last_number, begins_on}
+use Rattle.state_outgoing.specs.LetGo.{names_let_go, where_kept, kept_at}
+use Rattle.state_outgoing.specs.Sent.{Sent, sent, outgoing_at}
+use Rattle.state_outgoing.specs.LastBegun.{last_on, last_number, begins_on, on_link_next}
+use Rattle.trace_clauses.proofs.WaitingQueue.{find_has}
+use Rattle.state_outgoing.proofs.SentKept.{IsOver, all-kept, unfinished-names, unsent-unfinished}
 use Rattle.state_outgoing.proofs.OutgoingNumbers.{found-passes, found-earlier, found-at, found-known, found-entry, found-numbered, last-step, number-step}
 
 -- ---- one more event
@@ -31,9 +34,9 @@ module _ (e : Event) (past : List Event) where
   last_number-step link = number-step e past (λ (j : Outgoing). j.link.number == link)
 
 -- so what a table has of a link is moved
-pub last-moved : (e : Event) (past : List Event) (link : ℕ) (old new : Option ℕ) → old ≡ last_number link past → new ≡ (if begins_on e link then Some e.number else old) → new ≡ last_number link (e ∷ past)
+pub last-moved : (e : Event) (past : List Event) (link : ℕ) (old new : Option ℕ) → old ≡ last_number link past → new ≡ on_link_next e link old → new ≡ last_number link (e ∷ past)
 last-moved e past link old new was moved =
-    moved ∙ (ap (λ o. if begins_on e link then Some e.number else o) was ∙ sym (last_number-step e past link))
+    moved ∙ (ap (on_link_next e link) was ∙ sym (last_number-step e past link))
 
 -- nothing has begun on a link that isn't opened yet
 pub last-unopened : (rules : RuleSet) (past : List Event) → AreJudged rules past → (link : ℕ) → length past ≤ link → last_number link past ≡ None
@@ -221,6 +224,10 @@ progress-known rules past are l =
     subst (λ o. IfSome o (λ j. outgoing_at j.number past ≡ Some j)) (sym (progress-last rules past are l))
     (where-some (λ j. outgoing_at j.number past ≡ Some j) (λ j. not (is_sent j past)) (last_on l.number past) (found-known rules past are (λ (j : Outgoing). j.link.number == l.number)))
 
+-- and its last part is not written
+pub progress-unsent : (rules : RuleSet) (past : List Event) → AreJudged rules past → (l : Link) (j : Outgoing) → in_progress l past ≡ Some j → is_sent j past ≡ false
+progress-unsent rules past are l j is = not-true (is_sent j past) (passing (λ (x : Outgoing). not (is_sent x past)) (last_on l.number past) j (sym (progress-last rules past are l) ∙ is)).1
+
 pub carried-known : (rules : RuleSet) (past : List Event) → AreJudged rules past → (l : Link) → IfSome (carried_before l past) (λ d. incoming_at d.number past ≡ Some d)
 carried-known rules past are l = by (carried_before l past) refl
   where
@@ -232,30 +239,41 @@ carried-known rules past are l = by (carried_before l past) refl
 
 -- ---- where what is known of each delivery is kept by its number, and the number of the last that began on the link
 
-module _ (rules : RuleSet) (past : List Event) (are : AreJudged rules past) (kept : ℕ → Option Sent) (were : (n : ℕ) → kept n ≡ sent_at n past)
+module _ (rules : RuleSet) (past : List Event) (are : AreJudged rules past) (gone : List (ℕ × Unit {0})) (kept : ℕ → Option Sent) (were : (n : ℕ) → kept n ≡ kept_at gone n past)
     (link : ℕ) (last : Option ℕ) (is_last : last ≡ last_number link past) where
   -- what is kept of it
-  pub last-entry : option_and_then kept last ≡ option_map (sent past) (last_on link past)
-  last-entry = ap (option_and_then kept) is_last ∙ found-entry rules past are (λ (j : Outgoing). j.link.number == link) kept were
+  pub last-entry : option_and_then kept last ≡ where_kept gone (option_map (sent past) (last_on link past))
+  last-entry = ap (option_and_then kept) is_last ∙ found-entry rules past are (λ (j : Outgoing). j.link.number == link) gone kept were
 
-  -- it is in progress, until it is sent
-  pub progress-entry : (l : Link) → l.number ≡ link → option_map (λ x. x.delivery) (where_passes (λ x. not x.is_sent) (option_and_then kept last)) ≡ in_progress l past
-  progress-entry l own =
+  -- it is in progress, until it is sent; and what carries one that was let go is finished
+  pub progress-entry : IsOver gone past → (l : Link) → l.number ≡ link
+      → option_map (λ x. x.delivery) (where_passes (λ x. not x.is_sent) (option_and_then kept last)) ≡ in_progress l past
+  progress-entry over l own =
       ap (λ o. option_map (λ (x : Sent). x.delivery) (where_passes (λ (x : Sent). not x.is_sent) o)) last-entry
-      ∙ (by (last_on link past) ∙ (ap (λ n. where_passes (λ j. not (is_sent j past)) (last_on n past)) (sym own) ∙ sym (progress-last rules past are l)))
+      ∙ (by (last_on link past) refl ∙ (ap (λ n. where_passes (λ j. not (is_sent j past)) (last_on n past)) (sym own) ∙ sym (progress-last rules past are l)))
     where
       passes : (j : Outgoing) (b : Bool) → option_map (λ (x : Sent). x.delivery) (if b then Some (sent past j) else None) ≡ (if b then Some j else None)
       passes j true = refl
       passes j false = refl
 
-      by : (o : Option Outgoing) → option_map (λ (x : Sent). x.delivery) (where_passes (λ (x : Sent). not x.is_sent) (option_map (sent past) o)) ≡ where_passes (λ j. not (is_sent j past)) o
-      by None = refl
-      by (Some j) = passes j (not (is_sent j past))
+      -- what is not kept is sent
+      kept-or : (j : Outgoing) (stays sent_out : Bool) → is_sent j past ≡ sent_out → (sent_out ≡ false → stays ≡ true)
+          → option_map (λ (x : Sent). x.delivery) (where_passes (λ (x : Sent). not x.is_sent) (if stays then Some (sent past j) else None)) ≡ (if not (is_sent j past) then Some j else None)
+      kept-or j true sent_out is given = passes j (not (is_sent j past))
+      kept-or j false true is given = sym (ap (λ b. if not b then Some j else None) is)
+      kept-or j false false is given = let never : false ≡ true = given refl in absurd cc
 
-  -- what it carries was carried before
-  pub carried-entry : (l : Link) → l.number ≡ link → option_and_then (λ x. noted x.delivery.note past) (option_and_then kept last) ≡ carried_before l past
-  carried-entry l own =
-      ap (option_and_then (λ (x : Sent). noted x.delivery.note past)) last-entry
+      by : (o : Option Outgoing) → last_on link past ≡ o
+          → option_map (λ (x : Sent). x.delivery) (where_passes (λ (x : Sent). not x.is_sent) (where_kept gone (option_map (sent past) o))) ≡ where_passes (λ j. not (is_sent j past)) o
+      by None none = refl
+      by (Some j) found =
+          kept-or j (not (names_let_go gone j.note)) (is_sent j past) refl
+          (λ unsent. ap not (unfinished-names gone past over j (find_has (λ (k : Outgoing). k.link.number == link) (outgoing_deliveries past) j found) (unsent-unfinished past j unsent)))
+
+  -- what it carries was carried before, where nothing was let go
+  pub carried-entry : gone ≡ [] → (l : Link) → l.number ≡ link → option_and_then (λ x. noted x.delivery.note past) (option_and_then kept last) ≡ carried_before l past
+  carried-entry none l own =
+      ap (option_and_then (λ (x : Sent). noted x.delivery.note past)) (last-entry ∙ all-kept gone none (option_map (sent past) (last_on link past)))
       ∙ (by (last_on link past) ∙ ap (λ n. option_and_then (λ (j : Outgoing). noted j.note past) (last_on n past)) (sym own))
     where
       by : (o : Option Outgoing) → option_and_then (λ (x : Sent). noted x.delivery.note past) (option_map (sent past) o) ≡ option_and_then (λ (j : Outgoing). noted j.note past) o

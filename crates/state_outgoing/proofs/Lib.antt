@@ -5,20 +5,23 @@ pub mod SentDecided
 mod SentFollowed
 mod SentKnown
 mod SentUntouched
+pub mod SentKept
 mod SentSparse
 mod SentPayload
 mod OutgoingNumbers
-mod LastBegun
+pub mod LastBegun
 mod Carriers
 mod LeastNumbers
 mod ToSettle
 pub mod AnswersKnown
 mod GroupLists
 mod SentRegrouped
+mod LetGoStands
 mod SentFound
 mod SentTaken
 mod VerdictsGiven
 mod AnsweredCarried
 mod SentExamples
+mod LetGoExamples
 mod LastExamples
 mod EarliestExamples

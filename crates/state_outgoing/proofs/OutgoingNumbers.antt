@@ -7,7 +7,8 @@ use Rattle.trace_events.specs.Event.{Event, Outgoing}
 use Rattle.trace_events.specs.Outgoing.{outgoing_begun, outgoing_deliveries}
 use Rattle.trace_events.proofs.Judged.{AreJudged, judged-number}
 use Rattle.trace_events.proofs.Links.{passing}
-use Rattle.state_outgoing.specs.Sent.{Sent, sent, outgoing_at, sent_at}
+use Rattle.state_outgoing.specs.LetGo.{where_kept, kept_at}
+use Rattle.state_outgoing.specs.Sent.{Sent, sent, outgoing_at}
 
 -- ---- numbers that fall
 
@@ -87,18 +88,14 @@ module _ (rules : RuleSet) (past : List Event) (are : AreJudged rules past) (tes
       by None none = refl
       by (Some j) found = found-at j found
 
-  -- and where all are kept by their numbers, what is kept of it
-  pub found-entry : (kept : ℕ → Option Sent) → ((n : ℕ) → kept n ≡ sent_at n past)
-      → option_and_then kept (option_map (λ j. j.number) (find test (outgoing_deliveries past))) ≡ option_map (sent past) (find test (outgoing_deliveries past))
-  found-entry kept were = by (find test (outgoing_deliveries past)) refl
+  -- and where those that were not let go are kept by their numbers, what is kept of it
+  pub found-entry : (gone : List (ℕ × Unit {0})) (kept : ℕ → Option Sent) → ((n : ℕ) → kept n ≡ kept_at gone n past)
+      → option_and_then kept (option_map (λ j. j.number) (find test (outgoing_deliveries past))) ≡ where_kept gone (option_map (sent past) (find test (outgoing_deliveries past)))
+  found-entry gone kept were = by (find test (outgoing_deliveries past)) refl
     where
-      by : (o : Option Outgoing) → find test (outgoing_deliveries past) ≡ o → option_and_then kept (option_map (λ j. j.number) o) ≡ option_map (sent past) o
+      by : (o : Option Outgoing) → find test (outgoing_deliveries past) ≡ o → option_and_then kept (option_map (λ j. j.number) o) ≡ where_kept gone (option_map (sent past) o)
       by None none = refl
-      by (Some j) found = were j.number ∙ ap (option_map (sent past)) (found-at j found)
-
--- of one that is known, what is kept of it
-pub known-entry : (past : List Event) (kept : ℕ → Option Sent) → ((n : ℕ) → kept n ≡ sent_at n past) → (j : Outgoing) → outgoing_at j.number past ≡ Some j → kept j.number ≡ Some (sent past j)
-known-entry past kept were j at = were j.number ∙ ap (option_map (sent past)) at
+      by (Some j) found = were j.number ∙ ap (λ o. where_kept gone (option_map (sent past) o)) (found-at j found)
 
 -- ---- the last that passes, behind one more event
 

@@ -185,10 +185,11 @@ unsettled-live rules past are n x entry opens =
     (lives-by j.link.is_pre_settled (is_live past j.link) (is_settled_by_consumer j past) (is_settled_by_router j past) (ap (λ (y : Sent). y.is_unsettled) of.is ∙ opens))
 
 -- so the links that end have it, if the event ends its link
-module _ (rules : RuleSet) (past : List Event) (are : AreJudged rules past) (groups : SentGroups) (kept : ℕ → Option Sent) (grouped : AreGrouped groups kept) (were : (n : ℕ) → kept n ≡ sent_at n past) where
+module _ (rules : RuleSet) (past : List Event) (are : AreJudged rules past) (groups : SentGroups) (kept : ℕ → Option Sent) (grouped : AreGrouped groups kept)
+    (laws : (n : ℕ) (x : Sent) → kept n ≡ Some x → sent_at n past ≡ Some x) where
   pub ended-among : (e : Event) (ended : List Link) → ((l : Link) → IsLiveLink l past → ends_link l e ≡ true → Contains ended l) → (n : ℕ) (x : Sent) → kept n ≡ Some x → x.is_unsettled ≡ true
       → ends_link x.delivery.link e ≡ true → list_any (λ (l : Link). is_member nat_eq groups.of_link l.number n) ended ≡ true
   ended-among e ended has n x at opens ends =
       let l = x.delivery.link in
-      contained-any (λ (m : Link). is_member nat_eq groups.of_link m.number n) ended l (has l (unsettled-live rules past are n x (sym (were n) ∙ at) opens) ends)
+      contained-any (λ (m : Link). is_member nat_eq groups.of_link m.number n) ended l (has l (unsettled-live rules past are n x (laws n x at) opens) ends)
       (on-link groups kept grouped n x at l.number (eq-eqb l.number l.number refl) opens)

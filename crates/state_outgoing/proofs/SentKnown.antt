@@ -10,6 +10,7 @@ use Rattle.trace_events.specs.Settling.{is_to_settle}
 use Rattle.trace_events.specs.Work.{stands_unsettled, carries_closed}
 use Rattle.trace_events.proofs.Judged.{AreJudged, history-judged}
 use Rattle.trace_events.proofs.SettlingSteps.{is_to_settle-parts}
+use Rattle.state_outgoing.specs.LetGo.{is_done, is_finished}
 use Rattle.state_outgoing.specs.Sent.{Sent, sent, outgoing_at, sent_at, sent_next, sent_begun, to_settle, is_left_unsettled, IsEntry, Follows, Begins}
 use Rattle.state_outgoing.proofs.SentBegun.{begun-once}
 use Rattle.state_outgoing.proofs.SentFollowed.{sent-behind, sent-first}
@@ -57,6 +58,9 @@ module _ (past : List Event) (x : Sent) (entry : IsEntry past x) where
 
   pub entry_unsettled : x.is_unsettled ≡ is_left_unsettled past x.delivery
   entry_unsettled = ap (λ (y : Sent). y.is_unsettled) (sym of.is)
+
+  pub entry_done : is_done x ≡ is_finished past x.delivery
+  entry_done = ap is_done (sym of.is)
 
   pub entry_to_settle : (closed : Bool) → closed ≡ carries_closed past x.delivery → to_settle x closed ≡ is_to_settle past x.delivery
   entry_to_settle closed closes =

@@ -8,7 +8,8 @@ use Rattle.trace_events.specs.Event.{Event, Outgoing}
 use Rattle.trace_events.specs.Outgoing.{outgoing_begun}
 use Rattle.trace_events.proofs.Judged.{AreJudged}
 use Rattle.trace_events.proofs.Links.{passing}
-use Rattle.state_outgoing.specs.Sent.{Sent, sent_at, sent_begun, sent_next, sent_behind, begins_number, unsent}
+use Rattle.state_outgoing.specs.LetGo.{names_let_go, where_kept, kept_at}
+use Rattle.state_outgoing.specs.Sent.{Sent, sent_begun, sent_next, sent_behind, begins_number, unsent}
 use Rattle.state_outgoing.specs.SentTouched.{touches}
 use Rattle.state_outgoing.proofs.SentFollowed.{unbegun}
 use Rattle.state_outgoing.proofs.SentSparse.{moved-sent}
@@ -111,12 +112,13 @@ begun-own e x is = by (outgoing_begun e) refl is
         let one = ap (λ (y : Sent). y.delivery) (same_some (sent_next e (unsent j)) x is) in
         sym (ap (λ (k : Outgoing). k.number) one) ∙ eqb-true j.number e.number (passing (λ (k : Outgoing). k.number == e.number) e.outgoing j begun).1
 
-module _ (rules : RuleSet) (e : Event) (past : List Event) (are : AreJudged rules (e ∷ past)) (old mid new : ℕ → Option Sent) (all : ℕ → Bool)
-    (were : (n : ℕ) → old n ≡ sent_at n past) (found : (n : ℕ) (x : Sent) → old n ≡ Some x → all n ≡ false → touches e x ≡ false)
+module _ (rules : RuleSet) (e : Event) (past : List Event) (are : AreJudged rules (e ∷ past)) (gone : List (ℕ × Unit {0}))
+    (none_begins : is_some_and (outgoing_begun e) (λ j. names_let_go gone j.note) ≡ false) (old mid new : ℕ → Option Sent) (all : ℕ → Bool)
+    (were : (n : ℕ) → old n ≡ kept_at gone n past) (found : (n : ℕ) (x : Sent) → old n ≡ Some x → all n ≡ false → touches e x ≡ false)
     (moved : (n : ℕ) → mid n ≡ (if all n then on e (old n) else old n)) (put : (n : ℕ) → new n ≡ (if e.number == n then or_else (sent_begun e) (mid n) else mid n)) where
   -- before the event nothing has its number
   pub mid-none : mid e.number ≡ None
-  mid-none = moved e.number ∙ (ap (λ o. if all e.number then on e o else o) (were e.number ∙ unbegun rules e past are) ∙ both (all e.number))
+  mid-none = moved e.number ∙ (ap (λ o. if all e.number then on e o else o) (were e.number ∙ ap (where_kept gone) (unbegun rules e past are)) ∙ both (all e.number))
     where
       both : (b : Bool) → (if b then on e None else None) ≡ None
       both true = refl
@@ -132,7 +134,7 @@ module _ (rules : RuleSet) (e : Event) (past : List Event) (are : AreJudged rule
   at-number n is =
       let one = eqb-true e.number n is in
       let none : mid n ≡ None = sym (ap mid one) ∙ mid-none in
-      let empty : old n ≡ None = were n ∙ (sym (ap (λ m. sent_at m past) one) ∙ unbegun rules e past are) in
+      let empty : old n ≡ None = were n ∙ (sym (ap (λ m. kept_at gone m past) one) ∙ ap (where_kept gone) (unbegun rules e past are)) in
       put n ∙ (ap (λ b. if b then or_else (sent_begun e) (mid n) else mid n) is ∙ (ap (or_else (sent_begun e)) none ∙ (or_else-none (sent_begun e) ∙ by (outgoing_begun e) refl empty)))
     where
       by : (o : Option Outgoing) → outgoing_begun e ≡ o → old n ≡ None → sent_begun e ≡ sent_behind e n (old n)
@@ -170,5 +172,5 @@ module _ (rules : RuleSet) (e : Event) (past : List Event) (are : AreJudged rule
       at true is = inl (at-number n is)
       at false off = off-at off (all n) refl
 
-  pub taken : (n : ℕ) → new n ≡ sent_at n (e ∷ past)
-  taken = moved-sent rules e past are old new were moves
+  pub taken : (n : ℕ) → new n ≡ kept_at gone n (e ∷ past)
+  taken = moved-sent rules e past are gone none_begins old new were moves

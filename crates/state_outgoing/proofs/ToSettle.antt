@@ -148,6 +148,13 @@ module _ (rules : RuleSet) (past : List Event) (are : AreJudged rules past) (s :
 
 -- ---- by a group of the deliveries of the id on the session
 
+same_some : {A : Type 0} (a b : A) → Some a ≡ Some b → a ≡ b
+same_some a b is = cc
+
+last_bit : (a b : Bool) → a && b ≡ true → b ≡ true
+last_bit true b is = is
+last_bit false b is = absurd cc
+
 -- a mark that each delivery to settle bears leaves none of them out
 marked-bits : (of mark asks : Bool) → (asks ≡ true → mark ≡ true) → (of && mark) && asks ≡ of && asks
 marked-bits true true asks bears = refl
@@ -155,32 +162,45 @@ marked-bits true false true bears = let never : false ≡ true = bears refl in a
 marked-bits true false false bears = refl
 marked-bits false mark asks bears = refl
 
--- what is known of each delivery is kept by its number; the group has those of the id that bear the mark; and what passes is to
--- be settled
-module _ (rules : RuleSet) (past : List Event) (are : AreJudged rules past) (kept : ℕ → Option Sent) (were : (n : ℕ) → kept n ≡ sent_at n past)
+-- what is known of each delivery is kept by its number, at least of those to settle; the group has those of the id that bear the
+-- mark; and what passes is to be settled
+module _ (rules : RuleSet) (past : List Event) (are : AreJudged rules past) (kept : ℕ → Option Sent)
+    (laws : (n : ℕ) (x : Sent) → kept n ≡ Some x → sent_at n past ≡ Some x)
+    (stays : (n : ℕ) (j : Outgoing) → outgoing_at n past ≡ Some j → is_to_settle past j ≡ true → kept n ≡ Some (sent past j))
     (s : Session) (id : ℕ) (mark : Sent → Bool) (bears : (j : Outgoing) → is_to_settle past j ≡ true → mark (sent past j) ≡ true)
     (ns : List ℕ) (grouped : (n : ℕ) → list_any (nat_eq n) ns ≡ is_some_and (kept n) (λ x. is_of s id x.delivery && mark x))
     (passes : ℕ → Bool) (asks : (n : ℕ) → passes n ≡ is_some_and (kept n) (λ x. is_to_settle past x.delivery)) where
   group-meets : (n : ℕ) → list_any (nat_eq n) ns && passes n ≡ is_some_and (outgoing_at n past) (is_asked rules past are s id)
   group-meets n =
       ap (λ b. b && passes n) (grouped n)
-      ∙ (ap (λ b. is_some_and (kept n) (λ x. is_of s id x.delivery && mark x) && b) (asks n)
-      ∙ (ap (λ o. is_some_and o (λ (x : Sent). is_of s id x.delivery && mark x) && is_some_and o (λ (x : Sent). is_to_settle past x.delivery)) (were n) ∙ by (outgoing_at n past)))
+      ∙ (ap (λ b. is_some_and (kept n) (λ x. is_of s id x.delivery && mark x) && b) (asks n) ∙ by (outgoing_at n past) refl (kept n) refl)
     where
-      by : (o : Option Outgoing)
-          → is_some_and (option_map (sent past) o) (λ (x : Sent). is_of s id x.delivery && mark x) && is_some_and (option_map (sent past) o) (λ (x : Sent). is_to_settle past x.delivery)
+      not-asked : (of asks : Bool) → (asks ≡ true → false ≡ true) → false ≡ of && asks
+      not-asked of true never = let both : false ≡ true = never refl in absurd cc
+      not-asked true false never = refl
+      not-asked false false never = refl
+
+      by : (o : Option Outgoing) → outgoing_at n past ≡ o → (k : Option Sent) → kept n ≡ k
+          → is_some_and k (λ (x : Sent). is_of s id x.delivery && mark x) && is_some_and k (λ (x : Sent). is_to_settle past x.delivery)
           ≡ is_some_and o (is_asked rules past are s id)
-      by None = refl
-      by (Some j) = marked-bits (is_of s id j) (mark (sent past j)) (is_to_settle past j) (bears j)
+      by None none None empty = refl
+      by None none (Some x) entry = let never : None ≡ Some x = sym (ap (option_map (sent past)) none) ∙ laws n x entry in absurd cc
+      by (Some j) at None empty = not-asked (is_of s id j) (is_to_settle past j) (λ is. let never : None ≡ Some (sent past j) = sym empty ∙ stays n j at is in absurd cc)
+      by (Some j) at (Some x) entry =
+          let own : sent past j ≡ x = same_some (sent past j) x (sym (ap (option_map (sent past)) at) ∙ laws n x entry) in
+          sym (ap (λ (y : Sent). (is_of s id y.delivery && mark y) && is_to_settle past y.delivery) own) ∙ marked-bits (is_of s id j) (mark (sent past j)) (is_to_settle past j) (bears j)
 
   -- what is kept of the least number that passes
   pub to_settle-entry : option_map (λ x. x.delivery) (option_and_then kept (least passes ns)) ≡ to_settle s id past
-  to_settle-entry = by (least passes ns) ∙ to_settle-of rules past are s id passes ns group-meets
+  to_settle-entry = by (least passes ns) refl ∙ to_settle-of rules past are s id passes ns group-meets
     where
-      of : (o : Option Outgoing) → option_map (λ (x : Sent). x.delivery) (option_map (sent past) o) ≡ o
-      of None = refl
-      of (Some j) = refl
+      -- one that meets it is known, and so it is kept
+      of : (n : ℕ) → is_some_and (outgoing_at n past) (is_asked rules past are s id) ≡ true → (o : Option Outgoing) → outgoing_at n past ≡ o → option_map (λ (x : Sent). x.delivery) (kept n) ≡ o
+      of n meets None none = let never : false ≡ true = sym (ap (λ o. is_some_and o (is_asked rules past are s id)) none) ∙ meets in absurd cc
+      of n meets (Some j) at =
+          let asked : is_of s id j && is_to_settle past j ≡ true = sym (ap (λ o. is_some_and o (is_asked rules past are s id)) at) ∙ meets in
+          ap (option_map (λ (x : Sent). x.delivery)) (stays n j at (last_bit (is_of s id j) (is_to_settle past j) asked))
 
-      by : (o : Option ℕ) → option_map (λ (x : Sent). x.delivery) (option_and_then kept o) ≡ option_and_then (λ n. outgoing_at n past) o
-      by None = refl
-      by (Some n) = ap (option_map (λ (x : Sent). x.delivery)) (were n) ∙ of (outgoing_at n past)
+      by : (o : Option ℕ) → least passes ns ≡ o → option_map (λ (x : Sent). x.delivery) (option_and_then kept o) ≡ option_and_then (λ n. outgoing_at n past) o
+      by None none = refl
+      by (Some n) is = of n (sym (group-meets n) ∙ (least-is passes ns n is).among) (outgoing_at n past) refl

@@ -18,11 +18,13 @@ use Rattle.trace_clauses.specs.BestVerdict.{is_same_outcome}
 use Rattle.trace_clauses.specs.CopyVerdict.{awaits_now, begun_verdict, copy_on, sent_verdict}
 use Rattle.trace_clauses.proofs.OneCopy.{awaits-many, fresh-copy, one-copy}
 use Rattle.state_outgoing.specs.Given.{gives}
+use Rattle.state_outgoing.specs.LetGo.{where_kept, kept_at, is_finished}
 use Rattle.state_outgoing.specs.Sent.{Sent, outgoing_at, sent, sent_at, sent_begun, sent_next, verdict_of, verdict_said}
 use Rattle.state_outgoing.specs.SentTouched.{touches}
-use Rattle.state_outgoing.proofs.OutgoingNumbers.{begun-number, found-at, found-passes, known-entry}
-use Rattle.state_outgoing.proofs.SentBegun.{at-number, begun-once, found-own, found-still}
+use Rattle.state_outgoing.proofs.OutgoingNumbers.{begun-number, found-at, found-passes}
+use Rattle.state_outgoing.proofs.SentBegun.{at-number, begun-once, found-own}
 use Rattle.state_outgoing.proofs.SentFollowed.{sent-behind, sent-first}
+use Rattle.state_outgoing.proofs.SentKept.{IsOver, done-verdict, found-contained, kept-law, sent-moved, stays-kept, unfinished-names}
 use Rattle.state_outgoing.proofs.SentKnown.{sent-of}
 use Rattle.state_outgoing.proofs.SentTaken.{on}
 use Rattle.state_outgoing.proofs.SentUntouched.{untouched}
@@ -111,16 +113,17 @@ module _ (rules : RuleSet) (e : Event) (past : List Event) (are : AreJudged rule
       let such : Bool = is_some_and (verdict_of (sent (e ∷ past) j)) (is_same_outcome outcome) in
       ap (λ b. b && (names d.number j.note && such)) keys.0 ∙ (ap (λ b. b && such) keys.1 ∙ (ap (λ o. is_some_and o (is_same_outcome outcome)) (same-verdict (e ∷ past) j) ∙ is))
 
-  -- ---- a table of all, of which these are touched
+  -- ---- a table of all that are not let go, of which these are touched
 
-  module _ (old : ℕ → Option Sent) (were : (n : ℕ) → old n ≡ sent_at n past) (touched : List ℕ) (off : (n : ℕ) (x : Sent) → old n ≡ Some x → is_among touched n ≡ false → touches e x ≡ false) where
+  module _ (gone : List (ℕ × Unit {0})) (over : IsOver gone past) (old : ℕ → Option Sent) (were : (n : ℕ) → old n ≡ kept_at gone n past) (touched : List ℕ) (off : (n : ℕ) (x : Sent) → old n ≡ Some x → is_among touched n ≡ false → touches e x ≡ false) where
     abbrev told : ℕ → Bool
     told m = tells (on e (old m))
 
     on-behind : (m : ℕ) (x : Sent) → old m ≡ Some x → on e (old m) ≡ sent_at m (e ∷ past)
     on-behind m x at =
-        let of = sent-of m past x (sym (were m) ∙ at) in
-        ap (on e) (were m)
+        let entry : sent_at m past ≡ Some x = kept-law gone (sent_at m past) x (sym (were m) ∙ at) in
+        let of = sent-of m past x entry in
+        ap (on e) (at ∙ sym entry)
         ∙ sym (sent-behind rules e past are m ∙ ap (λ b. if b then sent_begun e else option_map (sent_next e) (sent_at m past)) (begun-once rules e past are m x.delivery of.at))
 
     forth : list_any told touched || tells (sent_begun e) ≡ true → stands ≡ true
@@ -139,29 +142,36 @@ module _ (rules : RuleSet) (e : Event) (past : List Event) (are : AreJudged rule
 
     -- one that stood without a verdict has it by a touch
     stood : (j : Outgoing) → copy_on d l (e ∷ past) ≡ Some j → Verdict (Some j) ≡ true → copy_on d l past ≡ Some j → begun_verdict d l past ≡ None → list_any told touched ≡ true
-    stood j copy is before none = by (is_among touched j.number) refl
+    stood j copy is before none = kept-or (is_finished past j) refl
       where
         at : outgoing_at j.number past ≡ Some j
         at = found-at rules past are.1 is_copy j before
 
-        was : old j.number ≡ Some (sent past j)
-        was = known-entry past old were j at
-
-        now : on e (old j.number) ≡ Some (sent (e ∷ past) j)
-        now = on-behind j.number (sent past j) was ∙ ap (option_map (sent (e ∷ past))) (found-still rules e past are j.number j at)
+        moved : sent (e ∷ past) j ≡ sent_next e (sent past j)
+        moved = sent-moved rules e past are j at
 
         unsaid : sent_verdict (decision j past) (is_sent_settled j past) ≡ None
         unsaid = sym (ap (option_and_then (λ (k : Outgoing). sent_verdict (decision k past) (is_sent_settled k past))) before) ∙ none
 
-        by : (b : Bool) → is_among touched j.number ≡ b → list_any told touched ≡ true
-        by true inside = any-at told j.number (ap tells now ∙ copy-tells j copy is) touched inside
-        by false out =
-            let stays : sent_next e (sent past j) ≡ sent past j = untouched e (sent past j) (off j.number (sent past j) was out) in
-            let same : sent past j ≡ sent (e ∷ past) j = same_some (sent past j) (sent (e ∷ past) j) (ap Some (sym stays) ∙ (sym (ap (on e) was) ∙ now)) in
+        -- behind the event it has one
+        not-still : verdict_of (sent_next e (sent past j)) ≡ verdict_of (sent past j) → list_any told touched ≡ true
+        not-still same =
             let still : sent_verdict (decision j (e ∷ past)) (is_sent_settled j (e ∷ past)) ≡ None =
-            sym (same-verdict (e ∷ past) j) ∙ (sym (ap verdict_of same) ∙ (same-verdict past j ∙ unsaid)) in
+            sym (same-verdict (e ∷ past) j) ∙ (ap verdict_of moved ∙ (same ∙ (same-verdict past j ∙ unsaid))) in
             let never : false ≡ true = sym (ap (λ o. is_some_and o (is_same_outcome outcome)) still) ∙ is in
             absurd cc
+
+        by : old j.number ≡ Some (sent past j) → (b : Bool) → is_among touched j.number ≡ b → list_any told touched ≡ true
+        by was true inside = any-at told j.number (ap tells (ap (on e) was ∙ ap Some (sym moved)) ∙ copy-tells j copy is) touched inside
+        by was false out = not-still (ap verdict_of (untouched e (sent past j) (off j.number (sent past j) was out)))
+
+        -- what is finished has its verdict, or none for ever
+        kept-or : (b : Bool) → is_finished past j ≡ b → list_any told touched ≡ true
+        kept-or true finished = not-still (done-verdict e (sent past j) finished)
+        kept-or false going =
+            by (were j.number
+            ∙ (ap (λ o. where_kept gone (option_map (sent past) o)) at ∙ stays-kept gone (sent past j) (unfinished-names gone past over j (found-contained past j.number j at) going)))
+            (is_among touched j.number) refl
 
     back : stands ≡ true → list_any told touched || tells (sent_begun e) ≡ true
     back = by (copy_on d l (e ∷ past)) refl

@@ -1,5 +1,5 @@
 -- The last delivery to a client that began on a link, and the last that carries a delivery from a client (own rules).
-use Rattle.std.specs.Prelude.{ℕ, Bool, List, Option, option_map, find, ◌==◌}
+use Rattle.std.specs.Prelude.{ℕ, Bool, List, Option, Some, option_map, find, ◌==◌, if◌then◌else◌}
 use Rattle.trace_events.specs.Words.{is_some_and}
 use Rattle.trace_events.specs.Event.{Event, Outgoing}
 use Rattle.trace_events.specs.Outgoing.{outgoing_begun, outgoing_deliveries, names}
@@ -27,3 +27,11 @@ carrier_number n past = option_map (λ j. j.number) (carrier n past)
 -- the event begins a delivery that carries it
 abbrev pub begins_carrier : Event → ℕ → Bool
 begins_carrier e n = is_some_and (outgoing_begun e) (λ j. names n j.note)
+
+-- ---- what an event makes of these numbers
+
+abbrev pub on_link_next : Event → ℕ → Option ℕ → Option ℕ
+on_link_next e link earlier = if begins_on e link then Some e.number else earlier
+
+abbrev pub carriers_next : Event → ℕ → Option ℕ → Option ℕ
+carriers_next e n earlier = if begins_carrier e n then Some e.number else earlier

@@ -5,5 +5,6 @@ pub mod SentGrouped
 pub mod SentTouched
 pub mod Earliest
 pub mod LastBegun
+pub mod LetGo
 pub mod SentTables
 pub mod SentAnswers

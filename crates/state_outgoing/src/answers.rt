@@ -1,6 +1,6 @@
 //! What the table of deliveries to clients answers.
 
-ghost use Rattle.std.specs.Prelude.{◌≡◌, ℕ, Bool, List, Contains, IfOk, IfSome, Some, None, is_some, nat_eq, option_and_then, option_map, true};
+ghost use Rattle.std.specs.Prelude.{◌≡◌, ℕ, Bool, List, [], Contains, IfOk, IfSome, Some, None, is_some, nat_eq, option_and_then, option_map, false, true};
 ghost use Rattle.std.specs.List.{list_any};
 ghost use Rattle.capture_form.specs.Rules.{RuleSet};
 ghost use Rattle.capture_form.specs.declared.records.Record.{Record};
@@ -13,6 +13,7 @@ ghost use Rattle.trace_events.specs.Incoming.{incoming_at};
 ghost use Rattle.trace_events.specs.Event as events;
 ghost use Rattle.trace_events.specs.Outgoing as law;
 ghost use Rattle.trace_events.specs.Settling as settling;
+ghost use Rattle.state_outgoing.specs.LetGo.{is_let_go};
 ghost use Rattle.state_outgoing.specs.Sent.{is_left_unsettled};
 ghost use Rattle.state_outgoing.specs.SentAnswers as entries;
 ghost use Rattle.state_outgoing.specs.SentAnswers.{AreClosings, Knows, KnowsOrBegins};
@@ -38,9 +39,10 @@ impl SentDeliveries {
         self.unsent(self.last_begun_on(link.number))
     }
 
-    /// The number of the delivery from a client that the last one begun on the link carries.
+    /// The number of the delivery from a client that the last one begun on the link carries. It is asked of a table from which
+    /// nothing was let go.
     pub fn carried_before(&self, link: &Link) -> Option<u64>
-        ensures { (rules : RuleSet) (records : List Record) → IsTable self.now (history rules records) →
+        ensures { (rules : RuleSet) (records : List Record) → IsTable self.now (history rules records) → self.now.let_go.items ≡ [] →
             option_and_then (λ n. incoming_at n (history rules records)) result ≡ transfers.carried_before (link_view link.now) (history rules records) }
     {
         self.carried_by(self.last_begun_on(link.number))
@@ -49,6 +51,7 @@ impl SentDeliveries {
     /// The last delivery that carries the one from a client.
     pub fn pairing(&self, delivery: &Incoming) -> Option<Outgoing<'_>>
         ensures value { (rules : RuleSet) (records : List Record) → IsTable self.now (history rules records) →
+            is_let_go self.now.let_go.items (incoming_view delivery.now).number ≡ false →
             option_map outgoing_view result ≡ law.pairing (incoming_view delivery.now) (history rules records) }
         ensures known { (rules : RuleSet) (records : List Record) → IsTable self.now (history rules records) →
             IfSome (option_map outgoing_view result) (Knows self.now) }
@@ -59,6 +62,7 @@ impl SentDeliveries {
     /// The one from a client went to a consumer, or began to.
     pub fn is_paired(&self, delivery: &Incoming) -> bool
         ensures { (rules : RuleSet) (records : List Record) → IsTable self.now (history rules records) →
+            is_let_go self.now.let_go.items (incoming_view delivery.now).number ≡ false →
             result ≡ law.is_paired (incoming_view delivery.now) (history rules records) }
     {
         self.carrier_of(delivery.number).is_some()

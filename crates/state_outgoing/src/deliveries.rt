@@ -1,13 +1,14 @@
 //! The deliveries to clients, by the record that began each, and in groups.
 
-ghost use Rattle.std.specs.Prelude.{◌≡◌, ◌∷◌, ◌++◌, ◌<◌, ◌^◌, ℕ, List, [], None, IfOk, IfSome, OnOk, map, nat_eq, option_map};
+ghost use Rattle.std.specs.Prelude.{◌≡◌, ◌∷◌, ◌++◌, ◌<◌, ◌^◌, ℕ, List, [], Contains, Some, None, IfOk, IfSome, OnOk, map, nat_eq, option_and_then, option_map, false, true, if◌then◌else◌};
 ghost use Rattle.std.specs.List.{list_any};
 ghost use Rattle.std.specs.Option.{option_copied};
+ghost use Rattle.indexmap.specs.IndexMap.{get};
 ghost use Rattle.amqp_perf.specs.declared.descriptor.Outcome.{Outcome};
 ghost use Rattle.number_groups.specs.Numbers.{is_among};
 ghost use Rattle.capture_form.specs.Rules.{RuleSet};
 ghost use Rattle.capture_form.specs.declared.records.Record.{Record};
-ghost use Rattle.trace_events.specs.Words.{is_some_and, or_else};
+ghost use Rattle.trace_events.specs.Words.{is_number, is_some_and, or_else};
 ghost use Rattle.trace_events.specs.Event.{Incoming, Outgoing};
 ghost use Rattle.trace_events.specs.Incoming as received;
 ghost use Rattle.trace_events.specs.Outgoing as law;
@@ -18,9 +19,11 @@ ghost use Rattle.state_tables.specs.Connections.{IsLawfulNext};
 ghost use Rattle.state_tables.specs.EndedLinks.{AreEnded};
 ghost use Rattle.state_outgoing.specs.Given.{gives, says};
 ghost use Rattle.state_verdicts.specs.Verdicts.{AreGiven};
-ghost use Rattle.state_outgoing.specs.LastBegun.{last_number, carrier_number};
+ghost use Rattle.state_outgoing.specs.LastBegun.{last_number, carrier, carrier_number};
+ghost use Rattle.state_outgoing.specs.LetGo.{is_let_go, names_let_go, is_finished, is_done};
 ghost use Rattle.state_outgoing.specs.Sent as kept;
-ghost use Rattle.state_outgoing.specs.Sent.{IsKnownTo, sent_begun, sent_next};
+ghost use Rattle.state_outgoing.specs.Sent.{sent_begun, sent_next};
+ghost use Rattle.state_outgoing.specs.SentAnswers.{KnowsOrBegins};
 ghost use Rattle.state_outgoing.specs.SentGrouped.{AreGrouped};
 ghost use Rattle.state_outgoing.specs.SentTables.{AreMovedBy, AreSent, IsTable, MovesAt, sent_in, sent_count_in};
 ghost use Rattle.state_outgoing.specs.SentTouched.{answered_id, is_spoken_of};
@@ -33,6 +36,7 @@ use crate::groups::SentGroups;
 use crate::listed::push_some;
 use crate::payload::goes_on_with;
 use crate::sent::SentDelivery;
+use http_server::Log;
 use number_groups::{Groups, IdOn, NumberSet};
 use number_map::NumberMap;
 use state_verdicts::CopyVerdict;
@@ -45,6 +49,8 @@ pub struct SentDeliveries {
     entries: NumberMap<u64, SentDelivery>,
     groups: SentGroups,
     begun: LastNumbers,
+    /// The numbers of the deliveries from clients that were let go. Only proofs read them, and they take no memory.
+    let_go: Log<u64, ()>,
 }
 
 // Written out, and not derived, so that where one is let go the prover need not go through all that it owns.
@@ -55,20 +61,32 @@ impl Drop for SentDeliveries {
             entries: _,
             groups: _,
             begun: _,
+            let_go: _,
         } = self;
+    }
+}
+
+/// The entry of the number goes, if there is one.
+fn remove(entries: &mut NumberMap<u64, SentDelivery>, number: Option<u64>)
+    ensures { (n : ℕ) → get nat_eq entries.new n ≡ (if is_number number n then None else get nat_eq entries.old n) }
+{
+    if let Some(number) = number {
+        entries.swap_remove(&number);
     }
 }
 
 impl SentDeliveries {
     /// No records.
     pub fn new(alloc: Global) -> SentDeliveries
-        ensures { IsTable result [] }
+        ensures table { IsTable result [] }
+        ensures gone { result.let_go.items ≡ [] }
     {
         SentDeliveries {
             alloc,
             entries: NumberMap::new(alloc),
             groups: SentGroups::new(alloc),
             begun: LastNumbers::new(alloc),
+            let_go: Log::new(),
         }
     }
 
@@ -84,7 +102,7 @@ impl SentDeliveries {
     pub fn is_payload_so_far(&self, number: u64, more: bool, payload: &[u8], octets: &[u8]) -> bool
         ensures stored { result ≡ kept.goes_on_with more payload.now (sent_count_in self.now number) octets.now }
         ensures known { (rules : RuleSet) (records : List Record) (j : Outgoing) (d : Incoming) → AreSent self.now (history rules records) →
-            first_broken rules (history rules records) ≡ None → number ≡ j.number → IsKnownTo (history rules records) j → IsCarriedBy d (history rules records) j →
+            first_broken rules (history rules records) ≡ None → number ≡ j.number → KnowsOrBegins self.now (history rules records) j → IsCarriedBy d (history rules records) j →
             payload.now ≡ received.payload d (history rules records) →
             result ≡ is_payload_so_far more (received.payload d (history rules records)) (law.payload j (history rules records) ++ octets.now) }
     {
@@ -108,11 +126,52 @@ impl SentDeliveries {
         self.begun.on_link.get(&link).copied()
     }
 
-    /// That of the last delivery whose note names the delivery from a client of this number.
+    /// That of the last delivery whose note names the delivery from a client of this number, unless this one was let go.
     pub fn carrier_of(&self, number: u64) -> Option<u64>
-        ensures { (history : Events) → IsTable self.now history → result ≡ carrier_number number history }
+        ensures stored { result ≡ get nat_eq self.now.begun.carriers number }
+        ensures known { (history : Events) → IsTable self.now history →
+            result ≡ (if is_let_go self.now.let_go.items number then None else carrier_number number history) }
     {
         self.begun.carriers.get(&number).copied()
+    }
+
+    /// The last delivery that carries the one from a client of this number is finished; false where none carries it.
+    pub fn has_finished(&self, number: u64) -> bool
+        ensures stored { result ≡ is_some_and (option_and_then (sent_in self.now) (get nat_eq self.now.begun.carriers number)) is_done }
+        ensures known { (rules : RuleSet) (records : List Record) → IsTable self.now (history rules records) → is_let_go self.now.let_go.items number ≡ false →
+            result ≡ is_some_and (carrier number (history rules records)) (is_finished (history rules records)) }
+        ensures paired { (rules : RuleSet) (records : List Record) (d : Incoming) (j : Outgoing) → IsTable self.now (history rules records) →
+            is_let_go self.now.let_go.items number ≡ false → d.number ≡ number → law.pairing d (history rules records) ≡ Some j →
+            result ≡ is_finished (history rules records) j }
+    {
+        self.is_done(self.carrier_of(number))
+    }
+
+    /// There is an entry of this number, and its delivery is finished.
+    fn is_done(&self, number: Option<u64>) -> bool
+        ensures { result ≡ is_some_and (option_and_then (sent_in self.now) number) is_done }
+    {
+        match number {
+            Some(number) => match self.get(number) {
+                Some(own) => own.is_done(),
+                None => false,
+            },
+            None => false,
+        }
+    }
+
+    /// The delivery from a client of this number is let go, and with it the one that carries it. It takes no memory. The table
+    /// agrees with the records still, where no other delivery carries it, and that one is finished.
+    pub fn let_go(&mut self, number: u64)
+        ensures gone { self.new.let_go.items ≡ self.old.let_go.items ++ (number, tt) ∷ [] }
+        ensures stands { (rules : RuleSet) (records : List Record) → IsTable self.old (history rules records) →
+            ((j : Outgoing) → Contains (law.outgoing_deliveries (history rules records)) j → law.names number j.note ≡ true →
+            (carrier_number number (history rules records) ≡ Some j.number) × (is_finished (history rules records) j ≡ true)) →
+            IsTable self.new (history rules records) }
+    {
+        let carrier = self.begun.let_go(number);
+        remove(&mut self.entries, carrier);
+        self.let_go = self.let_go.and(&number, &());
     }
 
     /// The unsettled deliveries by their id on their session.
@@ -144,10 +203,12 @@ impl SentDeliveries {
     pub fn take(&mut self, event: &Event, ended: &[Link]) -> Result<Vec<CopyVerdict>, AllocError>
         ensures kept { OnOk result ((rules : RuleSet) (records : List Record) (r : Record) → event_view event.now ≡ judge rules (history rules records) r →
             IsTable self.old (history rules records) → AreEnded (event_view event.now) (history rules records) (map link_view ended.now) →
+            is_some_and (law.outgoing_begun (event_view event.now)) (λ j. names_let_go self.old.let_go.items j.note) ≡ false →
             IsTable self.new (event_view event.now ∷ history rules records)) }
         ensures given { IfOk result (λ given. (rules : RuleSet) (records : List Record) (r : Record) → IsLawfulNext rules records r (event_view event.now) →
             IsTable self.old (history rules records) → AreEnded (event_view event.now) (history rules records) (map link_view ended.now) →
             AreGiven rules (event_view event.now) (history rules records) given.items) }
+        ensures gone { self.new.let_go.items ≡ self.old.let_go.items }
     {
         let touched = self.groups.touched(self.alloc, ended, event)?;
         let mut given = self.touch_all(touched, event)?;
@@ -166,6 +227,7 @@ impl SentDeliveries {
         ensures grouped { OnOk result (AreGrouped self.old.groups (sent_in self.old) → sent_in self.old (event_view event.now).number ≡ None →
             AreGrouped self.new.groups (sent_in self.new)) }
         ensures same { OnOk result (self.new.begun ≡ self.old.begun) }
+        ensures gone { self.new.let_go.items ≡ self.old.let_go.items }
         ensures given { IfOk result (λ given. (link n : ℕ) (outcome : Outcome) →
             is_some_and given (says link n outcome) ≡ gives link n outcome (sent_begun (event_view event.now))) }
     {
@@ -187,6 +249,7 @@ impl SentDeliveries {
         ensures touched { OnOk result (MovesAt number (option_map (sent_next (event_view event.now))) self.old self.new) }
         ensures grouped { OnOk result (AreGrouped self.old.groups (sent_in self.old) → AreGrouped self.new.groups (sent_in self.new)) }
         ensures same { OnOk result (self.new.begun ≡ self.old.begun) }
+        ensures gone { self.new.let_go.items ≡ self.old.let_go.items }
         ensures given { IfOk result (λ given. (link n : ℕ) (outcome : Outcome) →
             is_some_and given (says link n outcome) ≡ gives link n outcome (option_map (sent_next (event_view event.now)) (sent_in self.old number))) }
     {
@@ -207,6 +270,7 @@ impl SentDeliveries {
         ensures touched { OnOk result (AreMovedBy (is_among touched) (event_view event.now) self.old self.new) }
         ensures grouped { OnOk result (AreGrouped self.old.groups (sent_in self.old) → AreGrouped self.new.groups (sent_in self.new)) }
         ensures same { OnOk result (self.new.begun ≡ self.old.begun) }
+        ensures gone { self.new.let_go.items ≡ self.old.let_go.items }
         ensures given { IfOk result (λ given. (link n : ℕ) (outcome : Outcome) → list_any (says link n outcome) given.items
             ≡ list_any (λ m. gives link n outcome (option_map (sent_next (event_view event.now)) (sent_in self.old m))) touched) }
     {

@@ -1,5 +1,7 @@
 //! The table of deliveries to clients, moved forward by one event after the other: how far each is sent, and how its consumer
-//! decided. Each look-up gives what `trace_events` says of all the events so far.
+//! decided. Each look-up gives what `trace_events` says of all the events so far. A delivery that is finished can be let go, with
+//! the delivery from a client that it carries: the table keeps nothing of it, and a ghost list has the number of the one from a
+//! client, so that what is promised of all others stays.
 //!
 //! - `sent`: a delivery to a client from its first part on, with its consumer's decision (`decided`), and how it goes on with
 //!   the payload that it carries (`payload`);

@@ -18,6 +18,7 @@ ghost use Rattle.trace_events.specs.History.{history};
 ghost use Rattle.trace_clauses.specs.Clauses.{first_broken};
 ghost use Rattle.trace_clauses.specs.TransferClause.{is_payload_so_far};
 ghost use Rattle.state_outgoing.specs.Given.{gives, says};
+ghost use Rattle.state_outgoing.specs.LetGo.{is_done, is_finished};
 ghost use Rattle.state_outgoing.specs.Sent as kept;
 ghost use Rattle.state_outgoing.specs.Sent.{IsEntry, Follows, Begins};
 ghost use Rattle.state_outgoing.specs.SentViews.{sent_view, decided_view};
@@ -177,6 +178,21 @@ impl SentDelivery {
             result ≡ kept.is_left_unsettled history (sent_view self.now).delivery }
     {
         self.is_unsettled
+    }
+
+    /// It is finished: its last part is written, and it is not unsettled any more.
+    pub fn is_done(&self) -> bool
+        ensures stored { result ≡ is_done (sent_view self.now) }
+        ensures known { (history : Events) → IsEntry history (sent_view self.now) →
+            result ≡ is_finished history (sent_view self.now).delivery }
+    {
+        self.says_done()
+    }
+
+    fn says_done(&self) -> bool
+        ensures { result ≡ is_done (sent_view self.now) }
+    {
+        self.is_sent && !self.is_unsettled
     }
 
     /// The router is to settle it with its consumer, given whether it carries a delivery of which nothing more is to be told.

@@ -1,4 +1,4 @@
-use Rattle.std.proofs.Common.{nat_eq, subst, ◌<◌, ◌≤◌}
+use Rattle.std.proofs.Common.{subst, ◌<◌, ◌≤◌}
 use Rattle.number_groups.specs.Numbers.{is_among}
 use Rattle.number_groups.specs.Groups.{numbers}
 use Rattle.number_groups.specs.Ids.{same_id}

@@ -14,7 +14,7 @@ returns-clause-grouped c = λ grouped none.
     let x = sent_view c.in-Some.own in
     let begun : sent_begun (event_view c.args.event.now) ≡ Some x = search rules in
     let number : x.delivery.number ≡ c.args.event.now.number = begun-own (event_view c.args.event.now) x begun in
-    let moved : (n : ℕ) → sent_in (record { alloc = c.args.self.now.alloc; entries = c.insert.new.self; groups = c.put.new.self; begun = c.args.self.now.begun }) n ≡ (if c.args.event.now.number == n then Some x else sent_in c.args.self.now n) = search rules in
+    let moved : (n : ℕ) → sent_in (record { alloc = c.args.self.now.alloc; entries = c.insert.new.self; groups = c.put.new.self; begun = c.args.self.now.begun; let_go = c.args.self.now.let_go }) n ≡ (if c.args.event.now.number == n then Some x else sent_in c.args.self.now n) = search rules in
     let put : IsPut x.delivery x.is_unsettled c.args.self.now.groups c.put.new.self =
     subst (λ (j : Outgoing). IsPut j x.is_unsettled c.args.self.now.groups c.put.new.self) c.delivery.ensures
     (subst (λ b. IsPut (outgoing_view c.delivery.result) b c.args.self.now.groups c.put.new.self) c.is_unsettled.ensures.stored c.in_ok-put.ensures.put) in

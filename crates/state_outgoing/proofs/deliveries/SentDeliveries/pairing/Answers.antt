@@ -8,10 +8,10 @@ use Rattle.state_outgoing.proofs.AnswersKnown.{given-known, pairing-table}
 use Rattle.state_outgoing.proofs.deliveries.SentDeliveries.pairing.Goals as goal
 
 pub returns-clause-value : goal.returns-clause-value
-returns-clause-value c = λ rules records is.
+returns-clause-value c = λ rules records is stays.
     let past = history rules records in
     c.given.ensures
-    ∙ pairing-table rules past (history-judged rules records) c.args.self.now is (incoming_view c.args.delivery.now) c.carrier_of.result (c.carrier_of.ensures past is)
+    ∙ pairing-table rules past (history-judged rules records) c.args.self.now is (incoming_view c.args.delivery.now) stays c.carrier_of.result (c.carrier_of.ensures.known past is)
 
 pub returns-clause-known : goal.returns-clause-known
 returns-clause-known c = λ rules records is.

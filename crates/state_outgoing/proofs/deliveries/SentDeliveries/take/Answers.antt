@@ -1,22 +1,28 @@
-use Rattle.std.proofs.Common.{◌≡◌, sym, ap, subst, ◌∙◌, ℕ, ◌||◌, map, Some, false, ◌∷◌}
+use Rattle.std.proofs.Common.{◌≡◌, sym, ap, ◌∙◌, ℕ, ◌||◌, List, map, Some, None, nat_eq, false, ◌∷◌, if◌then◌else◌}
 use Rattle.std.specs.List.{list_any}
+use Rattle.indexmap.specs.IndexMap.{get}
 use Rattle.number_groups.specs.Numbers.{is_among}
 use Rattle.trace_events.specs.History.{history}
 use Rattle.trace_events.specs.Incoming.{incoming_at}
 use Rattle.trace_events.proofs.Judged.{AreJudged, history-judged}
 use Rattle.trace_values.specs.View.{event_view, link_view}
 use Rattle.state_outgoing.specs.Given.{gives, says}
+use Rattle.state_outgoing.specs.LastBegun.{carrier_number}
+use Rattle.state_outgoing.specs.LetGo.{is_let_go, names_let_go, kept_at}
 use Rattle.state_outgoing.specs.Sent.{Sent, sent_begun}
 use Rattle.state_outgoing.specs.SentTouched.{touches}
-use Rattle.state_outgoing.specs.SentTables.{AreBegun, sent_in}
+use Rattle.state_outgoing.specs.SentTables.{sent_in}
 use Rattle.state_outgoing.specs.declared.begun.LastNumbers.{LastNumbers}
+use Rattle.state_outgoing.proofs.Carriers.{carrier-kept}
+use Rattle.state_outgoing.proofs.LastBegun.{last-moved}
 use Rattle.state_outgoing.proofs.SentFound.{ended-among, found}
+use Rattle.state_outgoing.proofs.SentKept.{entry-law, over-next}
 use Rattle.state_outgoing.proofs.SentTaken.{mid-none, on, taken}
 use Rattle.state_outgoing.proofs.VerdictsGiven.{given-stands, incoming-number, link-number, told-both}
 use Rattle.state_outgoing.proofs.deliveries.SentDeliveries.take.Goals as goal
 
 pub returns-clause-kept : goal.returns-clause-kept
-returns-clause-kept c = λ rules records r next table ends.
+returns-clause-kept c = λ rules records r next table ends apart.
     let e = event_view c.args.event.now in
     let past = history rules records in
     let were : AreJudged rules past = history-judged rules records in
@@ -26,15 +32,26 @@ returns-clause-kept c = λ rules records r next table ends.
     let mid = sent_in c.touch_all.new.self in
     let all = is_among c.in_ok-touched.touched in
     let groups = c.args.self.now.groups in
+    let gone = c.args.self.now.let_go.items in
+    let same = c.in_ok-begin.ensures.same ∙ c.in_ok-given.ensures.same in
+    let still : (n : ℕ) → (get nat_eq c.begin.new.self.begun.on_link n ≡ get nat_eq c.args.self.now.begun.on_link n) × (get nat_eq c.begin.new.self.begun.carriers n ≡ get nat_eq c.args.self.now.begun.carriers n) =
+    λ n. (ap (λ (b : LastNumbers). get nat_eq b.on_link n) same, ap (λ (b : LastNumbers). get nat_eq b.carriers n) same) in
+    let let_go : c.begin.new.self.let_go.items ≡ gone = c.in_ok-begin.ensures.gone ∙ c.in_ok-given.ensures.gone in
     let off : (n : ℕ) (x : Sent) → old n ≡ Some x → all n ≡ false → touches e x ≡ false = λ n x at none.
     found groups old table.groups n x at e ended c.in_ok-touched.ensures.counted
-    (ended-among rules past were groups old table.groups table.entries e ended (λ l live over. (ends l).1 (live, over)) n x at)
+    (ended-among rules past were groups old table.groups (entry-law c.args.self.now past table.entries) e ended (λ l live over. (ends l).1 (live, over)) n x at)
     (sym (c.in_ok-touched.ensures.touched n) ∙ none) in
     record {
-      entries = taken rules e past are old mid (sent_in c.begin.new.self) all table.entries off c.in_ok-given.ensures.touched c.in_ok-begin.ensures.begun;
+      entries = λ n. taken rules e past are gone apart old mid (sent_in c.begin.new.self) all table.entries off c.in_ok-given.ensures.touched c.in_ok-begin.ensures.begun n
+          ∙ ap (λ (g : List (ℕ × Unit {0})). kept_at g n (e ∷ past)) (sym let_go);
       groups = c.in_ok-begin.ensures.grouped (c.in_ok-given.ensures.grouped table.groups)
-          (mid-none rules e past are old mid (sent_in c.begin.new.self) all table.entries off c.in_ok-given.ensures.touched c.in_ok-begin.ensures.begun);
-      begun = c.in_ok-take.ensures past (subst (λ (b : LastNumbers). AreBegun b past) (sym (c.in_ok-begin.ensures.same ∙ c.in_ok-given.ensures.same)) table.begun);
+          (mid-none rules e past are gone apart old mid (sent_in c.begin.new.self) all table.entries off c.in_ok-given.ensures.touched c.in_ok-begin.ensures.begun);
+      begun = record {
+        on_link = λ n. last-moved e past n _ _ ((still n).0 ∙ table.begun.on_link n) (c.in_ok-take.ensures.on_link n);
+        carriers = λ n. carrier-kept gone n e apart past _ _ ((still n).1 ∙ table.begun.carriers n) (c.in_ok-take.ensures.carriers n)
+            ∙ ap (λ (g : List (ℕ × Unit {0})). if is_let_go g n then None else carrier_number n (e ∷ past)) (sym let_go);
+      };
+      finished = λ j has named. over-next gone rules e past are apart table.finished j has (sym (ap (λ (g : List (ℕ × Unit {0})). names_let_go g j.note) let_go) ∙ named);
     }
 
 pub returns-clause-given : goal.returns-clause-given
@@ -49,7 +66,7 @@ returns-clause-given c = λ rules records r next table ends link n l d at is awa
     let groups = c.args.self.now.groups in
     let off : (m : ℕ) (x : Sent) → old m ≡ Some x → is_among touched m ≡ false → touches e x ≡ false = λ m x has none.
     found groups old table.groups m x has e ended c.in_ok-touched.ensures.counted
-    (ended-among rules past were groups old table.groups table.entries e ended (λ k live over. (ends k).1 (live, over)) m x has)
+    (ended-among rules past were groups old table.groups (entry-law c.args.self.now past table.entries) e ended (λ k live over. (ends k).1 (live, over)) m x has)
     (sym (c.in_ok-touched.ensures.touched m) ∙ none) in
     let here : l.number ≡ link = link-number past link l at in
     let named : d.number ≡ n = incoming-number (e ∷ past) n d is in
@@ -57,4 +74,4 @@ returns-clause-given c = λ rules records r next table ends link n l d at is awa
     told-both _ _ _ _ _ (c.in_ok-push_some.ensures (says link n outcome)) (c.in_ok-given.ensures.given link n outcome) (c.in_ok-begin.ensures.given link n outcome)
     ∙ (sym (ap (λ (m : ℕ). list_any (λ k. gives m n outcome (on e (old k))) touched || gives m n outcome (sent_begun e)) here)
     ∙ (sym (ap (λ (m : ℕ). list_any (λ k. gives l.number m outcome (on e (old k))) touched || gives l.number m outcome (sent_begun e)) named)
-    ∙ given-stands rules e past are next.1 d own l awaits outcome old table.entries touched off))
+    ∙ given-stands rules e past are next.1 d own l awaits outcome c.args.self.now.let_go.items table.finished old table.entries touched off))

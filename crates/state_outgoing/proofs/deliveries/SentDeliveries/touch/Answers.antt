@@ -16,7 +16,7 @@ returns-clause-grouped c = λ grouped.
     let number : x.delivery.number ≡ c.args.number = subst (λ (o : _). IfSome o (λ (z : Sent). z.delivery.number ≡ c.args.number)) at (grouped.numbered c.args.number) in
     let same : y.delivery ≡ x.delivery = ap (λ (z : Sent). z.delivery) c.in_ok-take.ensures.next in
     let own : y.delivery.number ≡ c.args.number = ap (λ (j : Outgoing). j.number) same ∙ number in
-    let moved : (n : ℕ) → sent_in (record { alloc = c.args.self.now.alloc; entries = c.get_mut.follows.lender c.take.new.self; groups = c.put.new.self; begun = c.args.self.now.begun }) n ≡ (if c.args.number == n then Some y else sent_in c.args.self.now n) = search rules in
+    let moved : (n : ℕ) → sent_in (record { alloc = c.args.self.now.alloc; entries = c.get_mut.follows.lender c.take.new.self; groups = c.put.new.self; begun = c.args.self.now.begun; let_go = c.args.self.now.let_go }) n ≡ (if c.args.number == n then Some y else sent_in c.args.self.now n) = search rules in
     let put : IsPut y.delivery y.is_unsettled c.args.self.now.groups c.put.new.self =
     subst (λ (j : Outgoing). IsPut j y.is_unsettled c.args.self.now.groups c.put.new.self) c.delivery.ensures
     (subst (λ b. IsPut (outgoing_view c.delivery.result) b c.args.self.now.groups c.put.new.self) c.is_unsettled.ensures.stored c.in_ok-put.ensures.put) in

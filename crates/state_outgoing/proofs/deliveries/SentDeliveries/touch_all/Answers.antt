@@ -9,7 +9,7 @@ use Rattle.state_outgoing.proofs.SentTaken.{nothing-moved, all-moved, still-with
 use Rattle.state_outgoing.proofs.deliveries.SentDeliveries.touch_all.Goals as goal
 
 pub loop-number-init : goal.loop-number-init
-loop-number-init c = ((λ n is. is), (λ n. nothing-moved (event_view c.args.event.now) (sent_in c.args.self.now n) (is_among c.args.touched n)), (λ grouped. grouped), refl, (λ link n outcome. ap (λ (vs : List CopyVerdict). list_any (says link n outcome) vs || list_any (λ m. gives link n outcome (on (event_view c.args.event.now) (sent_in c.args.self.now m))) c.args.touched) c.new-given.ensures.items))
+loop-number-init c = ((λ n is. is), (λ n. nothing-moved (event_view c.args.event.now) (sent_in c.args.self.now n) (is_among c.args.touched n)), (λ grouped. grouped), refl, refl, (λ link n outcome. ap (λ (vs : List CopyVerdict). list_any (says link n outcome) vs || list_any (λ m. gives link n outcome (on (event_view c.args.event.now) (sent_in c.args.self.now m))) c.args.touched) c.new-given.ensures.items))
 
 pub loop-number-smaller : goal.loop-number-smaller
 loop-number-smaller c = let len = c.in-Some.ensures.len in omega (arith, len)
@@ -24,8 +24,9 @@ loop-number-preserved c =
           c.loop-number.invariant.0 c.loop-number.invariant.1 c.in-Some.ensures.left left c.in_ok-touch.ensures.touched,
       (λ grouped. c.in_ok-touch.ensures.grouped (c.loop-number.invariant.2 grouped)),
       c.in_ok-touch.ensures.same ∙ c.loop-number.invariant.3,
+      c.in_ok-touch.ensures.gone ∙ c.loop-number.invariant.4,
       λ link n outcome. said-one (λ m. gives link n outcome (on e (sent_in c.args.self.now m))) c.loop-number.touched c.pop.new.self c.in-Some.number c.in-Some.ensures.last _ _ _ _
-          (c.loop-number.invariant.4 link n outcome) (c.in_ok-push_some.ensures (says link n outcome))
+          (c.loop-number.invariant.5 link n outcome) (c.in_ok-push_some.ensures (says link n outcome))
           (c.in_ok-touch.ensures.given link n outcome
           ∙ ap (gives link n outcome) (here e (sent_in c.args.self.now) (sent_in c.loop-number.self) (sent_in c.touch.new.self) (is_among c.args.touched) (is_among c.loop-number.touched) (is_among c.pop.new.self) c.in-Some.number
           c.loop-number.invariant.0 c.loop-number.invariant.1 c.in-Some.ensures.left left c.in_ok-touch.ensures.touched c.in-Some.number refl)),
@@ -38,10 +39,13 @@ returns-clause-touched c = λ n.
 
 pub returns-clause-given : goal.returns-clause-given
 returns-clause-given c = λ link n outcome.
-    said-all (λ m. gives link n outcome (on (event_view c.args.event.now) (sent_in c.args.self.now m))) c.loop-number.touched c.in_default.ensures.found.1 _ _ (c.loop-number.invariant.4 link n outcome)
+    said-all (λ m. gives link n outcome (on (event_view c.args.event.now) (sent_in c.args.self.now m))) c.loop-number.touched c.in_default.ensures.found.1 _ _ (c.loop-number.invariant.5 link n outcome)
 
 pub returns-clause-grouped : goal.returns-clause-grouped
 returns-clause-grouped c = c.loop-number.invariant.2
 
 pub returns-clause-same : goal.returns-clause-same
 returns-clause-same c = c.loop-number.invariant.3
+
+pub returns-clause-gone : goal.returns-clause-gone
+returns-clause-gone c = c.loop-number.invariant.4

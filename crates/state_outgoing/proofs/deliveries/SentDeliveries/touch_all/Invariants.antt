@@ -16,6 +16,7 @@ invariant-loop-number l =
     × ((n : ℕ) → sent_in l.self n ≡ (if is_among l.fn.touched n && not (is_among l.touched n) then on (event_view l.event) (sent_in l.fn.self n) else sent_in l.fn.self n))
     × (AreGrouped l.fn.self.groups (sent_in l.fn.self) → AreGrouped l.self.groups (sent_in l.self))
     × (l.self.begun ≡ l.fn.self.begun)
+    × (l.self.let_go.items ≡ l.fn.self.let_go.items)
     × ((link n : ℕ) (outcome : Outcome) → list_any (says link n outcome) l.given.items || list_any (λ m. gives link n outcome (option_map (sent_next (event_view l.event)) (sent_in l.fn.self m))) l.touched
     ≡ list_any (λ m. gives link n outcome (option_map (sent_next (event_view l.event)) (sent_in l.fn.self m))) l.fn.touched)
 
