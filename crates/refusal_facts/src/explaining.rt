@@ -40,12 +40,12 @@ pub fn explain<'a, P: Questions<'a>, C: Payloads<'a>>(
 ) -> Option<Reason<'a>>
     requires few { P.is_short past.now }
     // There is a reason just where a clause is broken, and it names the first one.
-    ensures clause { (history : Events) → P.stands_for past.now rules.now history → StandsLive (event_view event.now) history → NamesLive (event_view event.now) history →
+    ensures clause { (history : Events) → P.stands_for past.now rules.now history → P.is_whole past.now → StandsLive (event_view event.now) history → NamesLive (event_view event.now) history →
         (event_view event.now).number ≡ length history →
         CarriesKnown (λ n. P.knows_number past.now n history) (λ j. P.knows_outgoing past.now j history) (event_view event.now) →
         (option_map (λ reason. reason.clause) result ≡ law.broken_clause rules.now (event_view event.now) history) }
     // It has what this clause compares, and each number is the law's at this event.
-    ensures facts { (history : Events) → P.stands_for past.now rules.now history → C.tells_of contents.now rules.now history → ((d : law_events.Incoming) → P.knows_incoming past.now d history → C.knows contents.now d) →
+    ensures facts { (history : Events) → P.stands_for past.now rules.now history → P.is_whole past.now → C.tells_of contents.now rules.now history → ((d : law_events.Incoming) → P.knows_incoming past.now d history → C.knows contents.now d) →
         ((j : law_events.Outgoing) → P.knows_outgoing past.now j history → C.knows_sent contents.now j history) →
         StandsLive (event_view event.now) history → NamesLive (event_view event.now) history →
         (event_view event.now).number ≡ length history →
@@ -73,13 +73,13 @@ fn facts_of<'a, P: Questions<'a>, C: Payloads<'a>>(
     clause: Clause,
 ) -> Facts<'a>
     requires few { P.is_short past.now }
-    ensures facts { (history : Events) → P.stands_for past.now rules.now history → C.tells_of contents.now rules.now history → ((d : law_events.Incoming) → P.knows_incoming past.now d history → C.knows contents.now d) →
+    ensures facts { (history : Events) → P.stands_for past.now rules.now history → P.is_whole past.now → C.tells_of contents.now rules.now history → ((d : law_events.Incoming) → P.knows_incoming past.now d history → C.knows contents.now d) →
         ((j : law_events.Outgoing) → P.knows_outgoing past.now j history → C.knows_sent contents.now j history) →
         StandsLive (event_view event.now) history → NamesLive (event_view event.now) history →
         (event_view event.now).number ≡ length history →
         CarriesKnown (λ n. P.knows_number past.now n history) (λ j. P.knows_outgoing past.now j history) (event_view event.now) →
         AreFacts rules.now (λ n. P.knows_number past.now n history) (event_view event.now) history result }
-    ensures kind { (history : Events) → P.stands_for past.now rules.now history → has_facts rules.now (event_view event.now) history clause ≡ true → is_of clause result ≡ true }
+    ensures kind { (history : Events) → P.stands_for past.now rules.now history → P.is_whole past.now → has_facts rules.now (event_view event.now) history clause ≡ true → is_of clause result ≡ true }
 {
     match facts_by(past, contents, rules, event, clause) {
         Some(facts) => facts,
@@ -96,13 +96,13 @@ fn facts_by<'a, P: Questions<'a>, C: Payloads<'a>>(
     clause: Clause,
 ) -> Option<Facts<'a>>
     requires few { P.is_short past.now }
-    ensures facts { (history : Events) → P.stands_for past.now rules.now history → C.tells_of contents.now rules.now history → ((d : law_events.Incoming) → P.knows_incoming past.now d history → C.knows contents.now d) →
+    ensures facts { (history : Events) → P.stands_for past.now rules.now history → P.is_whole past.now → C.tells_of contents.now rules.now history → ((d : law_events.Incoming) → P.knows_incoming past.now d history → C.knows contents.now d) →
         ((j : law_events.Outgoing) → P.knows_outgoing past.now j history → C.knows_sent contents.now j history) →
         StandsLive (event_view event.now) history → NamesLive (event_view event.now) history →
         (event_view event.now).number ≡ length history →
         CarriesKnown (λ n. P.knows_number past.now n history) (λ j. P.knows_outgoing past.now j history) (event_view event.now) →
         IfSome result (AreFacts rules.now (λ n. P.knows_number past.now n history) (event_view event.now) history) }
-    ensures kind { (history : Events) → P.stands_for past.now rules.now history → has_facts rules.now (event_view event.now) history clause ≡ true → is_some_and result (is_of clause) ≡ true }
+    ensures kind { (history : Events) → P.stands_for past.now rules.now history → P.is_whole past.now → has_facts rules.now (event_view event.now) history clause ≡ true → is_some_and result (is_of clause) ≡ true }
 {
     match clause {
         Clause::L1 => frame_or_writing(past, event),

@@ -100,9 +100,9 @@ pub(crate) fn payload_facts<'a, P: Questions<'a>, C: Payloads<'a>>(
     rules: &RuleSet,
     event: &Event<'a, 'a>,
 ) -> Option<PayloadFacts<'a>>
-    ensures facts { (history : Events) → P.stands_for past.now rules.now history → C.tells_of contents.now rules.now history → ((d : law_events.Incoming) → P.knows_incoming past.now d history → C.knows contents.now d) →
+    ensures facts { (history : Events) → P.stands_for past.now rules.now history → P.is_whole past.now → C.tells_of contents.now rules.now history → ((d : law_events.Incoming) → P.knows_incoming past.now d history → C.knows contents.now d) →
         IfSome (event_view event.now).outgoing (λ j. C.knows_sent contents.now j history) → IfSome result (ArePayload rules.now (event_view event.now) history) }
-    ensures there { (history : Events) → P.stands_for past.now rules.now history → is_some result ≡ (is_some (said.out_transfer (event_view event.now)) && (is_some (to_carry rules.now (event_view event.now).note history) && is_some (event_view event.now).outgoing)) }
+    ensures there { (history : Events) → P.stands_for past.now rules.now history → P.is_whole past.now → is_some result ≡ (is_some (said.out_transfer (event_view event.now)) && (is_some (to_carry rules.now (event_view event.now).note history) && is_some (event_view event.now).outgoing)) }
 {
     let spoken = event.out_spoken()?;
     let transfer = event.out_transfer()?;

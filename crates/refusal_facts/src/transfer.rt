@@ -220,7 +220,7 @@ fn uncarried<'a, P: Outcomes<'a>>(past: &P, rules: &RuleSet, note: Note) -> Name
 /// The delivery that a note names.
 #[tactic(auto, using(crate::proofs::NamedDeliveries::uncarried_named))]
 fn named_by<'a, P: Outcomes<'a> + Carriage<'a>>(past: &P, rules: &RuleSet, note: Note) -> Named<'a>
-    ensures { (history : Events) → P.stands_for past.now rules.now history → IsNamed rules.now (λ n. P.knows_number past.now n history) history note result }
+    ensures { (history : Events) → P.stands_for past.now rules.now history → P.is_whole past.now → IsNamed rules.now (λ n. P.knows_number past.now n history) history note result }
 {
     match past.to_carry(rules, note) {
         Some(delivery) => Named::Carried(delivery),
@@ -235,7 +235,7 @@ fn address_carried<'a, P: Carriage<'a>, C: Payloads<'a>>(
     rules: &RuleSet,
     note: Note,
 ) -> Option<&'a [u8]>
-    ensures { (history : Events) → P.stands_for past.now rules.now history → C.tells_of contents.now rules.now history → ((d : law_events.Incoming) → P.knows_incoming past.now d history → C.knows contents.now d) →
+    ensures { (history : Events) → P.stands_for past.now rules.now history → P.is_whole past.now → C.tells_of contents.now rules.now history → ((d : law_events.Incoming) → P.knows_incoming past.now d history → C.knows contents.now d) →
         (option_map (λ address. address.now) result ≡ option_map (λ d. received.address_of d history) (transfers.to_carry rules.now note history)) }
 {
     match past.to_carry(rules, note) {
@@ -251,7 +251,7 @@ pub(crate) fn carrying_facts<'a, P: Outcomes<'a> + Carriage<'a>, C: Payloads<'a>
     rules: &RuleSet,
     event: &Event<'a, 'a>,
 ) -> Option<CarryingFacts<'a>>
-    ensures facts { (history : Events) → P.stands_for past.now rules.now history → C.tells_of contents.now rules.now history → ((d : law_events.Incoming) → P.knows_incoming past.now d history → C.knows contents.now d) →
+    ensures facts { (history : Events) → P.stands_for past.now rules.now history → P.is_whole past.now → C.tells_of contents.now rules.now history → ((d : law_events.Incoming) → P.knows_incoming past.now d history → C.knows contents.now d) →
         IfSome result (AreCarrying rules.now (λ n. P.knows_number past.now n history) (event_view event.now) history) }
     ensures there { is_some result ≡ (is_some (said.out_transfer (event_view event.now)) && is_some (event_view event.now).link) }
 {
@@ -302,9 +302,9 @@ pub(crate) fn order_facts<'a, P: Questions<'a>, C: Payloads<'a>>(
     event: &Event<'a, 'a>,
 ) -> Option<OrderFacts<'a>>
     requires few { P.is_short past.now }
-    ensures facts { (history : Events) → P.stands_for past.now rules.now history → C.tells_of contents.now rules.now history → ((d : law_events.Incoming) → P.knows_incoming past.now d history → C.knows contents.now d) →
+    ensures facts { (history : Events) → P.stands_for past.now rules.now history → P.is_whole past.now → C.tells_of contents.now rules.now history → ((d : law_events.Incoming) → P.knows_incoming past.now d history → C.knows contents.now d) →
         NamesLive (event_view event.now) history → IfSome result (AreOrder rules.now (event_view event.now) history) }
-    ensures there { (history : Events) → P.stands_for past.now rules.now history → is_some result ≡ (is_some (event_view event.now).link && is_some (transfers.to_carry rules.now (event_view event.now).note history)) }
+    ensures there { (history : Events) → P.stands_for past.now rules.now history → P.is_whole past.now → is_some result ≡ (is_some (event_view event.now).link && is_some (transfers.to_carry rules.now (event_view event.now).note history)) }
 {
     let link = event.link?;
     let delivery = past.to_carry(rules, event.note)?;

@@ -68,7 +68,7 @@ fn broken_by_transfer<'a, P: Counts + Carriage<'a> + Outcomes<'a>>(
     payload: &'a [u8],
 ) -> Option<Clause>
     requires few { P.is_short past.now }
-    ensures { (history : Events) → P.stands_for past.now rules.now history → StandsLive (event_view event.now) history → NamesLive (event_view event.now) history →
+    ensures { (history : Events) → P.stands_for past.now rules.now history → P.is_whole past.now → StandsLive (event_view event.now) history → NamesLive (event_view event.now) history →
         (event_view event.now).number ≡ length history →
         CarriesKnown (λ n. P.knows_number past.now n history) (λ j. P.knows_outgoing past.now j history) (event_view event.now) →
         (result ≡ find (λ clause. not (law.transfer_meets rules.now (event_view event.now) (transfer_fields transfer.now) payload.now history clause)) law.clauses) }
@@ -174,7 +174,7 @@ fn broken_by_spoken<'a, 'm: 'a, P: Questions<'a>>(
     spoken: &Spoken<'m>,
 ) -> Option<Clause>
     requires few { P.is_short past.now }
-    ensures { (history : Events) → P.stands_for past.now rules.now history → StandsLive (event_view event.now) history → NamesLive (event_view event.now) history →
+    ensures { (history : Events) → P.stands_for past.now rules.now history → P.is_whole past.now → StandsLive (event_view event.now) history → NamesLive (event_view event.now) history →
         (event_view event.now).number ≡ length history →
         CarriesKnown (λ n. P.knows_number past.now n history) (λ j. P.knows_outgoing past.now j history) (event_view event.now) →
         (result ≡ law.broken_by rules.now (event_view event.now) (frame_view frame.now) history (Some (spoken_view spoken.now))) }
@@ -206,7 +206,7 @@ pub fn broken_clause<'a, 'm: 'a, P: Questions<'a>>(
     event: &Event<'_, 'm>,
 ) -> Option<Clause>
     requires few { P.is_short past.now }
-    ensures { (history : Events) → P.stands_for past.now rules.now history → StandsLive (event_view event.now) history → NamesLive (event_view event.now) history →
+    ensures { (history : Events) → P.stands_for past.now rules.now history → P.is_whole past.now → StandsLive (event_view event.now) history → NamesLive (event_view event.now) history →
         (event_view event.now).number ≡ length history →
         CarriesKnown (λ n. P.knows_number past.now n history) (λ j. P.knows_outgoing past.now j history) (event_view event.now) →
         (result ≡ law.broken_clause rules.now (event_view event.now) history) }

@@ -50,6 +50,9 @@ pub trait History {
 
     /// What it stands for is short enough to be counted in 64 bits.
     ghost is_short: { Self → Type 0 };
+
+    /// It has kept all that a transfer may name, also what no lawful one names any more.
+    ghost is_whole: { Self → Type 0 };
 }
 
 /// All questions.

@@ -29,6 +29,8 @@ impl<'p, 'a> History for Past<'p, 'a> {
     ghost knows_attach = { λ past session handle history. Unit {0} };
 
     ghost is_short = { λ past. length (events past) < 2 ^ 64 };
+
+    ghost is_whole = { λ past. Unit {0} };
 }
 
 impl<'p, 'a> Questions<'a> for Past<'p, 'a> {}

@@ -132,7 +132,7 @@ fn is_first_to<'a, P: Carriage<'a> + Outcomes<'a>>(
 }
 
 fn is_in_order<'a, P: Carriage<'a>>(past: &P, link: &Link, delivery: &Incoming) -> bool
-    ensures { (rules : RuleSet) (history : Events) → P.stands_for past.now rules history → IsLiveLink (link_view link.now) history → P.knows_incoming past.now (incoming_view delivery.now) history →
+    ensures { (rules : RuleSet) (history : Events) → P.stands_for past.now rules history → P.is_whole past.now → IsLiveLink (link_view link.now) history → P.knows_incoming past.now (incoming_view delivery.now) history →
         (result ≡ law.is_in_order (link_view link.now) history (incoming_view delivery.now)) }
 {
     match past.carried_before(link) {
@@ -150,7 +150,7 @@ pub(crate) fn may_go_to<'a, P: Carriage<'a> + Outcomes<'a>>(
     delivery: &Incoming,
 ) -> bool
     requires few { P.is_short past.now }
-    ensures { (history : Events) → P.stands_for past.now rules.now history → IsLiveLink (link_view link.now) history → P.knows_incoming past.now (incoming_view delivery.now) history →
+    ensures { (history : Events) → P.stands_for past.now rules.now history → P.is_whole past.now → IsLiveLink (link_view link.now) history → P.knows_incoming past.now (incoming_view delivery.now) history →
         (result ≡ (law.is_first_to rules.now (link_view link.now) history (incoming_view delivery.now) && law.is_in_order (link_view link.now) history (incoming_view delivery.now))) }
 {
     is_first_to(past, rules, link, delivery) && is_in_order(past, link, delivery)

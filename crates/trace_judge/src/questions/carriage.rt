@@ -26,7 +26,7 @@ pub trait Carriage<'a>: History {
 
     /// The incoming delivery that a note names, where it may go to consumers: it is complete, and not gone.
     fn to_carry(&self, rules: &RuleSet, note: Note) -> Option<Incoming<'a>>
-        ensures value { (history : Events) → Self.stands_for self.now rules.now history →
+        ensures value { (history : Events) → Self.stands_for self.now rules.now history → Self.is_whole self.now →
             (option_map incoming_view result ≡ transfers.to_carry rules.now note history) }
         ensures known { (history : Events) → Self.stands_for self.now rules.now history →
             IfSome (option_map incoming_view result) (λ d. Self.knows_incoming self.now d history) };
@@ -38,7 +38,7 @@ pub trait Carriage<'a>: History {
 
     /// The incoming delivery that the last one begun on the link carries.
     fn carried_before(&self, link: &Link) -> Option<Incoming<'a>>
-        ensures value { (rules : RuleSet) (history : Events) → Self.stands_for self.now rules history → IsLiveLink (link_view link.now) history →
+        ensures value { (rules : RuleSet) (history : Events) → Self.stands_for self.now rules history → Self.is_whole self.now → IsLiveLink (link_view link.now) history →
             (option_map incoming_view result ≡ transfers.carried_before (link_view link.now) history) }
         ensures known { (rules : RuleSet) (history : Events) → Self.stands_for self.now rules history → IsLiveLink (link_view link.now) history →
             IfSome (option_map incoming_view result) (λ d. Self.knows_incoming self.now d history) };
