@@ -33,7 +33,7 @@ module _ (rules : RuleSet) (past : List Event) (connections : Connections) (link
     (sent : SentDeliveries) (verdicts : Verdicts) (are : StandFor rules connections links consumers deliveries consumer_links copies sent verdicts past) (r : Record) where
   begun-or-going : (j : Outgoing) → BeginsOrGoesOn past j → KnowsOrBegins sent past j
   begun-or-going j (inl begins) = inr begins
-  begun-or-going j (inr (l, live, going)) = inl (progress-knows rules past (judged-of rules past are.0) sent are.1.1.1.1.1.1.1.1.0.entries l j going)
+  begun-or-going j (inr (l, live, going)) = inl (progress-knows rules past (judged-of rules past are.0) sent are.1.1.1.1.1.1.1.1.0 l j going)
 
   pub next-carries : CarriesKnown (λ n. has_number deliveries n ≡ true) (λ j. KnowsOrBegins sent past j) (unopened rules past r)
   next-carries = carries-known rules past deliveries (KnowsOrBegins sent past) are.0 are.1.1.1.1.0 begun-or-going r.connection (moment_of r.what) r.note

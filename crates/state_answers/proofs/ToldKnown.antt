@@ -23,6 +23,8 @@ use Rattle.state_incoming.specs.HeldTables.{IsHistory, IsTable}
 use Rattle.state_incoming.specs.declared.deliveries.Deliveries.{Deliveries}
 use Rattle.state_incoming.proofs.GroupAnswers.{found-passes, judged-of}
 use Rattle.state_incoming.proofs.HeldAnswers.{undecided-kept}
+use Rattle.state_incoming.proofs.OverKnown as over
+use Rattle.state_incoming.proofs.OverKnown.{table-there}
 
 -- whatever holds of each undecided delivery's number holds of the one whose outcome is told
 module _ (rules : RuleSet) (past : List Event) (are : AreJudged rules past) (Holds : ℕ → Type 0)
@@ -61,7 +63,7 @@ module _ (rules : RuleSet) (past : List Event) (table : Deliveries) (are : IsHis
   pub undecided-has : (d : Incoming) → incoming_at d.number past ≡ Some d → is_undecided rules d past ≡ true → has_number table d.number ≡ true
   undecided-has d at undecided =
       ap is_some
-      (is.0 d.number
+      (table-there rules past table is.0 d.number (over.undecided-kept rules past (judged-of rules past are) table is.1.1 d.number d at undecided)
       ∙ (ap (λ (o : Option Incoming). option_map (held rules past) (where_passes (is_held rules past) o)) at
       ∙ ap (λ b. option_map (held rules past) (if b then Some d else None)) (undecided-kept rules past d undecided)))
 

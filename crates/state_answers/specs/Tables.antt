@@ -1,5 +1,5 @@
 -- What the tables stand for, all of them.
-use Rattle.std.specs.Prelude.{◌≡◌, ℕ, ◌+◌, List, None}
+use Rattle.std.specs.Prelude.{◌≡◌, ℕ, ◌+◌, List, [], None}
 use Rattle.capture_form.specs.Rules.{RuleSet}
 use Rattle.trace_events.specs.Event.{Event}
 use Rattle.trace_clauses.specs.Clauses.{first_broken}
@@ -22,12 +22,23 @@ use Rattle.state_verdicts.specs.Verdicts.{AreVerdicts}
 use Rattle.state_verdicts.specs.declared.verdicts.Verdicts.{Verdicts}
 use Rattle.state_answers.specs.declared.tables.Tables.{Tables}
 
--- each has what the law says of these events, which are those of some records judged by these rules, each of which meets the
--- clauses
+-- both tables of deliveries let the same ones from clients go
+abbrev pub AreLetGoAlike : Deliveries → SentDeliveries → Type 0
+AreLetGoAlike deliveries sent = sent.let_go.items ≡ deliveries.let_go.items
+
+-- no delivery was let go
+abbrev pub IsWhole : Deliveries → Type 0
+IsWhole deliveries = deliveries.let_go.items ≡ []
+
+abbrev pub AreWhole : Tables → Type 0
+AreWhole tables = IsWhole tables.deliveries
+
+-- each has what the law says of these events, but for deliveries that were let go; the events are those of some records judged by
+-- these rules, each of which meets the clauses
 abbrev pub StandFor : RuleSet → Connections → Links → Consumers → Deliveries → ConsumerLinks → Copies → SentDeliveries → Verdicts → List Event → Type 0
 StandFor rules connections links consumers deliveries consumer_links copies sent verdicts past =
     IsHistory rules past × (AreKept connections past × (AreLinked links past × (AreConsumers consumers past × (IsTable rules deliveries past
-    × (AreConsumerLinks consumer_links past × (AreCopies rules copies past × ((first_broken rules past ≡ None) × (sent_tables.IsTable sent past × AreVerdicts rules verdicts past))))))))
+    × (AreConsumerLinks consumer_links past × (AreCopies rules copies past × ((first_broken rules past ≡ None) × (sent_tables.IsTable sent past × (AreVerdicts rules verdicts past × AreLetGoAlike deliveries sent)))))))))
 
 abbrev pub AreTables : RuleSet → Tables → List Event → Type 0
 AreTables rules tables past =

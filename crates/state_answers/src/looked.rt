@@ -33,7 +33,7 @@ impl<'t> History for Looked<'t> {
     ghost use Rattle.std.specs.Prelude.{◌≡◌, is_some, true};
     ghost use Rattle.trace_clauses.specs.LinkClause.{asking};
     ghost use Rattle.trace_events.specs.Session.{has_unanswered_begin};
-    ghost use Rattle.state_answers.specs.Tables.{StandFor};
+    ghost use Rattle.state_answers.specs.Tables.{IsWhole, StandFor};
     ghost use Rattle.state_incoming.specs.EntryAnswers.{Knows, has_number};
     ghost use Rattle.state_outgoing.specs.SentAnswers.{KnowsOrBegins};
 
@@ -52,6 +52,8 @@ impl<'t> History for Looked<'t> {
     ghost knows_attach = { λ looked session handle history. is_some (asking session handle history) ≡ true };
 
     ghost is_short = { λ looked. Unit {0} };
+
+    ghost is_whole = { λ looked. IsWhole looked.deliveries.now };
 }
 
 impl<'t> Inputs<'t> for Looked<'t> {

@@ -6,7 +6,7 @@ ghost use Rattle.capture_form.specs.declared.records.Record.{Record};
 ghost use Rattle.trace_events.specs.History.{history};
 ghost use Rattle.state_addresses.specs.Addressed.{IsAddressed};
 ghost use Rattle.state_tables.specs.Connections.{IsLawfulNext};
-ghost use Rattle.state_answers.specs.Tables.{AreTables, StandFor, entries_of};
+ghost use Rattle.state_answers.specs.Tables.{AreTables, AreWhole, IsWhole, StandFor, entries_of};
 ghost use Rattle.trace_values.specs.View.{Events, event_view};
 
 use crate::looked::Looked;
@@ -30,6 +30,8 @@ pub struct Tables {
     copies: Copies,
     sent: SentDeliveries,
     verdicts: Verdicts,
+    /// The place, among the entries of deliveries from clients, of the one that has its turn to be let go.
+    turn: usize,
 }
 
 // Written out, and not derived, so that where one is let go the prover need not go through all that it owns.
@@ -45,6 +47,7 @@ impl Drop for Tables {
             copies: _,
             sent: _,
             verdicts: _,
+            turn: _,
         } = self;
     }
 }
@@ -52,7 +55,8 @@ impl Drop for Tables {
 impl Tables {
     /// No records.
     pub fn new(alloc: Global) -> Tables
-        ensures { (rules : RuleSet) → AreTables rules result [] }
+        ensures stand { (rules : RuleSet) → AreTables rules result [] }
+        ensures whole { AreWhole result }
     {
         Tables {
             alloc,
@@ -64,14 +68,16 @@ impl Tables {
             copies: Copies::new(alloc),
             sent: SentDeliveries::new(alloc),
             verdicts: Verdicts::new(alloc),
+            turn: 0,
         }
     }
 
     /// The tables, lent to be asked.
     pub fn looked(&self) -> Looked<'_>
-        ensures { (rules : RuleSet) (history : Events) → AreTables rules self.now history →
+        ensures stand { (rules : RuleSet) (history : Events) → AreTables rules self.now history →
             StandFor rules result.connections.now result.links.now result.consumers.now result.deliveries.now
             result.consumer_links.now result.copies.now result.sent.now result.verdicts.now history }
+        ensures whole { AreWhole self.now → IsWhole result.deliveries.now }
     {
         Looked {
             connections: &self.connections,
@@ -102,9 +108,10 @@ impl Tables {
     ///
     /// Memory was refused; then the tables may agree with no records any more.
     pub fn take(&mut self, rules: &RuleSet, event: &Event) -> Result<(), AllocError>
-        ensures { OnOk result ((records : List Record) (r : Record) → IsLawfulNext rules.now records r (event_view event.now) →
+        ensures stand { OnOk result ((records : List Record) (r : Record) → IsLawfulNext rules.now records r (event_view event.now) →
             AreTables rules.now self.old (history rules.now records) →
             AreTables rules.now self.new (event_view event.now ∷ history rules.now records)) }
+        ensures whole { OnOk result (AreWhole self.old → AreWhole self.new) }
     {
         let completed = self.deliveries.completed_for(event);
         self.take_addressed(rules, event, completed.octets())?;
@@ -122,10 +129,11 @@ impl Tables {
         event: &Event,
         address: &[u8],
     ) -> Result<(), AllocError>
-        ensures { OnOk result ((records : List Record) (r : Record) → IsLawfulNext rules.now records r (event_view event.now) →
+        ensures stand { OnOk result ((records : List Record) (r : Record) → IsLawfulNext rules.now records r (event_view event.now) →
             IsAddressed (event_view event.now) (history rules.now records) address.now →
             AreTables rules.now self.old (history rules.now records) →
             AreTables rules.now self.new (event_view event.now ∷ history rules.now records)) }
+        ensures whole { OnOk result (AreWhole self.old → AreWhole self.new) }
     {
         let ended = self.links.ended(self.alloc, event)?;
         let receivers = receivers_of(
@@ -151,5 +159,31 @@ impl Tables {
         self.links.take(event)?;
         self.connections.take(event)?;
         Ok(())
+    }
+
+    /// Lets the delivery go whose turn it is, with what carried it to a consumer, where nothing can come of it any more; else the next
+    /// one has its turn. It takes no memory, and its time does not grow with the tables. Which deliveries are kept matters to nobody
+    /// who asks of lawful records alone: whoever is to find the clause that a record breaks lets none go.
+    pub fn let_go_next(&mut self)
+        ensures { (rules : RuleSet) (records : List Record) → AreTables rules self.old (history rules records) →
+            AreTables rules self.new (history rules records) }
+    {
+        match self.deliveries.spent_at(self.turn) {
+            // The last entry has its place then.
+            Some(number) if self.sent.has_finished(number) => {
+                self.deliveries.let_go(number);
+                self.sent.let_go(number);
+            }
+            _ => self.turn = self.turn_behind(),
+        }
+    }
+
+    /// The place that has its turn behind this one.
+    fn turn_behind(&self) -> usize {
+        if self.turn < self.deliveries.count() {
+            self.turn + 1
+        } else {
+            0
+        }
     }
 }

@@ -4,9 +4,9 @@ use Rattle.trace_values.specs.View.{event_view}
 use Rattle.state_addresses.specs.Addressed.{IsAddressed}
 use Rattle.state_answers.proofs.tables.Tables.take.Goals as goal
 
-pub returns : goal.returns
-returns c = λ records r next tables.
+pub returns-clause-stand : goal.returns-clause-stand
+returns-clause-stand c = λ records r next tables.
     let rules = c.args.rules.now in
     let Own = IsAddressed (event_view c.args.event.now) (history rules records) in
     let own = subst Own (sym c.octets.ensures) (c.completed_for-completed.ensures.addressed rules records r next tables.1.1.1.1.0) in
-    c.in_ok-take_addressed.ensures records r next own tables
+    c.in_ok-take_addressed.ensures.stand records r next own tables

@@ -1,4 +1,4 @@
-use Rattle.std.proofs.Common.{sym, subst, ◌∷◌, ℕ, List}
+use Rattle.std.proofs.Common.{sym, subst, ◌∙◌, ◌∷◌, ℕ, List}
 use Rattle.trace_events.specs.History.{history}
 use Rattle.trace_events.proofs.Judged.{AreJudged, history-judged}
 use Rattle.trace_clauses.proofs.JudgedHistories.{judged-history}
@@ -10,10 +10,11 @@ use Rattle.state_addresses.specs.Copies.{AreDue, AreReceivers}
 use Rattle.state_addresses.specs.declared.copies.Receiver.{Receiver}
 use Rattle.state_verdicts.specs.Verdicts.{AreGiven}
 use Rattle.state_verdicts.specs.declared.verdicts.CopyVerdict.{CopyVerdict}
+use Rattle.state_answers.proofs.LetGoKnown.{begins-apart}
 use Rattle.state_answers.proofs.tables.Tables.take_addressed.Goals as goal
 
-pub returns : goal.returns
-returns c = λ records r next own tables.
+pub returns-clause-stand : goal.returns-clause-stand
+returns-clause-stand c = λ records r next own tables.
     let rules = c.args.rules.now in
     let e = event_view c.args.event.now in
     let past = history rules records in
@@ -39,10 +40,12 @@ returns c = λ records r next own tables.
     let links = c.in_ok-take-3.ensures.kept rules records r next.0 to_receivers receiving in
     let copies = c.in_ok-take-4.ensures.kept records r next tables.1.1.1.1.1.1.0 to_copies own received in
     let to_sent = subst Ended (sym c.deref-7.ensures.value) ended in
-    let sent = c.in_ok-given.ensures.kept rules records r next.0 tables.1.1.1.1.1.1.1.1.0 to_sent in
+    let alike = tables.1.1.1.1.1.1.1.1.1.1 in
+    let apart = begins-apart rules e past are next.1 c.args.self.now.deliveries tables.1.1.1.1.0.1.1 c.args.self.now.sent.let_go.items alike in
+    let sent = c.in_ok-given.ensures.kept rules records r next.0 tables.1.1.1.1.1.1.1.1.0 to_sent apart in
     let given = c.in_ok-given.ensures.given rules records r next tables.1.1.1.1.1.1.1.1.0 to_sent in
-    let verdicts = c.in_ok-take-5.ensures.kept rules records r next tables.1.1.1.1.1.1.1.1.1 (subst Owed (sym c.deref-8.ensures.value) due) (subst Given (sym c.deref-9.ensures.value) given)
+    let verdicts = c.in_ok-take-5.ensures.kept rules records r next tables.1.1.1.1.1.1.1.1.1.0 (subst Owed (sym c.deref-8.ensures.value) due) (subst Given (sym c.deref-9.ensures.value) given)
     (subst Ended (sym c.deref-10.ensures.value) ended) in (
       judged-history rules (e ∷ past) are,
-      (c.in_ok-take-7.ensures.kept rules records r next tables.1.0, (c.in_ok-take-6.ensures.kept rules records r next.0 linked, (consuming, (held, (links, (copies, (next.1, (sent, verdicts)))))))),
+      (c.in_ok-take-7.ensures.kept rules records r next tables.1.0, (c.in_ok-take-6.ensures.kept rules records r next.0 linked, (consuming, (held, (links, (copies, (next.1, (sent, (verdicts, c.in_ok-given.ensures.gone ∙ (alike ∙ sym c.in_ok-take-2.ensures.gone)))))))))),
     )

@@ -16,4 +16,4 @@ returns c = λ past stands knows.
     let BeginsIn : List Event → Type 0 = λ p. incoming_at d.number p ≡ Some d in
     let Is : List Event → Type 0 = λ p. c.whole_verdict.result ≡ whole_verdict rules d p in
     subst Is (sym h.1)
-    (c.whole_verdict.ensures rules h.0 (subst AreHere h.1 stands.1.1.1.1.1.1.1.1.1) (subst BeginsIn h.1 (knows-at rules past c.args.self.now.deliveries.now stands.1.1.1.1.0.0 d knows)))
+    (c.whole_verdict.ensures rules h.0 (subst AreHere h.1 stands.1.1.1.1.1.1.1.1.1.0) (subst BeginsIn h.1 (knows-at rules past c.args.self.now.deliveries.now stands.1.1.1.1.0.0 d knows)))
