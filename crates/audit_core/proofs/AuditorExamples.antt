@@ -39,7 +39,7 @@ some_is_none x e = cc
 module _ (auditor : Auditor) (rules : RuleSet) where
   -- what stands for a lawful record, and has not stopped, agrees with it
   agrees : StandsFor auditor rules (opened 0 ∷ []) → auditor.refusal ≡ None → Agrees auditor rules (opened 0 ∷ [])
-  agrees stands runs = record { stands = stands; counted = stands.1.1; lawful = refl; runs = runs }
+  agrees stands runs = record { stands = stands; counted = stands.1.1.0; lawful = refl; runs = runs }
 
   -- it has another number of records
   fewer : auditor.ledger.tally ≡ tally_of [] → Agrees auditor rules (opened 0 ∷ []) → ⊥

@@ -43,7 +43,7 @@ module _ (rules : RuleSet) (rs : List Record) (r : Record) where
         let stands : Stands rules next.ledger (rs ++ r ∷ []) = subst (λ (rl : RuleSet). Stands rl next.ledger (rs ++ r ∷ [])) these (entered own) in
         record {
           stands = (kept ∙ agrees.stands.0, stands);
-          counted = stands.1;
+          counted = stands.1.0;
           lawful = lawful-push rules rs r agrees.lawful unbroken;
           runs = runs ∙ agrees.runs;
         }

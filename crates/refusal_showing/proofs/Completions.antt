@@ -7,6 +7,7 @@ use Rattle.state_incoming.specs.Held.{Held, IsEntry, held_at}
 use Rattle.state_incoming.specs.HeldTables.{AreHeld, held_in}
 use Rattle.state_incoming.specs.EntryAnswers.{Knows}
 use Rattle.state_incoming.specs.declared.deliveries.Deliveries.{Deliveries}
+use Rattle.state_incoming.proofs.OverKnown.{table-law}
 
 some-apart : (d : Incoming) → None ≡ Some d → ⊥
 some-apart d e = cc
@@ -23,5 +24,5 @@ module _ (rules : RuleSet) (past : List Event) (table : Deliveries) (are : AreHe
   pub completion_known : (x : Held) (r : Option ℕ) → Some x ≡ held_in table d.number → (IsEntry rules past x → r ≡ completion x.delivery past) → r ≡ completion d past
   completion_known x r is says =
       let same : x.delivery ≡ d = some-same x.delivery d (ap (λ (o : Option Held). option_map (λ (y : Held). y.delivery) o) is ∙ knows) in
-      let entry : IsEntry rules past x = ap (λ (y : Incoming). held_at rules y.number past) same ∙ (sym (are d.number) ∙ sym is) in
+      let entry : IsEntry rules past x = ap (λ (y : Incoming). held_at rules y.number past) same ∙ table-law rules past table are d.number x (sym is) in
       says entry ∙ ap (λ (y : Incoming). completion y past) same

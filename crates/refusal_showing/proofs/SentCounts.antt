@@ -11,10 +11,13 @@ use Rattle.trace_events.specs.Said.{out_spoken}
 use Rattle.trace_events.proofs.Judged.{AreBorn, AreJudged, IsBorn, history-judged, judged-born}
 use Rattle.trace_events.proofs.OutgoingSteps.{payload-same}
 use Rattle.state_outgoing.specs.Sent.{Sent, outgoing_at, sent, sent_at}
+use Rattle.state_outgoing.specs.LetGo.{where_kept}
 use Rattle.state_outgoing.specs.SentAnswers.{KnowsOrBegins}
 use Rattle.state_outgoing.specs.SentTables.{sent_count_in, sent_in}
 use Rattle.state_outgoing.specs.declared.deliveries.SentDeliveries.{SentDeliveries}
+use Rattle.state_outgoing.proofs.AnswersKnown.{told-entry}
 use Rattle.state_incoming.specs.HeldTables.{IsHistory}
+use Rattle.state_incoming.proofs.GroupAnswers.{judged-of}
 use Rattle.state_incoming.specs.declared.deliveries.Deliveries.{Deliveries}
 use Rattle.refusal_showing.specs.Contents.{TellOf}
 
@@ -56,7 +59,7 @@ module _ (rules : RuleSet) (past : List Event) (deliveries : Deliveries) (table 
       by : KnowsOrBegins table past j → payload j past ≡ []
       by (inr new) = nothing-sent j past born (omega (arith, new))
       by (inl has) =
-          absurd (none-apart j (sym (ap (option_map (λ (x : Sent). x.delivery)) (tells.sent j.number ∙ ap (option_map (sent past)) none)) ∙ has))
+          absurd (none-apart j (sym (ap (option_map (λ (x : Sent). x.delivery)) (tells.sent j.number ∙ ap (λ o. where_kept table.let_go.items (option_map (sent past) o)) none)) ∙ has))
 
   counted : (o : Option Outgoing) → outgoing_at j.number past ≡ o → unwrap_or (option_map (λ (x : Sent). x.sent_count) (option_map (sent past) o)) 0 ≡ length (payload j past) % 2 ^ 64
   counted None none = sym (ap (λ (xs : List ℕ). length xs % 2 ^ 64) (none-sent none))
@@ -65,4 +68,4 @@ module _ (rules : RuleSet) (past : List Event) (deliveries : Deliveries) (table 
   -- what the table counts is what was sent
   pub count_known : sent_count_in table j.number ≡ length (payload j past) % 2 ^ 64
   count_known =
-      ap (λ o. unwrap_or (option_map (λ (x : Sent). x.sent_count) o) 0) (tells.sent j.number) ∙ counted (outgoing_at j.number past) refl
+      ap (λ o. unwrap_or (option_map (λ (x : Sent). x.sent_count) o) 0) (told-entry rules past (judged-of rules past tells.judged) table tells.sent j knows) ∙ counted (outgoing_at j.number past) refl

@@ -5,7 +5,7 @@ use Rattle.capture_form.specs.Rules.{RuleSet}
 use Rattle.trace_events.specs.Event.{Event}
 use Rattle.trace_events.specs.History.{history}
 use Rattle.state_tables.specs.Connections.{IsLawfulNext}
-use Rattle.state_answers.specs.Tables.{AreTables}
+use Rattle.state_answers.specs.Tables.{AreTables, AreWhole}
 use Rattle.state_answers.specs.declared.tables.Tables.{Tables}
 use Rattle.state_ledger.specs.Ledger.{IsReason, broken_behind}
 use Rattle.state_ledger.specs.NextEvents.{IsHeldAnswer}
@@ -15,20 +15,20 @@ use Rattle.state_ledger.proofs.Entered.{lawful-next}
 
 module _ (rules : RuleSet) (tables : Tables) (number : ℕ) (r : Record) (held : Event) where
   abbrev pub Answers : Result (Unit {0}) NotEntered → Type 0
-  Answers result = (records : List Record) → AreTables rules tables (history rules records) → number ≡ length (history rules records) → IsHeldAnswer rules (history rules records) r held result
+  Answers result = (records : List Record) → AreTables rules tables (history rules records) → AreWhole tables → number ≡ length (history rules records) → IsHeldAnswer rules (history rules records) r held result
 
   pub when-lawful : (result : Result (Unit {0}) NotEntered) → Answers result
-      → OnOk result ((records : List Record) → AreTables rules tables (history rules records) → number ≡ length (history rules records) → IsLawfulNext rules records r held)
-  when-lawful (Ok done) answers = λ records are numbered. let answer = answers records are numbered in lawful-next rules records r held answer.0 are.1.1.1.1.1.1.1.0 answer.1
+      → OnOk result ((records : List Record) → AreTables rules tables (history rules records) → AreWhole tables → number ≡ length (history rules records) → IsLawfulNext rules records r held)
+  when-lawful (Ok done) answers = λ records are whole numbered. let answer = answers records are whole numbered in lawful-next rules records r held answer.0 are.1.1.1.1.1.1.1.0 answer.1
   when-lawful (Err why) answers = tt
 
   pub when-met : (result : Result (Unit {0}) NotEntered) → Answers result
-      → OnOk result ((records : List Record) → AreTables rules tables (history rules records) → number ≡ length (history rules records) → broken_behind rules records r ≡ None)
-  when-met (Ok done) answers = λ records are numbered. (answers records are numbered).1
+      → OnOk result ((records : List Record) → AreTables rules tables (history rules records) → AreWhole tables → number ≡ length (history rules records) → broken_behind rules records r ≡ None)
+  when-met (Ok done) answers = λ records are whole numbered. (answers records are whole numbered).1
   when-met (Err why) answers = tt
 
   pub when-refused : (result : Result (Unit {0}) NotEntered) → Answers result
-      → IfErr result (λ why. (records : List Record) → AreTables rules tables (history rules records) → number ≡ length (history rules records) → IsReason rules records r why)
+      → IfErr result (λ why. (records : List Record) → AreTables rules tables (history rules records) → AreWhole tables → number ≡ length (history rules records) → IsReason rules records r why)
   when-refused (Ok done) answers = tt
-  when-refused (Err (Broken clause)) answers = λ records are numbered. answers records are numbered
-  when-refused (Err Memory) answers = λ records are numbered. tt
+  when-refused (Err (Broken clause)) answers = λ records are whole numbered. answers records are whole numbered
+  when-refused (Err Memory) answers = λ records are whole numbered. tt

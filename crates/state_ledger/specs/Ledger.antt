@@ -6,15 +6,16 @@ use Rattle.trace_events.specs.History.{judge, history}
 use Rattle.trace_clauses.specs.declared.clause.Clause.{Clause}
 use Rattle.trace_clauses.specs.Clauses.{broken_clause}
 use Rattle.trace_clauses.specs.Verdict.{tally_of}
-use Rattle.state_answers.specs.Tables.{AreTables}
+use Rattle.state_answers.specs.Tables.{AreTables, AreWhole}
 use Rattle.state_ledger.specs.declared.ledger.Ledger.{Ledger}
 use Rattle.state_ledger.specs.declared.not_entered.NotEntered.{NotEntered}
 use Rattle.state_ledger.specs.declared.not_entered.NotEntered.TheVariants.{Broken, Memory}
 
--- the tables have what the law says of these records, judged by these rules, each of which meets the clauses; and the tally is
--- theirs
+-- the tables have what the law says of these records, judged by these rules, each of which meets the clauses, and let none of it go;
+-- and the tally is theirs
 abbrev pub Stands : RuleSet → Ledger → List Record → Type 0
-Stands rules ledger records = AreTables rules ledger.tables (history rules records) × (ledger.tally ≡ tally_of (history rules records))
+Stands rules ledger records =
+    AreTables rules ledger.tables (history rules records) × ((ledger.tally ≡ tally_of (history rules records)) × AreWhole ledger.tables)
 
 -- the first clause that a record breaks behind others
 abbrev pub broken_behind : RuleSet → List Record → Record → Option Clause

@@ -30,7 +30,7 @@ pub fn hold_next<'a, 'm: 'a, P: Questions<'a>>(
     entry: &ReadRecord<'m>,
 ) -> Result<(), NotEntered>
     requires few { P.is_short past.now }
-    ensures answer { (history : Events) → P.stands_for past.now rules.now history → number ≡ length history →
+    ensures answer { (history : Events) → P.stands_for past.now rules.now history → P.is_whole past.now → number ≡ length history →
         CarriesKnown (λ n. P.knows_number past.now n history) (λ j. P.knows_outgoing past.now j history) (unopened rules.now history entry.now) →
         (law.broken_clause rules.now (unopened rules.now history entry.now) history ≡ None →
         OpensKnown (λ c channel. P.knows_begin past.now c channel history) (λ s handle. P.knows_attach past.now s handle history) (unopened rules.now history entry.now)) →

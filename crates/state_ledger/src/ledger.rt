@@ -5,7 +5,7 @@ ghost use Rattle.capture_form.specs.Rules.{RuleSet};
 ghost use Rattle.capture_form.specs.declared.records.Record.{Record};
 ghost use Rattle.trace_events.specs.History.{history, moment_of};
 ghost use Rattle.state_tables.specs.Connections.{IsLawfulNext};
-ghost use Rattle.state_answers.specs.Tables.{AreTables, StandFor, entries_of};
+ghost use Rattle.state_answers.specs.Tables.{AreTables, AreWhole, IsWhole, StandFor, entries_of};
 ghost use Rattle.state_ledger.specs.HeldEvents.{held_event_view};
 ghost use Rattle.state_ledger.specs.declared.not_entered.NotEntered.TheVariants.{Memory};
 ghost use Rattle.state_ledger.specs.Ledger.{IsReason, Stands, broken_behind};
@@ -65,9 +65,10 @@ impl Ledger {
 
     /// What can be asked of the records so far, lent.
     pub fn looked(&self) -> Looked<'_>
-        ensures { (rules : RuleSet) (records : List Record) → Stands rules self.now records →
+        ensures stand { (rules : RuleSet) (records : List Record) → Stands rules self.now records →
             StandFor rules result.connections.now result.links.now result.consumers.now result.deliveries.now
             result.consumer_links.now result.copies.now result.sent.now result.verdicts.now (history rules records) }
+        ensures whole { (rules : RuleSet) (records : List Record) → Stands rules self.now records → IsWhole result.deliveries.now }
     {
         self.tables.looked()
     }
@@ -132,11 +133,11 @@ fn hold_event<'a, 'm: 'a>(
     number: u64,
     entry: &ReadRecord<'m>,
 ) -> Result<(), NotEntered>
-    ensures lawful { OnOk result ((records : List Record) → AreTables rules.now tables.now (history rules.now records) → number ≡ length (history rules.now records) →
+    ensures lawful { OnOk result ((records : List Record) → AreTables rules.now tables.now (history rules.now records) → AreWhole tables.now → number ≡ length (history rules.now records) →
         IsLawfulNext rules.now records entry.now (held_event_view held.new (moment_of entry.now.what))) }
-    ensures met { OnOk result ((records : List Record) → AreTables rules.now tables.now (history rules.now records) → number ≡ length (history rules.now records) →
+    ensures met { OnOk result ((records : List Record) → AreTables rules.now tables.now (history rules.now records) → AreWhole tables.now → number ≡ length (history rules.now records) →
         broken_behind rules.now records entry.now ≡ None) }
-    ensures reason { IfErr result (λ why. (records : List Record) → AreTables rules.now tables.now (history rules.now records) → number ≡ length (history rules.now records) →
+    ensures reason { IfErr result (λ why. (records : List Record) → AreTables rules.now tables.now (history rules.now records) → AreWhole tables.now → number ≡ length (history rules.now records) →
         IsReason rules.now records entry.now why) }
     ensures same { IfErr result (λ why. why ≢ Memory → held.new ≡ held.old) }
 {

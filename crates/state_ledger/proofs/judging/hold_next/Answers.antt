@@ -10,37 +10,37 @@ use Rattle.state_ledger.proofs.UnopenedRecords.{stands-live, names-live, number-
 use Rattle.state_ledger.proofs.judging.hold_next.Goals as goal
 
 pub returns-in-Some-clause-answer : goal.returns-in-Some-clause-answer
-returns-in-Some-clause-answer g c = λ past stands numbered carries opens.
+returns-in-Some-clause-answer g c = λ past stands whole numbered carries opens.
     let rules = c.args.rules.now in
     let r = c.args.entry.now in
     let e = event_view c.judge_unopened_read-event.result in
     let is = c.judge_unopened_read-event.ensures past stands numbered in
     let Carries : Event → Type 0 = λ x. CarriesKnown (λ n. g.P.History.knows_number c.args.past.now n past) (λ j. g.P.History.knows_outgoing c.args.past.now j past) x in
-    let broken = c.in-Some.ensures past stands (stands-live rules past r e is) (names-live rules past r e is) (number-is rules past r e is) (subst Carries (sym is) carries) in
+    let broken = c.in-Some.ensures past stands whole (stands-live rules past r e is) (names-live rules past r e is) (number-is rules past r e is) (subst Carries (sym is) carries) in
     sym (broken ∙ broken-is rules past r e is)
 
 pub returns-in_ok-keep-in-None-clause-answer : goal.returns-in_ok-keep-in-None-clause-answer
-returns-in_ok-keep-in-None-clause-answer g c = λ past stands numbered carries opens.
+returns-in_ok-keep-in-None-clause-answer g c = λ past stands whole numbered carries opens.
     let rules = c.args.rules.now in
     let r = c.args.entry.now in
     let e = event_view c.judge_unopened_read-event.result in
     let is = c.judge_unopened_read-event.ensures past stands numbered in
     let Carries : Event → Type 0 = λ x. CarriesKnown (λ n. g.P.History.knows_number c.args.past.now n past) (λ j. g.P.History.knows_outgoing c.args.past.now j past) x in
     let Opens : Event → Type 0 = λ x. OpensKnown (λ n channel. g.P.History.knows_begin c.args.past.now n channel past) (λ s handle. g.P.History.knows_attach c.args.past.now s handle past) x in
-    let unbroken = c.in-None.ensures past stands (stands-live rules past r e is) (names-live rules past r e is) (number-is rules past r e is) (subst Carries (sym is) carries) in
+    let unbroken = c.in-None.ensures past stands whole (stands-live rules past r e is) (names-live rules past r e is) (number-is rules past r e is) (subst Carries (sym is) carries) in
     let known = opens (sym (unbroken ∙ ap (λ (x : Event). broken_clause rules x past) is)) in
     let opened = c.open.ensures rules past stands (stands-live rules past r e is) (subst Opens (sym is) known) ∙ opened-is rules past r e is in
     (c.in_ok-keep-in-None.ensures.copied (moment_of r.what) ∙ at-moment rules past r (event_view c.open.new.event) opened, sym (unbroken ∙ broken-is rules past r e is))
 
 pub returns-in_err-keep-in-None-clause-answer : goal.returns-in_err-keep-in-None-clause-answer
-returns-in_err-keep-in-None-clause-answer g c = λ past stands numbered carries opens.
+returns-in_err-keep-in-None-clause-answer g c = λ past stands whole numbered carries opens.
     let rules = c.args.rules.now in
     let r = c.args.entry.now in
     let e = event_view c.judge_unopened_read-event.result in
     let is = c.judge_unopened_read-event.ensures past stands numbered in
     let Carries : Event → Type 0 = λ x. CarriesKnown (λ n. g.P.History.knows_number c.args.past.now n past) (λ j. g.P.History.knows_outgoing c.args.past.now j past) x in
     let Opens : Event → Type 0 = λ x. OpensKnown (λ n channel. g.P.History.knows_begin c.args.past.now n channel past) (λ s handle. g.P.History.knows_attach c.args.past.now s handle past) x in
-    let unbroken = c.in-None.ensures past stands (stands-live rules past r e is) (names-live rules past r e is) (number-is rules past r e is) (subst Carries (sym is) carries) in
+    let unbroken = c.in-None.ensures past stands whole (stands-live rules past r e is) (names-live rules past r e is) (number-is rules past r e is) (subst Carries (sym is) carries) in
     let known = opens (sym (unbroken ∙ ap (λ (x : Event). broken_clause rules x past) is)) in
     let opened = c.open.ensures rules past stands (stands-live rules past r e is) (subst Opens (sym is) known) ∙ opened-is rules past r e is in
     let HasParts : Event → Type 0 = λ x. has_parts (parts_of x) ≡ true in

@@ -10,10 +10,10 @@ returns c =
     let r = c.args.entry.now in
     let t = c.looked-looked.result in
     let held = held_event_view c.hold_next.new.held (moment_of r.what) in
-    let answers : Answers rules c.args.tables.now c.args.number r held c.hold_next.result = λ records are numbered.
+    let answers : Answers rules c.args.tables.now c.args.number r held c.hold_next.result = λ records are whole numbered.
     let past = history rules records in
-    let lent = c.looked-looked.ensures rules past are in
-    c.hold_next.ensures.answer past lent numbered
+    let lent = c.looked-looked.ensures.stand rules past are in
+    c.hold_next.ensures.answer past lent (c.looked-looked.ensures.whole whole) numbered
     (next-carries rules past t.connections.now t.links.now t.consumers.now t.deliveries.now t.consumer_links.now t.copies.now t.sent.now t.verdicts.now lent r)
     (next-opens rules past t.connections.now t.links.now t.consumers.now t.deliveries.now t.consumer_links.now t.copies.now t.sent.now t.verdicts.now lent r) in
     record {
