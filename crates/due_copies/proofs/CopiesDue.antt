@@ -18,7 +18,7 @@ use Rattle.trace_events.proofs.Along.{and_first}
 use Rattle.trace_events.proofs.Judged.{AreJudged}
 use Rattle.trace_events.proofs.StepWords.{and-false}
 use Rattle.trace_clauses.specs.TransferClause.{to_carry}
-use Rattle.trace_clauses.proofs.FirstSent.{copy_goes_first}
+use Rattle.trace_clauses.proofs.FirstSent.{copy_goes_first, due_copy}
 use Rattle.trace_clauses.proofs.IncomingProgress.{judged-kept}
 use Rattle.trace_clauses.proofs.Parts.{IsKept, each_delivery}
 use Rattle.trace_clauses.proofs.UnsentCopies.{unsent_complete}
@@ -27,6 +27,10 @@ use Rattle.trace_duties.specs.Pick.{may_take}
 use Rattle.trace_duties.specs.Quiet.{has_earlier_unsent, is_held_back, copies_are_sent}
 use Rattle.trace_duties.proofs.QuietLists.{all-each}
 use Rattle.trace_duties.proofs.PicksInOrder.{none-before}
+use Rattle.state_incoming.specs.HeldTables.{AreOver}
+use Rattle.state_incoming.specs.LetGo.{is_let_go}
+use Rattle.state_incoming.specs.declared.deliveries.Deliveries.{Deliveries}
+use Rattle.state_incoming.proofs.OverKnown.{multicast-kept}
 use Rattle.due_flows.proofs.LiveOnes.{link-found, live_links-live}
 use Rattle.due_flows.proofs.Members.{some-passes, none-passes, found-contained}
 use Rattle.due_flows.proofs.PartsDue.{consumer-found}
@@ -73,6 +77,12 @@ module _ (rules : RuleSet) (past : List Event) (are : AreJudged rules past) wher
         let goes = copy_goes_first rules past are l d h.found h.unsent in
         ap (where_passes (λ x. is_complete x past && not (is_gone rules x past))) h.found
         ∙ (ap (λ b. if b && not (is_gone rules d past) then Some d else None) goes.complete ∙ ap (λ b. if not b then Some d else None) goes.whole)
+
+    -- and was not let go: it is of multicast
+    pub copy-there : (table : Deliveries) → AreOver rules table past → (d : Incoming) → IsUnsentOn rules l d past → is_let_go table.let_go.items d.number ≡ false
+    copy-there table over d h =
+        let copy = due_copy rules past are l d h.found (and_first (is_due rules d l past) (not (is_named_on d l past)) h.unsent) in
+        multicast-kept rules past are table over d.number d h.found copy.multicast
 
     -- a link with an unsent copy has one of a delivery that is found
     pub one-unsent : IsLiveLink l past → has_unsent rules l past ≡ true → (d : Incoming) × IsUnsentOn rules l d past

@@ -21,9 +21,10 @@ use Rattle.trace_duties.specs.Quiet.{none_lacks_credit}
 use Rattle.trace_duties.proofs.QuietLists.{all-each}
 use Rattle.state_incoming.specs.EntryAnswers.{Knows}
 use Rattle.state_incoming.specs.Held.{is_held}
-use Rattle.state_incoming.specs.HeldTables.{AreHeld}
+use Rattle.state_incoming.specs.HeldTables.{IsTable}
 use Rattle.state_incoming.specs.declared.deliveries.Deliveries.{Deliveries}
 use Rattle.state_incoming.proofs.CarriedHeld.{knows-held}
+use Rattle.state_incoming.proofs.OverKnown.{undecided-kept}
 use Rattle.state_addresses.specs.ConsumerLinks.{has_number}
 use Rattle.state_answers.specs.declared.looked.Looked.{Looked}
 use Rattle.due_flows.specs.Credits.{HasCredits, IsIn, AreEndedIn, AreFreedIn, AreOpenedIn, HasMore, AreTouchedIn, AreWokenIn, has_waited, place_in, on_session, at_address, waits}
@@ -54,9 +55,11 @@ pub undecided-held : (rules : RuleSet) (past : List Event) (d : Incoming) → is
 undecided-held rules past d is =
     held-bits (is_live past d.link) (is_aborted d past) (is_complete d past) (is_unpaired rules d past) (always_had_consumer d past) (is_settled d past) (is_told d past) is
 
-pub decided-known : (rules : RuleSet) (past : List Event) → AreJudged rules past → first_broken rules past ≡ None → (table : Deliveries) → AreHeld rules table past
+pub decided-known : (rules : RuleSet) (past : List Event) → AreJudged rules past → first_broken rules past ≡ None → (table : Deliveries) → IsTable rules table past
     → (l : Link) (o : Option ℕ) (d : IsDecidedOn rules past l o) → Knows table d.delivery
-decided-known rules past are lawful table were l o d = knows-held rules past are lawful table were d.delivery d.at (undecided-held rules past d.delivery d.undecided)
+decided-known rules past are lawful table is_table l o d =
+    knows-held rules past are lawful table is_table.0 d.delivery d.at (undecided-held rules past d.delivery d.undecided)
+    (undecided-kept rules past are table is_table.1.1 d.delivery.number d.delivery d.at d.undecided)
 
 -- ---- a link that is in the list
 
@@ -125,7 +128,7 @@ module _ (rules : RuleSet) (e : Event) (past : List Event) (are : AreJudged rule
     in-touched = in-more with_opened touched l touches.more in-opened
 
     known : (o : Option ℕ) (d : IsDecidedOn rules past l o) → Knows before.deliveries.now d.delivery
-    known o d = decided-known rules past are.1 (lawful-past rules e past lawful) before.deliveries.now tables.1.1.1.1.0.0 l o d
+    known o d = decided-known rules past are.1 (lawful-past rules e past lawful) before.deliveries.now tables.1.1.1.1.0 l o d
 
     by-kind : Touches rules e past l → waits now l.number ≡ true
     by-kind (Names on) = woken l.number (touches.names l on is.producer)

@@ -18,9 +18,16 @@ use Rattle.trace_clauses.proofs.OneConsumer.{passes-some}
 use Rattle.trace_clauses.proofs.OutgoingProgress.{judged-carrying, carrying-noted, carrying-not_gone}
 use Rattle.state_addresses.specs.ConsumerLinks.{consumer_at, is_live_consumer}
 use Rattle.state_addresses.proofs.ConsumerLinkSteps.{consumer-lives}
-use Rattle.state_outgoing.specs.Sent.{Sent, outgoing_at, sent}
-use Rattle.state_outgoing.specs.SentTables.{AreSent, sent_count_in}
+use Rattle.state_outgoing.specs.Sent.{Sent, outgoing_at}
+use Rattle.state_incoming.specs.HeldTables.{AreOver}
+use Rattle.state_incoming.specs.LetGo.{names_let_go}
+use Rattle.state_incoming.specs.declared.deliveries.Deliveries.{Deliveries}
+use Rattle.state_incoming.proofs.OverKnown.{carrier-kept}
+use Rattle.state_outgoing.specs.LetGo.{is_finished}
+use Rattle.state_outgoing.specs.SentTables.{IsTable, sent_count_in}
 use Rattle.state_outgoing.specs.declared.deliveries.SentDeliveries.{SentDeliveries}
+use Rattle.state_outgoing.proofs.LastBegun.{progress-unsent}
+use Rattle.state_outgoing.proofs.SentKept.{found-contained, unfinished-entry, unsent-unfinished}
 use Rattle.due_flows.specs.Standing.{IsStill, has_window}
 use Rattle.due_flows.proofs.LiveOnes.{link-found, link-lives}
 use Rattle.due_flows.proofs.PartsFollowed.{still-parts}
@@ -59,19 +66,26 @@ module _ (rules : RuleSet) (past : List Event) (are : AreJudged rules past) wher
     first-shorter : (some all : List ℕ) → AreFirst some all → length some ≤ length all
     first-shorter some all first = let e = ap length first ∙ length-take (length some) all in omega (arith, e)
 
-    counted-by : (o : Option Outgoing) → o ≡ Some j → unwrap_or (option_map (λ (x : Sent). x.sent_count) (option_map (sent past) o)) 0 ≡ length (outgoing.payload j past) % 2 ^ 64
-    counted-by None is = absurd cc
-    counted-by (Some k) is = let same : k ≡ j = cc in ap (λ (x : Outgoing). length (outgoing.payload x past) % 2 ^ 64) same
+    -- its last part is not written
+    going-unfinished : is_finished past j ≡ false
+    going-unfinished = unsent-unfinished past j (progress-unsent rules past are l j going)
+
+    going-at : outgoing_at j.number past ≡ Some j
+    going-at = (judged-carrying rules past are lawful l j going).1.at
+
+    -- so what it carries was not let go
+    pub carrier-there : (deliveries : Deliveries) → AreOver rules deliveries past → names_let_go deliveries.let_go.items j.note ≡ false
+    carrier-there deliveries over = carrier-kept rules past deliveries over j (found-contained past j.number j going-at) going-unfinished
 
     -- so many octets of it were sent
-    pub sent-so-far : (table : SentDeliveries) → AreSent table past → (d : Incoming) → to_carry rules j.note past ≡ Some d → length (incoming.payload d past) < 2 ^ 64
+    pub sent-so-far : (table : SentDeliveries) → IsTable table past → (d : Incoming) → to_carry rules j.note past ≡ Some d → length (incoming.payload d past) < 2 ^ 64
         → sent_count_in table j.number ≡ length (outgoing.payload j past)
-    sent-so-far table sent-is d is short =
+    sent-so-far table is_table d is short =
         let h = (judged-carrying rules past are lawful l j going).1 in
         let one : h.delivery ≡ d = let some : Some h.delivery ≡ Some d = sym (carrying-noted past j h) ∙ carried-noted d is in cc in
         let le = first-shorter (outgoing.payload j past) (incoming.payload h.delivery past) h.carried in
         let lt : length (outgoing.payload j past) < 2 ^ 64 = omega (arith, le, short, ap (λ (x : Incoming). length (incoming.payload x past)) one) in
-        ap (λ o. unwrap_or (option_map (λ (x : Sent). x.sent_count) o) 0) (sent-is j.number) ∙ (counted-by (outgoing_at j.number past) h.at ∙ small (length (outgoing.payload j past)) lt)
+        ap (λ o. unwrap_or (option_map (λ (x : Sent). x.sent_count) o) 0) (unfinished-entry table past is_table j.number j going-at going-unfinished) ∙ small (length (outgoing.payload j past)) lt
       where
         small : (n : ℕ) → n < 2 ^ 64 → n % 2 ^ 64 ≡ n
         small n lt = omega (arith, lt)

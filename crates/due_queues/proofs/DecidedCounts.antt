@@ -13,7 +13,7 @@ use Rattle.trace_events.proofs.Judged.{AreJudged}
 use Rattle.trace_clauses.proofs.WaitingQueue.{in_filter, filter_has}
 use Rattle.trace_duties.specs.Consumers.{decides_outgoing}
 use Rattle.trace_duties.proofs.ConsumersCounted.{decided_count}
-use Rattle.state_outgoing.specs.Sent.{Sent, sent, sent_at, outgoing_at}
+use Rattle.state_outgoing.specs.Sent.{Sent, sent, outgoing_at}
 use Rattle.due_queues.specs.AddressCounts.{decided_on}
 use Rattle.due_queues.specs.Picks.{decided_among}
 use Rattle.due_queues.specs.Undecided.{decides, decided_link, HaveOpen, answer_of, is_found}
@@ -21,6 +21,7 @@ use Rattle.due_queues.specs.declared.undecided.Undecided.{Undecided}
 use Rattle.due_queues.proofs.EndedConsumers.{any-gives, any-from, and_first, and_last, and_both, both-ways}
 use Rattle.due_queues.proofs.OpenDeliveries.{decides-is, speaks}
 use Rattle.due_queues.proofs.OutgoingCounts.{length-counted}
+use Rattle.due_queues.proofs.SentKnown.{IsKnown, decided-kept, decided-known}
 
 -- ---- on lists
 
@@ -105,7 +106,7 @@ open-parts f settled false answers None is = absurd cc
 open-parts f true true answers None is = absurd cc
 open-parts f false true answers None is = (refl, is)
 
-module _ (rules : RuleSet) (e : Event) (past : List Event) (are : AreJudged rules past) (kept : ℕ → Option Sent) (were : (n : ℕ) → kept n ≡ sent_at n past)
+module _ (rules : RuleSet) (e : Event) (past : List Event) (are : AreJudged rules past) (kept : ℕ → Option Sent) (were : (n : ℕ) → IsKnown past kept n)
     (ids : (n : ℕ) → IfSome (kept n) (λ x. IfSome x.delivery.id (λ id. id < 2 ^ 32))) (groups : Undecided) (opened : HaveOpen groups past) (ns : List ℕ) (distinct : IsDistinct nat_eq ns)
     (found : (n : ℕ) → is_found groups (answer_of e) e.session n ≡ true → list_any (nat_eq n) ns ≡ true) (small : IfSome (answer_of e) (λ fields. fields.first < 2 ^ 32)) (link : ℕ) where
   abbrev passes : Outgoing → Bool
@@ -115,7 +116,7 @@ module _ (rules : RuleSet) (e : Event) (past : List Event) (are : AreJudged rule
   meets n = is_some_and (decided_link e past (kept n)) (λ x. link == x)
 
   meets-is : (n : ℕ) → meets n ≡ is_some_and (outgoing_at n past) passes
-  meets-is n = ap (λ o. is_some_and (decided_link e past o) (λ x. link == x)) (were n) ∙ by (outgoing_at n past)
+  meets-is n = ap (λ o. is_some_and o (λ x. link == x)) (decided-known rules e past are kept n (were n)) ∙ by (outgoing_at n past)
     where
       by : (o : Option Outgoing) → is_some_and (decided_link e past (option_map (sent past) o)) (λ x. link == x) ≡ is_some_and o passes
       by None = refl
@@ -126,8 +127,8 @@ module _ (rules : RuleSet) (e : Event) (past : List Event) (are : AreJudged rule
   listed n is =
       let one = some-from (outgoing_at n past) passes is in
       let j = one.0 in
-      let entry : kept n ≡ Some (sent past j) = were n ∙ ap (option_map (sent past)) one.1 in
       let decided : decides e past (sent past j) ≡ true = decides-is e past j ∙ and_first (decides_outgoing e past j) (link == j.link.number) one.2 in
+      let entry : kept n ≡ Some (sent past j) = decided-kept rules e past are kept n (were n) j one.1 decided in
       let parts = open-parts terminal_state j.link.is_pre_settled (is_live past j.link) (is_some_and (answering j e) is_decisive) (decision j past) decided in
       let own : IfSome j.id (λ id. id < 2 ^ 32) = subst (λ (o : Option Sent). IfSome o (λ x. IfSome x.delivery.id (λ id. id < 2 ^ 32))) entry (ids n) in
       found n (speaks groups past opened n j one.1 parts.0 own e small (some-and_some (answering j e) is_decisive parts.1))

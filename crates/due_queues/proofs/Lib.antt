@@ -2,6 +2,7 @@ pub mod Begins
 pub mod Sources
 pub mod Counts
 pub mod EndedConsumers
+pub mod SentKnown
 pub mod OpenDeliveries
 pub mod OutgoingCounts
 pub mod DecidedCounts

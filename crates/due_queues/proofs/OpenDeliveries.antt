@@ -20,12 +20,13 @@ use Rattle.trace_events.proofs.OutgoingLinks.{IsOnEarlier, judged-on_earlier, de
 use Rattle.trace_events.proofs.SettlingSteps.{is_decided-step}
 use Rattle.trace_events.proofs.StepWords.{and-false}
 use Rattle.trace_duties.specs.Consumers.{decides_outgoing}
-use Rattle.state_outgoing.specs.Sent.{Sent, sent, sent_at, outgoing_at}
+use Rattle.state_outgoing.specs.Sent.{Sent, sent, outgoing_at}
 use Rattle.number_groups.specs.Ids.{same_id}
 use Rattle.due_queues.specs.Undecided.{is_open, decides, decided_link, is_of_session, has_id, HaveOpen, IsPutOf, Spares, answer_of, is_found}
 use Rattle.number_groups.specs.declared.id_on.IdOn.{IdOn}
 use Rattle.due_queues.specs.declared.undecided.Undecided.{Undecided}
 use Rattle.due_queues.proofs.EndedConsumers.{and_first, and_last, and_both}
+use Rattle.due_queues.proofs.SentKnown.{IsKnown, decided-known}
 
 -- ---- a delivery that is found stands on an earlier link
 
@@ -74,9 +75,10 @@ module _ (rules : RuleSet) (e : Event) (past : List Event) (are : AreJudged rule
       (and_both (not j.link.is_pre_settled) (is_live past j.link)
       (and_first (not j.link.is_pre_settled) (is_live (e ∷ past) j.link) (and_first (not j.link.is_pre_settled && is_live (e ∷ past) j.link) (is_none (decision j (e ∷ past))) opens)) stood) none.0
 
-  pub undecided : (kept : ℕ → Option Sent) → ((n : ℕ) → kept n ≡ sent_at n past) → is_some (decided_link e past (kept n)) ≡ false
+  pub undecided : (kept : ℕ → Option Sent) → ((n : ℕ) → IsKnown past kept n) → is_some (decided_link e past (kept n)) ≡ false
   undecided kept were =
-      ap (λ o. is_some (decided_link e past o)) (were n ∙ ap (option_map (sent past)) at)
+      ap is_some (decided-known rules e past are.1 kept n (were n))
+      ∙ ap (λ o. is_some (decided_link e past (option_map (sent past) o))) at
       ∙ ap (λ b. is_some (if b then Some j.link.number else None)) (ap (λ b. is_none (option_map terminal_state (decision j past)) && b) none.1 ∙ and-false (is_none (option_map terminal_state (decision j past))))
 
 -- ---- those that are kept behind the event
@@ -110,7 +112,7 @@ is-of e past n j at = by (outgoing_begun e) refl at
     by None nothing at = inr at
     by (Some k) begun at = named k begun (k.number == n) refl at
 
-module _ (rules : RuleSet) (e : Event) (past : List Event) (are : AreJudged rules (e ∷ past)) (kept : ℕ → Option Sent) (were : (n : ℕ) → kept n ≡ sent_at n past)
+module _ (rules : RuleSet) (e : Event) (past : List Event) (are : AreJudged rules (e ∷ past)) (kept : ℕ → Option Sent) (were : (n : ℕ) → IsKnown past kept n)
     (first mid last : Undecided) (opened : HaveOpen first past) (spared : Spares (λ n. is_some (decided_link e past (kept n))) first mid) (put : IsPutOf (outgoing_begun e) mid last) where
   in-session : (session n : ℕ) (j : Outgoing) → outgoing_at n (e ∷ past) ≡ Some j → is_open (e ∷ past) j ≡ true → is_of_session session j ≡ true → is_member nat_eq last.of_session session n ≡ true
   in-session session n j at is stands = elim (is-of e past n j at) [

@@ -19,9 +19,14 @@ use Rattle.trace_events.proofs.Judged.{AreJudged}
 use Rattle.trace_clauses.proofs.IncomingProgress.{judged-kept}
 use Rattle.trace_clauses.proofs.Parts.{IsKept}
 use Rattle.trace_clauses.proofs.WaitingQueue.{all_contained, contains_first, contains_later, contains_none, contains_cases, each_completed}
-use Rattle.state_incoming.specs.Held.{Held, held, held_at, is_held, fate_of, says_waiting}
+use Rattle.state_incoming.specs.Held.{Held, held, held_at, is_held, says_waiting}
 use Rattle.state_incoming.specs.declared.held.Fate.TheVariants.{Arriving, Waiting, Gone, Paired, Copied}
+use Rattle.state_incoming.specs.HeldTables.{IsTable, held_in}
+use Rattle.state_incoming.specs.LetGo.{is_let_go}
+use Rattle.state_incoming.specs.declared.deliveries.Deliveries.{Deliveries}
 use Rattle.state_incoming.proofs.HeldAnswers.{waiting-kept}
+use Rattle.state_incoming.proofs.OverKnown as let_go
+use Rattle.state_incoming.proofs.OverKnown.{table-there}
 use Rattle.trace_duties.specs.Diligent.{is_next_waiting}
 use Rattle.trace_duties.proofs.PicksInOrder.{first_waiting-next}
 use Rattle.due_queues.specs.Queues.{queued, is_of, IsQueue, IsShorter}
@@ -114,21 +119,43 @@ fate-bits true false false false = refl
 fate-bits false true paired always = refl
 fate-bits false false paired always = refl
 
-module _ (rules : RuleSet) (past : List Event) (are : AreJudged rules past) (kept : ℕ → Option Held) (were : (n : ℕ) → kept n ≡ held_at rules n past) where
+module _ (rules : RuleSet) (past : List Event) (are : AreJudged rules past) (table : Deliveries) (is_table : IsTable rules table past) where
+  abbrev kept : ℕ → Option Held
+  kept n = held_in table n
+
   pub listed-at : (d : Incoming) → Contains (completed_deliveries past) d → incoming_at d.number past ≡ Some d
   listed-at d there = (all_contained (IsKept past) (completed_deliveries past) d (each_completed (IsKept past) past (judged-kept rules past are).each) there).at
 
+  -- the entry of one that is complete, and was not let go
+  entry-at : (d : Incoming) → Contains (completed_deliveries past) d → is_let_go table.let_go.items d.number ≡ false → kept d.number ≡ option_map (held rules past) (if is_held rules past d then Some d else None)
+  entry-at d there stays =
+      table-there rules past table is_table.0 d.number stays
+      ∙ ap (λ o. option_map (held rules past) (where_passes (is_held rules past) o)) (listed-at d there)
+
+  -- one that was let go waits no more
+  gone-waits : (d : Incoming) → Contains (completed_deliveries past) d → is_let_go table.let_go.items d.number ≡ true → is_waiting rules d past ≡ false
+  gone-waits d there went = by (is_waiting rules d past) refl
+    where
+      by : (w : Bool) → is_waiting rules d past ≡ w → w ≡ false
+      by false waits = refl
+      by true waits = sym went ∙ let_go.waiting-kept rules past are table is_table.1.1 d.number d (listed-at d there) waits
+
   pub waits-is : (d : Incoming) → Contains (completed_deliveries past) d → is_some_and (kept d.number) (λ x. says_waiting x.fate) ≡ is_waiting rules d past
-  waits-is d there =
-      ap (λ o. is_some_and o (λ (x : Held). says_waiting x.fate))
-      (were d.number ∙ ap (λ o. option_map (held rules past) (where_passes (is_held rules past) o)) (listed-at d there))
-      ∙ by (is_held rules past d) refl (is_waiting rules d past) refl
+  waits-is d there = named (is_let_go table.let_go.items d.number) refl
     where
       by : (h : Bool) → is_held rules past d ≡ h → (w : Bool) → is_waiting rules d past ≡ w
           → is_some_and (option_map (held rules past) (if h then Some d else None)) (λ (x : Held). says_waiting x.fate) ≡ is_waiting rules d past
       by true is w other = fate-bits (is_complete d past) (is_of_multicast rules d past) (is_paired d past) (always_had_consumer d past)
       by false is false waits = sym waits
       by false is true waits = let never : true ≡ false = sym (waiting-kept rules past d waits) ∙ is in absurd cc
+
+      named : (b : Bool) → is_let_go table.let_go.items d.number ≡ b → is_some_and (kept d.number) (λ x. says_waiting x.fate) ≡ is_waiting rules d past
+      named false stays =
+          ap (λ o. is_some_and o (λ (x : Held). says_waiting x.fate)) (entry-at d there stays)
+          ∙ by (is_held rules past d) refl (is_waiting rules d past) refl
+      named true went =
+          ap (λ o. is_some_and o (λ (x : Held). says_waiting x.fate)) (is_table.0 d.number ∙ ap (λ b. if b then None else held_at rules d.number past) went)
+          ∙ sym (gone-waits d there went)
 
   abbrev says : ℕ → Bool
   says n = is_some_and (kept n) (λ x. says_waiting x.fate)
@@ -158,9 +185,8 @@ module _ (rules : RuleSet) (past : List Event) (are : AreJudged rules past) (kep
       let waits : is_waiting rules d past ≡ true = sym (waits-is d one.listed) ∙ (ap says one.number ∙ says-so) in
       let entry : kept n ≡ Some (held rules past d) =
       ap kept (sym one.number)
-      ∙ (were d.number
-      ∙ (ap (λ o. option_map (held rules past) (where_passes (is_held rules past) o)) (listed-at d one.listed)
-      ∙ ap (λ b. option_map (held rules past) (if b then Some d else None)) (waiting-kept rules past d waits))) in
+      ∙ (entry-at d one.listed (let_go.waiting-kept rules past are table is_table.1.1 d.number d (listed-at d one.listed) waits)
+      ∙ ap (λ b. option_map (held rules past) (if b then Some d else None)) (waiting-kept rules past d waits)) in
       subst (λ (o : Option Incoming). IfSome o (λ d. (address_of d past ≡ address) × (incoming_at d.number past ≡ Some d) × (is_next_waiting rules past d ≡ true)))
       (sym (is ∙ ap (option_map (λ (x : Held). x.delivery)) entry)) (
         (bytes_eq-Decides (address_of d past) address).0 (and_first (bytes_eq (address_of d past) address) (not (is_of_multicast rules d past)) one.here),

@@ -30,9 +30,11 @@ use Rattle.trace_duties.proofs.ConsumersCounted.{consumers-counted}
 use Rattle.state_addresses.specs.ConsumerLinks.{consumer_at, is_live_consumer}
 use Rattle.state_incoming.specs.EntryAnswers.{Knows}
 use Rattle.state_incoming.specs.Held.{Held, held, is_held}
-use Rattle.state_incoming.specs.HeldTables.{AreHeld}
+use Rattle.state_incoming.specs.HeldTables.{IsTable}
 use Rattle.state_incoming.specs.declared.deliveries.Deliveries.{Deliveries}
 use Rattle.state_incoming.proofs.HeldAnswers.{waiting-kept}
+use Rattle.state_incoming.proofs.OverKnown as let_go
+use Rattle.state_incoming.proofs.OverKnown.{table-there}
 use Rattle.due_flows.proofs.LiveOnes.{link-found, link-lives}
 use Rattle.due_flows.proofs.Members.{found-contained}
 use Rattle.due_queues.proofs.Eligible.{pick-passes, picked-same, taken-lives, takes_at}
@@ -115,9 +117,10 @@ pub next-waits : (rules : RuleSet) (past : List Event) (d : Incoming) → is_nex
 next-waits rules past d next =
     and_first (is_waiting rules d past) (not (list_any (λ other. bytes_eq (address_of other past) (address_of d past) && is_waiting rules other past && completed_before other d past) (incoming_deliveries past))) next
 
--- the table knows one that waits
-pub waiting-known : (rules : RuleSet) (past : List Event) (table : Deliveries) → AreHeld rules table past → (d : Incoming) → incoming_at d.number past ≡ Some d → is_waiting rules d past ≡ true → Knows table d
-waiting-known rules past table were d found waits =
-    ap (option_map (λ (x : Held). x.delivery)) (were d.number)
+-- the table knows one that waits: it is kept, and was not let go
+pub waiting-known : (rules : RuleSet) (past : List Event) → AreJudged rules past → (table : Deliveries) → IsTable rules table past → (d : Incoming) → incoming_at d.number past ≡ Some d
+    → is_waiting rules d past ≡ true → Knows table d
+waiting-known rules past are table is_table d found waits =
+    ap (option_map (λ (x : Held). x.delivery)) (table-there rules past table is_table.0 d.number (let_go.waiting-kept rules past are table is_table.1.1 d.number d found waits))
     ∙ (ap (λ o. option_map (λ (x : Held). x.delivery) (option_map (held rules past) (where_passes (is_held rules past) o))) found
     ∙ ap (λ b. option_map (λ (x : Held). x.delivery) (option_map (held rules past) (if b then Some d else None))) (waiting-kept rules past d waits))

@@ -9,7 +9,7 @@ use Rattle.trace_clauses.specs.TransferClause.{to_carry}
 use Rattle.trace_values.specs.View.{link_view, incoming_view, outgoing_view}
 use Rattle.state_incoming.proofs.GroupAnswers.{judged-of}
 use Rattle.state_addresses.specs.ConsumerLinks.{consumer_at}
-use Rattle.due_flows.proofs.PartsDue.{found-consumer, carries, carried-noted, sent-so-far, still-link, still-going, still-window}
+use Rattle.due_flows.proofs.PartsDue.{found-consumer, carries, carried-noted, carrier-there, sent-so-far, still-link, still-going, still-window}
 use Rattle.due_flows.proofs.parts.part_due.Goals as goal
 
 pub returns-in_err-link-clause-found : goal.returns-in_err-link-clause-found
@@ -44,7 +44,8 @@ returns-in_err-carried-clause-found c = λ rules past are l own still.
     let live : IsLiveLink m past = (found-consumer rules past judged c.args.number m (sym at)).0 in
     let going : in_progress m past ≡ Some j = sym (c.in_ok-delivery.ensures rules past are live) in
     let one = carries rules past judged are.1.1.1.1.1.1.1.0 m j going in
-    let never : ◌≡◌ {A = Option Incoming} None (Some one.0) = c.in_err-carried.ensures.value rules past are.1.1.1.1.0.0 ∙ one.1 in
+    let there = carrier-there rules past judged are.1.1.1.1.1.1.1.0 m j going c.args.looked.now.deliveries.now are.1.1.1.1.0.1.1 in
+    let never : ◌≡◌ {A = Option Incoming} None (Some one.0) = c.in_err-carried.ensures.value rules past are.1.1.1.1.0.0 there ∙ one.1 in
     absurd cc
 
 pub returns-clause-due : goal.returns-clause-due
@@ -56,12 +57,12 @@ returns-clause-due c = λ rules past are.
     let at : Some m ≡ consumer_at c.args.number past = c.in_ok-link.ensures ∙ are.1.1.1.1.1.0 c.args.number in
     let found = found-consumer rules past judged c.args.number m (sym at) in
     let going : in_progress m past ≡ Some j = sym (c.in_ok-delivery.ensures rules past are found.0) in
-    let carried : to_carry rules j.note past ≡ Some d = sym (c.in_ok-carried.ensures.value rules past are.1.1.1.1.0.0) in
+    let carried : to_carry rules j.note past ≡ Some d = c.in_ok-carried.ensures.given rules past are.1.1.1.1.0.0 in
     let payload : c.payload-payload.result.now ≡ incoming.payload d past = c.payload-payload.ensures rules past are.1.1.1.1.0.0 (c.in_ok-carried.ensures.known rules past are.1.1.1.1.0.0) in
     let short : length (incoming.payload d past) < 2 ^ 64 = omega (arith, ap length payload, c.behind.ensures.counted) in
     let window : nat_lt 0 (session_window m.session past) ≡ true =
     lt-ltb 0 (session_window m.session past) (omega (arith, c.session_window.ensures rules past are found.0.0, c.if-session_window-eq0.false)) in
-    let count = c.sent_count.ensures ∙ sent-so-far rules past judged are.1.1.1.1.1.1.1.0 m j going c.args.looked.now.sent.now are.1.1.1.1.1.1.1.1.0.entries d carried short in
+    let count = c.sent_count.ensures ∙ sent-so-far rules past judged are.1.1.1.1.1.1.1.0 m j going c.args.looked.now.sent.now are.1.1.1.1.1.1.1.1.0 d carried short in
     record {
       delivery = j;
       carried = d;

@@ -18,6 +18,7 @@ use Rattle.due_queues.proofs.Counts.{counted-same}
 use Rattle.due_queues.proofs.EndedConsumers.{ended-same}
 use Rattle.due_queues.proofs.DecidedCounts.{among-mapped, as-many}
 use Rattle.due_queues.proofs.OpenDeliveries.{open-behind}
+use Rattle.due_queues.proofs.SentKnown.{known-in}
 use Rattle.due_queues.proofs.picks.Picks.follow.Goals as goal
 
 pub returns : goal.returns
@@ -29,6 +30,7 @@ returns c = λ rules records r next tables picks.
     let linked = tables.1.1.0 in
     let sent = tables.1.1.1.1.1.1.1.1.0 in
     let kept = sent_in c.args.before.now.sent.now in
+    let known = known-in c.args.before.now.sent.now past sent in
     let links = views c.in_ok-ended.ended.items in
     let ended = c.in_ok-ended.ensures rules records r next.0 linked in
     let decided = c.in_ok-decide.ensures.counted past linked in
@@ -41,10 +43,10 @@ returns c = λ rules records r next tables picks.
     let mapped = among-mapped e past kept decided.listed in
     record {
       counted = counted-same e past links (filter_map (λ n. decided_link e past (kept n)) decided.listed) (ended-same rules e past are links ended)
-          (λ n. as-many rules e past were kept sent.entries sent.groups.counted c.begin.new.self.undecided opened decided.listed decided.distinct decided.found decided.small n)
+          (λ n. as-many rules e past were kept known sent.groups.counted c.begin.new.self.undecided opened decided.listed decided.distinct decided.found decided.small n)
           c.detach.new.self.table
           (subst (λ (events : List AddressEvent). IsCount c.detach.new.self.table (detached_all links ++ (events ++ before))) mapped counted);
-      are_open = open-behind rules e past are kept sent.entries c.begin.new.self.undecided c.detach.new.self.undecided c.begin-2.new.self opened
+      are_open = open-behind rules e past are kept known c.begin.new.self.undecided c.detach.new.self.undecided c.begin-2.new.self opened
           (subst (λ (groups : Undecided). Spares (λ n. is_some (decided_link e past (kept n))) c.begin.new.self.undecided groups) (sym c.detach.ensures.same) (c.in_ok-decide.ensures.spared past linked))
           c.in_ok-begin.ensures;
     }

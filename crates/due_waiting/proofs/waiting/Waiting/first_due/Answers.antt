@@ -4,10 +4,10 @@ use Rattle.capture_form.specs.declared.records.Record.{Record}
 use Rattle.trace_events.specs.Event.{Event, Link, Incoming}
 use Rattle.trace_events.specs.History.{history}
 use Rattle.trace_events.specs.Incoming.{address_of, completed_before}
-use Rattle.trace_events.proofs.Judged.{history-judged}
+use Rattle.trace_events.proofs.Judged.{AreJudged, history-judged}
 use Rattle.trace_values.specs.View.{incoming_view}
 use Rattle.state_incoming.specs.EntryAnswers.{Knows}
-use Rattle.state_incoming.specs.HeldTables.{AreHeld}
+use Rattle.state_incoming.specs.HeldTables.{IsTable}
 use Rattle.state_incoming.specs.declared.deliveries.Deliveries.{Deliveries}
 use Rattle.due_flows.specs.Lent.{AreOf}
 use Rattle.due_waiting.specs.Awake.{is_among_first}
@@ -32,8 +32,8 @@ off false is = refl
 off true is = absurd cc
 
 -- the table knows what is due
-due-known : (rules : RuleSet) (past : List Event) (table : Deliveries) → AreHeld rules table past → (due : DueWaiting) → IsDueWaiting rules due past → Knows table (incoming_view due.delivery)
-due-known rules past table were due is = waiting-known rules past table were (incoming_view due.delivery) is.found (next-waits rules past (incoming_view due.delivery) is.next)
+due-known : (rules : RuleSet) (past : List Event) → AreJudged rules past → (table : Deliveries) → IsTable rules table past → (due : DueWaiting) → IsDueWaiting rules due past → Knows table (incoming_view due.delivery)
+due-known rules past judged table is_table due is = waiting-known rules past judged table is_table (incoming_view due.delivery) is.found (next-waits rules past (incoming_view due.delivery) is.next)
 
 pub loop-index-preserved-in-Some : goal.loop-index-preserved-in-Some
 loop-index-preserved-in-Some c =
@@ -50,8 +50,8 @@ loop-index-preserved-in-Some c =
           let past = history rules records in
           let judged = history-judged rules records in
           let is = c.in-Some.ensures.due records are (inv.0 records are has) in
-          let first = each-more _ (λ (x : DueWaiting). Knows table (incoming_view x.delivery)) c.loop-index.first (λ x one. due-known rules past table are.1.1.1.1.0.0 x (one records are has)) inv.1 in
-          let order = c.earlier.ensures.order rules past are first (due-known rules past table are.1.1.1.1.0.0 due is) in
+          let first = each-more _ (λ (x : DueWaiting). Knows table (incoming_view x.delivery)) c.loop-index.first (λ x one. due-known rules past judged table are.1.1.1.1.0 x (one records are has)) inv.1 in
+          let order = c.earlier.ensures.order rules past are first (due-known rules past judged table are.1.1.1.1.0 due is) in
           subst (λ (x : DueWaiting). is_ahead past (Some x) d ≡ true) (sym order)
           (ahead-more rules past judged c.loop-index.first due is d l h (is_among_first c.loop-index.self.awake c.loop-index.index (address_of d past))
           (is_among_first c.look.new.self.awake (c.loop-index.index + 1) (address_of d past)) (c.in-Some.ensures.here records are (inv.0 records are has) (address_of d past)) (inv.2 records are has d l h) among),
