@@ -33,7 +33,7 @@ use Rattle.trace_clauses.specs.BestVerdict.{has_all_verdicts}
 use Rattle.trace_clauses.proofs.AwaitedSteps.{awaits_now-live, awaits_verdict_moves}
 use Rattle.trace_clauses.proofs.VerdictSteps.{found-passes}
 use Rattle.due_outcomes.proofs.LostConsumers.{cons-none, one-of}
-use Rattle.due_outcomes.proofs.SentEntries.{contained-at}
+use Rattle.state_outgoing.proofs.SentKept.{contained-at}
 use Rattle.due_outcomes.proofs.UnsettledSteps.{and-both}
 
 same_some : {A : Type 0} (a b : A) → Some a ≡ Some b → a ≡ b

@@ -3,7 +3,6 @@ mod UnderKeys
 mod Spoken
 mod UnsettledSteps
 mod UntoldSteps
-mod SentEntries
 mod SettlingsDue
 mod LostConsumers
 mod LastVerdicts

@@ -19,6 +19,7 @@ use Rattle.state_incoming.specs.HeldTables.{held_in}
 use Rattle.state_incoming.specs.declared.deliveries.Deliveries.{Deliveries}
 use Rattle.state_incoming.proofs.CarriedHeld.{knows-held}
 use Rattle.state_incoming.proofs.GroupAnswers.{judged-of}
+use Rattle.state_incoming.proofs.OverKnown.{open-kept}
 use Rattle.state_answers.specs.declared.looked.Looked.{Looked}
 use Rattle.due_outcomes.specs.LookedTables.{AreLooked}
 
@@ -30,6 +31,14 @@ held-bits true false false false gone other is = absurd cc
 held-bits true false true live gone other is = absurd cc
 held-bits true true told live gone other is = absurd cc
 held-bits false settled told live gone other is = absurd cc
+
+-- and not closed
+closed-bits : (complete settled told live : Bool) → complete && not settled && not told && live ≡ true → told || settled || not live ≡ false
+closed-bits true false false true is = refl
+closed-bits true false false false is = absurd cc
+closed-bits true false true live is = absurd cc
+closed-bits true true told live is = absurd cc
+closed-bits false settled told live is = absurd cc
 
 pub knows-has : (table : Deliveries) (d : Incoming) → Knows table d → has_number table d.number ≡ true
 knows-has table d knows = by (held_in table d.number) knows
@@ -52,6 +61,7 @@ module _ (rules : RuleSet) (past : List Event) (looked : Looked) (stands : AreLo
   told-known d there may =
       knows-held rules past are lawful looked.deliveries.now stands.1.1.1.1.0.0 d (begun-at d there)
       (held-bits (is_complete d past) (is_settled d past) (is_told d past) (is_live past d.link) (is_gone rules d past) _ may)
+      (open-kept rules past are looked.deliveries.now stands.1.1.1.1.0.1.1 d.number d (begun-at d there) (closed-bits (is_complete d past) (is_settled d past) (is_told d past) (is_live past d.link) may))
 
   -- nothing is to be told of a delivery of which the tables cannot tell, that may not be told, or to which no row applies
   pub unless-told : (d : Incoming) → Contains (incoming_deliveries past) d

@@ -16,19 +16,20 @@ use Rattle.trace_clauses.proofs.Parts.{IsKept, each_delivery}
 use Rattle.trace_clauses.proofs.WaitingQueue.{all_contained}
 use Rattle.trace_duties.specs.Quiet.{none_is_untold}
 use Rattle.trace_duties.proofs.QuietLists.{all-each}
-use Rattle.state_incoming.specs.EntryAnswers.{says_closed}
+use Rattle.state_incoming.specs.EntryAnswers.{is_shut}
 use Rattle.state_incoming.specs.Held.{Held, says_waiting}
 use Rattle.state_incoming.specs.HeldTables.{held_in}
 use Rattle.state_incoming.specs.declared.held.Fate.TheVariants.{Arriving, Waiting, Gone, Paired, Copied}
-use Rattle.state_incoming.proofs.CarriedHeld.{carried-closed, carried-of, entry-at}
+use Rattle.state_incoming.proofs.CarriedHeld.{carried-of, carried-shut, entry-at}
 use Rattle.state_incoming.proofs.GroupAnswers.{judged-of}
+use Rattle.state_incoming.proofs.OverKnown.{waiting-kept}
+use Rattle.state_outgoing.proofs.SentKept.{contained-at}
 use Rattle.state_answers.specs.declared.looked.Looked.{Looked}
 use Rattle.number_groups.specs.Ascending.{has}
 use Rattle.due_outcomes.specs.LookedTables.{AreLooked}
 use Rattle.due_outcomes.specs.Untold.{HasUntold, IsOn, waits_in}
 use Rattle.number_groups.specs.declared.groups.Groups.{Groups}
 use Rattle.due_outcomes.specs.declared.untold.Untold.{Untold}
-use Rattle.due_outcomes.proofs.SentEntries.{contained-at}
 
 same_some : {A : Type 0} (a b : A) → Some a ≡ Some b → a ≡ b
 same_some a b is = cc
@@ -63,14 +64,15 @@ module _ (rules : RuleSet) (past : List Event) (looked : Looked) (stands : AreLo
   waiting-entry d there is =
       ap (λ o. is_some_and o (λ (x : Held). says_waiting x.fate))
       (entry-at rules past are lawful looked.deliveries.now stands.1.1.1.1.0.0 d.number d (incoming-kept d there).at
-      (held-bits (is_of_multicast rules d past) (is_complete d past) (is_paired d past) (always_had_consumer d past) (is_closed past d) _ is))
+      (held-bits (is_of_multicast rules d past) (is_complete d past) (is_paired d past) (always_had_consumer d past) (is_closed past d) _ is)
+      (waiting-kept rules past are looked.deliveries.now stands.1.1.1.1.0.1.1 d.number d (incoming-kept d there).at is))
       ∙ fate-bits (is_of_multicast rules d past) (is_complete d past) (is_paired d past) (always_had_consumer d past) is
 
-  carried-entry : (j : Outgoing) → Contains (outgoing_deliveries past) j → (d : Incoming) → noted j.note past ≡ Some d → says_closed (held_in looked.deliveries.now d.number) ≡ is_closed past d
+  carried-entry : (j : Outgoing) → Contains (outgoing_deliveries past) j → (d : Incoming) → noted j.note past ≡ Some d → is_shut (held_in looked.deliveries.now d.number) ≡ is_closed past d
   carried-entry j there d at =
       let c = carried-of rules past are lawful (λ (k : Outgoing). k.number == j.number) j (contained-at rules past are j there) in
       let same : c.delivery ≡ d = same_some c.delivery d (sym (ap (λ note. noted note past) c.named ∙ c.at) ∙ at) in
-      subst (λ (x : Incoming). says_closed (held_in looked.deliveries.now x.number) ≡ is_closed past x) same (carried-closed rules past are lawful looked.deliveries.now stands.1.1.1.1.0.0 j c)
+      subst (λ (x : Incoming). is_shut (held_in looked.deliveries.now x.number) ≡ is_closed past x) same (carried-shut rules past are lawful looked.deliveries.now stands.1.1.1.1.0.0 stands.1.1.1.1.0.1.1 j c)
 
   -- ---- what is forgotten
 
@@ -79,7 +81,7 @@ module _ (rules : RuleSet) (past : List Event) (looked : Looked) (stands : AreLo
       (waiting : (address : List ℕ) (n : ℕ) → (number == n) ≡ false → waits_in earlier address n ≡ true → waits_in later address n ≡ true)
       (waits : is_some_and (held_in looked.deliveries.now number) (λ x. says_waiting x.fate) ≡ true → later.waiting ≡ earlier.waiting)
       (carried : (j : Outgoing) (n : ℕ) → (number == n) ≡ false → IsOn earlier.carried j n → IsOn later.carried j n)
-      (opens : says_closed (held_in looked.deliveries.now number) ≡ false → later.carried ≡ earlier.carried) where
+      (opens : is_shut (held_in looked.deliveries.now number) ≡ false → later.carried ≡ earlier.carried) where
     another : (d : Incoming) → Contains (incoming_deliveries past) d → is_to_tell rules past d ≡ true → (number == d.number) ≡ false
     another d there is = by (number == d.number) refl
       where
@@ -102,16 +104,16 @@ module _ (rules : RuleSet) (past : List Event) (looked : Looked) (stands : AreLo
         by false says = waiting (address_of d past) d.number (apart says (number == d.number) refl) (was.waiting d there is)
 
     still-carried : (j : Outgoing) → Contains (outgoing_deliveries past) j → (d : Incoming) → noted j.note past ≡ Some d → is_of_multicast rules d past ≡ false → is_closed past d ≡ false → IsOn later.carried j d.number
-    still-carried j there d at anycast open_still = by (says_closed (held_in looked.deliveries.now number)) refl
+    still-carried j there d at anycast open_still = by (is_shut (held_in looked.deliveries.now number)) refl
       where
-        apart : says_closed (held_in looked.deliveries.now number) ≡ true → (b : Bool) → (number == d.number) ≡ b → (number == d.number) ≡ false
+        apart : is_shut (held_in looked.deliveries.now number) ≡ true → (b : Bool) → (number == d.number) ≡ b → (number == d.number) ≡ false
         apart closed false other = other
         apart closed true same =
-            let says = ap (λ n. says_closed (held_in looked.deliveries.now n)) (eqb-true number d.number same) ∙ (carried-entry j there d at ∙ open_still) in
+            let says = ap (λ n. is_shut (held_in looked.deliveries.now n)) (eqb-true number d.number same) ∙ (carried-entry j there d at ∙ open_still) in
             let never : true ≡ false = sym closed ∙ says in
             absurd cc
 
-        by : (b : Bool) → says_closed (held_in looked.deliveries.now number) ≡ b → IsOn later.carried j d.number
+        by : (b : Bool) → is_shut (held_in looked.deliveries.now number) ≡ b → IsOn later.carried j d.number
         by false says = subst (λ (x : Groups ℕ). IsOn x j d.number) (sym (opens says)) (was.carried j there d at anycast open_still)
         by true says = carried j d.number (apart says (number == d.number) refl) (was.carried j there d at anycast open_still)
 

@@ -14,13 +14,14 @@ use Rattle.trace_clauses.specs.Clauses.{first_broken}
 use Rattle.trace_clauses.proofs.WaitingQueue.{find_has}
 use Rattle.trace_duties.specs.Quiet.{none_is_unsettled}
 use Rattle.trace_duties.proofs.QuietLists.{all-each}
-use Rattle.state_incoming.specs.EntryAnswers.{says_closed}
+use Rattle.state_incoming.specs.EntryAnswers.{is_shut}
 use Rattle.state_incoming.specs.HeldTables.{held_in}
-use Rattle.state_incoming.proofs.CarriedHeld.{IsCarried, carried-closed, carried-of}
+use Rattle.state_incoming.proofs.CarriedHeld.{IsCarried, carried-of, carried-shut}
 use Rattle.state_incoming.proofs.GroupAnswers.{judged-of}
 use Rattle.state_outgoing.specs.Sent.{Sent, sent, outgoing_at, to_settle}
 use Rattle.state_outgoing.specs.SentAnswers.{carried, closes, number_of}
 use Rattle.state_outgoing.specs.SentTables.{sent_in}
+use Rattle.state_outgoing.proofs.SentKept.{contained-at, entry-law, unfinished-entry, unsettled-unfinished}
 use Rattle.state_answers.specs.declared.looked.Looked.{Looked}
 use Rattle.number_groups.specs.Ascending.{has}
 use Rattle.due_outcomes.specs.LookedTables.{AreLooked}
@@ -29,7 +30,6 @@ use Rattle.due_outcomes.specs.SentNumbers.{IsUnder}
 use Rattle.due_outcomes.specs.Settlings.{IsDueSettling, due_in, says_open, waits_in}
 use Rattle.due_outcomes.specs.Unsettled.{HasUnsettled, IsParked, is_decided, is_open}
 use Rattle.due_outcomes.specs.declared.unsettled.Unsettled.{Unsettled}
-use Rattle.due_outcomes.proofs.SentEntries.{contained-at, contained-entry}
 use Rattle.due_outcomes.proofs.UnderKeys.{or-first, or-last}
 
 same_some : {A : Type 0} (a b : A) → Some a ≡ Some b → a ≡ b
@@ -88,32 +88,34 @@ module _ (rules : RuleSet) (past : List Event) (looked : Looked) (stands : AreLo
   lawful : first_broken rules past ≡ None
   lawful = stands.1.1.1.1.1.1.1.0
 
-  entry : (j : Outgoing) → Contains (outgoing_deliveries past) j → sent_in looked.sent.now j.number ≡ Some (sent past j)
-  entry j there = contained-entry rules past are looked.sent.now stands.1.1.1.1.1.1.1.1.0.entries j there
+  -- one that is open has its entry
+  entry : (j : Outgoing) → Contains (outgoing_deliveries past) j → is_open past j ≡ true → sent_in looked.sent.now j.number ≡ Some (sent past j)
+  entry j there opens =
+      unfinished-entry looked.sent.now past stands.1.1.1.1.1.1.1.1.0 j.number j (contained-at rules past are j there) (unsettled-unfinished past j opens)
 
-  closings : (j : Outgoing) → outgoing_at j.number past ≡ Some j → closes (λ n. says_closed (held_in looked.deliveries.now n)) j.note ≡ carries_closed past j
+  closings : (j : Outgoing) → outgoing_at j.number past ≡ Some j → closes (λ n. is_shut (held_in looked.deliveries.now n)) j.note ≡ carries_closed past j
   closings j at =
       let c = carried-of rules past are lawful (λ (k : Outgoing). k.number == j.number) j at in
-      ap (closes (λ n. says_closed (held_in looked.deliveries.now n))) c.named
-      ∙ (carried-closed rules past are lawful looked.deliveries.now stands.1.1.1.1.0.0 j c
+      ap (closes (λ n. is_shut (held_in looked.deliveries.now n))) c.named
+      ∙ (carried-shut rules past are lawful looked.deliveries.now stands.1.1.1.1.0.0 stands.1.1.1.1.0.1.1 j c
       ∙ sym (ap (λ note. is_some_and (noted note past) (is_closed past)) c.named ∙ ap (λ (o : Option Incoming). is_some_and o (is_closed past)) c.at))
 
   -- its entry says so just where the law does
-  entry-settles : (j : Outgoing) → outgoing_at j.number past ≡ Some j → to_settle (sent past j) (closes (λ n. says_closed (held_in looked.deliveries.now n)) j.note) ≡ is_to_settle past j
+  entry-settles : (j : Outgoing) → outgoing_at j.number past ≡ Some j → to_settle (sent past j) (closes (λ n. is_shut (held_in looked.deliveries.now n)) j.note) ≡ is_to_settle past j
   entry-settles j at =
       ap (λ b. is_open past j && is_some (option_map terminal_state (decision j past)) && b) (closings j at)
       ∙ (ap (λ b. is_open past j && b && carries_closed past j) (some-map terminal_state (decision j past))
       ∙ (settle-bits j.link.is_pre_settled (stands_unsettled past j) (first_deciding j past) (carries_closed past j) ∙ sym (is_to_settle-parts past j)))
 
   abbrev settles : Sent → Bool
-  settles x = to_settle x (closes (λ n. says_closed (held_in looked.deliveries.now n)) x.delivery.note)
+  settles x = to_settle x (closes (λ n. is_shut (held_in looked.deliveries.now n)) x.delivery.note)
 
   abbrev given : Option Sent → Option Outgoing
   given o = option_map (λ (x : Sent). x.delivery) (where_passes settles o)
 
   -- what the tables give is to be settled
   pub due-is : (n : ℕ) (j : Outgoing) → due_in looked.sent.now looked.deliveries.now n ≡ Some j → IsDueSettling past j
-  due-is n j due = by (outgoing_at n past) refl (sym (ap given (stands.1.1.1.1.1.1.1.1.0.entries n)) ∙ due)
+  due-is n j due = entered (sent_in looked.sent.now n) refl due
     where
       pass : (k : Outgoing) → outgoing_at n past ≡ Some k → (b : Bool) → is_to_settle past k ≡ b → option_map (λ (x : Sent). x.delivery) (if b then Some (sent past k) else None) ≡ Some j → IsDueSettling past j
       pass k at true is gives =
@@ -131,10 +133,14 @@ module _ (rules : RuleSet) (past : List Event) (looked : Looked) (stands : AreLo
           let own : settles (sent past k) ≡ is_to_settle past k = entry-settles k (ap (λ m. outgoing_at m past) number ∙ at) in
           pass k at (is_to_settle past k) refl (sym (ap (λ b. option_map (λ (x : Sent). x.delivery) (if b then Some (sent past k) else None)) own) ∙ gives)
 
+      entered : (o : Option Sent) → sent_in looked.sent.now n ≡ o → given o ≡ Some j → IsDueSettling past j
+      entered None is gives = absurd cc
+      entered (Some x) is gives = by (outgoing_at n past) refl (ap given (entry-law looked.sent.now past stands.1.1.1.1.1.1.1.1.0.entries n x is) ∙ gives)
+
   -- and all that is to be settled they give
   pub is-due : (j : Outgoing) → Contains (outgoing_deliveries past) j → is_to_settle past j ≡ true → is_some (due_in looked.sent.now looked.deliveries.now j.number) ≡ true
   is-due j there is =
-      ap (λ o. is_some (given o)) (entry j there)
+      ap (λ o. is_some (given o)) (entry j there (settled-parts past j is).0)
       ∙ ap (λ b. is_some (option_map (λ (x : Sent). x.delivery) (if b then Some (sent past j) else None))) (entry-settles j (contained-at rules past are j there) ∙ is)
 
   -- ---- with more that is parked
@@ -160,8 +166,8 @@ module _ (rules : RuleSet) (past : List Event) (looked : Looked) (stands : AreLo
     still : (n : ℕ) → (number == n) ≡ false → has earlier.candidates n ≡ true → has later.candidates n ≡ true
     still n another among = left n ∙ (ap (λ b. b && not (number == n)) among ∙ ap not another)
 
-    own-entry : (j : Outgoing) → Contains (outgoing_deliveries past) j → (number == j.number) ≡ true → sent_in looked.sent.now number ≡ Some (sent past j)
-    own-entry j there is = ap (sent_in looked.sent.now) (eqb-true number j.number is) ∙ entry j there
+    own-entry : (j : Outgoing) → Contains (outgoing_deliveries past) j → is_open past j ≡ true → (number == j.number) ≡ true → sent_in looked.sent.now number ≡ Some (sent past j)
+    own-entry j there opens is = ap (sent_in looked.sent.now) (eqb-true number j.number is) ∙ entry j there opens
 
     stays : (j : Outgoing) → Contains (outgoing_deliveries past) j → is_open past j ≡ true → IsUnder later.numbers j j.number
     stays j there opens = by (says_open (sent_in looked.sent.now number)) refl
@@ -169,7 +175,7 @@ module _ (rules : RuleSet) (past : List Event) (looked : Looked) (stands : AreLo
         apart : says_open (sent_in looked.sent.now number) ≡ false → (b : Bool) → (number == j.number) ≡ b → (number == j.number) ≡ false
         apart shut false is = is
         apart shut true is =
-            let says : says_open (sent_in looked.sent.now number) ≡ true = ap says_open (own-entry j there is) ∙ opens in
+            let says : says_open (sent_in looked.sent.now number) ≡ true = ap says_open (own-entry j there opens is) ∙ opens in
             let never : true ≡ false = sym says ∙ shut in
             absurd cc
 
@@ -187,7 +193,7 @@ module _ (rules : RuleSet) (past : List Event) (looked : Looked) (stands : AreLo
           by false is = is
           by true is =
               let waits : waits_in (sent_in looked.sent.now number) ≡ true =
-              ap waits_in (own-entry j there is) ∙ waits-bits (is_open past j) (is_some (option_map terminal_state (decision j past))) opens (some-map terminal_state (decision j past) ∙ decides) in
+              ap waits_in (own-entry j there opens is) ∙ waits-bits (is_open past j) (is_some (option_map terminal_state (decision j past))) opens (some-map terminal_state (decision j past) ∙ decides) in
               let never : true ≡ false = sym waits ∙ gone in
               absurd cc
 
@@ -205,17 +211,17 @@ module _ (rules : RuleSet) (past : List Event) (looked : Looked) (stands : AreLo
 
     module _ (p : IsParked later.parked looked.deliveries.now number (sent_in looked.sent.now number)) (kept : (n m : ℕ) → is_parked earlier.parked n m ≡ true → is_parked later.parked n m ≡ true) where
       -- of what it carries more is to be told
-      module _ (j : Outgoing) (there : Contains (outgoing_deliveries past) j) (is : (number == j.number) ≡ true) where
+      module _ (j : Outgoing) (there : Contains (outgoing_deliveries past) j) (opens : is_open past j ≡ true) (is : (number == j.number) ≡ true) where
         c : IsCarried rules past j
         c = carried-of rules past are lawful (λ (k : Outgoing). k.number == j.number) j (contained-at rules past are j there)
 
         under-it : p.under ≡ c.delivery.number
-        under-it = same_some p.under c.delivery.number (sym p.carries ∙ (ap carried (own-entry j there is) ∙ ap number_of c.named))
+        under-it = same_some p.under c.delivery.number (sym p.carries ∙ (ap carried (own-entry j there opens is) ∙ ap number_of c.named))
 
         more : carries_closed past j ≡ false
         more =
             sym (closings j (contained-at rules past are j there))
-            ∙ (ap (closes (λ n. says_closed (held_in looked.deliveries.now n))) c.named ∙ (ap (λ n. says_closed (held_in looked.deliveries.now n)) (sym under-it) ∙ p.opens))
+            ∙ (ap (closes (λ n. is_shut (held_in looked.deliveries.now n))) c.named ∙ (ap (λ n. is_shut (held_in looked.deliveries.now n)) (sym under-it) ∙ p.opens))
 
         parked-own : (d : Incoming) → noted j.note past ≡ Some d → is_parked later.parked d.number j.number ≡ true
         parked-own d at =
@@ -225,11 +231,11 @@ module _ (rules : RuleSet) (past : List Event) (looked : Looked) (stands : AreLo
 
       due-by : (j : Outgoing) → Contains (outgoing_deliveries past) j → is_to_settle past j ≡ true → (b : Bool) → (number == j.number) ≡ b → has later.candidates j.number ≡ true
       due-by j there is false other = still j.number other (was.due j there is)
-      due-by j there is true own = let never : true ≡ false = sym (settled-parts past j is).2 ∙ more j there own in absurd cc
+      due-by j there is true own = let parts = settled-parts past j is in let never : true ≡ false = sym parts.2 ∙ more j there parts.0 own in absurd cc
 
       decided-by : (j : Outgoing) → Contains (outgoing_deliveries past) j → is_open past j ≡ true → is_decided past j ≡ true → (d : Incoming) → noted j.note past ≡ Some d → is_closed past d ≡ false
           → (b : Bool) → (number == j.number) ≡ b → has later.candidates j.number || is_parked later.parked d.number j.number ≡ true
-      decided-by j there opens decides d at unclosed true own = or-last (has later.candidates j.number) (is_parked later.parked d.number j.number) (parked-own j there own d at)
+      decided-by j there opens decides d at unclosed true own = or-last (has later.candidates j.number) (is_parked later.parked d.number j.number) (parked-own j there opens own d at)
       decided-by j there opens decides d at unclosed false other =
           elim (or-cases (has earlier.candidates j.number) (is_parked earlier.parked d.number j.number) (was.decided j there opens decides d at unclosed)) [
             | inl among ↦ or-first (has later.candidates j.number) (is_parked later.parked d.number j.number) (still j.number other among)

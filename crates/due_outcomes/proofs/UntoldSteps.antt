@@ -49,7 +49,7 @@ use Rattle.due_outcomes.specs.SentNumbers.{Grows}
 use Rattle.due_outcomes.specs.Untold.{HasUntold, IsOn, KeepsOn, waits_in}
 use Rattle.due_outcomes.specs.declared.untold.Untold.{Untold}
 use Rattle.due_outcomes.proofs.LastVerdicts.{IsLast, IsSpokenOf, last-verdict}
-use Rattle.due_outcomes.proofs.SentEntries.{contained-at}
+use Rattle.state_outgoing.proofs.SentKept.{contained-at}
 use Rattle.due_outcomes.proofs.UnsettledSteps.{and-both, first-or-earlier, or-cases, some-of}
 
 same_some : {A : Type 0} (a b : A) → Some a ≡ Some b → a ≡ b

@@ -4,7 +4,7 @@ use Rattle.trace_events.specs.Words.{is_some_and, where_passes}
 use Rattle.trace_events.specs.Event.{Event, Outgoing}
 use Rattle.trace_events.specs.Outgoing.{outgoing_deliveries}
 use Rattle.trace_events.specs.Settling.{is_to_settle}
-use Rattle.state_incoming.specs.EntryAnswers.{says_closed}
+use Rattle.state_incoming.specs.EntryAnswers.{is_shut}
 use Rattle.state_incoming.specs.HeldTables.{held_in}
 use Rattle.state_incoming.specs.declared.deliveries.Deliveries.{Deliveries}
 use Rattle.state_outgoing.specs.Sent.{Sent, to_settle}
@@ -29,4 +29,4 @@ waits_in o = is_some_and o (λ x. x.is_unsettled && is_some x.decision)
 -- the delivery of the number, where its entry says that it is to be settled
 abbrev pub due_in : SentDeliveries → Deliveries → ℕ → Option Outgoing
 due_in sent deliveries n =
-    option_map (λ x. x.delivery) (where_passes (λ x. to_settle x (closes (λ m. says_closed (held_in deliveries m)) x.delivery.note)) (sent_in sent n))
+    option_map (λ x. x.delivery) (where_passes (λ x. to_settle x (closes (λ m. is_shut (held_in deliveries m)) x.delivery.note)) (sent_in sent n))

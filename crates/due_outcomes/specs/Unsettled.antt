@@ -5,7 +5,7 @@ use Rattle.trace_events.specs.Outgoing.{decision, noted, outgoing_deliveries}
 use Rattle.trace_events.specs.Settling.{is_closed, is_to_settle}
 use Rattle.trace_events.specs.Work.{stands_unsettled}
 use Rattle.number_groups.specs.Ascending.{has}
-use Rattle.state_incoming.specs.EntryAnswers.{says_closed}
+use Rattle.state_incoming.specs.EntryAnswers.{is_shut}
 use Rattle.state_incoming.specs.HeldTables.{held_in}
 use Rattle.state_incoming.specs.declared.deliveries.Deliveries.{Deliveries}
 use Rattle.state_outgoing.specs.Sent.{Sent}
@@ -35,5 +35,5 @@ pub record HasUnsettled (unsettled : Unsettled) (past : List Event) : Type 0 whe
 pub record IsParked (parked : Parked) (deliveries : Deliveries) (number : ℕ) (entry : Option Sent) : Type 0 where
   pub under : ℕ
   pub carries : carried entry ≡ Some under
-  pub opens : says_closed (held_in deliveries under) ≡ false
+  pub opens : is_shut (held_in deliveries under) ≡ false
   pub at : is_parked parked under number ≡ true

@@ -16,7 +16,7 @@ ghost use Rattle.trace_values.specs.View.{event_view, outgoing_view};
 ghost use Rattle.state_outgoing.specs.SentAnswers as sent;
 ghost use Rattle.state_outgoing.specs.SentTables.{sent_in};
 ghost use Rattle.state_outgoing.specs.SentViews.{sent_view};
-ghost use Rattle.state_incoming.specs.EntryAnswers.{says_closed};
+ghost use Rattle.state_incoming.specs.EntryAnswers.{is_shut};
 ghost use Rattle.state_incoming.specs.HeldTables.{held_in};
 ghost use Rattle.state_tables.specs.Connections.{IsLawfulNext};
 ghost use Rattle.state_tables.specs.EndedLinks.{views};
@@ -211,10 +211,10 @@ fn waits(entry: Option<&SentDelivery>) -> bool
 /// The number of what it carries, if more is to be told of that.
 fn carried_open(looked: &Looked<'_>, entry: Option<&SentDelivery>) -> Option<u64>
     ensures { IfSome result (λ n. (sent.carried (option_map sent_view (option_copied entry.entry)) ≡ Some n)
-        × (says_closed (held_in looked.now.deliveries.now n) ≡ false)) }
+        × (is_shut (held_in looked.now.deliveries.now n) ≡ false)) }
 {
     match entry?.delivery().note {
-        Note::Pair(number) if !looked.deliveries.says_closed(number) => Some(number),
+        Note::Pair(number) if !looked.deliveries.is_shut(number) => Some(number),
         _ => None,
     }
 }
@@ -262,10 +262,10 @@ fn has_producer(links: &[Link]) -> bool
 
 /// Nothing more is to be told of the delivery that the note names.
 fn closes(looked: &Looked<'_>, note: Note) -> bool
-    ensures { result ≡ sent.closes (λ n. says_closed (held_in looked.now.deliveries.now n)) note }
+    ensures { result ≡ sent.closes (λ n. is_shut (held_in looked.now.deliveries.now n)) note }
 {
     match note {
-        Note::Pair(number) => looked.deliveries.says_closed(number),
+        Note::Pair(number) => looked.deliveries.is_shut(number),
         Note::None | Note::Told(_) => false,
     }
 }

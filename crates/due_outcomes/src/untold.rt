@@ -16,7 +16,7 @@ ghost use Rattle.trace_events.specs.Outgoing.{names, outgoing_begun};
 ghost use Rattle.trace_events.specs.Words.{is_number, is_some_and};
 ghost use Rattle.trace_judge.specs.Told.{told_view};
 ghost use Rattle.trace_values.specs.View.{event_view, incoming_view, link_view, outgoing_view};
-ghost use Rattle.state_incoming.specs.EntryAnswers.{says_closed};
+ghost use Rattle.state_incoming.specs.EntryAnswers.{is_shut};
 ghost use Rattle.state_incoming.specs.Held.{says_waiting};
 ghost use Rattle.state_incoming.specs.HeldTables.{held_in};
 ghost use Rattle.state_addresses.specs.Addressed.{IsAddressed};
@@ -244,7 +244,7 @@ impl Untold {
         ensures waiting { (address : List ℕ) (n : ℕ) → (number == n) ≡ false → waits_in self.old address n ≡ true → waits_in self.new address n ≡ true }
         ensures waits { is_some_and (held_in looked.now.deliveries.now number) (λ x. says_waiting x.fate) ≡ true → self.new.waiting ≡ self.old.waiting }
         ensures carried { (j : events.Outgoing) (n : ℕ) → (number == n) ≡ false → IsOn self.old.carried j n → IsOn self.new.carried j n }
-        ensures opens { says_closed (held_in looked.now.deliveries.now number) ≡ false → self.new.carried ≡ self.old.carried }
+        ensures opens { is_shut (held_in looked.now.deliveries.now number) ≡ false → self.new.carried ≡ self.old.carried }
     {
         self.candidates.remove(number);
         if let Some(held) = looked.deliveries.get(number) {

@@ -38,7 +38,7 @@ returns c = λ records r next addressed stands was.
     (λ n. c.in_ok-add_of_links-2.ensures n
     ∙ (ap (λ links. has c.add_of_links.new.candidates n || list_any (λ l. is_member nat_eq c.on_link.result.now (link_view l).number n) links) c.deref-3.ensures.value
     ∙ ap (λ b. has c.add_of_links.new.candidates n || b) (any-map link_view (λ l. is_member nat_eq c.on_link.result.now l.number n) items)))
-    (λ link n. ap (λ (groups : Groups ℕ). is_member nat_eq groups link n) c.on_link.ensures ∙ stands.1.1.1.1.1.1.1.1.1.awaits link n)
+    (λ link n. ap (λ (groups : Groups ℕ). is_member nat_eq groups link n) c.on_link.ensures ∙ stands.1.1.1.1.1.1.1.1.1.0.awaits link n)
     (λ n. c.in_ok-add_waiting.ensures.added n
     ∙ (ap (λ links. has c.add_of_links-2.new.candidates n || list_any (λ l. is_consumer (link_view l) && waits_in u2 (link_view l).address n) links) c.deref-4.ensures.value
     ∙ ap (λ b. has c.add_of_links-2.new.candidates n || b) (any-map link_view (λ l. is_consumer l && waits_in u2 l.address n) items)))
