@@ -1,8 +1,8 @@
 -- One record more, behind those for which the books stand.
-use Rattle.std.proofs.Common.{◌≡◌, refl, sym, ap, subst, ◌∙◌, ℕ, List, [], ◌∷◌, ◌++◌, length, None, Result, Ok, Err, IfOk, OnOk}
+use Rattle.std.proofs.Common.{◌≡◌, refl, sym, ap, subst, ◌∙◌, ℕ, List, [], ◌∷◌, ◌++◌, length, None, Result, Ok, Err, OnOk}
 use Rattle.capture_form.specs.declared.records.Record.{Record}
 use Rattle.capture_form.specs.Rules.{RuleSet}
-use Rattle.trace_events.specs.Event.{Event, Moment}
+use Rattle.trace_events.specs.Event.{Event}
 use Rattle.trace_events.specs.History.{judge, history, moment_of}
 use Rattle.trace_clauses.specs.Clauses.{first_broken}
 use Rattle.trace_clauses.proofs.Lawful.{history-push}

@@ -1,5 +1,5 @@
 -- What a router's books stand for: the records so far, judged by its rules (own rules).
-use Rattle.std.specs.Prelude.{◌≡◌, List, ◌∷◌, ◌++◌, [], None}
+use Rattle.std.specs.Prelude.{◌≡◌, List, None}
 use Rattle.capture_form.specs.declared.records.Record.{Record}
 use Rattle.capture_form.specs.Rules.{RuleSet}
 use Rattle.trace_events.specs.Event.{Event}

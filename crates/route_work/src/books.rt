@@ -99,7 +99,8 @@ impl<D: Dues> Books<D> {
         Ok(())
     }
 
-    /// The record of the frame that is due next; `None` where nothing is.
+    /// The record of the frame that is due next; `None` where nothing is. Then one more delivery may be let go, of which nothing can
+    /// come any more.
     ///
     /// # Errors
     ///
@@ -116,7 +117,10 @@ impl<D: Dues> Books<D> {
         let looked = self.tables.looked();
         match self.dues.next_due(rules, &looked) {
             Some(due) => Ok(Some(record_of(self.alloc, &looked, rules, &due)?)),
-            None => Ok(None),
+            None => {
+                self.tables.let_go_next();
+                Ok(None)
+            }
         }
     }
 }

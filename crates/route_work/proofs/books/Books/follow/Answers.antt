@@ -10,10 +10,10 @@ pub returns : goal.returns
 returns g c = λ records r next stand.
     let rules = c.args.rules.now in
     let past = history rules records in
-    let lent = c.looked-looked.ensures rules past stand.tables in
+    let lent = c.looked-looked.ensures.stand rules past stand.tables in
     let e = event_view c.args.event.now in
     let addressed = subst (IsAddressed e past) (sym c.octets-address.ensures) (c.completed_for-completed.ensures.addressed rules records r next lent.1.1.1.1.0) in
     record {
-      tables = longer rules records r (AreTables rules c.take_addressed.new.self) e next.0 (c.in_ok-take_addressed.ensures records r next addressed stand.tables);
+      tables = longer rules records r (AreTables rules c.take_addressed.new.self) e next.0 (c.in_ok-take_addressed.ensures.stand records r next addressed stand.tables);
       listed = longer rules records r (g.D.Dues.has_all c.follow.new.self rules) e next.0 (c.in_ok-follow.ensures records r next addressed lent stand.listed);
     }
