@@ -1,6 +1,6 @@
 -- What a line and a table of lines are, and what they are not.
-use Rattle.std.proofs.Common.{◌≡◌, ℕ, Bool, false, List, [], ◌∷◌, ◌++◌, Option, Some, None, All, nat_eq, refl, sym, ap, ◌∙◌, subst, arith, Contains, inl, inr, map}
-use Rattle.std.proofs.lemmas.List.Elements.{All-nil}
+use Rattle.std.proofs.Common.{◌≡◌, ℕ, Bool, true, false, ◌⊎◌, List, [], ◌∷◌, ◌++◌, Option, Some, None, All, nat_eq, refl, sym, ap, ◌∙◌, subst, arith, Contains, inl, inr, map}
+use Rattle.std.proofs.lemmas.List.Elements.{All-nil, Contains-push_cases}
 use Rattle.indexmap.specs.IndexMap.{get}
 use Rattle.pairing_cert.specs.declared.note.Note.TheVariants as notes
 use Rattle.capture_form.specs.declared.records.Record.{Record}
@@ -11,7 +11,7 @@ use Rattle.conn_serving.specs.declared.serving.Status.TheVariants.{Ended, Failed
 use Rattle.daemon_desk.specs.Desks.{IsEntry}
 use Rattle.daemon_table.specs.declared.line.Line.{Line}
 use Rattle.daemon_table.specs.declared.table.Table.{Table}
-use Rattle.daemon_table.specs.Lines.{AreBelow, IsGone, IsKnown, IsLine, IsLineOf, IsOver, Serves, frames_to, front_of, inputs_of}
+use Rattle.daemon_table.specs.Lines.{AreBelow, AreTakenBut, HasCome, HasSigned, IsGone, IsKnown, IsLine, IsLineOf, IsOver, Serves, frames_to, front_of, inputs_of}
 
 abbrev opened : ℕ → Record
 opened n = record { connection = n; what = happened.Opened; note = notes.None }
@@ -108,7 +108,7 @@ module _ {G : Type 0} (Delivered Took : G → List ℕ → Type 0) (ended : G �
   not_gone_where_to_come table next gone = let less = gone.below in absurd (omega (arith, next, less))
 
 -- no records of a connection that is to come
-not_of_one_to_come : {G : Type 0} (Delivered Took : G → List ℕ → Type 0) (ended : G → Bool) (table : Table G) → table.next ≡ 3 → Serves Delivered Took ended (opened 3 ∷ []) [] table → ⊥
+not_of_one_to_come : {G : Type 0} (Delivered Took : G → List ℕ → Type 0) (ended : G → Bool) (table : Table G) → table.next ≡ 3 → Serves Delivered Took ended (opened 3 ∷ []) [] [] table → ⊥
 not_of_one_to_come Delivered Took ended table next s = absurd (first s.laid s.parts s.below)
   where
     first : (laid : List Record) → laid ++ [] ≡ opened 3 ∷ [] → AreBelow table.next laid → ⊥
@@ -120,9 +120,33 @@ not_of_one_to_come Delivered Took ended table next s = absurd (first s.laid s.pa
 
 -- nor inputs of a connection that is neither open nor let go
 not_of_a_forgotten_one : {G : Type 0} (Delivered Took : G → List ℕ → Type 0) (ended : G → Bool) (table : Table G) → ((n : ℕ) → get nat_eq table.lines n ≡ None) → table.over.items ≡ []
-    → Serves Delivered Took ended (opened 3 ∷ []) [] table → ⊥
+    → Serves Delivered Took ended (opened 3 ∷ []) [] [] table → ⊥
 not_of_a_forgotten_one {G = G} Delivered Took ended table none over s = neither (s.known 0 (opened 3) (omega arith))
   where
     neither : IsKnown table 3 → ⊥
     neither (inl held) = let never : ◌≡◌ {A = Option (Line G)} None (Some held.0) = sym (none 3) ∙ held.1 in cc
     neither (inr gone) = let nothing : Contains {X = ℕ} [] 3 = subst (λ (xs : List (Line G × Unit {0})). Contains (map (λ (p : Line G × Unit {0}). p.0.number) xs) 3) over gone in let less = nothing.1 in absurd (omega (arith, less))
+
+-- nor where an item lies in the inbox of one whose number does not wait
+module _ {G : Type 0} (table : Table G) (line : Line G) (entry : Record) (at : get nat_eq table.lines 3 ≡ Some line) (inbox : line.inbox.items ≡ entry ∷ []) where
+  not_with_an_item : AreTakenBut (4 ∷ []) table → ⊥
+  not_with_an_item taken = either (taken 3 line at)
+    where
+      either : Contains {X = ℕ} (4 ∷ []) 3 ⊎ (line.inbox.items ≡ []) → ⊥
+      either (inl among) = neither (Contains-push_cases [] 4 3 among)
+        where
+          neither : Contains {X = ℕ} [] 3 ⊎ (◌≡◌ {A = ℕ} 4 3) → ⊥
+          neither (inl never) = let less = never.1 in absurd (omega (arith, less))
+          neither (inr three) = absurd (omega (arith, three))
+      either (inr none) = let never : ◌≡◌ {A = List Record} (entry ∷ []) [] = sym inbox ∙ none in cc
+
+-- a connection that is open and not signed is not signed by doing nothing
+not_signed_by_nothing : {G : Type 0} (table : Table G) (line : Line G) → get nat_eq table.lines 3 ≡ Some line → line.is_signed ≡ false → HasSigned 3 table table → ⊥
+not_signed_by_nothing table line at unsigned h = let never : false ≡ true = sym unsigned ∙ h.marked line at in cc
+
+-- nor does one come so, where a number is left
+none_comes_by_nothing : {G : Type 0} (gate : G) (table : Table G) (number : ℕ) → HasCome gate table table (Some number) → ⊥
+none_comes_by_nothing gate table number h = let more = h.next in absurd (omega (arith, more))
+
+none_is_left : {G : Type 0} (gate : G) (table : Table G) → table.next ≡ 4 → HasCome gate table table None → ⊥
+none_is_left gate table next h = let none = h.0 in absurd (omega (arith, next, none))

@@ -1,6 +1,6 @@
 //! One connection of an owner.
 
-ghost use Rattle.std.specs.Prelude.{◌≡◌, ◌<◌, ◌++◌, ◌∷◌, [], ℕ, List, length, true, IsTrue, IfOk, OnOk, All};
+ghost use Rattle.std.specs.Prelude.{◌≡◌, ◌<◌, ◌++◌, ◌∷◌, ◌↔◌, [], ℕ, List, length, not, true, false, IsTrue, IfOk, OnOk, All};
 ghost use Rattle.capture_form.specs.declared.records.What.{What};
 ghost use Rattle.conn_engine.specs.Pausing.{resumed};
 ghost use Rattle.conn_serving.specs.declared.serving.Status.TheVariants.{Open, Ended};
@@ -46,6 +46,9 @@ impl<G: Gate> Line<G> {
     pub(crate) fn new(alloc: Global, number: u32, gate: G) -> Line<G>
         requires fresh { G.delivered gate [] × G.took gate [] }
         ensures number { result.number ≡ number }
+        ensures gate { result.gate ≡ gate }
+        ensures empty { result.inbox.items ≡ [] }
+        ensures unsigned { result.is_signed ≡ false }
         ensures line { IsLine G.delivered G.took G.has_ended [] [] result }
     {
         Line {
@@ -69,7 +72,7 @@ impl<G: Gate> Line<G> {
 
     /// Whether its gate was shut, and its core has taken all that came of it.
     pub(crate) fn is_over(&self) -> bool
-        ensures { IsTrue result → (self.now.status ≡ Ended) × (self.now.inbox.items ≡ []) }
+        ensures { IsTrue result ↔ ((self.now.status ≡ Ended) × (self.now.inbox.items ≡ [])) }
     {
         self.status == Status::Ended && self.inbox.is_empty()
     }
@@ -78,6 +81,10 @@ impl<G: Gate> Line<G> {
     pub(crate) fn sign(&mut self) -> bool
         ensures line { (taken : List What) → (written : List (List ℕ)) → IsLine G.delivered G.took G.has_ended taken written self.old → IsLine G.delivered G.took G.has_ended taken written self.new }
         ensures number { self.new.number ≡ self.old.number }
+        ensures news { result ≡ not self.old.is_signed }
+        ensures marked { self.new.is_signed ≡ true }
+        ensures gate { self.new.gate ≡ self.old.gate }
+        ensures inbox { self.new.inbox.items ≡ self.old.inbox.items }
     {
         let is_news = !self.is_signed;
         self.is_signed = true;
@@ -93,6 +100,7 @@ impl<G: Gate> Line<G> {
         ensures line { OnOk result ((taken : List What) → (written : List (List ℕ)) → IsLine G.delivered G.took G.has_ended taken written self.old
             → IsLine G.delivered G.took G.has_ended taken (written ++ frame ∷ []) self.new) }
         ensures number { self.new.number ≡ self.old.number }
+        ensures inbox { self.new.inbox.items ≡ self.old.inbox.items }
     {
         self.outbox.push_back(frame)?;
         Ok(())
@@ -113,6 +121,7 @@ impl<G: Gate> Line<G> {
         ensures line { OnOk result ((taken : List What) → (written : List (List ℕ)) → IsLine G.delivered G.took G.has_ended taken written self.old
             → IsLine G.delivered G.took G.has_ended (taken ++ told_by self.old.inbox.items) written self.new) }
         ensures number { self.new.number ≡ self.old.number }
+        ensures taken { OnOk result (self.new.inbox.items ≡ []) }
     {
         let given = step_inbox(alloc, core, &self.inbox)?;
         self.inbox.clear();

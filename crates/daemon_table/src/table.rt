@@ -1,8 +1,9 @@
 //! All connections of an owner.
 
-ghost use Rattle.std.specs.Prelude.{◌≡◌, ◌<◌, ◌++◌, ◌∷◌, [], List, length, OnOk};
+ghost use Rattle.std.specs.Prelude.{◌≡◌, ◌<◌, ◌++◌, ◌∷◌, ◌↔◌, [], ℕ, List, length, IsTrue, IfOk, OnOk};
+ghost use Rattle.indexmap.specs.IndexMap.{index_map_len};
 ghost use Rattle.capture_form.specs.declared.records.Record.{Record as Entry};
-ghost use Rattle.daemon_table.specs.Lines.{Serves};
+ghost use Rattle.daemon_table.specs.Lines.{HasCome, HasLeft, HasSigned, Serves};
 
 use crate::line::Line;
 use capture_form::{Record, What};
@@ -32,7 +33,7 @@ pub struct Table<G> {
 impl<G: Gate + Drop> Table<G> {
     /// No connections.
     pub fn new(alloc: Global) -> Table<G>
-        ensures { Serves G.delivered G.took G.has_ended [] [] result }
+        ensures { Serves G.delivered G.took G.has_ended [] [] [] result }
     {
         Table {
             alloc,
@@ -44,12 +45,16 @@ impl<G: Gate + Drop> Table<G> {
     }
 
     /// How many connections are open.
-    pub fn open(&self) -> usize {
+    pub fn open(&self) -> usize
+        ensures { result ≡ index_map_len self.now.lines }
+    {
         self.lines.len()
     }
 
     /// Whether any has a turn in the next round.
-    pub fn is_signed(&self) -> bool {
+    pub fn is_signed(&self) -> bool
+        ensures { IsTrue result ↔ (self.now.signed.items ≡ [] → ⊥) }
+    {
         !self.signed.is_empty()
     }
 
@@ -61,7 +66,8 @@ impl<G: Gate + Drop> Table<G> {
     /// Where memory is refused.
     pub fn admit(&mut self, gate: G) -> Result<Option<u32>, AllocError>
         requires fresh { G.delivered gate [] × G.took gate [] }
-        ensures serves { OnOk result ((records : List Entry) → Serves G.delivered G.took G.has_ended records [] self.old → Serves G.delivered G.took G.has_ended records [] self.new) }
+        ensures serves { OnOk result ((records : List Entry) (waiting : List ℕ) → Serves G.delivered G.took G.has_ended records [] waiting self.old → Serves G.delivered G.took G.has_ended records [] waiting self.new) }
+        ensures came { IfOk result (λ number. HasCome gate self.old self.new number) }
     {
         let Ok(number) = u32::try_from(self.next) else {
             return Ok(None);
@@ -79,7 +85,8 @@ impl<G: Gate + Drop> Table<G> {
     ///
     /// Where memory is refused.
     pub fn sign(&mut self, number: u32) -> Result<(), AllocError>
-        ensures serves { OnOk result ((records given : List Entry) → Serves G.delivered G.took G.has_ended records given self.old → Serves G.delivered G.took G.has_ended records given self.new) }
+        ensures serves { OnOk result ((records given : List Entry) (waiting : List ℕ) → Serves G.delivered G.took G.has_ended records given waiting self.old → Serves G.delivered G.took G.has_ended records given waiting self.new) }
+        ensures signed { OnOk result (HasSigned number self.old self.new) }
     {
         let Some(line) = self.lines.get_mut(&number) else {
             return Ok(());
@@ -96,7 +103,7 @@ impl<G: Gate + Drop> Table<G> {
     ///
     /// Where memory is refused.
     pub fn sign_all(&mut self) -> Result<(), AllocError>
-        ensures serves { OnOk result ((records given : List Entry) → Serves G.delivered G.took G.has_ended records given self.old → Serves G.delivered G.took G.has_ended records given self.new) }
+        ensures serves { OnOk result ((records given : List Entry) (waiting : List ℕ) → Serves G.delivered G.took G.has_ended records given waiting self.old → Serves G.delivered G.took G.has_ended records given waiting self.new) }
     {
         for number in self.numbers()? {
             self.sign(number)?;
@@ -115,7 +122,8 @@ impl<G: Gate + Drop> Table<G> {
 
     /// The numbers of those that have a turn in this round.
     pub fn take_signed(&mut self) -> Vec<u32>
-        ensures serves { (records given : List Entry) → Serves G.delivered G.took G.has_ended records given self.old → Serves G.delivered G.took G.has_ended records given self.new }
+        ensures serves { (records given : List Entry) (waiting : List ℕ) → Serves G.delivered G.took G.has_ended records given waiting self.old → Serves G.delivered G.took G.has_ended records given waiting self.new }
+        ensures signed { result.items ≡ self.old.signed.items }
     {
         mem::replace(&mut self.signed, Vec::new(self.alloc))
     }
@@ -133,9 +141,10 @@ impl<G: Gate + Drop> Table<G> {
         buffer: &mut [u8],
     ) -> Result<(), Stop>
         requires handed { core.now.journal.waiting ≡ [] }
-        requires serves { Serves G.delivered G.took G.has_ended core.now.journal.records [] self.old }
+        requires serves { (waiting : List ℕ) × Serves G.delivered G.took G.has_ended core.now.journal.records [] waiting self.old }
         requires room { 0 < length buffer.old }
-        ensures serves { OnOk result (Serves G.delivered G.took G.has_ended core.now.journal.records [] self.new) }
+        ensures serves { OnOk result ((waiting : List ℕ) → Serves G.delivered G.took G.has_ended core.now.journal.records [] waiting self.old
+            → Serves G.delivered G.took G.has_ended core.now.journal.records [] (waiting ++ number ∷ []) self.new) }
     {
         match self.turn_of(core, number, buffer)? {
             Some(Turn::Moved) => match self.sign(number) {
@@ -153,9 +162,10 @@ impl<G: Gate + Drop> Table<G> {
         number: u32,
         buffer: &mut [u8],
     ) -> Result<Option<Turn>, Stop>
-        requires serves { Serves G.delivered G.took G.has_ended core.now.journal.records [] self.old }
+        requires serves { (waiting : List ℕ) × Serves G.delivered G.took G.has_ended core.now.journal.records [] waiting self.old }
         requires room { 0 < length buffer.old }
-        ensures serves { OnOk result (Serves G.delivered G.took G.has_ended core.now.journal.records [] self.new) }
+        ensures serves { OnOk result ((waiting : List ℕ) → Serves G.delivered G.took G.has_ended core.now.journal.records [] waiting self.old
+            → Serves G.delivered G.took G.has_ended core.now.journal.records [] (waiting ++ number ∷ []) self.new) }
     {
         let alloc = self.alloc;
         let Some(line) = self.lines.get_mut(&number) else {
@@ -176,8 +186,9 @@ impl<G: Gate + Drop> Table<G> {
         number: u32,
         given: &mut Vec<Record>,
     ) -> Result<(), StepFault>
-        requires serves { Serves G.delivered G.took G.has_ended core.old.journal.records given.old.items self.old }
-        ensures serves { OnOk result (Serves G.delivered G.took G.has_ended core.new.journal.records given.new.items self.new) }
+        requires serves { (waiting : List ℕ) × Serves G.delivered G.took G.has_ended core.old.journal.records given.old.items waiting self.old }
+        ensures serves { OnOk result ((waiting : List ℕ) → Serves G.delivered G.took G.has_ended core.old.journal.records given.old.items (number ∷ waiting) self.old
+            → Serves G.delivered G.took G.has_ended core.new.journal.records given.new.items waiting self.new) }
     {
         let alloc = self.alloc;
         let Some(line) = self.lines.get_mut(&number) else {
@@ -196,7 +207,7 @@ impl<G: Gate + Drop> Table<G> {
     ///
     /// Where memory is refused.
     pub fn lay_all(&mut self, given: Vec<Record>) -> Result<(), AllocError>
-        ensures serves { OnOk result ((records : List Entry) → Serves G.delivered G.took G.has_ended records given.items self.old → Serves G.delivered G.took G.has_ended records [] self.new) }
+        ensures serves { OnOk result ((records : List Entry) (waiting : List ℕ) → Serves G.delivered G.took G.has_ended records given.items waiting self.old → Serves G.delivered G.took G.has_ended records [] waiting self.new) }
     {
         for entry in given {
             self.lay(entry)?;
@@ -206,7 +217,8 @@ impl<G: Gate + Drop> Table<G> {
 
     /// Lays the frame that is written in this record, if one is, out for its connection.
     fn lay(&mut self, entry: Record) -> Result<(), AllocError>
-        ensures serves { OnOk result ((records rest : List Entry) → Serves G.delivered G.took G.has_ended records (entry ∷ rest) self.old → Serves G.delivered G.took G.has_ended records rest self.new) }
+        ensures serves { OnOk result ((records rest : List Entry) (waiting : List ℕ) → Serves G.delivered G.took G.has_ended records (entry ∷ rest) waiting self.old
+            → Serves G.delivered G.took G.has_ended records rest waiting self.new) }
     {
         let Record {
             connection,
@@ -229,7 +241,8 @@ impl<G: Gate + Drop> Table<G> {
 
     /// The connection of this number is let go, if it has ended and the core has taken all that came of it.
     pub fn let_go(&mut self, number: u32)
-        ensures serves { (records given : List Entry) → Serves G.delivered G.took G.has_ended records given self.old → Serves G.delivered G.took G.has_ended records given self.new }
+        ensures serves { (records given : List Entry) (waiting : List ℕ) → Serves G.delivered G.took G.has_ended records given waiting self.old → Serves G.delivered G.took G.has_ended records given waiting self.new }
+        ensures gone { HasLeft number self.old self.new }
     {
         let Some(line) = self.lines.get(&number) else {
             return;
