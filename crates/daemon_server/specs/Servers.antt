@@ -15,7 +15,7 @@ serving core table has_stopped = record { core = core; table = table; has_stoppe
 
 module _ {G : Type 0} (Delivered Took : G → List ℕ → Type 0) (ended : G → Bool) where
   -- between two rounds: the writer has the text of all records, every frame of which is laid out for its connection; and each
-  -- connection is served so far, or was to its end
+  -- connection is served so far, and the core has taken all that came of it, or it was served to its end
   pub record IsServing (core : Recording) (table : Table G) : Type 0 where
     pub handed : core.journal.waiting ≡ []
-    pub serves : Serves Delivered Took ended core.journal.records [] table
+    pub serves : Serves Delivered Took ended core.journal.records [] [] table

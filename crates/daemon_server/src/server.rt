@@ -6,6 +6,7 @@ ghost use Rattle.trace_events.specs.History.{history};
 ghost use Rattle.trace_clauses.specs.Clauses.{first_broken};
 ghost use Rattle.trace_duties.specs.Diligent.{is_diligent};
 ghost use Rattle.trace_duties.specs.Turn.{is_ordered};
+ghost use Rattle.daemon_table.specs.Lines.{HasCome};
 ghost use Rattle.daemon_server.specs.Servers.{IsServing};
 
 use crate::halt::Halt;
@@ -84,6 +85,7 @@ impl<D: Dues + Drop, W: Write + Drop, G: Gate + Drop> Server<D, W, G> {
     pub fn admit(&mut self, gate: G) -> Result<Option<u32>, Halt>
         requires fresh { G.delivered gate [] × G.took gate [] }
         ensures works { OnOk result (self.new.has_stopped ≡ false) }
+        ensures came { IfOk result (λ number. HasCome gate self.old.table self.new.table number) }
     {
         if self.has_stopped {
             return Err(Halt::Stopped);
@@ -159,8 +161,8 @@ impl<D: Dues + Drop, W: Write + Drop, G: Gate + Drop> Server<D, W, G> {
         ensures lawful { first_broken self.now.core.journal.rules (history self.now.core.journal.rules self.now.core.journal.records) ≡ None }
         ensures diligent { is_diligent self.now.core.journal.rules self.now.core.journal.records ≡ true }
         ensures ordered { is_ordered self.now.core.journal.rules self.now.core.journal.records ≡ true }
-        // While it works, nothing of it waits, and each connection is served so far or was to its end: its inputs are those that its
-        // gate delivered, and what its gate took begins with the answers and then the frames that were written to it.
+        // While it works, nothing of it waits, and each connection is served so far or was to its end: its inputs are exactly those
+        // that its gate delivered, and what its gate took begins with the answers and then the frames that were written to it.
         ensures serving { self.now.has_stopped ≡ false → IsServing G.delivered G.took G.has_ended self.now.core self.now.table }
     {
         let _rules = self.core.rules();

@@ -7,5 +7,5 @@ pub invariant_of-result : goal.invariant_of-result
 invariant_of-result g c = λ works. record {
   handed = c.in_ok-core.ensures.handed;
   serves =
-      subst (λ (records : List Record). Serves g.G.Gate.delivered g.G.Gate.took g.G.Gate.has_ended records [] c.new.result) (sym c.in_ok-core.ensures.records) c.new.ensures;
+      subst (λ (records : List Record). Serves g.G.Gate.delivered g.G.Gate.took g.G.Gate.has_ended records [] [] c.new.result) (sym c.in_ok-core.ensures.records) c.new.ensures;
 }
