@@ -1,5 +1,5 @@
 -- What the table of connections stands for.
-use Rattle.std.specs.Prelude.{◌≡◌, ℕ, true, false, ◌||◌, ◌⊎◌, List, ◌∷◌, Option, Some, None, is_some, option_map, option_and_then, unwrap_or, nat_eq, ◌==◌, ◌&&◌, if◌then◌else◌}
+use Rattle.std.specs.Prelude.{◌≡◌, ℕ, true, false, ◌||◌, ◌⊎◌, List, ◌∷◌, Option, Some, None, IfSome, is_some, option_map, option_and_then, unwrap_or, nat_eq, ◌==◌, ◌&&◌, if◌then◌else◌}
 use Rattle.indexmap.specs.IndexMap.{get, spare}
 use Rattle.flow_counts.specs.declared.profile.TheConstants.{MIN_MAX_FRAME_SIZE}
 use Rattle.capture_form.specs.declared.records.Record.{Record}
@@ -15,9 +15,38 @@ use Rattle.state_tables.specs.Sessions.{session_at, opens_or_ends, session_next,
 use Rattle.state_tables.specs.Unanswered.{nothing, unanswered_at, unanswered_next}
 use Rattle.state_tables.specs.declared.connection.Seen.{Seen}
 use Rattle.state_tables.specs.declared.connection.Connection.{Connection}
+use Rattle.state_tables.specs.declared.on_channels.OnChannels.{OnChannels}
 use Rattle.state_tables.specs.declared.sessions.Counted.{Counted}
 use Rattle.state_tables.specs.declared.unanswered.Unanswered.{Unanswered}
 use Rattle.state_tables.specs.declared.connections.Connections.{Connections}
+
+-- ---- what stands on the channels of a connection
+
+-- the live session of a channel, and what of it is still to be answered
+abbrev pub session_among : OnChannels → ℕ → Option Counted
+session_among x channel = get nat_eq x.sessions channel
+
+abbrev pub unanswered_among : OnChannels → ℕ → Unanswered
+unanswered_among x channel = unwrap_or (get nat_eq x.unanswered channel) nothing
+
+-- nothing stands on any channel
+pub record HasNone (x : OnChannels) : Type 0 where
+  pub sessions : (channel : ℕ) → session_among x channel ≡ None
+  pub unanswered : (channel : ℕ) → unanswered_among x channel ≡ nothing
+
+-- the two say the same
+pub record AreSameAmong (earlier later : OnChannels) : Type 0 where
+  pub sessions : (channel : ℕ) → session_among later channel ≡ session_among earlier channel
+  pub unanswered : (channel : ℕ) → unanswered_among later channel ≡ unanswered_among earlier channel
+
+-- an event stands on this channel
+pub record TakesAmong (channel : ℕ) (e : Event) (earlier later : OnChannels) : Type 0 where
+  pub sessions : (n : ℕ) → session_among later n ≡ (if channel == n then session_next e (session_among earlier n) else session_among earlier n)
+  pub unanswered : (n : ℕ) → unanswered_among later n ≡ (if channel == n then unanswered_next e (unanswered_among earlier n) else unanswered_among earlier n)
+
+-- one of the tables is full
+abbrev pub AreFull : OnChannels → Type 0
+AreFull x = (spare x.sessions ≡ 0) ⊎ (spare x.unanswered ≡ 0)
 
 -- ---- one connection
 
@@ -59,10 +88,10 @@ seen_next e seen = record {
 
 -- what an entry has of a channel
 abbrev pub session_on : Connection → ℕ → Option Counted
-session_on x channel = get nat_eq x.sessions channel
+session_on x channel = option_and_then (λ b. session_among b.value channel) x.channels
 
 abbrev pub unanswered_on : Connection → ℕ → Unanswered
-unanswered_on x channel = unwrap_or (get nat_eq x.unanswered channel) nothing
+unanswered_on x channel = unwrap_or (option_map (λ b. unanswered_among b.value channel) x.channels) nothing
 
 -- nothing stands there
 pub record IsFresh (x : Connection) : Type 0 where
@@ -88,9 +117,9 @@ pub record Takes (e : Event) (earlier later : Connection) : Type 0 where
   pub sessions : (n : ℕ) → session_on later n ≡ session_behind e n (session_on earlier n)
   pub unanswered : (n : ℕ) → unanswered_on later n ≡ (if is_number (channel_of e.moment) n then unanswered_next e (unanswered_on earlier n) else unanswered_on earlier n)
 
--- one of its tables is full
+-- one of its tables is full, or it has none
 abbrev pub IsFull : Connection → Type 0
-IsFull x = (spare x.sessions ≡ 0) ⊎ (spare x.unanswered ≡ 0)
+IsFull x = IfSome x.channels (λ b. AreFull b.value)
 
 -- ---- all of them
 
@@ -132,8 +161,8 @@ pub record AreSame (earlier later : Connections) : Type 0 where
   pub sessions : (c channel : ℕ) → session_in later c channel ≡ session_in earlier c channel
   pub unanswered : (c channel : ℕ) → unanswered_in later c channel ≡ unanswered_in earlier c channel
 
--- no room is left for what the event adds: for a begin or an end, in a table of its connection that is full; or the
--- connection is new, and so is its table for a begin or an end, or the table of connections is full
+-- no room is left for what the event adds: for a begin or an end, in a table of its connection that is full or is not there
+-- yet; or the connection is new, and so is its table for a begin or an end, or the table of connections is full
 abbrev pub NoRoomIn : Connections → Event → Option Connection → Type 0
 NoRoomIn table e (Some x) = (opens_or_ends e ≡ true) × IsFull x
 NoRoomIn table e None = (opens_or_ends e ≡ true) ⊎ (spare table.entries ≡ 0)

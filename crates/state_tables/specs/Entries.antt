@@ -1,10 +1,11 @@
 -- How many entries the tables have: a connection of which a record stands; a session that is live or awaits its end; a link
 -- that is live or awaits its detach; and each begin, attach, detach or end of a client that is still to be answered (own rules).
-use Rattle.std.specs.Prelude.{ℕ, ◌+◌, ◌-◌, ◌^◌, min, Bool, length, is_some, if◌then◌else◌}
+use Rattle.std.specs.Prelude.{ℕ, ◌+◌, ◌-◌, ◌^◌, min, Bool, length, is_some, option_map, unwrap_or, if◌then◌else◌}
 use Rattle.std.specs.List.{sum_by}
 use Rattle.indexmap.specs.IndexMap.{values}
 use Rattle.state_tables.specs.Links.{Standing}
 use Rattle.state_tables.specs.declared.unanswered.Unanswered.{Unanswered}
+use Rattle.state_tables.specs.declared.on_channels.OnChannels.{OnChannels}
 use Rattle.state_tables.specs.declared.connection.Connection.{Connection}
 use Rattle.state_tables.specs.declared.connections.Connections.{Connections}
 use Rattle.state_tables.specs.declared.handles.Handles.{Handles}
@@ -22,9 +23,13 @@ one_if b = if b then 1 else 0
 abbrev pub entries_unanswered : Unanswered → ℕ
 entries_unanswered x = one_if (is_some x.begin) + one_if x.owes_end + one_if x.awaits_end
 
+-- of the channels of a connection: its live sessions, and what is to be answered
+abbrev pub entries_among : OnChannels → ℕ
+entries_among x = length x.sessions.entries + sum_by entries_unanswered (values x.unanswered)
+
 -- of a connection, as far as its sessions go
 abbrev pub entries_of_connection : Connection → ℕ
-entries_of_connection x = 1 + length x.sessions.entries + sum_by entries_unanswered (values x.unanswered)
+entries_of_connection x = 1 + unwrap_or (option_map (λ b. entries_among b.value) x.channels) 0
 
 abbrev pub entries_of_connections : Connections → ℕ
 entries_of_connections table = sum_by entries_of_connection (values table.entries)

@@ -1,17 +1,16 @@
 //! A connection: whether it is opened, over, closed from either end, how long a frame may be (part 2 of the standard,
 //! section 2.4), and what stands on its channels.
 
-ghost use Rattle.std.specs.Prelude.{◌≡◌, ℕ, ◌==◌, ◌<◌, true, OnOk, OnErr, if◌then◌else◌};
-ghost use Rattle.indexmap.specs.IndexMap.{spare};
+ghost use Rattle.std.specs.Prelude.{◌≡◌, ℕ, None, true, OnOk, OnErr};
 ghost use Rattle.state_tables.specs.Connections.{IsFresh, IsFull, IsSame, Takes, TakesOn, fresh, seen_next, session_on, unanswered_on};
 ghost use Rattle.state_tables.specs.Entries.{capped, entries_of_connection};
 ghost use Rattle.state_tables.specs.Sessions.{opens_or_ends};
 ghost use Rattle.trace_values.specs.View.{event_view};
 
-use crate::sessions::{Counted, opens_or_ends, session_after};
+use crate::on_channels::OnChannels;
+use crate::sessions::{Counted, opens_or_ends};
 use crate::unanswered::Unanswered;
 use flow_counts::{MAX_FRAME_SIZE, MIN_MAX_FRAME_SIZE};
-use number_map::NumberMap;
 use std::alloc::{AllocError, Global};
 use trace_values::Event;
 
@@ -80,15 +79,15 @@ impl Seen {
     }
 }
 
-/// A connection with its live sessions, and what is still to be answered on its channels; of a channel with neither there
-/// is no entry.
+/// A connection, with what stands on its channels.
 #[doc(hidden)]
 #[derive(Drop)]
 pub struct Connection {
     alloc: Global,
     seen: Seen,
-    sessions: NumberMap<u16, Counted>,
-    unanswered: NumberMap<u16, Unanswered>,
+    /// None, so that the entry is small, before the first begin or end, and behind the connection's end unless something is
+    /// still to be answered.
+    channels: Option<Box<OnChannels>>,
 }
 
 impl Connection {
@@ -99,8 +98,7 @@ impl Connection {
         Connection {
             alloc,
             seen: Seen::new(),
-            sessions: NumberMap::new(alloc),
-            unanswered: NumberMap::new(alloc),
+            channels: None,
         }
     }
 
@@ -115,15 +113,18 @@ impl Connection {
     pub(crate) fn session(&self, channel: u16) -> Option<Counted>
         ensures { result ≡ session_on self.now channel }
     {
-        self.sessions.get(&channel).copied()
+        match &self.channels {
+            Some(channels) => channels.session(channel),
+            None => None,
+        }
     }
 
     /// What of the channel is still to be answered.
     pub(crate) fn unanswered(&self, channel: u16) -> Unanswered
         ensures { result ≡ unanswered_on self.now channel }
     {
-        match self.unanswered.get(&channel) {
-            Some(unanswered) => *unanswered,
+        match &self.channels {
+            Some(channels) => channels.unanswered(channel),
             None => Unanswered::nothing(),
         }
     }
@@ -132,18 +133,17 @@ impl Connection {
     pub(crate) fn entries(&self) -> usize
         ensures { result ≡ capped (entries_of_connection self.now) }
     {
-        let mut count = self.sessions.len().saturating_add(1);
-        for unanswered in self.unanswered.values().as_slice() {
-            count = count.saturating_add(unanswered.entries());
+        match &self.channels {
+            Some(channels) => channels.entries().saturating_add(1),
+            None => 1,
         }
-        count
     }
 
     /// The event follows those of the connection so far.
     ///
     /// # Errors
     ///
-    /// Memory was refused, for a begin or an end and a table that was full; then all stays as it was.
+    /// Memory was refused, for a begin or an end, and a table that was full or was not there yet; then all stays as it was.
     pub(crate) fn take(&mut self, event: &Event) -> Result<(), AllocError>
         ensures taken { OnOk result (Takes (event_view event.now) self.old self.new) }
         ensures unchanged { OnErr result (IsSame self.old self.new) }
@@ -154,7 +154,7 @@ impl Connection {
         }
         self.seen = self.seen.after(event);
         if event.moment.is_final() {
-            self.sessions = NumberMap::new(self.alloc);
+            self.end_sessions();
         }
         Ok(())
     }
@@ -165,60 +165,34 @@ impl Connection {
         ensures unchanged { OnErr result (IsSame self.old self.new) }
         ensures full { OnErr result ((opens_or_ends (event_view event.now) ≡ true) × IsFull self.old) }
     {
-        if opens_or_ends(event) {
-            return self.open_or_end(channel, event);
+        match &mut self.channels {
+            Some(channels) => channels.take(channel, event),
+            None if opens_or_ends(event) => self.take_first_on(channel, event),
+            None => Ok(()),
         }
-        if let Some(session) = self.sessions.get_mut(&channel) {
-            *session = session.after(event);
-        }
-        Ok(())
     }
 
-    /// The event begins or ends a session on the channel, or asks for it.
-    fn open_or_end(&mut self, channel: u16, event: &Event) -> Result<(), AllocError>
+    /// The event stands on the channel, and nothing on any channel before it.
+    fn take_first_on(&mut self, channel: u16, event: &Event) -> Result<(), AllocError>
+        requires none { self.old.channels ≡ None }
         ensures taken { OnOk result (TakesOn channel (event_view event.now) self.old self.new) }
         ensures unchanged { OnErr result (IsSame self.old self.new) }
-        ensures full { OnErr result (IsFull self.old) }
     {
-        self.sessions.reserve(1)?;
-        self.unanswered.reserve(1)?;
-        let session = session_after(self.session(channel), event);
-        let unanswered = self.unanswered(channel).after(event);
-        self.put_session(channel, session);
-        self.put_unanswered(channel, unanswered);
+        let mut channels = OnChannels::new(self.alloc);
+        channels.take(channel, event)?;
+        self.channels = Some(Box::new(self.alloc, channels)?);
         Ok(())
     }
 
-    /// The session of the channel is this one.
-    fn put_session(&mut self, channel: u16, session: Option<Counted>)
-        requires room { 0 < spare self.old.sessions }
-        ensures put { (n : ℕ) → session_on self.new n ≡ (if channel == n then session else session_on self.old n) }
+    /// No session is live any more; with nothing to be answered either, nothing stands on its channels.
+    fn end_sessions(&mut self)
+        ensures sessions { (n : ℕ) → session_on self.new n ≡ None }
+        ensures unanswered { (n : ℕ) → unanswered_on self.new n ≡ unanswered_on self.old n }
         ensures seen { self.new.seen ≡ self.old.seen }
-        ensures unanswered { self.new.unanswered ≡ self.old.unanswered }
     {
-        match session {
-            Some(counted) => {
-                // The room is reserved.
-                let _ = self.sessions.insert(channel, counted).unwrap();
-            }
-            None => {
-                self.sessions.swap_remove(&channel);
-            }
-        }
-    }
-
-    /// This is still to be answered on the channel.
-    fn put_unanswered(&mut self, channel: u16, unanswered: Unanswered)
-        requires room { 0 < spare self.old.unanswered }
-        ensures put { (n : ℕ) → unanswered_on self.new n ≡ (if channel == n then unanswered else unanswered_on self.old n) }
-        ensures seen { self.new.seen ≡ self.old.seen }
-        ensures sessions { self.new.sessions ≡ self.old.sessions }
-    {
-        if unanswered.is_nothing() {
-            self.unanswered.swap_remove(&channel);
-        } else {
-            // The room is reserved.
-            let _ = self.unanswered.insert(channel, unanswered).unwrap();
+        match &mut self.channels {
+            Some(channels) if channels.has_unanswered() => channels.end_sessions(self.alloc),
+            _ => self.channels = None,
         }
     }
 }

@@ -92,8 +92,8 @@ impl Connections {
     ///
     /// # Errors
     ///
-    /// Memory was refused, for a connection that is new, or for a begin or an end where a table of its connection is full;
-    /// then all stays as it was.
+    /// Memory was refused, for a connection that is new, or for a begin or an end where a table of its connection is full or
+    /// is not there yet; then all stays as it was.
     pub fn take(&mut self, event: &Event) -> Result<(), AllocError>
         ensures seen { OnOk result ((history : Events) → AreSeen self.old history → AreSeen self.new (event_view event.now ∷ history)) }
         ensures kept { OnOk result ((rules : RuleSet) (records : List Record) (r : Record) → IsLawfulNext rules records r (event_view event.now) →

@@ -3,7 +3,7 @@
 //!
 //! - `unanswered`: what of a channel is still to be answered;
 //! - `sessions`: a live session, and what its windows have come to;
-//! - `connection`: what a connection has come to, with its channels;
+//! - `connection`: what a connection has come to, with its channels (`on_channels`);
 //! - `connections`: all of them;
 //! - `link_counts`: what the credit of a live link has come to;
 //! - `handle`: a handle of a live session, with its link (`counted_link`) and the client's attach (`held_attach`); `handles`:
@@ -25,6 +25,7 @@ mod held_link;
 mod link_answers;
 mod link_counts;
 mod links;
+mod on_channels;
 mod sessions;
 mod unanswered;
 
@@ -38,5 +39,6 @@ pub use held_attach::{HeldAddress, HeldAttach};
 pub use held_link::HeldLink;
 pub use link_counts::LinkCounts;
 pub use links::Links;
+pub use on_channels::OnChannels;
 pub use sessions::Counted;
 pub use unanswered::Unanswered;
