@@ -1,5 +1,5 @@
 -- What the table of verdicts stands for, by the numbers of links and of deliveries from clients.
-use Rattle.std.specs.Prelude.{◌≡◌, ◌<◌, ◌⊎◌, ℕ, Bool, true, ◌&&◌, List, ◌∷◌, Some, is_some, length, nat_eq, if◌then◌else◌, ◌==◌}
+use Rattle.std.specs.Prelude.{◌≡◌, ◌<◌, ◌⊎◌, ℕ, Bool, true, false, ◌&&◌, List, ◌∷◌, Some, is_some, length, nat_eq, if◌then◌else◌, ◌==◌}
 use Rattle.std.specs.List.{list_any}
 use Rattle.indexmap.specs.IndexMap.{get}
 use Rattle.amqp_perf.specs.declared.descriptor.Outcome.{Outcome}
@@ -39,6 +39,10 @@ awaits_in table link n = is_member nat_eq table.on_link link n
 abbrev pub had_in : Verdicts → ℕ → Outcome → Bool
 had_in table n outcome = is_some_and (get nat_eq table.had n) (λ x. says x outcome)
 
+-- the verdicts of the delivery of this number are among those that were let go
+abbrev pub is_let_go : List (ℕ × Unit {0}) → ℕ → Bool
+is_let_go gone n = list_any (λ p. p.0 == n) gone
+
 -- ---- what the law says of the numbers
 
 abbrev pub awaits_at : RuleSet → List Event → ℕ → ℕ → Bool
@@ -51,10 +55,11 @@ verdict_at rules past n outcome = is_some_and (incoming_at n past) (λ d. has_ve
 abbrev pub AreMirrored : Verdicts → Type 0
 AreMirrored table = (link n : ℕ) → is_member nat_eq table.of_delivery n link ≡ awaits_in table link n
 
+-- which copies await their verdict it says of every delivery, and which verdicts there are of those that were not let go
 pub record AreVerdicts (rules : RuleSet) (table : Verdicts) (past : List Event) : Type 0 where
   pub awaits : (link n : ℕ) → awaits_in table link n ≡ awaits_at rules past link n
   pub mirrored : AreMirrored table
-  pub had : (n : ℕ) (outcome : Outcome) → had_in table n outcome ≡ verdict_at rules past n outcome
+  pub had : (n : ℕ) (outcome : Outcome) → is_let_go table.let_go.items n ≡ false → had_in table n outcome ≡ verdict_at rules past n outcome
 
 -- ---- what an event does to it
 

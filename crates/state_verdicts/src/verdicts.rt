@@ -1,6 +1,6 @@
 //! The copies that await their verdict, by the link and by the delivery, and the verdicts that there are.
 
-ghost use Rattle.std.specs.Prelude.{◌≡◌, ◌≤◌, ◌<◌, ◌-◌, ◌∷◌, ◌||◌, ◌&&◌, ◌==◌, ℕ, List, [], not, true, false, IfOk, OnOk, OnErr, is_some, length, nat_eq};
+ghost use Rattle.std.specs.Prelude.{◌≡◌, ◌≤◌, ◌<◌, ◌-◌, ◌∷◌, ◌++◌, ◌||◌, ◌&&◌, ◌==◌, ℕ, List, [], not, true, false, IfOk, OnOk, OnErr, is_some, length, nat_eq};
 ghost use Rattle.std.specs.List.{list_any};
 ghost use Rattle.amqp_perf.specs.declared.descriptor.Outcome.{Outcome};
 ghost use Rattle.amqp_perf.specs.declared.descriptor.Outcome.TheVariants.{Modified};
@@ -10,7 +10,7 @@ ghost use Rattle.number_groups.specs.Groups.{numbers};
 ghost use Rattle.trace_events.specs.History.{history};
 ghost use Rattle.trace_events.specs.Incoming as received;
 ghost use Rattle.trace_events.specs.Words.{is_some_and};
-ghost use Rattle.trace_values.specs.View.{event_view};
+ghost use Rattle.trace_values.specs.View.{Events, event_view};
 ghost use Rattle.trace_clauses.specs.BestVerdict.{is_same_outcome};
 ghost use Rattle.state_tables.specs.Connections.{IsLawfulNext};
 ghost use Rattle.state_tables.specs.EndedLinks.{AreEnded, views};
@@ -19,6 +19,7 @@ ghost use Rattle.state_verdicts.specs.Verdicts.{AreGiven, AreMirrored, AreVerdic
 
 use crate::had::Had;
 use amqp_perf::Outcome;
+use http_server::Log;
 use number_groups::Groups;
 use number_map::NumberMap;
 use std::alloc::{AllocError, Global};
@@ -35,7 +36,7 @@ pub struct CopyVerdict {
     pub outcome: Outcome,
 }
 
-/// The copies that await their verdict, and the verdicts that there are.
+/// The copies that await their verdict, and the verdicts that there are. Of those that were let go only proofs know.
 pub struct Verdicts {
     /// By the number of a link the deliveries whose copies there await their verdict.
     on_link: Groups<u64>,
@@ -43,6 +44,8 @@ pub struct Verdicts {
     pub(crate) of_delivery: Groups<u64>,
     /// By the number of a delivery the verdicts of its copies.
     pub(crate) had: NumberMap<u64, Had>,
+    /// The numbers of the deliveries whose verdicts were let go. They take no memory.
+    let_go: Log<u64, ()>,
 }
 
 // Written out, and not derived, so that where one is let go the prover need not go through all that it owns.
@@ -52,6 +55,7 @@ impl Drop for Verdicts {
             on_link: _,
             of_delivery: _,
             had: _,
+            let_go: _,
         } = self;
     }
 }
@@ -59,12 +63,14 @@ impl Drop for Verdicts {
 impl Verdicts {
     /// No records.
     pub fn new(alloc: Global) -> Verdicts
-        ensures { (rules : RuleSet) → AreVerdicts rules result [] }
+        ensures table { (rules : RuleSet) → AreVerdicts rules result [] }
+        ensures gone { result.let_go.items ≡ [] }
     {
         Verdicts {
             on_link: Groups::new(alloc),
             of_delivery: Groups::new(alloc),
             had: NumberMap::new(alloc),
+            let_go: Log::new(),
         }
     }
 
@@ -96,11 +102,25 @@ impl Verdicts {
             AreEnded (event_view event.now) (history rules records) (views ended.now) →
             AreVerdicts rules self.new (event_view event.now ∷ history rules records)) }
         ensures refused { OnErr result (MayGrow self.old (event_view event.now) due.now given.now (views ended.now)) }
+        // The event lets none go.
+        ensures gone { self.new.let_go.items ≡ self.old.let_go.items }
     {
         self.come(event, due)?;
         self.give(given)?;
         self.end(ended)?;
         Ok(())
+    }
+
+    /// The verdicts of the delivery of this number are let go, as it is itself. It takes no memory.
+    pub fn let_go(&mut self, number: u64)
+        ensures gone { self.new.let_go.items ≡ self.old.let_go.items ++ (number, tt) ∷ [] }
+        // It has no verdict any more, and every other delivery has those that it had.
+        ensures row { (outcome : Outcome) → had_in self.new number outcome ≡ false }
+        ensures others { (n : ℕ) (outcome : Outcome) → (number == n) ≡ false → had_in self.new n outcome ≡ had_in self.old n outcome }
+        ensures stands { (rules : RuleSet) (history : Events) → AreVerdicts rules self.old history → AreVerdicts rules self.new history }
+    {
+        let _ = self.had.swap_remove(&number);
+        self.let_go = self.let_go.and(&number, &());
     }
 
     /// Copies of what the event completes await their verdict on these links.
@@ -109,6 +129,7 @@ impl Verdicts {
         ensures had { OnOk result ((n : ℕ) (outcome : Outcome) → had_in self.new n outcome ≡ had_in self.old n outcome) }
         ensures mirrored { OnOk result (AreMirrored self.old → AreMirrored self.new) }
         ensures refused { OnErr result ((is_some (received.completed_by (event_view event.now)) ≡ true) × (0 < length due.now)) }
+        ensures gone { self.new.let_go.items ≡ self.old.let_go.items }
     {
         if let Some(delivery) = event.completed_by() {
             self.await_on(delivery.number, due)?;
@@ -122,6 +143,7 @@ impl Verdicts {
         ensures had { OnOk result ((n : ℕ) (outcome : Outcome) → had_in self.new n outcome ≡ had_in self.old n outcome) }
         ensures mirrored { OnOk result (AreMirrored self.old → AreMirrored self.new) }
         ensures refused { OnErr result (0 < length links.now) }
+        ensures gone { self.new.let_go.items ≡ self.old.let_go.items }
     {
         for link in links {
             self.on_link.insert(*link, number)?;
@@ -136,6 +158,7 @@ impl Verdicts {
         ensures had { OnOk result ((n : ℕ) (outcome : Outcome) → had_in self.new n outcome ≡ (had_in self.old n outcome || list_any (is_taken self.old n outcome) given.now)) }
         ensures mirrored { OnOk result (AreMirrored self.old → AreMirrored self.new) }
         ensures refused { OnErr result (0 < length given.now) }
+        ensures gone { self.new.let_go.items ≡ self.old.let_go.items }
     {
         self.note_all(given)?;
         self.remove_all(given);
@@ -148,6 +171,7 @@ impl Verdicts {
         ensures had { OnOk result ((n : ℕ) (outcome : Outcome) → had_in self.new n outcome ≡ (had_in self.old n outcome || list_any (is_taken self.old n outcome) given.now)) }
         ensures mirrored { OnOk result (AreMirrored self.old → AreMirrored self.new) }
         ensures refused { OnErr result (0 < length given.now) }
+        ensures gone { self.new.let_go.items ≡ self.old.let_go.items }
     {
         for verdict in given {
             self.note_awaited(verdict)?;
@@ -161,6 +185,7 @@ impl Verdicts {
         ensures had { OnOk result ((n : ℕ) (outcome : Outcome) → had_in self.new n outcome ≡ (had_in self.old n outcome || is_taken self.old n outcome verdict.now)) }
         ensures mirrored { OnOk result (AreMirrored self.old → AreMirrored self.new) }
         ensures refused { OnErr result (awaits_in self.old verdict.now.link verdict.now.delivery ≡ true) }
+        ensures gone { self.new.let_go.items ≡ self.old.let_go.items }
     {
         if self.on_link.has(&verdict.link, verdict.delivery) {
             self.note(verdict.delivery, verdict.outcome)?;
@@ -173,6 +198,7 @@ impl Verdicts {
         ensures awaits { (link n : ℕ) → awaits_in self.new link n ≡ (awaits_in self.old link n && not (is_given given.now link n)) }
         ensures had { (n : ℕ) (outcome : Outcome) → had_in self.new n outcome ≡ had_in self.old n outcome }
         ensures mirrored { AreMirrored self.old → AreMirrored self.new }
+        ensures gone { self.new.let_go.items ≡ self.old.let_go.items }
     {
         for verdict in given {
             self.remove(verdict.link, verdict.delivery);
@@ -184,6 +210,7 @@ impl Verdicts {
         ensures awaits { (at n : ℕ) → awaits_in self.new at n ≡ (awaits_in self.old at n && not (link == at && (delivery == n))) }
         ensures had { (n : ℕ) (outcome : Outcome) → had_in self.new n outcome ≡ had_in self.old n outcome }
         ensures mirrored { AreMirrored self.old → AreMirrored self.new }
+        ensures gone { self.new.let_go.items ≡ self.old.let_go.items }
     {
         self.on_link.remove(&link, delivery);
         self.of_delivery.remove(&delivery, link);
@@ -195,6 +222,7 @@ impl Verdicts {
         ensures had { OnOk result ((n : ℕ) (outcome : Outcome) → had_in self.new n outcome ≡ (had_in self.old n outcome || number == n && is_same_outcome outcome verdict)) }
         ensures mirrored { AreMirrored self.old → AreMirrored self.new }
         ensures refused { OnErr result ((outcome : Outcome) → had_in self.old number outcome ≡ false) }
+        ensures gone { self.new.let_go.items ≡ self.old.let_go.items }
     {
         let had = match self.had.get(&number) {
             Some(had) => *had,
@@ -211,6 +239,7 @@ impl Verdicts {
             ≡ (had_in self.old n outcome || is_same_outcome outcome Modified && list_any (λ l. awaits_in self.old l.number n) ended.now)) }
         ensures mirrored { OnOk result (AreMirrored self.old → AreMirrored self.new) }
         ensures refused { OnErr result ((n : ℕ) × (list_any (λ l. awaits_in self.old l.number n) ended.now ≡ true)) }
+        ensures gone { self.new.let_go.items ≡ self.old.let_go.items }
     {
         for link in ended {
             self.end_one(link.number)?;
@@ -224,6 +253,7 @@ impl Verdicts {
         ensures had { OnOk result ((n : ℕ) (outcome : Outcome) → had_in self.new n outcome ≡ (had_in self.old n outcome || is_same_outcome outcome Modified && awaits_in self.old link n)) }
         ensures mirrored { OnOk result (AreMirrored self.old → AreMirrored self.new) }
         ensures refused { OnErr result (IsAwaited self.old link) }
+        ensures gone { self.new.let_go.items ≡ self.old.let_go.items }
     {
         let mut left = self.on_link.count(&link);
         while left > 0 {
@@ -242,6 +272,7 @@ impl Verdicts {
             ≡ (had_in self.old n outcome || is_same_outcome outcome Modified && (awaits_in self.old link n && not (awaits_in self.new link n)))) }
         ensures mirrored { OnOk result (AreMirrored self.old → AreMirrored self.new) }
         ensures refused { OnErr result (IsAwaited self.old link) }
+        ensures gone { self.new.let_go.items ≡ self.old.let_go.items }
     {
         if let Some(delivery) = self.on_link.first(&link) {
             self.remove(link, delivery);

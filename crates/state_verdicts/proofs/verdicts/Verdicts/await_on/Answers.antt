@@ -11,4 +11,5 @@ loop-link-preserved c = (
       (c.loop-link.invariant.0 link n) (c.in_ok-insert.ensures.joined link n),
   c.loop-link.invariant.1,
   λ were link n. mirrored-joined (c.args.number == n) (get_or c.args.links.now c.loop-link.link-index 0 == link) (is_member nat_eq c.loop-link.self.of_delivery n link) (awaits_in c.loop-link.self link n) _ _ (c.in_ok-insert-2.ensures.joined n link) (c.loop-link.invariant.2 were link n) (c.in_ok-insert.ensures.joined link n),
+  c.loop-link.invariant.3,
 )

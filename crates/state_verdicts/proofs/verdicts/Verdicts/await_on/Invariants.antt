@@ -9,3 +9,4 @@ invariant-loop-link l =
     ((link n : ℕ) → awaits_in l.self link n ≡ (l.number == n && list_any (λ m. m == link) (take l.link-index l.links) || awaits_in l.fn.self link n))
     × ((n : ℕ) (outcome : Outcome) → had_in l.self n outcome ≡ had_in l.fn.self n outcome)
     × (AreMirrored l.fn.self → AreMirrored l.self)
+    × (l.self.let_go.items ≡ l.fn.self.let_go.items)

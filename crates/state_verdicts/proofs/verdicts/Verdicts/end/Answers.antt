@@ -18,6 +18,7 @@ loop-link-preserved c = (
       one-modified (λ (x : Link). x.number) c.args.ended.now c.loop-link.link-index _ c.loop-link-test.true (λ k. awaits_in c.args.self.now k n) (is_same_outcome outcome Modified)
       (had_in c.args.self.now n outcome) (had_in c.loop-link.self n outcome) _ _ (c.loop-link.invariant.1 n outcome) (c.loop-link.invariant.0 _ n) (c.in_ok-end_one.ensures.had n outcome),
   λ were. c.in_ok-end_one.ensures.mirrored (c.loop-link.invariant.2 were),
+  c.end_one.ensures.gone ∙ c.loop-link.invariant.3,
 )
 
 pub returns-in_err-end_one-clause-refused : goal.returns-in_err-end_one-clause-refused

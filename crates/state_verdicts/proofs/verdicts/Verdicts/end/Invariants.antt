@@ -12,3 +12,4 @@ invariant-loop-link l =
     × ((n : ℕ) (outcome : Outcome) → had_in l.self n outcome
     ≡ (had_in l.fn.self n outcome || is_same_outcome outcome Modified && list_any (λ x. awaits_in l.fn.self x.number n) (take l.link-index l.ended)))
     × (AreMirrored l.fn.self → AreMirrored l.self)
+    × (l.self.let_go.items ≡ l.fn.self.let_go.items)

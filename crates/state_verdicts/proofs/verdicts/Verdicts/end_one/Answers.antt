@@ -14,4 +14,5 @@ loop-left-preserved c = (
       step-modified (is_same_outcome outcome Modified) (had_in c.args.self.now n outcome) (had_in c.loop-left.self n outcome) _ (awaits_in c.args.self.now c.args.link n) (awaits_in c.loop-left.self c.args.link n) _
       (c.loop-left.invariant.3 n outcome) (c.in_ok-left.ensures.had n outcome) (c.in_ok-left.ensures.within n) (c.loop-left.invariant.2 n),
   λ were. c.in_ok-left.ensures.mirrored (c.loop-left.invariant.4 were),
+  c.end_first.ensures.gone ∙ c.loop-left.invariant.5,
 )

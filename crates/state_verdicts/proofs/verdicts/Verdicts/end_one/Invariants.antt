@@ -14,6 +14,7 @@ invariant-loop-left l =
     × ((n : ℕ) (outcome : Outcome) → had_in l.self n outcome
     ≡ (had_in l.fn.self n outcome || is_same_outcome outcome Modified && (awaits_in l.fn.self l.link n && not (awaits_in l.self l.link n))))
     × (AreMirrored l.fn.self → AreMirrored l.self)
+    × (l.self.let_go.items ≡ l.fn.self.let_go.items)
 
 abbrev pub decreases-loop-left : goal.decreases-loop-left
 decreases-loop-left l = l.left

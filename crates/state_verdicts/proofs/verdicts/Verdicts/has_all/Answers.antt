@@ -8,5 +8,5 @@ use Rattle.state_verdicts.proofs.verdicts.Verdicts.has_all.Goals as goal
 pub returns : goal.returns
 returns c = λ rules records are found.
     let d = incoming_view c.args.delivery.now in
-    all-is rules (history rules records) (history-judged rules records) d found c.is_empty.result
-    (λ empty link. sym (are.mirrored link d.number ∙ are.awaits link d.number) ∙ c.is_empty.ensures.0 empty link, λ none. c.is_empty.ensures.1 (λ link. (are.mirrored link d.number ∙ are.awaits link d.number) ∙ none link))
+    all-is rules (history rules records) (history-judged rules records) d found c.has_all_of.result
+    (λ empty link. sym (are.mirrored link d.number ∙ are.awaits link d.number) ∙ c.has_all_of.ensures.none.0 empty link, λ none. c.has_all_of.ensures.none.1 (λ link. (are.mirrored link d.number ∙ are.awaits link d.number) ∙ none link))

@@ -16,4 +16,5 @@ loop-verdict-preserved c = (
       (c.loop-verdict.invariant.1 n outcome)
       (c.in_ok-note_awaited.ensures.had n outcome ∙ ap (λ b. had_in c.loop-verdict.self n outcome || b && is_verdict_of n outcome (get_or c.args.given.now c.loop-verdict.verdict-index any_one)) (c.loop-verdict.invariant.0 _ _)),
   λ were. c.in_ok-note_awaited.ensures.mirrored (c.loop-verdict.invariant.2 were),
+  c.note_awaited.ensures.gone ∙ c.loop-verdict.invariant.3,
 )

@@ -9,3 +9,4 @@ invariant-loop-verdict l =
     ((link n : ℕ) → awaits_in l.self link n ≡ awaits_in l.fn.self link n)
     × ((n : ℕ) (outcome : Outcome) → had_in l.self n outcome ≡ (had_in l.fn.self n outcome || list_any (is_taken l.fn.self n outcome) (take l.verdict-index l.given)))
     × (AreMirrored l.fn.self → AreMirrored l.self)
+    × (l.self.let_go.items ≡ l.fn.self.let_go.items)

@@ -15,4 +15,5 @@ loop-verdict-preserved c = (
       (c.loop-verdict.invariant.0 link n) (c.remove.ensures.awaits link n),
   λ n outcome. c.remove.ensures.had n outcome ∙ c.loop-verdict.invariant.1 n outcome,
   λ were. c.remove.ensures.mirrored (c.loop-verdict.invariant.2 were),
+  c.remove.ensures.gone ∙ c.loop-verdict.invariant.3,
 )

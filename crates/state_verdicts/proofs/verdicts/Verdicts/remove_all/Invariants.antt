@@ -8,3 +8,4 @@ invariant-loop-verdict l =
     ((link n : ℕ) → awaits_in l.self link n ≡ (awaits_in l.fn.self link n && not (is_given (take l.verdict-index l.given) link n)))
     × ((n : ℕ) (outcome : Outcome) → had_in l.self n outcome ≡ had_in l.fn.self n outcome)
     × (AreMirrored l.fn.self → AreMirrored l.self)
+    × (l.self.let_go.items ≡ l.fn.self.let_go.items)

@@ -1,4 +1,4 @@
-use Rattle.std.proofs.Common.{ap, ◌∙◌, ◌&&◌, ◌||◌, ◌==◌, ◌∷◌, not, sym}
+use Rattle.std.proofs.Common.{◌≡◌, false, ap, ◌∙◌, ◌&&◌, ◌||◌, ◌==◌, ◌∷◌, not, sym}
 use Rattle.std.specs.List.{list_any}
 use Rattle.std.proofs.lemmas.Result.{err_from_is_err_and}
 use Rattle.amqp_perf.specs.declared.descriptor.Outcome.TheVariants.{Modified}
@@ -11,7 +11,7 @@ use Rattle.trace_values.specs.View.{event_view, link_view}
 use Rattle.trace_values.specs.declared.event.Link.{Link}
 use Rattle.trace_clauses.specs.BestVerdict.{is_same_outcome}
 use Rattle.state_tables.specs.EndedLinks.{views}
-use Rattle.state_verdicts.specs.Verdicts.{awaits_at, awaits_in, comes_now, is_given, is_taken, is_verdict_of, verdict_at}
+use Rattle.state_verdicts.specs.Verdicts.{awaits_at, awaits_in, comes_now, is_given, is_let_go, is_taken, is_verdict_of, verdict_at}
 use Rattle.state_verdicts.proofs.Refused.{grown}
 use Rattle.state_verdicts.proofs.TableSteps.{any-map}
 use Rattle.state_verdicts.proofs.VerdictsNext.{awaits-next, had-next, modified_at, taken_as}
@@ -32,11 +32,12 @@ returns-clause-kept c = λ rules records r next are comes gives all.
           ∙ (ap (λ b. ((comes_now e due link n || awaits_at rules past link n) && not (is_given given link n)) && not b) (any-map link_view (λ (l : law.Link). l.number == link) c.args.ended.now)
           ∙ awaits-next rules e past judged next.1 due given (views c.args.ended.now) comes gives all link n));
       mirrored = c.in_ok-end.ensures.mirrored (c.in_ok-give.ensures.mirrored (c.in_ok-come.ensures.mirrored are.mirrored));
-      had = λ n outcome.
+      had = λ n outcome there.
+          let kept : is_let_go c.args.self.now.let_go.items n ≡ false = ap (λ items. is_let_go items n) (sym (c.end.ensures.gone ∙ (c.give.ensures.gone ∙ c.come.ensures.gone))) ∙ there in
           c.in_ok-end.ensures.had n outcome
           ∙ (ap (λ b. b || is_same_outcome outcome Modified && list_any (λ (l : Link). awaits_in c.give.new.self l.number n) c.args.ended.now)
           (c.in_ok-give.ensures.had n outcome
-          ∙ (ap (λ b. b || list_any (is_taken c.come.new.self n outcome) given) (c.in_ok-come.ensures.had n outcome ∙ are.had n outcome)
+          ∙ (ap (λ b. b || list_any (is_taken c.come.new.self n outcome) given) (c.in_ok-come.ensures.had n outcome ∙ are.had n outcome kept)
           ∙ ap (λ b. verdict_at rules past n outcome || b)
           (any-by (is_taken c.come.new.self n outcome) (taken_as rules e past judged next.1 due given (views c.args.ended.now) comes gives all n outcome)
           (λ v. ap (λ b. b && is_verdict_of n outcome v) (c.in_ok-come.ensures.awaits v.link v.delivery ∙ ap (λ b. comes_now e due v.link v.delivery || b) (are.awaits v.link v.delivery))) given)))
