@@ -9,7 +9,7 @@ use Rattle.state_incoming.specs.Grouped.{AreGrouped, has_id, is_for, is_of_link,
 use Rattle.state_incoming.specs.Held.{Held, held_at, says_arriving, says_waiting}
 use Rattle.state_incoming.specs.LetGo.{IsOver, is_let_go}
 use Rattle.state_incoming.specs.declared.groups.HeldGroups.{HeldGroups}
-use Rattle.state_incoming.proofs.OverKnown.{kept-law, over-undecided, over-went}
+use Rattle.state_incoming.proofs.OverKnown.{kept-law, over-arrived, over-undecided, over-waited}
 
 or_false : (b : Bool) → b || false ≡ b
 or_false true = refl
@@ -83,10 +83,10 @@ module _ (rules : RuleSet) (past : List Event) (are : AreJudged rules past) (num
       by false = numbered
 
   arrived : says_arriving over.entry.fate ≡ false
-  arrived = ap says_arriving (over-went rules past are number over)
+  arrived = over-arrived rules past are number over
 
   waited : says_waiting over.entry.fate ≡ false
-  waited = ap says_waiting (over-went rules past are number over)
+  waited = over-waited rules past are number over
 
   decided : over.entry.is_undecided ≡ false
   decided = over-undecided rules past are number over

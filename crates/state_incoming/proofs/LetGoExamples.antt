@@ -1,21 +1,25 @@
 -- Of which deliveries from clients nothing can come any more, and of which something can.
-use Rattle.std.specs.Prelude.{◌≡◌, ℕ, Bool, true, false, List, [], ◌∷◌, ◌++◌, Option, Some, None, option_map, refl}
+use Rattle.std.specs.Prelude.{◌≡◌, ℕ, Bool, true, false, ◌&&◌, List, [], ◌∷◌, ◌++◌, Option, Some, None, option_and_then, option_map, refl}
 use Rattle.std.specs.Fmt.{digits}
 use Rattle.amqp_frames.specs.Writing.{frame_octets}
 use Rattle.amqp_frames.specs.Reading.{whole_frame, frame_at, sized_frame, headed_frame}
 use Rattle.amqp_perf.proofs.Opened.{read, written}
 use Rattle.amqp_perf.specs.declared.attach.Role.TheVariants.{Sender, Receiver}
-use Rattle.amqp_perf.specs.declared.attach.SenderSettleMode.TheVariants.{Settled}
-use Rattle.amqp_perf.specs.Meaning.{ADisposition}
+use Rattle.amqp_perf.specs.declared.attach.SenderSettleMode.TheVariants.{Settled, Unsettled}
+use Rattle.amqp_perf.specs.Meaning.{AFlow, ATransfer, ADisposition}
 use Rattle.pairing_cert.specs.declared.note.Note.TheVariants as notes
 use Rattle.pairing_cert.specs.declared.note.Why.TheVariants.{C}
 use Rattle.capture_form.specs.declared.records.Record.{Record}
-use Rattle.capture_form.specs.Rules.{no_rules}
+use Rattle.capture_form.specs.declared.rules.Distribution.TheVariants.{Multicast}
+use Rattle.capture_form.specs.Rules.{RuleText, no_rules}
+use Rattle.trace_events.specs.Due.{is_unsent}
 use Rattle.trace_events.specs.Frame.{frame_read}
 use Rattle.trace_events.specs.History.{history}
+use Rattle.trace_events.specs.Incoming.{incoming_at}
+use Rattle.trace_events.specs.Link.{is_live, link_at}
 use Rattle.trace_clauses.specs.Written.{spoken_octets}
-use Rattle.trace_clauses.proofs.Captures.{outgoing_of}
-use Rattle.trace_clauses.proofs.Made.{from, carry, tell, first, with_more, as_settled, disposes, accepted, detach_of, hi, sent, sent_by}
+use Rattle.trace_clauses.proofs.Captures.{outgoing_of, rule, unmarked}
+use Rattle.trace_clauses.proofs.Made.{from, from_with, to, carry, tell, gives, shows, first, with_more, as_settled, disposes, accepted, detach_of, producer, consumer, q, hi, sent, sent_by}
 use Rattle.state_incoming.specs.Held.{held_at}
 use Rattle.state_incoming.specs.LetGo.{is_finished, is_let_go, is_spent, names_let_go}
 
@@ -111,3 +115,78 @@ not_told = refl
 still_waits : spent_in (sent ++ (producer_settles ∷ [])) 16 ≡ Some false
 unfolding spent_in
 still_waits = refl
+
+-- ---- one of multicast: delivery 24, of which copies are due to the links of records 13 and 20
+
+abbrev news : List RuleText
+news = rule Multicast q ∷ []
+
+-- 25 records: a producer of q on connection 0, and consumers on connections 1 and 2, which give credit
+abbrev due : List Record
+due =
+    producer 0 q ++ consumer 1 Unsettled q ++ consumer 2 Unsettled q
+    ++ (to 0 (AFlow (shows 0 0 0 250)) ∷ from 1 (AFlow (gives 0 0 10)) ∷ from 2 (AFlow (gives 0 0 10)) ∷ from_with 0 (ATransfer (first 0)) hi ∷ [])
+
+abbrev copy_to : ℕ → Record
+copy_to c = carry c 24 (first 0) hi
+
+abbrev settled_by : ℕ → Record
+settled_by c = from c (ADisposition (disposes Receiver 0 true accepted))
+
+unfoldable spent_of_all : List Record → Option Bool
+unfolding frame_read whole_frame frame_at sized_frame headed_frame read digits spoken_octets frame_octets written
+spent_of_all records = option_map is_spent (held_at (unmarked news) 24 (history (unmarked news) records))
+
+-- a copy is still to begin on the link of this number
+unfoldable to_begin_in : List Record → ℕ → Option Bool
+unfolding frame_read whole_frame frame_at sized_frame headed_frame read digits spoken_octets frame_octets written
+to_begin_in records m =
+    let past = history (unmarked news) records in
+    option_and_then (λ d. option_map (λ l. is_live past l && is_unsent (unmarked news) d l past) (link_at m past)) (incoming_at 24 past)
+
+unfoldable finished_of_all : List Record → ℕ → Option Bool
+unfolding frame_read whole_frame frame_at sized_frame headed_frame read digits spoken_octets frame_octets written
+finished_of_all records n = let past = history (unmarked news) records in option_map (is_finished past) (outgoing_of n past)
+
+abbrev settled_by_both : List Record
+settled_by_both = due ++ (copy_to 1 ∷ copy_to 2 ∷ settled_by 1 ∷ settled_by 2 ∷ [])
+
+-- one that is over: told, its copies sent and settled, and none to begin
+copies_told : spent_of_all (settled_by_both ++ (tells ∷ [])) ≡ Some true
+unfolding spent_of_all
+copies_told = refl
+
+first_finished : finished_of_all (settled_by_both ++ (tells ∷ [])) 25 ≡ Some true
+unfolding finished_of_all
+first_finished = refl
+
+second_finished : finished_of_all (settled_by_both ++ (tells ∷ [])) 26 ≡ Some true
+unfolding finished_of_all
+second_finished = refl
+
+first_begun : to_begin_in (settled_by_both ++ (tells ∷ [])) 13 ≡ Some false
+unfolding to_begin_in
+first_begun = refl
+
+second_begun : to_begin_in (settled_by_both ++ (tells ∷ [])) 20 ≡ Some false
+unfolding to_begin_in
+second_begun = refl
+
+-- nothing was told of it
+copies_untold : spent_of_all settled_by_both ≡ Some false
+unfolding spent_of_all
+copies_untold = refl
+
+-- its producer settled it before a copy of it began
+copies_to_begin : spent_of_all (due ++ (producer_settles ∷ [])) ≡ Some true
+unfolding spent_of_all
+copies_to_begin = refl
+
+one_to_begin : to_begin_in (due ++ (producer_settles ∷ copy_to 2 ∷ [])) 13 ≡ Some true
+unfolding to_begin_in
+one_to_begin = refl
+
+-- and its link is over then
+none_to_begin : to_begin_in (due ++ (producer_settles ∷ from 1 (detach_of true) ∷ [])) 13 ≡ Some false
+unfolding to_begin_in
+none_to_begin = refl

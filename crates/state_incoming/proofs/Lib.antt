@@ -8,6 +8,7 @@ mod CompletedKnown
 mod HeldUntouched
 mod HeldSparse
 pub mod OverKnown
+mod CopiesLast
 pub mod OverLasts
 mod LetGo
 mod LetGoExamples

@@ -1,18 +1,20 @@
 -- What is known of a delivery of which nothing can come any more, and which deliveries a table didn't let go.
-use Rattle.std.proofs.Common.{◌≡◌, refl, sym, ap, subst, ◌∙◌, ◌<◌, ℕ, Bool, true, false, not, ◌&&◌, ◌||◌, List, [], length, Option, Some, None, IfSome, if◌then◌else◌, eq-eqb}
+use Rattle.std.proofs.Common.{◌≡◌, refl, sym, ap, subst, ◌∙◌, ◌<◌, ◌⊎◌, inl, inr, ℕ, Bool, true, false, not, ◌&&◌, ◌||◌, List, [], length, Option, Some, None, IfSome, if◌then◌else◌, eq-eqb}
 use Rattle.std.specs.Prelude.{Contains}
 use Rattle.pairing_cert.specs.declared.note.Note.{Note}
 use Rattle.pairing_cert.specs.declared.note.Note.TheVariants as notes
 use Rattle.capture_form.specs.Rules.{RuleSet}
-use Rattle.trace_events.specs.Event.{Event, Incoming, Outgoing}
+use Rattle.trace_events.specs.Due.{is_unsent}
+use Rattle.trace_events.specs.Event.{Event, Link, Incoming, Outgoing}
 use Rattle.trace_events.specs.Incoming.{is_complete, incoming_at}
+use Rattle.trace_events.specs.Link.{IsLiveLink}
 use Rattle.trace_events.specs.Outgoing.{is_paired, is_sent, names, outgoing_deliveries}
 use Rattle.trace_events.specs.Settling.{is_closed}
 use Rattle.trace_events.specs.Waiting.{is_of_multicast, always_had_consumer, is_waiting, is_undecided}
 use Rattle.trace_events.specs.Work.{stands_unsettled}
 use Rattle.trace_events.proofs.Judged.{AreJudged}
 use Rattle.trace_clauses.proofs.OneConsumer.{incoming_at-is}
-use Rattle.state_incoming.specs.Held.{Held, held_at, says_arriving, says_waiting, says_gone, says_paired, stands_open}
+use Rattle.state_incoming.specs.Held.{Held, held_at, says_arriving, says_waiting, says_gone, says_paired, says_copied, stands_open}
 use Rattle.state_incoming.specs.HeldTables.{AreHeld, AreOver, held_in}
 use Rattle.state_incoming.specs.LetGo.{IsOver, is_finished, is_let_go, names_let_go}
 use Rattle.state_incoming.specs.declared.deliveries.Deliveries.{Deliveries}
@@ -29,48 +31,50 @@ and_both false b is = absurd cc
 same_some : {A : Type 0} (a b : A) → Some a ≡ Some b → a ≡ b
 same_some a b is = cc
 
--- ---- one that went to a consumer
+-- ---- one that went to a consumer, or is complete and goes to each
 
-paired-only : (fate : Fate) → says_paired fate ≡ true → fate ≡ Paired
-paired-only Arriving is = absurd cc
-paired-only Waiting is = absurd cc
-paired-only Gone is = absurd cc
-paired-only Paired is = refl
-paired-only Copied is = absurd cc
+went-either : (fate : Fate) → says_paired fate || says_copied fate ≡ true → (fate ≡ Paired) ⊎ (fate ≡ Copied)
+went-either Arriving is = absurd cc
+went-either Waiting is = absurd cc
+went-either Gone is = absurd cc
+went-either Paired is = inl refl
+went-either Copied is = inr refl
 
-paired-bits : (c m p a : Bool) → says_paired (fate_by c m p a) ≡ true → (m ≡ false) × (p ≡ true)
-paired-bits false m p a is = absurd cc
-paired-bits true true p a is = absurd cc
-paired-bits true false true a is = (refl, refl)
-paired-bits true false false true is = absurd cc
-paired-bits true false false false is = absurd cc
+-- neither arrives nor waits
+went-arrived : (fate : Fate) → says_paired fate || says_copied fate ≡ true → says_arriving fate ≡ false
+went-arrived Arriving is = absurd cc
+went-arrived Waiting is = refl
+went-arrived Gone is = refl
+went-arrived Paired is = refl
+went-arrived Copied is = refl
+
+went-waited : (fate : Fate) → says_paired fate || says_copied fate ≡ true → says_waiting fate ≡ false
+went-waited Arriving is = refl
+went-waited Waiting is = absurd cc
+went-waited Gone is = refl
+went-waited Paired is = refl
+went-waited Copied is = refl
+
+-- of anycast, it is paired
+paired-bits : (c m p a : Bool) → says_paired (fate_by c m p a) || says_copied (fate_by c m p a) ≡ true → m ≡ false → p ≡ true
+paired-bits false m p a is anycast = absurd cc
+paired-bits true true p a is anycast = absurd cc
+paired-bits true false true a is anycast = refl
+paired-bits true false false true is anycast = absurd cc
+paired-bits true false false false is anycast = absurd cc
 
 -- and of which nothing more is to be told, is decided
-decided-bits : (closed undecided : Bool) → closed ≡ true
-    → not (says_gone Paired && closed) && (undecided || not (says_arriving Paired) && closed) && (not undecided || stands_open Paired closed) ≡ true → undecided ≡ false
-decided-bits true false shut is = refl
-decided-bits true true shut is = absurd cc
-decided-bits false undecided shut is = absurd cc
-
-decided-by : (fate : Fate) (closed undecided : Bool) → fate ≡ Paired → closed ≡ true
+decided-by : (fate : Fate) (closed undecided : Bool) → says_paired fate || says_copied fate ≡ true → closed ≡ true
     → not (says_gone fate && closed) && (undecided || not (says_arriving fate) && closed) && (not undecided || stands_open fate closed) ≡ true → undecided ≡ false
-decided-by fate closed undecided went shut is =
-    decided-bits closed undecided shut
-    (sym (ap (λ f. not (says_gone f && closed) && (undecided || not (says_arriving f) && closed) && (not undecided || stands_open f closed)) went) ∙ is)
-
--- ---- of an entry that is spent
-
-module _ (rules : RuleSet) (past : List Event) (n : ℕ) (x : Held) (of : IsHeldOf rules n past x) (went : says_paired x.fate ≡ true) where
-  pair : (is_of_multicast rules x.delivery past ≡ false) × (is_paired x.delivery past ≡ true)
-  pair =
-      let d = x.delivery in
-      paired-bits (is_complete d past) (is_of_multicast rules d past) (is_paired d past) (always_had_consumer d past) (ap (λ (y : Held). says_paired y.fate) of.is ∙ went)
-
-  pub spent-anycast : is_of_multicast rules x.delivery past ≡ false
-  spent-anycast = pair.0
-
-  pub spent-paired : is_paired x.delivery past ≡ true
-  spent-paired = pair.1
+decided-by Arriving closed undecided went shut is = absurd cc
+decided-by Waiting closed undecided went shut is = absurd cc
+decided-by Gone closed undecided went shut is = absurd cc
+decided-by Paired true false went shut is = refl
+decided-by Paired true true went shut is = absurd cc
+decided-by Paired false undecided went shut is = absurd cc
+decided-by Copied true false went shut is = refl
+decided-by Copied true true went shut is = absurd cc
+decided-by Copied false undecided went shut is = absurd cc
 
 -- ---- of one that is over
 
@@ -84,11 +88,17 @@ module _ (rules : RuleSet) (past : List Event) (are : AreJudged rules past) (n :
   of : IsHeldOf rules n past x
   of = held-of rules n past x over.at
 
-  spent : (says_paired x.fate ≡ true) × (x.is_closed ≡ true)
-  spent = and_both (says_paired x.fate) x.is_closed over.spent
+  spent : (says_paired x.fate || says_copied x.fate ≡ true) × (x.is_closed ≡ true)
+  spent = and_both (says_paired x.fate || says_copied x.fate) x.is_closed over.spent
 
-  pub over-went : x.fate ≡ Paired
-  over-went = paired-only x.fate spent.0
+  pub over-went : (x.fate ≡ Paired) ⊎ (x.fate ≡ Copied)
+  over-went = went-either x.fate spent.0
+
+  pub over-arrived : says_arriving x.fate ≡ false
+  over-arrived = went-arrived x.fate spent.0
+
+  pub over-waited : says_waiting x.fate ≡ false
+  over-waited = went-waited x.fate spent.0
 
   pub over-shut : x.is_closed ≡ true
   over-shut = spent.1
@@ -97,23 +107,22 @@ module _ (rules : RuleSet) (past : List Event) (are : AreJudged rules past) (n :
   pub over-before : (n < length past) × (d.number ≡ n)
   over-before = subst (λ (o : Option Incoming). IfSome o (λ y. (n < length past) × (y.number ≡ n))) of.at (incoming_at-is rules past n are)
 
-  pub over-anycast : is_of_multicast rules d past ≡ false
-  over-anycast = spent-anycast rules past n x of spent.0
-
-  pub over-paired : is_paired d past ≡ true
-  over-paired = spent-paired rules past n x of spent.0
+  pub over-paired : is_of_multicast rules d past ≡ false → is_paired d past ≡ true
+  over-paired =
+      paired-bits (is_complete d past) (is_of_multicast rules d past) (is_paired d past) (always_had_consumer d past)
+      (ap (λ (y : Held). says_paired y.fate || says_copied y.fate) of.is ∙ spent.0)
 
   pub over-complete : is_complete d past ≡ true
-  over-complete = held-complete rules n past x of ∙ ap (λ f. not (says_arriving f)) over-went
+  over-complete = held-complete rules n past x of ∙ ap not over-arrived
 
   pub over-closed : is_closed past d ≡ true
   over-closed = held-closed rules n past x of ∙ spent.1
 
   pub over-waiting : is_waiting rules d past ≡ false
-  over-waiting = held-waiting rules n past x of ∙ ap says_waiting over-went
+  over-waiting = held-waiting rules n past x of ∙ over-waited
 
   pub over-undecided : x.is_undecided ≡ false
-  over-undecided = decided-by x.fate x.is_closed x.is_undecided over-went spent.1 (entry-kept rules past are n x over.at)
+  over-undecided = decided-by x.fate x.is_closed x.is_undecided spent.0 spent.1 (entry-kept rules past are n x over.at)
 
   pub over-decided : is_undecided rules d past ≡ false
   over-decided = held-undecided rules n past x of ∙ over-undecided
@@ -168,8 +177,9 @@ module _ (rules : RuleSet) (past : List Event) (are : AreJudged rules past) (gon
   pub waiting-there : is_waiting rules d past ≡ true → gone n ≡ false
   waiting-there = unless (λ y. is_waiting rules y past) (λ o. over-waiting rules past are n o)
 
-  pub multicast-there : is_of_multicast rules d past ≡ true → gone n ≡ false
-  multicast-there = unless (λ y. is_of_multicast rules y past) (λ o. over-anycast rules past are n o)
+  -- a copy of it is still to begin on a link that lives
+  pub unsent-there : (l : Link) → IsLiveLink l past → is_unsent rules d l past ≡ true → gone n ≡ false
+  unsent-there l live = unless (λ y. is_unsent rules y l past) (λ o. o.copied l live)
 
   pub open-there : is_closed past d ≡ false → gone n ≡ false
   open-there opens = unless (λ y. not (is_closed past y)) (λ o. ap not (over-closed rules past are n o)) (ap not opens)
@@ -177,13 +187,20 @@ module _ (rules : RuleSet) (past : List Event) (are : AreJudged rules past) (gon
   pub arriving-there : is_complete d past ≡ false → gone n ≡ false
   arriving-there incomplete = unless (λ y. not (is_complete y past)) (λ o. ap not (over-complete rules past are n o)) (ap not incomplete)
 
-  pub unpaired-there : is_paired d past ≡ false → gone n ≡ false
-  unpaired-there unpaired = unless (λ y. not (is_paired y past)) (λ o. ap not (over-paired rules past are n o)) (ap not unpaired)
+  -- of anycast
+  pub unpaired-there : is_of_multicast rules d past ≡ false → is_paired d past ≡ false → gone n ≡ false
+  unpaired-there anycast unpaired =
+      unless (λ y. not (is_of_multicast rules y past) && not (is_paired y past)) (λ o. paired-off (is_of_multicast rules o.entry.delivery past) (is_paired o.entry.delivery past) (over-paired rules past are n o))
+      (ap (λ b. not b && not (is_paired d past)) anycast ∙ ap not unpaired)
+    where
+      paired-off : (m p : Bool) → (m ≡ false → p ≡ true) → not m && not p ≡ false
+      paired-off true p is = refl
+      paired-off false p is = ap not (is refl)
 
 module _ (rules : RuleSet) (past : List Event) (are : AreJudged rules past) (table : Deliveries) (over : AreOver rules table past) where
   module _ (n : ℕ) (d : Incoming) (at : incoming_at n past ≡ Some d) where
-    pub multicast-kept : is_of_multicast rules d past ≡ true → is_let_go table.let_go.items n ≡ false
-    multicast-kept = multicast-there rules past are (is_let_go table.let_go.items) over n d at
+    pub unsent-kept : (l : Link) → IsLiveLink l past → is_unsent rules d l past ≡ true → is_let_go table.let_go.items n ≡ false
+    unsent-kept = unsent-there rules past are (is_let_go table.let_go.items) over n d at
 
     pub open-kept : is_closed past d ≡ false → is_let_go table.let_go.items n ≡ false
     open-kept = open-there rules past are (is_let_go table.let_go.items) over n d at
@@ -197,7 +214,7 @@ module _ (rules : RuleSet) (past : List Event) (are : AreJudged rules past) (tab
     pub arriving-kept : is_complete d past ≡ false → is_let_go table.let_go.items n ≡ false
     arriving-kept = arriving-there rules past are (is_let_go table.let_go.items) over n d at
 
-    pub unpaired-kept : is_paired d past ≡ false → is_let_go table.let_go.items n ≡ false
+    pub unpaired-kept : is_of_multicast rules d past ≡ false → is_paired d past ≡ false → is_let_go table.let_go.items n ≡ false
     unpaired-kept = unpaired-there rules past are (is_let_go table.let_go.items) over n d at
 
 -- one whose last part is not written isn't finished

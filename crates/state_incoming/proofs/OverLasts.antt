@@ -1,7 +1,8 @@
--- What nothing can come of any more stays so: nothing begins to carry it, and what carries it stays finished.
-use Rattle.std.proofs.Common.{◌≡◌, refl, sym, ap, subst, ◌∙◌, ◌<◌, ℕ, inl, inr, Bool, true, false, not, ◌&&◌, ◌||◌, List, [], ◌∷◌, length, Option, Some, None, IfSome, option_map, unwrap_or, if◌then◌else◌, eq-eqb}
+-- What nothing can come of any more stays so: nothing begins to carry it, what carries it stays finished, and no copy of it is
+-- to begin again.
+use Rattle.std.proofs.Common.{◌≡◌, refl, sym, ap, ◌∙◌, ◌⊎◌, inl, inr, ℕ, Bool, true, false, not, ◌&&◌, ◌||◌, List, [], ◌∷◌, Option, Some, None, IfSome, option_map, unwrap_or, if◌then◌else◌, eq-eqb}
 use Rattle.std.specs.Prelude.{Contains}
-use Rattle.std.specs.List.{AllByRecursion, cons_option}
+use Rattle.std.specs.List.{cons_option}
 use Rattle.pairing_cert.specs.declared.note.Note.{Note}
 use Rattle.pairing_cert.specs.declared.note.Note.TheVariants as notes
 use Rattle.capture_form.specs.Rules.{RuleSet}
@@ -9,42 +10,35 @@ use Rattle.trace_events.specs.Words.{is_some_and}
 use Rattle.trace_events.specs.Event.{Event, Incoming, Outgoing}
 use Rattle.trace_events.specs.Said.{out_transfer}
 use Rattle.trace_events.specs.Address.{has_consumer}
+use Rattle.trace_events.specs.Due.{is_unsent}
 use Rattle.trace_events.specs.Incoming.{address_of, completed_by}
-use Rattle.trace_events.specs.Outgoing.{is_part, is_sent, is_paired, names, outgoing_begun, outgoing_deliveries, pairing}
+use Rattle.trace_events.specs.Outgoing.{is_named_on, is_part, is_sent, is_paired, names, outgoing_begun, outgoing_deliveries}
 use Rattle.amqp_perf.specs.Meaning.{flag}
 use Rattle.trace_events.specs.Waiting.{is_of_multicast}
 use Rattle.trace_events.specs.Work.{keeps_unsettled, stands_unsettled}
 use Rattle.trace_events.proofs.Judged.{AreJudged}
 use Rattle.trace_events.proofs.SettlingSteps.{stands_unsettled-step}
 use Rattle.trace_clauses.specs.Clauses.{first_broken}
-use Rattle.trace_clauses.proofs.BegunDeliveries.{IsBegun, judged-begun}
+use Rattle.trace_clauses.proofs.BegunDeliveries.{IsBegun, begun-linked, begun-live, judged-begun}
 use Rattle.trace_clauses.proofs.ClausesMet.{lawful-past}
-use Rattle.trace_clauses.proofs.LinkEnds.{is_live-next}
-use Rattle.trace_clauses.proofs.OneConsumer.{carried-at, incoming_at-is}
-use Rattle.trace_clauses.proofs.Pairs.{carries-pairing}
-use Rattle.trace_clauses.proofs.WaitingQueue.{all_contained, contains_cases, contains_none}
-use Rattle.state_incoming.specs.Held.{Held, address_behind, closed_next, fate_next, held_at, moved, says_paired, stays_with}
+use Rattle.trace_clauses.proofs.IncomingProgress.{judged-kept}
+use Rattle.trace_clauses.proofs.LinkEnds.{is_live-next, lives-live}
+use Rattle.trace_clauses.proofs.OneConsumer.{carried-at}
+use Rattle.trace_clauses.proofs.Parts.{IsKept, delivery_kept}
+use Rattle.trace_clauses.proofs.VerdictSteps.{due_before, not_named_before}
+use Rattle.trace_clauses.proofs.WaitingQueue.{all_contained, contains_cases}
+use Rattle.state_incoming.specs.Held.{Held, address_behind, closed_next, fate_next, held_at, moved, says_copied, says_paired, stays_with}
 use Rattle.state_incoming.specs.HeldTables.{AreHeld, AreOver, held_in}
-use Rattle.state_incoming.specs.LetGo.{AreFinished, IsOver, is_finished, is_let_go, is_spent, names_let_go}
+use Rattle.state_incoming.specs.LetGo.{AreFinished, HasAllCopies, IsOver, is_finished, is_let_go, is_spent, names_let_go}
 use Rattle.state_incoming.specs.declared.deliveries.Deliveries.{Deliveries}
-use Rattle.state_incoming.specs.declared.held.Fate.TheVariants.{Paired}
-use Rattle.state_incoming.proofs.HeldAnswers.{IsHeldOf, held-of}
+use Rattle.state_incoming.specs.declared.held.Fate.TheVariants.{Paired, Copied}
+use Rattle.state_incoming.proofs.CopiesLast.{copies-last}
+use Rattle.state_incoming.proofs.HeldAnswers.{held-of}
 use Rattle.state_incoming.proofs.HeldKnown.{held-after}
-use Rattle.state_incoming.proofs.OverKnown.{over-anycast, over-before, over-paired, over-shut, over-went, spent-anycast, table-law}
-
-and_first : (a b : Bool) → a && b ≡ true → a ≡ true
-and_first true b is = refl
-and_first false b is = absurd cc
+use Rattle.state_incoming.proofs.OverKnown.{over-before, over-complete, over-paired, over-shut, over-went, table-law}
 
 same_some : {A : Type 0} (a b : A) → Some a ≡ Some b → a ≡ b
 same_some a b is = cc
-
-contained-each : {A : Type 0} (P : A → Type 0) (xs : List A) (x : A) → AllByRecursion P xs → Contains xs x → P x
-contained-each P [] x each has = contains_none x has
-contained-each P (y ∷ ys) x each has = elim (contains_cases y ys x has) [
-  | inl same ↦ subst P same each.0
-  | inr later ↦ contained-each P ys x each.1 later
-]
 
 -- now: its last part is written with the event
 finished-bits : (now sent settled stood keeps : Bool) → sent && not (not settled && stood) ≡ true → (now || sent) && not (not settled && (stood && keeps)) ≡ true
@@ -56,6 +50,12 @@ finished-bits true true false false keeps is = refl
 finished-bits false true false false keeps is = refl
 
 module _ (rules : RuleSet) (e : Event) (past : List Event) (are : AreJudged rules (e ∷ past)) (lawful : first_broken rules (e ∷ past) ≡ None) where
+  -- a copy that begins was due on its own link, which lives, and unsent there
+  begins-unsent : (d : Incoming) → IsKept past d → is_of_multicast rules d past ≡ true → (j : Outgoing) → outgoing_begun e ≡ Some j → names d.number j.note ≡ true → is_unsent rules d j.link past ≡ true
+  begins-unsent d kept many j begun named =
+      ap (λ b. b && not (is_named_on d j.link past)) (due_before rules e past are lawful j begun d kept named many)
+      ∙ ap not (not_named_before rules e past are lawful j begun d kept named many)
+
   -- what the event begins to send carries another
   begins-other : (n : ℕ) → IsOver rules n past → (j : Outgoing) → outgoing_begun e ≡ Some j → names n j.note ≡ false
   begins-other n over j begun = by (names n j.note) refl
@@ -68,8 +68,16 @@ module _ (rules : RuleSet) (e : Event) (past : List Event) (are : AreJudged rule
       by true named =
           let c = carried-at rules e past are lawful j begun n named in
           let same : c.0 ≡ d = same_some c.0 d (sym c.1 ∙ (held-of rules n past over.entry over.at).at) in
-          let anycast : is_of_multicast rules c.0 past ≡ false = ap (λ y. is_of_multicast rules y past) same ∙ over-anycast rules past are.1 n over in
-          sym (over-paired rules past are.1 n over) ∙ (sym (ap (λ y. is_paired y past) same) ∙ c.4 anycast)
+          by_kind c.0 same c.3 c.4 (is_of_multicast rules d past) refl
+        where
+          by_kind : (k : Incoming) → k ≡ d → k.number ≡ n → (is_of_multicast rules k past ≡ false → is_paired k past ≡ false) → (many : Bool) → is_of_multicast rules d past ≡ many → true ≡ false
+          by_kind k same number first false anycast =
+              sym (over-paired rules past are.1 n over anycast) ∙ (sym (ap (λ y. is_paired y past) same) ∙ first (ap (λ y. is_of_multicast rules y past) same ∙ anycast))
+          by_kind k same number first true many =
+              let own : d.number ≡ n = sym (ap (λ (y : Incoming). y.number) same) ∙ number in
+              let kept : IsKept past d = delivery_kept rules past n d (judged-kept rules past are.1) (held-of rules n past over.entry over.at).at in
+              let live = lives-live rules past are.1 j.link (begun-linked rules e past are lawful j begun).at (begun-live rules e past are lawful j begun) in
+              sym (begins-unsent d kept many j begun (ap (λ m. names m j.note) own ∙ named)) ∙ over.copied j.link live
 
   -- what it carries was not let go
   pub begins-kept : (table : Deliveries) → AreOver rules table past → (j : Outgoing) → outgoing_begun e ≡ Some j → names_let_go table.let_go.items j.note ≡ false
@@ -132,42 +140,45 @@ module _ (rules : RuleSet) (e : Event) (past : List Event) (are : AreJudged rule
     number : x.delivery.number ≡ n
     number = (over-before rules past are.1 n over).1
 
-    went : next.fate ≡ Paired
-    went = ap (fate_next rules e behind has x.delivery) (over-went rules past are.1 n over)
+    -- it went as it had before
+    went : (next.fate ≡ Paired) ⊎ (next.fate ≡ Copied)
+    went = elim (over-went rules past are.1 n over) [
+      | inl paired ↦ inl (ap (fate_next rules e behind has x.delivery) paired)
+      | inr copied ↦ inr (ap (fate_next rules e behind has x.delivery) copied)
+    ]
+
+    after : held_at rules n (e ∷ past) ≡ (if stays_with e x.delivery next.is_closed next.fate then Some next else None)
+    after =
+        sym (ap (λ m. held_at rules m (e ∷ past)) number)
+        ∙ held-after rules e past are lawful to (told-is (completed_by e)) x (ap (λ m. held_at rules m past) number ∙ over.at)
 
     next-at : held_at rules n (e ∷ past) ≡ Some next
-    next-at =
-        sym (ap (λ m. held_at rules m (e ∷ past)) number)
-        ∙ (held-after rules e past are lawful to (told-is (completed_by e)) x (ap (λ m. held_at rules m past) number ∙ over.at)
-        ∙ ap (λ f. if stays_with e x.delivery next.is_closed f then Some next else None) went)
+    next-at = elim went [
+      | inl paired ↦ after ∙ ap (λ f. if stays_with e x.delivery next.is_closed f then Some next else None) paired
+      | inr copied ↦ after ∙ ap (λ f. if stays_with e x.delivery next.is_closed f then Some next else None) copied
+    ]
+
+    shut : next.is_closed ≡ true
+    shut = ap (closed_next e x.delivery) (over-shut rules past are.1 n over)
 
     next-spent : is_spent next ≡ true
-    next-spent = ap (λ f. says_paired f && next.is_closed) went ∙ ap (closed_next e x.delivery) (over-shut rules past are.1 n over)
+    next-spent = elim went [
+      | inl paired ↦ ap (λ f. (says_paired f || says_copied f) && next.is_closed) paired ∙ shut
+      | inr copied ↦ ap (λ f. (says_paired f || says_copied f) && next.is_closed) copied ∙ shut
+    ]
 
     pub over-lasts : IsOver rules n (e ∷ past)
-    over-lasts = record { entry = next; at = next-at; spent = next-spent; finished = finished-lasts n over }
+    over-lasts = record {
+      entry = next;
+      at = next-at;
+      spent = next-spent;
+      finished = finished-lasts n over;
+      copied = copies-last rules e past are x.delivery (over-complete rules past are.1 n over) over.copied;
+    }
 
--- ---- of an entry that is spent, once what carries it is finished
+-- ---- of an entry that is spent, once no copy of it is to begin and what carries it is finished
 
 pub over-now : (rules : RuleSet) (past : List Event) → AreJudged rules past → first_broken rules past ≡ None → (table : Deliveries) → AreHeld rules table past → (n : ℕ) (x : Held)
-    → held_in table n ≡ Some x → is_spent x ≡ true → ((j : Outgoing) → pairing x.delivery past ≡ Some j → is_finished past j ≡ true) → IsOver rules n past
-over-now rules past are lawful table were n x entry spent done =
-    record { entry = x; at = at; spent = spent; finished = λ j there named. done j (contained-each (λ k. names d.number k.note ≡ true → pairing d past ≡ Some k) (outgoing_deliveries past) j carry there (ap (λ m. names m j.note) number ∙ named)) }
-  where
-    d : Incoming
-    d = x.delivery
-
-    at : held_at rules n past ≡ Some x
-    at = table-law rules past table were n x entry
-
-    of : IsHeldOf rules n past x
-    of = held-of rules n past x at
-
-    number : d.number ≡ n
-    number = (subst (λ (o : Option Incoming). IfSome o (λ y. (n < length past) × (y.number ≡ n))) of.at (incoming_at-is rules past n are)).1
-
-    anycast : is_of_multicast rules d past ≡ false
-    anycast = spent-anycast rules past n x of (and_first (says_paired x.fate) x.is_closed spent)
-
-    carry : AllByRecursion (λ k. names d.number k.note ≡ true → pairing d past ≡ Some k) (outgoing_deliveries past)
-    carry = carries-pairing rules past are lawful n d of.at anycast
+    → held_in table n ≡ Some x → is_spent x ≡ true → HasAllCopies rules x.delivery past → ((j : Outgoing) → Contains (outgoing_deliveries past) j → names n j.note ≡ true → is_finished past j ≡ true) → IsOver rules n past
+over-now rules past are lawful table were n x entry spent copied done =
+    record { entry = x; at = table-law rules past table were n x entry; spent = spent; finished = done; copied = copied }

@@ -47,6 +47,10 @@ abbrev pub says_paired : Fate → Bool
 says_paired Paired = true
 says_paired _ = false
 
+abbrev pub says_copied : Fate → Bool
+says_copied Copied = true
+says_copied _ = false
+
 -- a delivery with what the law says of it: the address that it is for, its payload so far, the record that completed it,
 -- whether nothing more is to be told of it, whether it is undecided, and what has become of it
 pub record Held : Type 0 where

@@ -79,9 +79,9 @@ impl Deliveries {
         self.entries.len()
     }
 
-    /// The number of the delivery at this place, if it is spent: of anycast, it went to a consumer, and nothing more is to be
-    /// told of it. Places count those that are kept from 0, in any order; where one goes, the last takes its place. How
-    /// long it takes doesn't depend on how many are kept.
+    /// The number of the delivery at this place, if it is spent: of anycast, it went to a consumer, and of multicast it is
+    /// complete; and nothing more is to be told of it. Places count those that are kept from 0, in any order; where one goes,
+    /// the last takes its place. How long it takes doesn't depend on how many are kept.
     pub fn spent_at(&self, place: usize) -> Option<u64>
         ensures { IfSome result (λ n. is_some_and (held_in self.now n) is_spent ≡ true) }
     {

@@ -66,6 +66,12 @@ impl Fate {
     {
         matches!(self, Fate::Paired)
     }
+
+    fn is_copied(self) -> bool
+        ensures { result ≡ kept.says_copied self }
+    {
+        matches!(self, Fate::Copied)
+    }
 }
 
 /// A delivery from a client that is kept.
@@ -286,11 +292,11 @@ impl HeldDelivery {
         self.fate.is_paired()
     }
 
-    /// Of anycast, it went to a consumer, or began to, and nothing more is to be told of it.
+    /// Of anycast, it went to a consumer, or began to, and of multicast it is complete; and nothing more is to be told of it.
     pub fn is_spent(&self) -> bool
         ensures { result ≡ is_spent (held_view self.now) }
     {
-        self.fate.is_paired() && self.is_closed
+        (self.fate.is_paired() || self.fate.is_copied()) && self.is_closed
     }
 
     /// It may go to consumers: it is complete, and not gone.
