@@ -1,6 +1,7 @@
 -- What the table of deliveries to clients answers is what the law says.
 use Rattle.std.proofs.Common.{◌≡◌, refl, sym, ap, subst, ◌∙◌, ◌⊎◌, inl, inr, ℕ, Bool, true, false, ◌&&◌, not, List, [], length, Option, Some, None, IfSome, is_some, nat_eq, option_and_then, option_map, if◌then◌else◌, arith}
-use Rattle.indexmap.specs.IndexMap.{get}
+use Rattle.std.specs.Prelude.{Contains}
+use Rattle.std.specs.List.{list_all}
 use Rattle.pairing_cert.specs.declared.note.Note.{Note}
 use Rattle.pairing_cert.specs.declared.note.Note.TheVariants as notes
 use Rattle.capture_form.specs.Rules.{RuleSet}
@@ -21,14 +22,15 @@ use Rattle.trace_clauses.specs.TransferClause.{carried_before}
 use Rattle.number_groups.specs.Groups.{numbers}
 use Rattle.state_outgoing.specs.Earliest.{least}
 use Rattle.number_groups.specs.Ids.{same_id}
-use Rattle.state_outgoing.specs.LastBegun.{carrier, carrier_number, last_number}
-use Rattle.state_outgoing.specs.LetGo.{is_let_go, names_let_go, where_kept, kept_at, is_finished, is_done}
+use Rattle.state_outgoing.specs.Carriers.{carriers_in}
+use Rattle.state_outgoing.specs.LastBegun.{carrier_number, last_number}
+use Rattle.state_outgoing.specs.LetGo.{is_let_go, names_let_go, where_kept, kept_at, is_finished}
 use Rattle.state_outgoing.specs.Sent.{IsKnownTo, Sent, sent, outgoing_at, sent_at, is_left_unsettled}
 use Rattle.state_outgoing.specs.SentAnswers.{AreClosings, Knows, KnowsOrBegins, carried, closes, decided, delivery_in, is_settleable, number_of, says_sent, unsent}
-use Rattle.state_outgoing.specs.SentTables.{AreSent, IsTable, sent_in}
+use Rattle.state_outgoing.specs.SentTables.{AreSent, IsTable, is_done_in, sent_in}
 use Rattle.state_outgoing.specs.declared.deliveries.SentDeliveries.{SentDeliveries}
 use Rattle.number_groups.specs.declared.id_on.IdOn.{IdOn}
-use Rattle.state_outgoing.proofs.Carriers.{finished-entry, paired-entry, pairing-entry}
+use Rattle.state_outgoing.proofs.CarriersKnown.{done-each, each-done, paired-entry, pairing-entry}
 use Rattle.state_outgoing.proofs.LastBegun.{carried-entry, progress-entry, progress-known, progress-unsent}
 use Rattle.state_outgoing.proofs.SentKept.{entry-law, found-kept, unfinished-entry, unsent-unfinished, unsettled-unfinished}
 use Rattle.state_outgoing.proofs.SentBegun.{at-number, found-below, sent-none}
@@ -158,10 +160,15 @@ module _ (rules : RuleSet) (past : List Event) (are : AreJudged rules past) (tab
     pub paired-table : is_some last ≡ law.is_paired d past
     paired-table = paired-entry rules past are table.let_go.items (sent_in table) is_table.entries d.number stays last is
 
-  pub finished-table : (number : ℕ) → is_let_go table.let_go.items number ≡ false → is_some_and (option_and_then (sent_in table) (get nat_eq table.begun.carriers number)) is_done
-      ≡ is_some_and (carrier number past) (is_finished past)
-  finished-table number stays =
-      finished-entry rules past are table.let_go.items (sent_in table) is_table.entries number stays (get nat_eq table.begun.carriers number) (is_table.begun.carriers number)
+  -- all that carry it are finished, as the table says it
+  module _ (number : ℕ) (stays : is_let_go table.let_go.items number ≡ false) where
+    pub finished-each : list_all (is_done_in table) (carriers_in table.begun number) ≡ true
+        → (j : Outgoing) → Contains (law.outgoing_deliveries past) j → law.names number j.note ≡ true → is_finished past j ≡ true
+    finished-each = done-each rules past are table.let_go.items (sent_in table) is_table.entries number stays (carriers_in table.begun number) (is_table.begun.carriers number)
+
+    pub each-finished : ((j : Outgoing) → Contains (law.outgoing_deliveries past) j → law.names number j.note ≡ true → is_finished past j ≡ true)
+        → list_all (is_done_in table) (carriers_in table.begun number) ≡ true
+    each-finished = each-done rules past are table.let_go.items (sent_in table) is_table.entries number stays (carriers_in table.begun number) (is_table.begun.carriers number)
 
   asks : (does_close : ℕ → Bool) → AreClosings does_close past → (n : ℕ) → is_settleable does_close (sent_in table n) ≡ is_some_and (sent_in table n) (λ x. is_to_settle past x.delivery)
   asks does_close closes_them n = by (sent_in table n) refl

@@ -1,4 +1,4 @@
--- What captures say of the last delivery that began on a link, and of the last that carries a delivery.
+-- What captures say of the last delivery that began on a link, and of those that carry a delivery.
 use Rattle.std.specs.Prelude.{◌≡◌, ℕ, Bool, true, false, List, [], ◌∷◌, ◌++◌, Option, Some, None, refl}
 use Rattle.std.specs.Fmt.{digits}
 use Rattle.amqp_perf.specs.declared.attach.SenderSettleMode.TheVariants.{Mixed}
@@ -12,7 +12,7 @@ use Rattle.trace_events.specs.Frame.{frame_read}
 use Rattle.trace_events.specs.History.{history, judge}
 use Rattle.trace_clauses.specs.Written.{spoken_octets}
 use Rattle.trace_clauses.proofs.Made.{from, from_with, carry, gives, first, next, with_more, hi, q, consumer, sent}
-use Rattle.state_outgoing.specs.LastBegun.{last_number, begins_on, carrier_number, begins_carrier}
+use Rattle.state_outgoing.specs.LastBegun.{last_number, begins_on, carrier_number, carrier_numbers, begins_carrier, carriers_next}
 
 unfoldable last_in : List Record → ℕ → Option ℕ
 unfolding frame_read whole_frame frame_at sized_frame headed_frame read digits spoken_octets frame_octets written
@@ -25,6 +25,14 @@ begins_in records r link = begins_on (judge no_rules (history no_rules records) 
 unfoldable carrier_in : List Record → ℕ → Option ℕ
 unfolding frame_read whole_frame frame_at sized_frame headed_frame read digits spoken_octets frame_octets written
 carrier_in records n = carrier_number n (history no_rules records)
+
+unfoldable all_in : List Record → ℕ → List ℕ
+unfolding frame_read whole_frame frame_at sized_frame headed_frame read digits spoken_octets frame_octets written
+all_in records n = carrier_numbers n (history no_rules records)
+
+unfoldable next_in : List Record → Record → ℕ → List ℕ → List ℕ
+unfolding frame_read whole_frame frame_at sized_frame headed_frame read digits spoken_octets frame_octets written
+next_in records r n earlier = carriers_next (judge no_rules (history no_rules records) r) n earlier
 
 unfoldable carries_in : List Record → Record → ℕ → Bool
 unfolding frame_read whole_frame frame_at sized_frame headed_frame read digits spoken_octets frame_octets written
@@ -51,6 +59,10 @@ again = sent ++ (carry 1 16 (first 0) hi ∷ carry 1 16 (first 1) hi ∷ [])
 -- to another consumer's link 23
 abbrev elsewhere : List Record
 elsewhere = sent ++ consumer 2 Mixed q ++ (from 2 (AFlow (gives 0 0 10)) ∷ carry 2 16 (first 0) hi ∷ [])
+
+-- to both
+abbrev both : List Record
+both = sent ++ consumer 2 Mixed q ++ (from 2 (AFlow (gives 0 0 10)) ∷ carry 1 16 (first 0) hi ∷ carry 2 16 (first 0) hi ∷ [])
 
 -- ---- on a link
 
@@ -124,3 +136,39 @@ carries-other = refl
 carries-on : carries_in (sent ++ (half ∷ [])) rest 16 ≡ false
 unfolding carries_in
 carries-on = refl
+
+-- ---- all of them
+
+all-none : all_in sent 16 ≡ []
+unfolding all_in
+all-none = refl
+
+-- a later part begins none
+all-one : all_in in_parts 16 ≡ 17 ∷ []
+unfolding all_in
+all-one = refl
+
+-- what carries another is none of them
+all-of_two : all_in two 16 ≡ 18 ∷ []
+unfolding all_in
+all-of_two = refl
+
+all-last_first : all_in again 16 ≡ 18 ∷ 17 ∷ []
+unfolding all_in
+all-last_first = refl
+
+all-on_two_links : all_in both 16 ≡ 26 ∷ 25 ∷ []
+unfolding all_in
+all-on_two_links = refl
+
+next-begun : next_in sent half 16 (3 ∷ []) ≡ 17 ∷ 3 ∷ []
+unfolding next_in
+next-begun = refl
+
+next-other : next_in sent half 15 (3 ∷ []) ≡ 3 ∷ []
+unfolding next_in
+next-other = refl
+
+next-part : next_in (sent ++ (half ∷ [])) rest 16 (17 ∷ []) ≡ 17 ∷ []
+unfolding next_in
+next-part = refl

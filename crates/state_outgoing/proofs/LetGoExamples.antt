@@ -1,9 +1,10 @@
 -- What captures say of deliveries to clients that are finished, and what a table keeps of them where some were let go.
 use Rattle.std.specs.Prelude.{◌≡◌, ℕ, Bool, true, false, List, [], ◌∷◌, ◌++◌, None, is_some, refl}
 use Rattle.std.specs.Fmt.{digits}
+use Rattle.std.specs.List.{list_all}
 use Rattle.amqp_perf.specs.declared.attach.Role.TheVariants.{Receiver}
 use Rattle.amqp_perf.specs.declared.attach.SenderSettleMode.TheVariants as modes
-use Rattle.amqp_perf.specs.Meaning.{ADisposition}
+use Rattle.amqp_perf.specs.Meaning.{ADisposition, AFlow}
 use Rattle.amqp_perf.proofs.Opened.{read, written}
 use Rattle.amqp_frames.specs.Writing.{frame_octets}
 use Rattle.amqp_frames.specs.Reading.{whole_frame, frame_at, sized_frame, headed_frame}
@@ -15,7 +16,8 @@ use Rattle.trace_events.specs.Frame.{frame_read}
 use Rattle.trace_events.specs.Words.{is_some_and}
 use Rattle.trace_events.specs.History.{history}
 use Rattle.trace_clauses.specs.Written.{spoken_octets}
-use Rattle.trace_clauses.proofs.Made.{from, carry, first, with_more, as_settled, disposes, detach_of, hi, sent, sent_by}
+use Rattle.trace_clauses.proofs.Made.{from, carry, gives, first, with_more, as_settled, disposes, detach_of, hi, q, consumer, sent, sent_by}
+use Rattle.state_outgoing.specs.LastBegun.{carriers, carrier_numbers}
 use Rattle.state_outgoing.specs.LetGo.{is_let_go, names_let_go, kept_at, is_finished, is_done}
 use Rattle.state_outgoing.specs.Sent.{outgoing_at, sent_at}
 
@@ -26,6 +28,15 @@ done_in records n = is_some_and (sent_at n (history no_rules records)) is_done
 unfoldable finished_in : List Record → ℕ → Bool
 unfolding frame_read whole_frame frame_at sized_frame headed_frame read digits spoken_octets frame_octets written
 finished_in records n = let past = history no_rules records in is_some_and (outgoing_at n past) (is_finished past)
+
+-- all that carry a delivery are finished: by the law, and by their entries
+unfoldable all_finished_in : List Record → ℕ → Bool
+unfolding frame_read whole_frame frame_at sized_frame headed_frame read digits spoken_octets frame_octets written
+all_finished_in records n = let past = history no_rules records in list_all (is_finished past) (carriers n past)
+
+unfoldable all_done_in : List Record → ℕ → Bool
+unfolding frame_read whole_frame frame_at sized_frame headed_frame read digits spoken_octets frame_octets written
+all_done_in records n = let past = history no_rules records in list_all (λ m. is_some_and (sent_at m past) is_done) (carrier_numbers n past)
 
 -- there is an entry, where these were let go
 unfoldable kept_in : List (ℕ × Unit {0}) → List Record → ℕ → Bool
@@ -48,6 +59,13 @@ settles = from 1 (ADisposition (disposes Receiver 0 true None))
 
 abbrev consumer_leaves : Record
 consumer_leaves = from 1 (detach_of true)
+
+-- it goes to two consumers: deliveries 25 and 26 carry it
+abbrev to_both : List Record
+to_both = sent ++ consumer 2 modes.Mixed q ++ (from 2 (AFlow (gives 0 0 10)) ∷ carry 1 16 (first 0) hi ∷ carry 2 16 (first 0) hi ∷ [])
+
+abbrev other_settles : Record
+other_settles = from 2 (ADisposition (disposes Receiver 0 true None))
 
 -- ---- whether it is finished
 
@@ -85,6 +103,33 @@ more_unfinished : finished_in (begun ++ (settles ∷ [])) 17 ≡ false
 unfolding finished_in
 more_unfinished = refl
 
+-- ---- whether all are that carry a delivery
+
+none_carries : all_finished_in sent 16 ≡ true
+unfolding all_finished_in
+none_carries = refl
+
+both_finished : all_finished_in (to_both ++ (settles ∷ other_settles ∷ [])) 16 ≡ true
+unfolding all_finished_in
+both_finished = refl
+
+both_done : all_done_in (to_both ++ (settles ∷ other_settles ∷ [])) 16 ≡ true
+unfolding all_done_in
+both_done = refl
+
+-- one of them alone
+first_alone : all_finished_in (to_both ++ (settles ∷ [])) 16 ≡ false
+unfolding all_finished_in
+first_alone = refl
+
+last_alone : all_finished_in (to_both ++ (other_settles ∷ [])) 16 ≡ false
+unfolding all_finished_in
+last_alone = refl
+
+last_alone_done : all_done_in (to_both ++ (other_settles ∷ [])) 16 ≡ false
+unfolding all_done_in
+last_alone_done = refl
+
 -- ---- what was let go
 
 let_go_first : is_let_go ((16, tt) ∷ (20, tt) ∷ []) 16 ≡ true
@@ -120,3 +165,12 @@ of_nothing = refl
 of_another : kept_in ((17, tt) ∷ []) carried 17 ≡ true
 unfolding kept_in
 of_another = refl
+
+-- so it is with each that carries it
+first_of_two : kept_in ((16, tt) ∷ []) to_both 25 ≡ false
+unfolding kept_in
+first_of_two = refl
+
+last_of_two : kept_in ((16, tt) ∷ []) to_both 26 ≡ false
+unfolding kept_in
+last_of_two = refl

@@ -1,27 +1,29 @@
--- A table that lets one go, whose carrier is finished, has what the law says of the others.
+-- A table that lets one go, of which all that carry it are finished, has what the law says of the others.
 use Rattle.std.proofs.Common.{◌≡◌, refl, sym, ap, subst, ◌∙◌, ◌⊎◌, inl, inr, ℕ, Bool, true, false, ◌&&◌, ◌||◌, not, List, [], ◌∷◌, ◌++◌, Option, Some, None, IfSome, nat_eq, option_map, if◌then◌else◌, ◌==◌, ◌<◌, ◌^◌, eqb-true, eq-eqb}
 use Rattle.std.specs.Prelude.{Contains}
 use Rattle.std.proofs.lemmas.List.Folds.{list_any-append}
 use Rattle.indexmap.specs.IndexMap.{get}
+use Rattle.number_groups.specs.Numbers.{is_among}
 use Rattle.pairing_cert.specs.declared.note.Note.{Note}
 use Rattle.pairing_cert.specs.declared.note.Note.TheVariants as notes
 use Rattle.capture_form.specs.Rules.{RuleSet}
-use Rattle.trace_events.specs.Words.{is_number, is_some_and}
+use Rattle.trace_events.specs.Words.{is_some_and}
 use Rattle.trace_events.specs.Event.{Event, Outgoing}
 use Rattle.trace_events.specs.Outgoing.{names, outgoing_deliveries}
 use Rattle.trace_events.proofs.Judged.{AreJudged}
-use Rattle.state_outgoing.specs.LastBegun.{carrier, carrier_number}
+use Rattle.trace_clauses.proofs.WaitingQueue.{filter_has, in_filter}
+use Rattle.state_outgoing.specs.Carriers.{carriers_in}
+use Rattle.state_outgoing.specs.LastBegun.{carrier_numbers, carriers}
 use Rattle.state_outgoing.specs.LetGo.{is_let_go, names_let_go, where_kept, kept_at, is_finished}
 use Rattle.state_outgoing.specs.Sent.{Sent, sent, is_left_unsettled, outgoing_at}
 use Rattle.state_outgoing.specs.SentGrouped.{AreGrouped, is_of_link, is_of_session, has_id}
 use Rattle.state_outgoing.specs.SentTables.{IsTable, sent_in}
 use Rattle.state_outgoing.specs.declared.deliveries.SentDeliveries.{SentDeliveries}
 use Rattle.state_outgoing.specs.declared.groups.SentGroups.{SentGroups}
-use Rattle.state_outgoing.proofs.Carriers.{named-gone}
+use Rattle.state_outgoing.proofs.CarriersKnown.{among-gives, among-has, named-gone}
 use Rattle.state_outgoing.proofs.GroupLists.{swapped}
-use Rattle.state_outgoing.proofs.OutgoingNumbers.{found-at, found-passes}
 use Rattle.state_outgoing.proofs.SentBegun.{at-number}
-use Rattle.state_outgoing.proofs.SentKept.{entry-law, found-contained, none-kept}
+use Rattle.state_outgoing.proofs.SentKept.{contained-at, entry-law, found-contained, none-kept}
 use Rattle.state_outgoing.proofs.SentKnown.{sent-of}
 
 same_some : {A : Type 0} (a b : A) → Some a ≡ Some b → a ≡ b
@@ -85,40 +87,42 @@ module _ (groups : SentGroups) (kept later : ℕ → Option Sent)
 -- ---- the table
 
 module _ (rules : RuleSet) (past : List Event) (are : AreJudged rules past) (table : SentDeliveries) (is_table : IsTable table past) (number : ℕ)
-    (carries : (j : Outgoing) → Contains (outgoing_deliveries past) j → names number j.note ≡ true → (carrier_number number past ≡ Some j.number) × (is_finished past j ≡ true)) where
+    (carries : (j : Outgoing) → Contains (outgoing_deliveries past) j → names number j.note ≡ true → is_finished past j ≡ true) where
   abbrev gone : List (ℕ × Unit {0})
   gone = table.let_go.items
 
-  abbrev carrier_in : Option ℕ
-  carrier_in = get nat_eq table.begun.carriers number
+  abbrev has_in : List ℕ
+  has_in = carriers_in table.begun number
 
-  -- what the table has of its carrier is that of the law
+  abbrev names-it : Outgoing → Bool
+  names-it j = names number j.note
+
+  -- what the table has of one that carries it is that of the law
   record IsCarrierAt (n : ℕ) : Type 0 where
     delivery : Outgoing
     at : outgoing_at n past ≡ Some delivery
     named : names number delivery.note ≡ true
     finished : is_finished past delivery ≡ true
 
-  carrier-at : (n : ℕ) → is_number carrier_in n ≡ true → IsCarrierAt n
+  carrier-at : (n : ℕ) → is_among has_in n ≡ true → IsCarrierAt n
   carrier-at n is = by (is_let_go gone number) (is_table.begun.carriers number)
     where
-      known : (o : Option Outgoing) → carrier number past ≡ o → is_number (option_map (λ (j : Outgoing). j.number) o) n ≡ true → IsCarrierAt n
-      known None none here = absurd cc
-      known (Some j) found here =
-          let at : outgoing_at j.number past ≡ Some j = found-at rules past are (λ (k : Outgoing). names number k.note) j found in
-          let named : names number j.note ≡ true = found-passes (λ (k : Outgoing). names number k.note) (outgoing_deliveries past) j found in
+      known : is_among (carrier_numbers number past) n ≡ true → IsCarrierAt n
+      known here =
+          let found = among-gives (λ (j : Outgoing). j.number) (carriers number past) n here in
+          let of = in_filter names-it (outgoing_deliveries past) found.it found.has in
           record {
-            delivery = j;
-            at = ap (λ m. outgoing_at m past) (sym (eqb-true j.number n here)) ∙ at;
-            named = named;
-            finished = (carries j (found-contained past j.number j at) named).1;
+            delivery = found.it;
+            at = ap (λ m. outgoing_at m past) (sym found.number) ∙ contained-at rules past are found.it of.0;
+            named = of.1;
+            finished = carries found.it of.0 of.1;
           }
 
-      by : (b : Bool) → carrier_in ≡ (if b then None else carrier_number number past) → IsCarrierAt n
-      by true none = let never : false ≡ true = sym (ap (λ o. is_number o n) none) ∙ is in absurd cc
-      by false has = known (carrier number past) refl (sym (ap (λ o. is_number o n) has) ∙ is)
+      by : (b : Bool) → has_in ≡ (if b then [] else carrier_numbers number past) → IsCarrierAt n
+      by true none = let never : false ≡ true = sym (ap (λ xs. is_among xs n) none) ∙ is in absurd cc
+      by false has = known (sym (ap (λ xs. is_among xs n) has) ∙ is)
 
-  module _ (later : SentDeliveries) (noted : later.let_go.items ≡ more gone number) (removed : (n : ℕ) → sent_in later n ≡ (if is_number carrier_in n then None else sent_in table n)) where
+  module _ (later : SentDeliveries) (noted : later.let_go.items ≡ more gone number) (removed : (n : ℕ) → sent_in later n ≡ (if is_among has_in n then None else sent_in table n)) where
     -- one that carries it is kept no more
     none-left : (n : ℕ) (j : Outgoing) → outgoing_at n past ≡ Some j → names number j.note ≡ true → sent_in later n ≡ None
     none-left n j at named = by (is_let_go gone number) refl
@@ -130,23 +134,24 @@ module _ (rules : RuleSet) (past : List Event) (are : AreJudged rules past) (tab
         by : (b : Bool) → is_let_go gone number ≡ b → sent_in later n ≡ None
         by true before =
             removed n
-            ∙ empty (is_number carrier_in n)
+            ∙ empty (is_among has_in n)
             (is_table.entries n ∙ (ap (λ o. where_kept gone (option_map (sent past) o)) at ∙ none-kept gone (sent past j) (named-gone gone number j.note named ∙ before)))
         by false stays =
-            let has : carrier_in ≡ Some j.number =
-            is_table.begun.carriers number ∙ (ap (λ b. if b then None else carrier_number number past) stays ∙ (carries j (found-contained past n j at) named).0) in
-            removed n ∙ ap (λ b. if b then None else sent_in table n) (ap (λ o. is_number o n) has ∙ eq-eqb j.number n (at-number past n j at))
+            let all : has_in ≡ carrier_numbers number past = is_table.begun.carriers number ∙ ap (λ b. if b then [] else carrier_numbers number past) stays in
+            let among : is_among (carrier_numbers number past) j.number ≡ true =
+            among-has (λ (k : Outgoing). k.number) (carriers number past) j (filter_has names-it (outgoing_deliveries past) j named (found-contained past n j at)) in
+            removed n ∙ ap (λ b. if b then None else sent_in table n) (ap (λ xs. is_among xs n) all ∙ (ap (is_among (carrier_numbers number past)) (sym (at-number past n j at)) ∙ among))
 
     -- and every other is kept as it was
     still-kept : (n : ℕ) (j : Outgoing) → outgoing_at n past ≡ Some j → names number j.note ≡ false → sent_in later n ≡ sent_in table n
-    still-kept n j at other = removed n ∙ by (is_number carrier_in n) refl
+    still-kept n j at other = removed n ∙ by (is_among has_in n) refl
       where
-        by : (b : Bool) → is_number carrier_in n ≡ b → (if b then None else sent_in table n) ≡ sent_in table n
+        by : (b : Bool) → is_among has_in n ≡ b → (if b then None else sent_in table n) ≡ sent_in table n
         by false off = refl
         by true here =
             let c = carrier-at n here in
             let same : c.delivery ≡ j = same_some c.delivery j (sym c.at ∙ at) in
-            let never : true ≡ false = sym c.named ∙ (ap (λ (k : Outgoing). names number k.note) same ∙ other) in
+            let never : true ≡ false = sym c.named ∙ (ap names-it same ∙ other) in
             absurd cc
 
     entries : (n : ℕ) → sent_in later n ≡ kept_at (more gone number) n past
@@ -156,22 +161,22 @@ module _ (rules : RuleSet) (past : List Event) (are : AreJudged rules past) (tab
         empty true none = refl
         empty false none = none
 
-        names-it : (j : Outgoing) → outgoing_at n past ≡ Some j → (b : Bool) → names number j.note ≡ b → sent_in later n ≡ where_kept (more gone number) (Some (sent past j))
-        names-it j at true named =
+        either : (j : Outgoing) → outgoing_at n past ≡ Some j → (b : Bool) → names number j.note ≡ b → sent_in later n ≡ where_kept (more gone number) (Some (sent past j))
+        either j at true named =
             none-left n j at named
             ∙ sym (none-kept (more gone number) (sent past j) (names-more gone number j.note ∙ (ap (λ b. names_let_go gone j.note || b) named ∙ or_true (names_let_go gone j.note))))
-        names-it j at false other =
+        either j at false other =
             still-kept n j at other
             ∙ (is_table.entries n
             ∙ (ap (λ o. where_kept gone (option_map (sent past) o)) at
             ∙ sym (ap (λ b. if not b then Some (sent past j) else None) (names-more gone number j.note ∙ (ap (λ b. names_let_go gone j.note || b) other ∙ or_false (names_let_go gone j.note))))))
 
         by : (o : Option Outgoing) → outgoing_at n past ≡ o → sent_in later n ≡ where_kept (more gone number) (option_map (sent past) o)
-        by None none = removed n ∙ empty (is_number carrier_in n) (is_table.entries n ∙ ap (λ o. where_kept gone (option_map (sent past) o)) none)
-        by (Some j) at = names-it j at (names number j.note) refl
+        by None none = removed n ∙ empty (is_among has_in n) (is_table.entries n ∙ ap (λ o. where_kept gone (option_map (sent past) o)) none)
+        by (Some j) at = either j at (names number j.note) refl
 
     fewer : (n : ℕ) → (sent_in later n ≡ sent_in table n) ⊎ ((sent_in later n ≡ None) × IfSome (sent_in table n) (λ (x : Sent). x.is_unsettled ≡ false))
-    fewer n = by (is_number carrier_in n) refl
+    fewer n = by (is_among has_in n) refl
       where
         closed-bits : (was opens : Bool) → was && not opens ≡ true → opens ≡ false
         closed-bits true false is = refl
@@ -185,7 +190,7 @@ module _ (rules : RuleSet) (past : List Event) (are : AreJudged rules past) (tab
             let same : x.delivery ≡ c.delivery = same_some x.delivery c.delivery (sym of.at ∙ c.at) in
             sym (ap (λ (y : Sent). y.is_unsettled) of.is) ∙ (ap (is_left_unsettled past) same ∙ closed-bits _ (is_left_unsettled past c.delivery) c.finished)
 
-        by : (b : Bool) → is_number carrier_in n ≡ b → (sent_in later n ≡ sent_in table n) ⊎ ((sent_in later n ≡ None) × IfSome (sent_in table n) (λ (x : Sent). x.is_unsettled ≡ false))
+        by : (b : Bool) → is_among has_in n ≡ b → (sent_in later n ≡ sent_in table n) ⊎ ((sent_in later n ≡ None) × IfSome (sent_in table n) (λ (x : Sent). x.is_unsettled ≡ false))
         by true here = inr (removed n ∙ ap (λ b. if b then None else sent_in table n) here, closed (carrier-at n here) (sent_in table n) refl)
         by false off = inl (removed n ∙ ap (λ b. if b then None else sent_in table n) off)
 
@@ -194,17 +199,17 @@ module _ (rules : RuleSet) (past : List Event) (are : AreJudged rules past) (tab
       where
         by : (b : Bool) → names_let_go gone j.note ≡ b → b || names number j.note ≡ true → is_finished past j ≡ true
         by true before is = is_table.finished j has before
-        by false other is = (carries j has is).1
+        by false other is = carries j has is
 
     module _ (groups : later.groups ≡ table.groups) (on_link : later.begun.on_link ≡ table.begun.on_link)
-        (left : (n : ℕ) → get nat_eq later.begun.carriers n ≡ (if number == n then None else get nat_eq table.begun.carriers n)) where
-      carriers : (n : ℕ) → get nat_eq later.begun.carriers n ≡ (if is_let_go (more gone number) n then None else carrier_number n past)
-      carriers n =
+        (left : (n : ℕ) → carriers_in later.begun n ≡ (if number == n then [] else carriers_in table.begun n)) where
+      others : (n : ℕ) → carriers_in later.begun n ≡ (if is_let_go (more gone number) n then [] else carrier_numbers n past)
+      others n =
           left n
-          ∙ (ap (λ o. if number == n then None else o) (is_table.begun.carriers n)
-          ∙ (either (is_let_go gone n) (number == n) ∙ sym (ap (λ b. if b then None else carrier_number n past) (let-go-more gone number n))))
+          ∙ (ap (λ xs. if number == n then [] else xs) (is_table.begun.carriers n)
+          ∙ (either (is_let_go gone n) (number == n) ∙ sym (ap (λ b. if b then [] else carrier_numbers n past) (let-go-more gone number n))))
         where
-          either : (a b : Bool) → (if b then None else if a then None else carrier_number n past) ≡ (if a || b then None else carrier_number n past)
+          either : (a b : Bool) → (if b then [] else if a then [] else carrier_numbers n past) ≡ (if a || b then [] else carrier_numbers n past)
           either true true = refl
           either true false = refl
           either false true = refl
@@ -216,7 +221,7 @@ module _ (rules : RuleSet) (past : List Event) (are : AreJudged rules past) (tab
         groups = subst (λ (g : SentGroups). AreGrouped g (sent_in later)) (sym groups) (fewer-grouped table.groups (sent_in table) (sent_in later) fewer is_table.groups);
         begun = record {
           on_link = λ n. ap (λ m. get nat_eq m n) on_link ∙ is_table.begun.on_link n;
-          carriers = λ n. carriers n ∙ ap (λ (g : List (ℕ × Unit {0})). if is_let_go g n then None else carrier_number n past) (sym noted);
+          carriers = λ n. others n ∙ ap (λ (g : List (ℕ × Unit {0})). if is_let_go g n then [] else carrier_numbers n past) (sym noted);
         };
         finished = λ j has named. finished j has (sym (ap (λ (g : List (ℕ × Unit {0})). names_let_go g j.note) noted) ∙ named);
       }

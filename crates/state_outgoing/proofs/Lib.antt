@@ -10,11 +10,12 @@ mod SentSparse
 mod SentPayload
 mod OutgoingNumbers
 pub mod LastBegun
-mod Carriers
+mod CarriersKnown
 mod LeastNumbers
 mod ToSettle
 pub mod AnswersKnown
 mod GroupLists
+mod Removed
 mod SentRegrouped
 mod LetGoStands
 mod SentFound

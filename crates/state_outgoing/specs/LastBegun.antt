@@ -1,5 +1,5 @@
--- The last delivery to a client that began on a link, and the last that carries a delivery from a client (own rules).
-use Rattle.std.specs.Prelude.{ℕ, Bool, List, Option, Some, option_map, find, ◌==◌, if◌then◌else◌}
+-- The last delivery to a client that began on a link, and those that carry a delivery from a client (own rules).
+use Rattle.std.specs.Prelude.{ℕ, Bool, List, ◌∷◌, Option, Some, option_map, map, filter, find, ◌==◌, if◌then◌else◌}
 use Rattle.trace_events.specs.Words.{is_some_and}
 use Rattle.trace_events.specs.Event.{Event, Outgoing}
 use Rattle.trace_events.specs.Outgoing.{outgoing_begun, outgoing_deliveries, names}
@@ -18,11 +18,19 @@ begins_on e link = is_some_and (outgoing_begun e) (λ j. j.link.number == link)
 
 -- ---- of those that carry the delivery of a number
 
+-- the last one
 abbrev pub carrier : ℕ → List Event → Option Outgoing
 carrier n past = find (λ j. names n j.note) (outgoing_deliveries past)
 
 abbrev pub carrier_number : ℕ → List Event → Option ℕ
 carrier_number n past = option_map (λ j. j.number) (carrier n past)
+
+-- all of them, the last one first
+abbrev pub carriers : ℕ → List Event → List Outgoing
+carriers n past = filter (λ j. names n j.note) (outgoing_deliveries past)
+
+abbrev pub carrier_numbers : ℕ → List Event → List ℕ
+carrier_numbers n past = map (λ j. j.number) (carriers n past)
 
 -- the event begins a delivery that carries it
 abbrev pub begins_carrier : Event → ℕ → Bool
@@ -33,5 +41,5 @@ begins_carrier e n = is_some_and (outgoing_begun e) (λ j. names n j.note)
 abbrev pub on_link_next : Event → ℕ → Option ℕ → Option ℕ
 on_link_next e link earlier = if begins_on e link then Some e.number else earlier
 
-abbrev pub carriers_next : Event → ℕ → Option ℕ → Option ℕ
-carriers_next e n earlier = if begins_carrier e n then Some e.number else earlier
+abbrev pub carriers_next : Event → ℕ → List ℕ → List ℕ
+carriers_next e n earlier = if begins_carrier e n then e.number ∷ earlier else earlier

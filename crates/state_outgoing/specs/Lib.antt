@@ -5,6 +5,7 @@ pub mod SentGrouped
 pub mod SentTouched
 pub mod Earliest
 pub mod LastBegun
+pub mod Carriers
 pub mod LetGo
 pub mod SentTables
 pub mod SentAnswers

@@ -1,11 +1,13 @@
 -- What the table of deliveries to clients stands for.
-use Rattle.std.specs.Prelude.{◌≡◌, ℕ, Bool, true, List, Contains, Option, None, option_map, unwrap_or, nat_eq, ◌==◌, if◌then◌else◌}
+use Rattle.std.specs.Prelude.{◌≡◌, ℕ, Bool, true, List, [], Contains, Option, option_map, unwrap_or, nat_eq, ◌==◌, if◌then◌else◌}
 use Rattle.indexmap.specs.IndexMap.{get}
+use Rattle.trace_events.specs.Words.{is_some_and}
 use Rattle.trace_events.specs.Event.{Event, Outgoing}
 use Rattle.trace_events.specs.Outgoing.{outgoing_deliveries}
 use Rattle.state_outgoing.specs.Sent.{Sent, sent_next}
-use Rattle.state_outgoing.specs.LastBegun.{last_number, carrier_number}
-use Rattle.state_outgoing.specs.LetGo.{is_let_go, names_let_go, kept_at, is_finished}
+use Rattle.state_outgoing.specs.Carriers.{carriers_in}
+use Rattle.state_outgoing.specs.LastBegun.{last_number, carrier_numbers}
+use Rattle.state_outgoing.specs.LetGo.{is_let_go, names_let_go, kept_at, is_done, is_finished}
 use Rattle.state_outgoing.specs.SentGrouped.{AreGrouped}
 use Rattle.state_outgoing.specs.SentViews.{sent_view}
 use Rattle.state_outgoing.specs.declared.begun.LastNumbers.{LastNumbers}
@@ -19,14 +21,19 @@ sent_in table n = option_map sent_view (get nat_eq table.entries n)
 abbrev pub sent_count_in : SentDeliveries → ℕ → ℕ
 sent_count_in table n = unwrap_or (option_map (λ x. x.sent_count) (sent_in table n)) 0
 
+-- it has an entry of this number, whose delivery is finished
+abbrev pub is_done_in : SentDeliveries → ℕ → Bool
+is_done_in table n = is_some_and (sent_in table n) is_done
+
 -- of all whose delivery from a client was not let go, the table has what the law says of these events
 abbrev pub AreSent : SentDeliveries → List Event → Type 0
 AreSent table past = (n : ℕ) → sent_in table n ≡ kept_at table.let_go.items n past
 
--- these are the deliveries that began last, without the carriers of what was let go
+-- these are the deliveries that began last, and those that carry each delivery from a client, without the carriers of what was
+-- let go
 pub record AreBegun (gone : List (ℕ × Unit {0})) (begun : LastNumbers) (past : List Event) : Type 0 where
   pub on_link : (n : ℕ) → get nat_eq begun.on_link n ≡ last_number n past
-  pub carriers : (n : ℕ) → get nat_eq begun.carriers n ≡ (if is_let_go gone n then None else carrier_number n past)
+  pub carriers : (n : ℕ) → carriers_in begun n ≡ (if is_let_go gone n then [] else carrier_numbers n past)
 
 -- what carries one that was let go is finished
 abbrev pub AreFinished : SentDeliveries → List Event → Type 0

@@ -1,23 +1,26 @@
-//! Which delivery to a client began last: on each link, and of those that carry the same delivery.
+//! Which deliveries to clients began last on each link, and which carry the same delivery from a client.
 
-ghost use Rattle.std.specs.Prelude.{◌≡◌, ℕ, [], None, OnOk, nat_eq, ◌==◌, if◌then◌else◌};
+ghost use Rattle.std.specs.Prelude.{◌≡◌, ℕ, [], ◌∷◌, OnOk, nat_eq, slice_get, ◌==◌, if◌then◌else◌};
 ghost use Rattle.indexmap.specs.IndexMap.{get};
+ghost use Rattle.state_outgoing.specs.Carriers.{listed, carriers_in};
 ghost use Rattle.state_outgoing.specs.LastBegun.{on_link_next, carriers_next};
 ghost use Rattle.state_outgoing.specs.SentTables.{AreBegun};
 ghost use Rattle.trace_values.specs.View.{event_view};
 
+use crate::carriers::Carriers;
 use number_map::NumberMap;
 use pairing_cert::Note;
 use std::alloc::{AllocError, Global};
 use trace_values::Event;
 
-/// The numbers of the deliveries that began last: by the number of their link, and by that of the delivery from a client that
-/// their note names.
+/// The numbers of the deliveries that began last, by the number of their link; and of all that began, by the number of the
+/// delivery from a client that their note names.
 #[doc(hidden)]
 #[derive(Drop)]
 pub struct LastNumbers {
+    alloc: Global,
     pub(crate) on_link: NumberMap<u64, u64>,
-    pub(crate) carriers: NumberMap<u64, u64>,
+    pub(crate) carriers: NumberMap<u64, Carriers>,
 }
 
 impl LastNumbers {
@@ -26,6 +29,7 @@ impl LastNumbers {
         ensures { AreBegun [] result [] }
     {
         LastNumbers {
+            alloc,
             on_link: NumberMap::new(alloc),
             carriers: NumberMap::new(alloc),
         }
@@ -38,23 +42,61 @@ impl LastNumbers {
     /// Memory was refused, for a delivery that the event begins; then it may stand under its link alone.
     pub(crate) fn take(&mut self, event: &Event) -> Result<(), AllocError>
         ensures on_link { OnOk result ((n : ℕ) → get nat_eq self.new.on_link n ≡ on_link_next (event_view event.now) n (get nat_eq self.old.on_link n)) }
-        ensures carriers { OnOk result ((n : ℕ) → get nat_eq self.new.carriers n ≡ carriers_next (event_view event.now) n (get nat_eq self.old.carriers n)) }
+        ensures carriers { OnOk result ((n : ℕ) → carriers_in self.new n ≡ carriers_next (event_view event.now) n (carriers_in self.old n)) }
     {
         let Some(delivery) = event.outgoing_begun() else {
             return Ok(());
         };
         self.on_link.insert(delivery.link.number, event.number)?;
         if let Note::Pair(carried) = delivery.note {
-            self.carriers.insert(carried, event.number)?;
+            self.carry(carried, event.number)?;
         }
         Ok(())
     }
 
-    /// The delivery from a client of this number is let go. It gives the number of the last one that carries it, which stands here
-    /// no more.
-    pub(crate) fn let_go(&mut self, number: u64) -> Option<u64>
-        ensures carrier { result ≡ get nat_eq self.old.carriers number }
-        ensures carriers { (n : ℕ) → get nat_eq self.new.carriers n ≡ (if number == n then None else get nat_eq self.old.carriers n) }
+    /// The delivery to a client of the second number carries the one from a client of the first, and began last.
+    ///
+    /// # Errors
+    ///
+    /// Memory was refused; then it is not among those that carry it.
+    fn carry(&mut self, carried: u64, number: u64) -> Result<(), AllocError>
+        ensures carriers { OnOk result ((n : ℕ) → carriers_in self.new n ≡ (if carried == n then number ∷ carriers_in self.old n else carriers_in self.old n)) }
+        ensures on_link { self.new.on_link ≡ self.old.on_link }
+    {
+        let Some(carriers) = self.carriers.get_mut(&carried) else {
+            return self.carry_first(carried, number);
+        };
+        carriers.push(number)
+    }
+
+    /// The same, where it alone carries it.
+    ///
+    /// # Errors
+    ///
+    /// Memory was refused; then it is not among those that carry it.
+    fn carry_first(&mut self, carried: u64, number: u64) -> Result<(), AllocError>
+        ensures carriers { OnOk result ((n : ℕ) → carriers_in self.new n ≡ (if carried == n then number ∷ [] else carriers_in self.old n)) }
+        ensures on_link { self.new.on_link ≡ self.old.on_link }
+    {
+        self.carriers
+            .insert(carried, Carriers::new(self.alloc, number))?;
+        Ok(())
+    }
+
+    /// The number of the last one that carries the delivery from a client of this number.
+    pub(crate) fn carrier_of(&self, number: u64) -> Option<u64>
+        ensures { result ≡ slice_get (carriers_in self.now number) 0 }
+    {
+        match self.carriers.get(&number) {
+            Some(carriers) => Some(carriers.last),
+            None => None,
+        }
+    }
+
+    /// The delivery from a client of this number is let go. It gives those that carry it, which stand here no more.
+    pub(crate) fn let_go(&mut self, number: u64) -> Option<Carriers>
+        ensures given { listed result ≡ carriers_in self.old number }
+        ensures carriers { (n : ℕ) → carriers_in self.new n ≡ (if number == n then [] else carriers_in self.old n) }
         ensures on_link { self.new.on_link ≡ self.old.on_link }
     {
         self.carriers.swap_remove(&number)

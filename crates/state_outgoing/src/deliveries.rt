@@ -1,14 +1,14 @@
 //! The deliveries to clients, by the record that began each, and in groups.
 
-ghost use Rattle.std.specs.Prelude.{◌≡◌, ◌∷◌, ◌++◌, ◌<◌, ◌^◌, ℕ, List, [], Contains, Some, None, IfOk, IfSome, OnOk, map, nat_eq, option_and_then, option_map, false, true, if◌then◌else◌};
-ghost use Rattle.std.specs.List.{list_any};
+ghost use Rattle.std.specs.Prelude.{◌≡◌, ◌∷◌, ◌++◌, ◌<◌, ◌^◌, ℕ, List, [], Contains, None, IfOk, IfSome, OnOk, map, nat_eq, option_map, reverse, slice_get, false, true, ◌==◌, if◌then◌else◌};
+ghost use Rattle.std.specs.List.{list_all, list_any};
 ghost use Rattle.std.specs.Option.{option_copied};
 ghost use Rattle.indexmap.specs.IndexMap.{get};
 ghost use Rattle.amqp_perf.specs.declared.descriptor.Outcome.{Outcome};
 ghost use Rattle.number_groups.specs.Numbers.{is_among};
 ghost use Rattle.capture_form.specs.Rules.{RuleSet};
 ghost use Rattle.capture_form.specs.declared.records.Record.{Record};
-ghost use Rattle.trace_events.specs.Words.{is_number, is_some_and, or_else};
+ghost use Rattle.trace_events.specs.Words.{is_some_and, or_else};
 ghost use Rattle.trace_events.specs.Event.{Incoming, Outgoing};
 ghost use Rattle.trace_events.specs.Incoming as received;
 ghost use Rattle.trace_events.specs.Outgoing as law;
@@ -17,21 +17,23 @@ ghost use Rattle.trace_clauses.specs.Clauses.{first_broken};
 ghost use Rattle.trace_clauses.specs.TransferClause.{is_payload_so_far};
 ghost use Rattle.state_tables.specs.Connections.{IsLawfulNext};
 ghost use Rattle.state_tables.specs.EndedLinks.{AreEnded};
+ghost use Rattle.state_outgoing.specs.Carriers.{carriers_in, listed};
 ghost use Rattle.state_outgoing.specs.Given.{gives, says};
 ghost use Rattle.state_verdicts.specs.Verdicts.{AreGiven};
-ghost use Rattle.state_outgoing.specs.LastBegun.{last_number, carrier, carrier_number};
-ghost use Rattle.state_outgoing.specs.LetGo.{is_let_go, names_let_go, is_finished, is_done};
+ghost use Rattle.state_outgoing.specs.LastBegun.{last_number, carrier_number};
+ghost use Rattle.state_outgoing.specs.LetGo.{is_let_go, names_let_go, is_finished};
 ghost use Rattle.state_outgoing.specs.Sent as kept;
 ghost use Rattle.state_outgoing.specs.Sent.{sent_begun, sent_next};
 ghost use Rattle.state_outgoing.specs.SentAnswers.{KnowsOrBegins};
 ghost use Rattle.state_outgoing.specs.SentGrouped.{AreGrouped};
-ghost use Rattle.state_outgoing.specs.SentTables.{AreMovedBy, AreSent, IsTable, MovesAt, sent_in, sent_count_in};
+ghost use Rattle.state_outgoing.specs.SentTables.{AreMovedBy, AreSent, IsTable, MovesAt, is_done_in, sent_in, sent_count_in};
 ghost use Rattle.state_outgoing.specs.SentTouched.{answered_id, is_spoken_of};
 ghost use Rattle.state_outgoing.specs.SentViews.{sent_view};
 ghost use Rattle.trace_values.specs.Known.{IsCarriedBy};
 ghost use Rattle.trace_values.specs.View.{Events, event_view, link_view};
 
 use crate::begun::LastNumbers;
+use crate::carriers::Carriers;
 use crate::groups::SentGroups;
 use crate::listed::push_some;
 use crate::payload::goes_on_with;
@@ -67,11 +69,28 @@ impl Drop for SentDeliveries {
 }
 
 /// The entry of the number goes, if there is one.
-fn remove(entries: &mut NumberMap<u64, SentDelivery>, number: Option<u64>)
-    ensures { (n : ℕ) → get nat_eq entries.new n ≡ (if is_number number n then None else get nat_eq entries.old n) }
+fn remove(entries: &mut NumberMap<u64, SentDelivery>, number: u64)
+    ensures { (n : ℕ) → get nat_eq entries.new n ≡ (if number == n then None else get nat_eq entries.old n) }
 {
-    if let Some(number) = number {
-        entries.swap_remove(&number);
+    entries.swap_remove(&number);
+}
+
+/// The entries of these numbers go, where there are any.
+fn remove_all(entries: &mut NumberMap<u64, SentDelivery>, numbers: &[u64])
+    ensures { (n : ℕ) → get nat_eq entries.new n ≡ (if is_among numbers.now n then None else get nat_eq entries.old n) }
+{
+    for number in numbers {
+        remove(entries, *number);
+    }
+}
+
+/// The entries of those that carry the same delivery go, where there are any.
+fn remove_carriers(entries: &mut NumberMap<u64, SentDelivery>, carriers: Option<Carriers>)
+    ensures { (n : ℕ) → get nat_eq entries.new n ≡ (if is_among (listed carriers) n then None else get nat_eq entries.old n) }
+{
+    if let Some(carriers) = carriers {
+        remove(entries, carriers.last);
+        remove_all(entries, &carriers.earlier);
     }
 }
 
@@ -128,49 +147,63 @@ impl SentDeliveries {
 
     /// That of the last delivery whose note names the delivery from a client of this number, unless this one was let go.
     pub fn carrier_of(&self, number: u64) -> Option<u64>
-        ensures stored { result ≡ get nat_eq self.now.begun.carriers number }
+        ensures stored { result ≡ slice_get (carriers_in self.now.begun number) 0 }
         ensures known { (history : Events) → IsTable self.now history →
             result ≡ (if is_let_go self.now.let_go.items number then None else carrier_number number history) }
     {
-        self.begun.carriers.get(&number).copied()
+        self.begun.carrier_of(number)
     }
 
-    /// The last delivery that carries the one from a client of this number is finished; false where none carries it.
+    /// All deliveries that carry the one from a client of this number are finished; so too where none does.
     pub fn has_finished(&self, number: u64) -> bool
-        ensures stored { result ≡ is_some_and (option_and_then (sent_in self.now) (get nat_eq self.now.begun.carriers number)) is_done }
+        ensures stored { result ≡ list_all (is_done_in self.now) (carriers_in self.now.begun number) }
         ensures known { (rules : RuleSet) (records : List Record) → IsTable self.now (history rules records) → is_let_go self.now.let_go.items number ≡ false →
-            result ≡ is_some_and (carrier number (history rules records)) (is_finished (history rules records)) }
-        ensures paired { (rules : RuleSet) (records : List Record) (d : Incoming) (j : Outgoing) → IsTable self.now (history rules records) →
-            is_let_go self.now.let_go.items number ≡ false → d.number ≡ number → law.pairing d (history rules records) ≡ Some j →
-            result ≡ is_finished (history rules records) j }
+            result ≡ true → (j : Outgoing) → Contains (law.outgoing_deliveries (history rules records)) j → law.names number j.note ≡ true →
+            is_finished (history rules records) j ≡ true }
+        ensures all { (rules : RuleSet) (records : List Record) → IsTable self.now (history rules records) → is_let_go self.now.let_go.items number ≡ false →
+            ((j : Outgoing) → Contains (law.outgoing_deliveries (history rules records)) j → law.names number j.note ≡ true →
+            is_finished (history rules records) j ≡ true) → result ≡ true }
     {
-        self.is_done(self.carrier_of(number))
+        self.says_finished(number)
+    }
+
+    fn says_finished(&self, number: u64) -> bool
+        ensures { result ≡ list_all (is_done_in self.now) (carriers_in self.now.begun number) }
+    {
+        match self.begun.carriers.get(&number) {
+            Some(carriers) => self.is_done(carriers.last) && self.are_done(&carriers.earlier),
+            None => true,
+        }
+    }
+
+    /// There are entries of all these numbers, and their deliveries are finished. The last number is asked first, since the
+    /// delivery that began last is likely to be finished last.
+    fn are_done(&self, numbers: &[u64]) -> bool
+        ensures { result ≡ list_all (is_done_in self.now) (reverse numbers.now) }
+    {
+        numbers.iter().rev().all(|number| self.is_done(*number))
     }
 
     /// There is an entry of this number, and its delivery is finished.
-    fn is_done(&self, number: Option<u64>) -> bool
-        ensures { result ≡ is_some_and (option_and_then (sent_in self.now) number) is_done }
+    fn is_done(&self, number: u64) -> bool
+        ensures { result ≡ is_done_in self.now number }
     {
-        match number {
-            Some(number) => match self.get(number) {
-                Some(own) => own.is_done(),
-                None => false,
-            },
+        match self.get(number) {
+            Some(own) => own.is_done(),
             None => false,
         }
     }
 
-    /// The delivery from a client of this number is let go, and with it the one that carries it. It takes no memory. The table
-    /// agrees with the records still, where no other delivery carries it, and that one is finished.
+    /// The delivery from a client of this number is let go, and with it all that carry it. It takes the time of those, and no
+    /// memory. The table agrees with the records still, where those are finished.
     pub fn let_go(&mut self, number: u64)
         ensures gone { self.new.let_go.items ≡ self.old.let_go.items ++ (number, tt) ∷ [] }
         ensures stands { (rules : RuleSet) (records : List Record) → IsTable self.old (history rules records) →
-            ((j : Outgoing) → Contains (law.outgoing_deliveries (history rules records)) j → law.names number j.note ≡ true →
-            (carrier_number number (history rules records) ≡ Some j.number) × (is_finished (history rules records) j ≡ true)) →
+            ((j : Outgoing) → Contains (law.outgoing_deliveries (history rules records)) j → law.names number j.note ≡ true → is_finished (history rules records) j ≡ true) →
             IsTable self.new (history rules records) }
     {
-        let carrier = self.begun.let_go(number);
-        remove(&mut self.entries, carrier);
+        let carriers = self.begun.let_go(number);
+        remove_carriers(&mut self.entries, carriers);
         self.let_go = self.let_go.and(&number, &());
     }
 

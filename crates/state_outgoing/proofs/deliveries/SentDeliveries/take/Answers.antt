@@ -1,4 +1,4 @@
-use Rattle.std.proofs.Common.{◌≡◌, sym, ap, ◌∙◌, ℕ, ◌||◌, List, map, Some, None, nat_eq, false, ◌∷◌, if◌then◌else◌}
+use Rattle.std.proofs.Common.{◌≡◌, sym, ap, ◌∙◌, ℕ, ◌||◌, List, map, Some, nat_eq, false, [], ◌∷◌, if◌then◌else◌}
 use Rattle.std.specs.List.{list_any}
 use Rattle.indexmap.specs.IndexMap.{get}
 use Rattle.number_groups.specs.Numbers.{is_among}
@@ -6,14 +6,15 @@ use Rattle.trace_events.specs.History.{history}
 use Rattle.trace_events.specs.Incoming.{incoming_at}
 use Rattle.trace_events.proofs.Judged.{AreJudged, history-judged}
 use Rattle.trace_values.specs.View.{event_view, link_view}
+use Rattle.state_outgoing.specs.Carriers.{carriers_in}
 use Rattle.state_outgoing.specs.Given.{gives, says}
-use Rattle.state_outgoing.specs.LastBegun.{carrier_number}
+use Rattle.state_outgoing.specs.LastBegun.{carrier_numbers}
 use Rattle.state_outgoing.specs.LetGo.{is_let_go, names_let_go, kept_at}
 use Rattle.state_outgoing.specs.Sent.{Sent, sent_begun}
 use Rattle.state_outgoing.specs.SentTouched.{touches}
 use Rattle.state_outgoing.specs.SentTables.{sent_in}
 use Rattle.state_outgoing.specs.declared.begun.LastNumbers.{LastNumbers}
-use Rattle.state_outgoing.proofs.Carriers.{carrier-kept}
+use Rattle.state_outgoing.proofs.CarriersKnown.{carriers-kept}
 use Rattle.state_outgoing.proofs.LastBegun.{last-moved}
 use Rattle.state_outgoing.proofs.SentFound.{ended-among, found}
 use Rattle.state_outgoing.proofs.SentKept.{entry-law, over-next}
@@ -34,8 +35,8 @@ returns-clause-kept c = λ rules records r next table ends apart.
     let groups = c.args.self.now.groups in
     let gone = c.args.self.now.let_go.items in
     let same = c.in_ok-begin.ensures.same ∙ c.in_ok-given.ensures.same in
-    let still : (n : ℕ) → (get nat_eq c.begin.new.self.begun.on_link n ≡ get nat_eq c.args.self.now.begun.on_link n) × (get nat_eq c.begin.new.self.begun.carriers n ≡ get nat_eq c.args.self.now.begun.carriers n) =
-    λ n. (ap (λ (b : LastNumbers). get nat_eq b.on_link n) same, ap (λ (b : LastNumbers). get nat_eq b.carriers n) same) in
+    let still : (n : ℕ) → (get nat_eq c.begin.new.self.begun.on_link n ≡ get nat_eq c.args.self.now.begun.on_link n) × (carriers_in c.begin.new.self.begun n ≡ carriers_in c.args.self.now.begun n) =
+    λ n. (ap (λ (b : LastNumbers). get nat_eq b.on_link n) same, ap (λ (b : LastNumbers). carriers_in b n) same) in
     let let_go : c.begin.new.self.let_go.items ≡ gone = c.in_ok-begin.ensures.gone ∙ c.in_ok-given.ensures.gone in
     let off : (n : ℕ) (x : Sent) → old n ≡ Some x → all n ≡ false → touches e x ≡ false = λ n x at none.
     found groups old table.groups n x at e ended c.in_ok-touched.ensures.counted
@@ -48,8 +49,8 @@ returns-clause-kept c = λ rules records r next table ends apart.
           (mid-none rules e past are gone apart old mid (sent_in c.begin.new.self) all table.entries off c.in_ok-given.ensures.touched c.in_ok-begin.ensures.begun);
       begun = record {
         on_link = λ n. last-moved e past n _ _ ((still n).0 ∙ table.begun.on_link n) (c.in_ok-take.ensures.on_link n);
-        carriers = λ n. carrier-kept gone n e apart past _ _ ((still n).1 ∙ table.begun.carriers n) (c.in_ok-take.ensures.carriers n)
-            ∙ ap (λ (g : List (ℕ × Unit {0})). if is_let_go g n then None else carrier_number n (e ∷ past)) (sym let_go);
+        carriers = λ n. carriers-kept gone n e apart past _ _ ((still n).1 ∙ table.begun.carriers n) (c.in_ok-take.ensures.carriers n)
+            ∙ ap (λ (g : List (ℕ × Unit {0})). if is_let_go g n then [] else carrier_numbers n (e ∷ past)) (sym let_go);
       };
       finished = λ j has named. over-next gone rules e past are apart table.finished j has (sym (ap (λ (g : List (ℕ × Unit {0})). names_let_go g j.note) let_go) ∙ named);
     }
