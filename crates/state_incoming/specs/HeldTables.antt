@@ -1,6 +1,6 @@
 -- What the table of deliveries from clients stands for.
-use Rattle.std.specs.Prelude.{◌≡◌, ◌⊎◌, ℕ, Bool, true, List, length, Option, None, option_and_then, option_map, is_some, nat_eq, if◌then◌else◌, ◌==◌}
-use Rattle.indexmap.specs.IndexMap.{get}
+use Rattle.std.specs.Prelude.{◌≡◌, ◌⊎◌, ℕ, Bool, true, List, length, Option, None, option_and_then, option_map, is_some, nat_eq, slice_get, if◌then◌else◌, ◌==◌}
+use Rattle.indexmap.specs.IndexMap.{get, values}
 use Rattle.capture_form.specs.Rules.{RuleSet}
 use Rattle.capture_form.specs.declared.records.Record.{Record}
 use Rattle.trace_events.specs.Event.{Event, Link}
@@ -20,6 +20,10 @@ IsHistory rules past = (records : List Record) × (past ≡ history rules record
 -- what the table has of the delivery of this number
 abbrev pub held_in : Deliveries → ℕ → Option Held
 held_in table n = option_map held_view (get nat_eq table.entries n)
+
+-- the number of the delivery at this place, in the table's own order
+abbrev pub number_at : Deliveries → ℕ → Option ℕ
+number_at table place = option_map (λ x. x.number) (slice_get (values table.entries) place)
 
 -- how many deliveries it has
 abbrev pub count_of : Deliveries → ℕ

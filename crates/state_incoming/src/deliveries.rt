@@ -1,6 +1,6 @@
 //! The deliveries from clients that are kept, by the record that began each, and in groups.
 
-ghost use Rattle.std.specs.Prelude.{◌≡◌, ◌∷◌, ◌++◌, ℕ, List, [], None, IfSome, OnOk, OnErr, is_some, true, map, nat_eq, option_and_then, option_map};
+ghost use Rattle.std.specs.Prelude.{◌≡◌, ◌∷◌, ◌++◌, ℕ, List, [], None, Some, IfSome, OnOk, OnErr, is_some, true, map, nat_eq, option_and_then, option_map};
 ghost use Rattle.number_groups.specs.Numbers.{is_among};
 ghost use Rattle.std.specs.Option.{option_copied};
 ghost use Rattle.capture_form.specs.Rules.{RuleSet};
@@ -8,13 +8,13 @@ ghost use Rattle.capture_form.specs.declared.records.Record.{Record};
 ghost use Rattle.trace_events.specs.Address.{has_consumer};
 ghost use Rattle.trace_events.specs.History.{history};
 ghost use Rattle.trace_events.specs.Incoming.{incoming_begun};
-ghost use Rattle.trace_events.specs.Words.{is_some_and, or_else};
+ghost use Rattle.trace_events.specs.Words.{is_some_and, or_else, where_passes};
 ghost use Rattle.trace_clauses.specs.Clauses.{first_broken};
 ghost use Rattle.state_tables.specs.Connections.{IsLawfulNext};
 ghost use Rattle.state_incoming.specs.Grouped.{AreGrouped};
 ghost use Rattle.state_addresses.specs.Addressed.{IsAddressed};
 ghost use Rattle.state_incoming.specs.Held.{address_behind, held_begun, held_next, is_begun_served};
-ghost use Rattle.state_incoming.specs.HeldTables.{AreMovedBy, BeginsOrTouches, IsTable, MovesAt, count_of, held_in};
+ghost use Rattle.state_incoming.specs.HeldTables.{AreMovedBy, BeginsOrTouches, IsTable, MovesAt, count_of, held_in, number_at};
 ghost use Rattle.state_incoming.specs.HeldTouched.{EndWith};
 ghost use Rattle.state_incoming.specs.HeldViews.{held_view};
 ghost use Rattle.state_incoming.specs.LetGo.{IsOver, is_spent};
@@ -83,7 +83,9 @@ impl Deliveries {
     /// complete; and nothing more is to be told of it. Places count those that are kept from 0, in any order; where one goes,
     /// the last takes its place. How long it takes doesn't depend on how many are kept.
     pub fn spent_at(&self, place: usize) -> Option<u64>
-        ensures { IfSome result (λ n. is_some_and (held_in self.now n) is_spent ≡ true) }
+        ensures spent { IfSome result (λ n. is_some_and (held_in self.now n) is_spent ≡ true) }
+        // Whoever is at the place is told, where it is spent.
+        ensures stored { result ≡ where_passes (λ n. is_some_and (held_in self.now n) is_spent) (number_at self.now place) }
     {
         let found = self.entries.values().as_slice().get(place)?;
         self.spent(found.number())
@@ -91,7 +93,8 @@ impl Deliveries {
 
     /// The number, if the delivery that began in its record is kept, and spent.
     fn spent(&self, number: u64) -> Option<u64>
-        ensures { IfSome result (λ n. is_some_and (held_in self.now n) is_spent ≡ true) }
+        ensures spent { IfSome result (λ n. is_some_and (held_in self.now n) is_spent ≡ true) }
+        ensures stored { result ≡ where_passes (λ n. is_some_and (held_in self.now n) is_spent) (Some number) }
     {
         if self.get(number)?.is_spent() {
             Some(number)
