@@ -1,5 +1,5 @@
 -- What the table of deliveries to clients answers is what the law says.
-use Rattle.std.proofs.Common.{◌≡◌, refl, sym, ap, subst, ◌∙◌, ◌⊎◌, inl, inr, ℕ, Bool, true, false, ◌&&◌, not, List, [], length, Option, Some, None, IfSome, is_some, nat_eq, option_and_then, option_map, if◌then◌else◌, arith}
+use Rattle.std.proofs.Common.{◌≡◌, refl, sym, ap, subst, ◌∙◌, ◌⊎◌, inl, inr, ℕ, Bool, true, false, ◌&&◌, not, List, [], length, Option, Some, None, IfSome, is_some, option_and_then, option_map, if◌then◌else◌, arith}
 use Rattle.std.specs.Prelude.{Contains}
 use Rattle.std.specs.List.{list_all}
 use Rattle.pairing_cert.specs.declared.note.Note.{Note}

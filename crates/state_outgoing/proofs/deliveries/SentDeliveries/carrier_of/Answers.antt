@@ -1,4 +1,4 @@
-use Rattle.std.proofs.Common.{ap, ◌∙◌}
+use Rattle.std.proofs.Common.{◌∙◌}
 use Rattle.state_outgoing.specs.Carriers.{carriers_in}
 use Rattle.state_outgoing.proofs.CarriersKnown.{first-kept}
 use Rattle.state_outgoing.proofs.deliveries.SentDeliveries.carrier_of.Goals as goal
