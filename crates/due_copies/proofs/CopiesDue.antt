@@ -30,7 +30,7 @@ use Rattle.trace_duties.proofs.PicksInOrder.{none-before}
 use Rattle.state_incoming.specs.HeldTables.{AreOver}
 use Rattle.state_incoming.specs.LetGo.{is_let_go}
 use Rattle.state_incoming.specs.declared.deliveries.Deliveries.{Deliveries}
-use Rattle.state_incoming.proofs.OverKnown.{multicast-kept}
+use Rattle.state_incoming.proofs.OverKnown.{unsent-kept}
 use Rattle.due_flows.proofs.LiveOnes.{link-found, live_links-live}
 use Rattle.due_flows.proofs.Members.{some-passes, none-passes, found-contained}
 use Rattle.due_flows.proofs.PartsDue.{consumer-found}
@@ -78,11 +78,9 @@ module _ (rules : RuleSet) (past : List Event) (are : AreJudged rules past) wher
         ap (where_passes (λ x. is_complete x past && not (is_gone rules x past))) h.found
         ∙ (ap (λ b. if b && not (is_gone rules d past) then Some d else None) goes.complete ∙ ap (λ b. if not b then Some d else None) goes.whole)
 
-    -- and was not let go: it is of multicast
+    -- and was not let go: its copy is still to begin
     pub copy-there : (table : Deliveries) → AreOver rules table past → (d : Incoming) → IsUnsentOn rules l d past → is_let_go table.let_go.items d.number ≡ false
-    copy-there table over d h =
-        let copy = due_copy rules past are l d h.found (and_first (is_due rules d l past) (not (is_named_on d l past)) h.unsent) in
-        multicast-kept rules past are table over d.number d h.found copy.multicast
+    copy-there table over d h = unsent-kept rules past are table over d.number d h.found l h.live h.unsent
 
     -- a link with an unsent copy has one of a delivery that is found
     pub one-unsent : IsLiveLink l past → has_unsent rules l past ≡ true → (d : Incoming) × IsUnsentOn rules l d past

@@ -1,7 +1,11 @@
 -- What the tables stand for, all of them.
-use Rattle.std.specs.Prelude.{◌≡◌, ℕ, ◌+◌, List, [], None}
+use Rattle.std.specs.Prelude.{◌≡◌, ℕ, ◌+◌, true, false, List, [], None, is_some, nat_eq, nat_lt, if◌then◌else◌}
+use Rattle.std.specs.List.{list_all}
 use Rattle.capture_form.specs.Rules.{RuleSet}
+use Rattle.number_groups.specs.Groups.{is_member}
+use Rattle.trace_events.specs.Words.{is_some_and}
 use Rattle.trace_events.specs.Event.{Event}
+use Rattle.trace_events.specs.Incoming.{completed_by}
 use Rattle.trace_clauses.specs.Clauses.{first_broken}
 use Rattle.state_tables.specs.Connections.{AreKept}
 use Rattle.state_tables.specs.Entries.{capped, entries_of_connections, entries_of_links}
@@ -12,19 +16,22 @@ use Rattle.state_addresses.specs.Consumers.{AreConsumers}
 use Rattle.state_addresses.specs.declared.consumers.Consumers.{Consumers}
 use Rattle.state_addresses.specs.ConsumerLinks.{AreConsumerLinks}
 use Rattle.state_addresses.specs.declared.consumer_links.ConsumerLinks.{ConsumerLinks}
-use Rattle.state_incoming.specs.HeldTables.{IsHistory, IsTable, count_of}
+use Rattle.state_incoming.specs.HeldTables.{IsHistory, IsTable, count_of, held_in}
+use Rattle.state_incoming.specs.LetGo.{is_spent}
 use Rattle.state_incoming.specs.declared.deliveries.Deliveries.{Deliveries}
 use Rattle.state_addresses.specs.Copies.{AreCopies}
 use Rattle.state_addresses.specs.declared.copies.Copies.{Copies}
+use Rattle.state_outgoing.specs.Carriers.{carriers_in}
 use Rattle.state_outgoing.specs.SentTables as sent_tables
+use Rattle.state_outgoing.specs.SentTables.{is_done_in}
 use Rattle.state_outgoing.specs.declared.deliveries.SentDeliveries.{SentDeliveries}
 use Rattle.state_verdicts.specs.Verdicts.{AreVerdicts}
 use Rattle.state_verdicts.specs.declared.verdicts.Verdicts.{Verdicts}
 use Rattle.state_answers.specs.declared.tables.Tables.{Tables}
 
--- both tables of deliveries let the same ones from clients go
-abbrev pub AreLetGoAlike : Deliveries → SentDeliveries → Type 0
-AreLetGoAlike deliveries sent = sent.let_go.items ≡ deliveries.let_go.items
+-- both tables of deliveries, and that of verdicts, let the same deliveries from clients go
+abbrev pub AreLetGoAlike : Deliveries → SentDeliveries → Verdicts → Type 0
+AreLetGoAlike deliveries sent verdicts = (sent.let_go.items ≡ deliveries.let_go.items) × (verdicts.let_go.items ≡ deliveries.let_go.items)
 
 -- no delivery was let go
 abbrev pub IsWhole : Deliveries → Type 0
@@ -38,11 +45,29 @@ AreWhole tables = IsWhole tables.deliveries
 abbrev pub StandFor : RuleSet → Connections → Links → Consumers → Deliveries → ConsumerLinks → Copies → SentDeliveries → Verdicts → List Event → Type 0
 StandFor rules connections links consumers deliveries consumer_links copies sent verdicts past =
     IsHistory rules past × (AreKept connections past × (AreLinked links past × (AreConsumers consumers past × (IsTable rules deliveries past
-    × (AreConsumerLinks consumer_links past × (AreCopies rules copies past × ((first_broken rules past ≡ None) × (sent_tables.IsTable sent past × (AreVerdicts rules verdicts past × AreLetGoAlike deliveries sent)))))))))
+    × (AreConsumerLinks consumer_links past × (AreCopies rules copies past × ((first_broken rules past ≡ None) × (sent_tables.IsTable sent past × (AreVerdicts rules verdicts past × AreLetGoAlike deliveries sent verdicts)))))))))
 
 abbrev pub AreTables : RuleSet → Tables → List Event → Type 0
 AreTables rules tables past =
     StandFor rules tables.connections tables.links tables.consumers tables.deliveries tables.consumer_links tables.copies tables.sent tables.verdicts past
+
+-- nothing can come of the delivery of this number any more, as the tables tell
+pub record IsReady (tables : Tables) (n : ℕ) : Type 0 where
+  pub spent : is_some_and (held_in tables.deliveries n) is_spent ≡ true
+  pub copied : (link : ℕ) → is_member nat_eq tables.verdicts.of_delivery n link ≡ false
+  pub finished : list_all (is_done_in tables.sent) (carriers_in tables.sent.begun n) ≡ true
+
+-- the place that has its turn behind the one that has it now
+abbrev pub turn_behind : Tables → ℕ
+turn_behind tables = if nat_lt tables.turn (count_of tables.deliveries) then tables.turn + 1 else 0
+
+-- how many deliveries from clients were completed, with one event more
+abbrev pub completed_with : Event → ℕ → ℕ
+completed_with e n = if is_some (completed_by e) then capped (n + 1) else n
+
+-- how many are kept
+abbrev pub kept_in : Tables → ℕ
+kept_in tables = count_of tables.deliveries
 
 -- how many entries they have; a delivery to a client, and what is known of an address, is no entry of its own
 abbrev pub entries_of : Tables → ℕ

@@ -1,12 +1,13 @@
 //! All tables, moved forward by one event after the other.
 
-ghost use Rattle.std.specs.Prelude.{◌≡◌, ◌∷◌, List, [], OnOk};
+ghost use Rattle.std.specs.Prelude.{◌≡◌, ◌∷◌, ◌++◌, ℕ, List, [], Some, OnOk};
 ghost use Rattle.capture_form.specs.Rules.{RuleSet};
 ghost use Rattle.capture_form.specs.declared.records.Record.{Record};
 ghost use Rattle.trace_events.specs.History.{history};
 ghost use Rattle.state_addresses.specs.Addressed.{IsAddressed};
 ghost use Rattle.state_tables.specs.Connections.{IsLawfulNext};
-ghost use Rattle.state_answers.specs.Tables.{AreTables, AreWhole, IsWhole, StandFor, entries_of};
+ghost use Rattle.state_answers.specs.Tables.{AreTables, AreWhole, IsWhole, IsReady, StandFor, completed_with, entries_of, kept_in, turn_behind};
+ghost use Rattle.state_incoming.specs.HeldTables.{number_at};
 ghost use Rattle.trace_values.specs.View.{Events, event_view};
 
 use crate::looked::Looked;
@@ -32,6 +33,8 @@ pub struct Tables {
     verdicts: Verdicts,
     /// The place, among the entries of deliveries from clients, of the one that has its turn to be let go.
     turn: usize,
+    /// How many deliveries from clients were completed, or the greatest number where they are more.
+    completed: u64,
 }
 
 // Written out, and not derived, so that where one is let go the prover need not go through all that it owns.
@@ -48,7 +51,18 @@ impl Drop for Tables {
             sent: _,
             verdicts: _,
             turn: _,
+            completed: _,
         } = self;
+    }
+}
+
+/// How many deliveries from clients were completed, where so many were before the event.
+fn completed_with(event: &Event, before: u64) -> u64
+    ensures { result ≡ completed_with (event_view event.now) before }
+{
+    match event.completed_by() {
+        Some(_) => before.saturating_add(1),
+        None => before,
     }
 }
 
@@ -69,6 +83,7 @@ impl Tables {
             sent: SentDeliveries::new(alloc),
             verdicts: Verdicts::new(alloc),
             turn: 0,
+            completed: 0,
         }
     }
 
@@ -100,6 +115,20 @@ impl Tables {
             .entries()
             .saturating_add(self.links.entries())
             .saturating_add(self.deliveries.count())
+    }
+
+    /// How many deliveries from clients were completed; the greatest number where they are more.
+    pub fn completed(&self) -> u64
+        ensures { result ≡ self.now.completed }
+    {
+        self.completed
+    }
+
+    /// How many deliveries from clients are kept: those that are still to be sent or decided, and those that were not let go yet.
+    pub fn kept(&self) -> usize
+        ensures { result ≡ kept_in self.now }
+    {
+        self.deliveries.count()
     }
 
     /// The event follows those so far.
@@ -134,6 +163,7 @@ impl Tables {
             AreTables rules.now self.old (history rules.now records) →
             AreTables rules.now self.new (event_view event.now ∷ history rules.now records)) }
         ensures whole { OnOk result (AreWhole self.old → AreWhole self.new) }
+        ensures counted { OnOk result (self.new.completed ≡ completed_with (event_view event.now) self.old.completed) }
     {
         let ended = self.links.ended(self.alloc, event)?;
         let receivers = receivers_of(
@@ -158,28 +188,37 @@ impl Tables {
         drop(ended);
         self.links.take(event)?;
         self.connections.take(event)?;
+        self.completed = completed_with(event, self.completed);
         Ok(())
     }
 
-    /// Lets the delivery go whose turn it is, with what carried it to a consumer, where nothing can come of it any more; else the next
-    /// one has its turn. It takes no memory, and its time does not grow with the tables. Which deliveries are kept matters to nobody
-    /// who asks of lawful records alone: whoever is to find the clause that a record breaks lets none go.
+    /// Lets the delivery go whose turn it is, with all that carried it to consumers, where nothing can come of it any more; else the
+    /// next one has its turn. It takes no memory, and its time grows with the copies of that delivery alone. Which deliveries are kept
+    /// matters to nobody who asks of lawful records alone: whoever is to find the clause that a record breaks lets none go.
     pub fn let_go_next(&mut self)
-        ensures { (rules : RuleSet) (records : List Record) → AreTables rules self.old (history rules records) →
+        ensures stand { (rules : RuleSet) (records : List Record) → AreTables rules self.old (history rules records) →
             AreTables rules self.new (history rules records) }
+        // The one whose turn it is goes where it is ready; else the next one has its turn.
+        ensures lets { (n : ℕ) → number_at self.old.deliveries self.old.turn ≡ Some n → IsReady self.old n →
+            self.new.deliveries.let_go.items ≡ self.old.deliveries.let_go.items ++ (n, tt) ∷ [] }
+        ensures turns { ((n : ℕ) → number_at self.old.deliveries self.old.turn ≡ Some n → IsReady self.old n → ⊥) →
+            self.new.turn ≡ turn_behind self.old }
     {
         match self.deliveries.spent_at(self.turn) {
             // The last entry has its place then.
-            Some(number) if self.sent.has_finished(number) => {
+            Some(number) if self.verdicts.has_all_of(number) && self.sent.has_finished(number) => {
                 self.deliveries.let_go(number);
                 self.sent.let_go(number);
+                self.verdicts.let_go(number);
             }
             _ => self.turn = self.turn_behind(),
         }
     }
 
     /// The place that has its turn behind this one.
-    fn turn_behind(&self) -> usize {
+    fn turn_behind(&self) -> usize
+        ensures { result ≡ turn_behind self.now }
+    {
         if self.turn < self.deliveries.count() {
             self.turn + 1
         } else {

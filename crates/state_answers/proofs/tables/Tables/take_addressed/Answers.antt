@@ -41,11 +41,11 @@ returns-clause-stand c = λ records r next own tables.
     let copies = c.in_ok-take-4.ensures.kept records r next tables.1.1.1.1.1.1.0 to_copies own received in
     let to_sent = subst Ended (sym c.deref-7.ensures.value) ended in
     let alike = tables.1.1.1.1.1.1.1.1.1.1 in
-    let apart = begins-apart rules e past are next.1 c.args.self.now.deliveries tables.1.1.1.1.0.1.1 c.args.self.now.sent.let_go.items alike in
+    let apart = begins-apart rules e past are next.1 c.args.self.now.deliveries tables.1.1.1.1.0.1.1 c.args.self.now.sent.let_go.items alike.0 in
     let sent = c.in_ok-given.ensures.kept rules records r next.0 tables.1.1.1.1.1.1.1.1.0 to_sent apart in
     let given = c.in_ok-given.ensures.given rules records r next tables.1.1.1.1.1.1.1.1.0 to_sent in
     let verdicts = c.in_ok-take-5.ensures.kept rules records r next tables.1.1.1.1.1.1.1.1.1.0 (subst Owed (sym c.deref-8.ensures.value) due) (subst Given (sym c.deref-9.ensures.value) given)
     (subst Ended (sym c.deref-10.ensures.value) ended) in (
       judged-history rules (e ∷ past) are,
-      (c.in_ok-take-7.ensures.kept rules records r next tables.1.0, (c.in_ok-take-6.ensures.kept rules records r next.0 linked, (consuming, (held, (links, (copies, (next.1, (sent, (verdicts, c.in_ok-given.ensures.gone ∙ (alike ∙ sym c.in_ok-take-2.ensures.gone)))))))))),
+      (c.in_ok-take-7.ensures.kept rules records r next tables.1.0, (c.in_ok-take-6.ensures.kept rules records r next.0 linked, (consuming, (held, (links, (copies, (next.1, (sent, (verdicts, (c.in_ok-given.ensures.gone ∙ (alike.0 ∙ sym c.in_ok-take-2.ensures.gone), c.in_ok-take-5.ensures.gone ∙ (alike.1 ∙ sym c.in_ok-take-2.ensures.gone))))))))))),
     )

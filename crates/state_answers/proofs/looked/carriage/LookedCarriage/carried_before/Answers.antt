@@ -15,7 +15,7 @@ returns-clause-value c = λ rules past stands whole live.
     let h = stands.0 in
     let l = link_view c.args.link.now in
     let Is : List Event → Type 0 = λ p. option_and_then (λ n. incoming_at n p) c.carried_before.result ≡ transfers.carried_before l p in
-    let before = subst Is (sym h.1) (c.carried_before.ensures rules h.0 (subst (IsTable c.args.self.now.sent.now) h.1 stands.1.1.1.1.1.1.1.1.0) (stands.1.1.1.1.1.1.1.1.1.1 ∙ whole)) in
+    let before = subst Is (sym h.1) (c.carried_before.ensures rules h.0 (subst (IsTable c.args.self.now.sent.now) h.1 stands.1.1.1.1.1.1.1.1.0) (stands.1.1.1.1.1.1.1.1.1.1.0 ∙ whole)) in
     c.kept.ensures ∙ before-given rules past (judged-of rules past h) stands.1.1.1.1.1.1.1.0 c.args.self.now.deliveries.now stands.1.1.1.1.0.0 whole l c.carried_before.result before
 
 pub returns-clause-known : goal.returns-clause-known

@@ -13,7 +13,7 @@ returns-clause-value c = λ rules past stands knows.
     let Is : List Event → Type 0 = λ p. option_map outgoing_view c.pairing.result ≡ law.pairing (incoming_view c.args.delivery.now) p in
     subst Is (sym h.1)
     (c.pairing.ensures.value rules h.0 (subst (IsTable c.args.self.now.sent.now) h.1 stands.1.1.1.1.1.1.1.1.0)
-    (known-kept rules past c.args.self.now.deliveries.now stands.1.1.1.1.0.0 (incoming_view c.args.delivery.now) knows c.args.self.now.sent.now.let_go.items stands.1.1.1.1.1.1.1.1.1.1))
+    (known-kept rules past c.args.self.now.deliveries.now stands.1.1.1.1.0.0 (incoming_view c.args.delivery.now) knows c.args.self.now.sent.now.let_go.items stands.1.1.1.1.1.1.1.1.1.1.0))
 
 pub returns-clause-known : goal.returns-clause-known
 returns-clause-known c = λ rules past stands knows.
