@@ -4,6 +4,7 @@ ghost use Rattle.std.specs.Prelude.{◌≡◌, ◌∷◌, [], ◌++◌, List, No
 ghost use Rattle.capture_form.specs.Rules.{RuleSet};
 ghost use Rattle.capture_form.specs.declared.records.Record.{Record};
 ghost use Rattle.trace_events.specs.History.{history, judge, moment_of};
+ghost use Rattle.state_answers.specs.Tables.{kept_in};
 ghost use Rattle.state_ledger.specs.HeldEvents.{held_event_view};
 ghost use Rattle.trace_duties.specs.Quiet.{is_quiet};
 ghost use Rattle.route_work.specs.Dues.{IsNextFrame};
@@ -61,6 +62,20 @@ impl<D: Dues> Books<D> {
         self.tables.looked()
     }
 
+    /// How many deliveries from clients were completed; the greatest number where they are more.
+    pub fn completed(&self) -> u64
+        ensures { result ≡ self.now.tables.completed }
+    {
+        self.tables.completed()
+    }
+
+    /// How many deliveries from clients are kept.
+    pub fn kept(&self) -> usize
+        ensures { result ≡ kept_in self.now.tables }
+    {
+        self.tables.kept()
+    }
+
     /// The event of the next record, which breaks no clause and has this number, is held, but for its moment.
     ///
     /// # Errors
@@ -99,7 +114,7 @@ impl<D: Dues> Books<D> {
         Ok(())
     }
 
-    /// The record of the frame that is due next; `None` where nothing is. Then one more delivery may be let go, of which nothing can
+    /// The record of the frame that is due next; `None` where nothing is. Then up to two deliveries are let go, of which nothing can
     /// come any more.
     ///
     /// # Errors
@@ -118,6 +133,8 @@ impl<D: Dues> Books<D> {
         match self.dues.next_due(rules, &looked) {
             Some(due) => Ok(Some(record_of(self.alloc, &looked, rules, &due)?)),
             None => {
+                // Two are looked at, since a step may make one delivery more: so what is over does not grow while others stay open.
+                self.tables.let_go_next();
                 self.tables.let_go_next();
                 Ok(None)
             }

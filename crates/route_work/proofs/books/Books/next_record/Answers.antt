@@ -11,4 +11,4 @@ pub returns-in-None-clause-kept : goal.returns-in-None-clause-kept
 returns-in-None-clause-kept g c = λ records stand.
     let rules = c.args.rules.now in
     let tell = c.looked-looked.ensures.stand rules (history rules records) stand.tables in
-    record { tables = c.let_go_next.ensures rules records stand.tables; listed = c.in-None.ensures.kept records tell stand.listed }
+    record { tables = c.let_go_next-in-None.ensures.stand rules records (c.let_go_next.ensures.stand rules records stand.tables); listed = c.in-None.ensures.kept records tell stand.listed }
