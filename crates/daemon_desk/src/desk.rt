@@ -25,6 +25,8 @@ pub struct Desk<J: Before> {
     connection: u32,
     inbox: Vec<Record>,
     outbox: VecDeque<Frame>,
+    /// How many octets the frames have that were given in this turn. By it is counted what waits, of which no clause speaks.
+    freed: u64,
     /// The frames that were given in this turn. Only proofs read it.
     given: Log<Frame, ()>,
     before: PhantomData<J>,
@@ -57,9 +59,15 @@ impl<J: Before> Desk<J> {
             connection,
             inbox,
             outbox,
+            freed: 0,
             given: Log::new(),
             before: PhantomData,
         }
+    }
+
+    /// How many octets the frames have that were given in this turn; the greatest number where they have more.
+    pub fn freed(&self) -> u64 {
+        self.freed
     }
 
     /// The inbox, and the outbox.
@@ -78,6 +86,7 @@ impl<J: Before> Desk<J> {
             connection: _,
             inbox,
             outbox,
+            freed: _,
             given: _,
             before: _,
         } = self;
@@ -111,6 +120,7 @@ impl<J: Before> Port for Desk<J> {
             return Err(AllocError);
         }
         out.extend_from_slice(frame.octets())?;
+        self.freed = self.freed.saturating_add(frame.octets().len() as u64);
         self.given = self.given.and(frame, &());
         self.outbox.pop_front();
         Ok(Some(from))

@@ -13,13 +13,15 @@ use daemon_desk::{Before, Desk};
 use std::alloc::Global;
 use std::collections::VecDeque;
 
-/// What a turn leaves: what it did, the engine, the records of the items that are to be taken, and the frames that are still due.
+/// What a turn leaves: what it did, the engine, the records of the items that are to be taken, the frames that are still due, and how
+/// many octets those have that are not due any more.
 #[derive(Drop)]
 pub struct Served {
     pub turn: Turn,
     pub engine: PausedEngine,
     pub inbox: Vec<Record>,
     pub outbox: VecDeque<Frame>,
+    pub freed: u64,
 }
 
 /// Moves what octets can be moved now, and ends the connection where its gate has ended or failed, or its engine is over and all is
@@ -53,12 +55,14 @@ pub fn serve_at_desk<G: Gate, J: Before>(
     match serve(gate, &mut engine, script, buffer) {
         Ok(turn) => {
             let (engine, desk) = engine.pause();
+            let freed = desk.freed();
             let (inbox, outbox) = desk.into_parts();
             Ok(Served {
                 turn,
                 engine,
                 inbox,
                 outbox,
+                freed,
             })
         }
         Err(stop) => Err(stop),

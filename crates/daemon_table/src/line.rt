@@ -35,6 +35,8 @@ pub struct Line<G> {
     script: Script,
     inbox: Vec<Record>,
     outbox: VecDeque<Frame>,
+    /// How many octets the frames of the outbox have, of which no clause speaks.
+    waiting: u64,
     number: u32,
     status: Status,
     /// It has a turn in the next round.
@@ -57,6 +59,7 @@ impl<G: Gate> Line<G> {
             script: Script::new(alloc),
             inbox: Vec::new(alloc),
             outbox: VecDeque::new(alloc),
+            waiting: 0,
             number,
             status: Status::Open,
             is_signed: false,
@@ -68,6 +71,13 @@ impl<G: Gate> Line<G> {
         ensures { result ≡ self.now.number }
     {
         self.number
+    }
+
+    /// How many octets the frames have that wait for it.
+    pub(crate) fn waiting(&self) -> u64
+        ensures { result ≡ self.now.waiting }
+    {
+        self.waiting
     }
 
     /// Whether its gate was shut, and its core has taken all that came of it.
@@ -102,7 +112,9 @@ impl<G: Gate> Line<G> {
         ensures number { self.new.number ≡ self.old.number }
         ensures inbox { self.new.inbox.items ≡ self.old.inbox.items }
     {
+        let octets = frame.octets().len() as u64;
         self.outbox.push_back(frame)?;
+        self.waiting = self.waiting.saturating_add(octets);
         Ok(())
     }
 
@@ -205,10 +217,12 @@ impl<G: Gate> Line<G> {
             engine,
             inbox,
             outbox,
+            freed,
         } = served;
         self.engine = Some(engine);
         self.inbox = inbox;
         self.outbox = outbox;
+        self.waiting = self.waiting.saturating_sub(freed);
         if turn == Turn::Ended {
             self.status = Status::Ended;
         }

@@ -25,6 +25,8 @@ pub struct Table<G> {
     alloc: Global,
     lines: NumberMap<u32, Line<G>>,
     signed: Vec<u32>,
+    /// How many octets the frames have that wait for all of them, of which no clause speaks.
+    waiting: u64,
     /// The number of the next connection, above those of all connections so far.
     next: u64,
     over: Log<Line<G>, ()>,
@@ -39,6 +41,7 @@ impl<G: Gate + Drop> Table<G> {
             alloc,
             lines: NumberMap::new(alloc),
             signed: Vec::new(alloc),
+            waiting: 0,
             next: 0,
             over: Log::new(),
         }
@@ -49,6 +52,14 @@ impl<G: Gate + Drop> Table<G> {
         ensures { result ≡ index_map_len self.now.lines }
     {
         self.lines.len()
+    }
+
+    /// How many octets the frames have that were laid out for connections that are open, and not given to their engines yet; the
+    /// greatest number where they have more.
+    pub fn waiting(&self) -> u64
+        ensures { result ≡ self.now.waiting }
+    {
+        self.waiting
     }
 
     /// Whether any has a turn in the next round.
@@ -171,7 +182,10 @@ impl<G: Gate + Drop> Table<G> {
         let Some(line) = self.lines.get_mut(&number) else {
             return Ok(None);
         };
+        let before = line.waiting();
         let turn = line.take_turn(alloc, core, buffer)?;
+        let freed = before.saturating_sub(line.waiting());
+        self.waiting = self.waiting.saturating_sub(freed);
         Ok(turn)
     }
 
@@ -232,7 +246,9 @@ impl<G: Gate + Drop> Table<G> {
         let Some(line) = self.lines.get_mut(&connection) else {
             return Ok(());
         };
+        let octets = frame.octets().len() as u64;
         line.lay(frame)?;
+        self.waiting = self.waiting.saturating_add(octets);
         if line.sign() {
             self.signed.push(connection)?;
         }
@@ -250,6 +266,7 @@ impl<G: Gate + Drop> Table<G> {
         if !line.is_over() {
             return;
         }
+        self.waiting = self.waiting.saturating_sub(line.waiting());
         self.over = self.over.and(line, &());
         self.lines.swap_remove(&number);
     }

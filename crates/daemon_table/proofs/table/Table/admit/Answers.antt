@@ -13,7 +13,7 @@ returns g c =
     let less : c.in-Ok.number < 2 ^ 32 = search rules in
     let put : (n : ℕ) → get nat_eq lines n ≡ (if c.in-Ok.number == n then Some line else get nat_eq table.lines n) = search rules in
     let moved : (n : ℕ) → get nat_eq lines n ≡ (if table.next == n then Some line else get nat_eq table.lines n) = λ n. put n ∙ ap (λ (m : ℕ). if m == n then Some line else get nat_eq table.lines n) here in
-    let later : Table g.row.G.Denot = record { alloc = table.alloc; lines = lines; signed = table.signed; next = table.next + 1; over = table.over } in
+    let later : Table g.row.G.Denot = record { alloc = table.alloc; lines = lines; signed = table.signed; waiting = table.waiting; next = table.next + 1; over = table.over } in
     record {
       serves = λ records waiting s.
           c.in_ok-sign.ensures.serves records [] waiting

@@ -19,7 +19,7 @@ returns-in_default g c = record {
   serves = λ records rest waiting s.
       let table = c.args.self.now in
       let r = c.args.entry in
-      serves-passed g.G.Gate.delivered g.G.Gate.took g.G.Gate.has_ended records rest waiting r table (record { alloc = table.alloc; lines = table.lines; signed = table.signed; next = c.max-self.result; over = table.over }) s refl refl
+      serves-passed g.G.Gate.delivered g.G.Gate.took g.G.Gate.has_ended records rest waiting r table (record { alloc = table.alloc; lines = table.lines; signed = table.signed; waiting = table.waiting; next = c.max-self.result; over = table.over }) s refl refl
       (next-from table.next r.connection c.max-self.result c.max-self.ensures) (above table.next r.connection c.max-self.result c.max-self.ensures)
       (λ n x at. writes-none n r (not-written r.what c.in_default.not-Out));
 }
@@ -32,7 +32,7 @@ returns-in_default-get_mut g c = record {
       let lines = c.get_mut.follows.lender-at-none in
       let same : lines ≡ table.lines = search rules in
       let none : get nat_eq table.lines r.connection ≡ None = search rules in
-      serves-passed g.G.Gate.delivered g.G.Gate.took g.G.Gate.has_ended records rest waiting r table (record { alloc = table.alloc; lines = lines; signed = table.signed; next = c.max-self.result; over = table.over }) s same refl
+      serves-passed g.G.Gate.delivered g.G.Gate.took g.G.Gate.has_ended records rest waiting r table (record { alloc = table.alloc; lines = lines; signed = table.signed; waiting = table.waiting; next = c.max-self.result; over = table.over }) s same refl
       (next-from table.next r.connection c.max-self.result c.max-self.ensures) (above table.next r.connection c.max-self.result c.max-self.ensures)
       (none-to g.G.Gate.delivered g.G.Gate.took g.G.Gate.has_ended r table none);
 }
@@ -47,7 +47,7 @@ returns-in_ok-push g c = record {
       let lines = c.get_mut.follows.lender line in
       let was : get nat_eq table.lines r.connection ≡ Some old = search rules in
       let moved : (n : ℕ) → get nat_eq lines n ≡ (if r.connection == n then Some line else get nat_eq table.lines n) = search rules in
-      serves-laid g.G.Gate.delivered g.G.Gate.took g.G.Gate.has_ended records rest waiting r table (record { alloc = table.alloc; lines = lines; signed = c.push.new.self; next = c.max-self.result; over = table.over }) r.connection old line
+      serves-laid g.G.Gate.delivered g.G.Gate.took g.G.Gate.has_ended records rest waiting r table (record { alloc = table.alloc; lines = lines; signed = c.push.new.self; waiting = c.saturating_add-self.result; next = c.max-self.result; over = table.over }) r.connection old line
       c.in-Out.frame s was moved refl (next-from table.next r.connection c.max-self.result c.max-self.ensures) (above table.next r.connection c.max-self.result c.max-self.ensures) refl
       (ap (λ (w : What). is_written w) c.in-Out.is) (ap (λ (w : What). frame_of w) c.in-Out.is) (c.sign.ensures.number ∙ c.in_ok-lay.ensures.number)
       (λ taken written h. c.sign.ensures.line taken _ (c.in_ok-lay.ensures.line taken written h)) (◌∙◌ {A = List Record} c.sign.ensures.inbox c.in_ok-lay.ensures.inbox);
@@ -63,7 +63,7 @@ returns-else-sign g c = record {
       let lines = c.get_mut.follows.lender line in
       let was : get nat_eq table.lines r.connection ≡ Some old = search rules in
       let moved : (n : ℕ) → get nat_eq lines n ≡ (if r.connection == n then Some line else get nat_eq table.lines n) = search rules in
-      serves-laid g.G.Gate.delivered g.G.Gate.took g.G.Gate.has_ended records rest waiting r table (record { alloc = table.alloc; lines = lines; signed = table.signed; next = c.max-self.result; over = table.over }) r.connection old line
+      serves-laid g.G.Gate.delivered g.G.Gate.took g.G.Gate.has_ended records rest waiting r table (record { alloc = table.alloc; lines = lines; signed = table.signed; waiting = c.saturating_add-self.result; next = c.max-self.result; over = table.over }) r.connection old line
       c.in-Out.frame s was moved refl (next-from table.next r.connection c.max-self.result c.max-self.ensures) (above table.next r.connection c.max-self.result c.max-self.ensures) refl
       (ap (λ (w : What). is_written w) c.in-Out.is) (ap (λ (w : What). frame_of w) c.in-Out.is) (c.sign.ensures.number ∙ c.in_ok-lay.ensures.number)
       (λ taken written h. c.sign.ensures.line taken _ (c.in_ok-lay.ensures.line taken written h)) (◌∙◌ {A = List Record} c.sign.ensures.inbox c.in_ok-lay.ensures.inbox);

@@ -13,9 +13,9 @@ returns g c = record {
       let moved : (n : ℕ) → get nat_eq c.swap_remove.new.self n ≡ (if c.args.number == n then None else get nat_eq table.lines n) = search rules in
       let over : (line.status ≡ Ended) × (line.inbox.items ≡ []) = search rules in
       serves-left g.G.Gate.delivered g.G.Gate.took g.G.Gate.has_ended records given waiting table
-      (record { alloc = table.alloc; lines = c.swap_remove.new.self; signed = table.signed; next = table.next; over = c.and-self.result }) c.args.number line s was moved c.and-self.ensures refl over.0 over.1;
+      (record { alloc = table.alloc; lines = c.swap_remove.new.self; signed = table.signed; waiting = c.saturating_sub-self.result; next = table.next; over = c.and-self.result }) c.args.number line s was moved c.and-self.ensures refl over.0 over.1;
   gone =
       let table = c.args.self.now in
       let moved : (n : ℕ) → get nat_eq c.swap_remove.new.self n ≡ (if c.args.number == n then None else get nat_eq table.lines n) = search rules in
-      has-left g.G.Gate.delivered g.G.Gate.took g.G.Gate.has_ended table (record { alloc = table.alloc; lines = c.swap_remove.new.self; signed = table.signed; next = table.next; over = c.and-self.result }) c.args.number moved;
+      has-left g.G.Gate.delivered g.G.Gate.took g.G.Gate.has_ended table (record { alloc = table.alloc; lines = c.swap_remove.new.self; signed = table.signed; waiting = c.saturating_sub-self.result; next = table.next; over = c.and-self.result }) c.args.number moved;
 }

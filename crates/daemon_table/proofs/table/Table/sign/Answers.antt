@@ -12,7 +12,7 @@ returns-in_ok-push g c =
     let lines = c.get_mut.follows.lender line in
     let was : get nat_eq table.lines c.args.number ≡ Some old = search rules in
     let moved : (n : ℕ) → get nat_eq lines n ≡ (if c.args.number == n then Some line else get nat_eq table.lines n) = search rules in
-    let later : Table g.row.G.Denot = record { alloc = table.alloc; lines = lines; signed = c.push.new.self; next = table.next; over = table.over } in
+    let later : Table g.row.G.Denot = record { alloc = table.alloc; lines = lines; signed = c.push.new.self; waiting = table.waiting; next = table.next; over = table.over } in
     let signed : c.push.new.self.items ≡ table.signed.items ++ (if old.is_signed then [] else c.args.number ∷ []) = search rules in
     record {
       serves = λ records given waiting s.
@@ -30,7 +30,7 @@ returns-else-sign g c =
     let lines = c.get_mut.follows.lender line in
     let was : get nat_eq table.lines c.args.number ≡ Some old = search rules in
     let moved : (n : ℕ) → get nat_eq lines n ≡ (if c.args.number == n then Some line else get nat_eq table.lines n) = search rules in
-    let later : Table g.row.G.Denot = record { alloc = table.alloc; lines = lines; signed = table.signed; next = table.next; over = table.over } in
+    let later : Table g.row.G.Denot = record { alloc = table.alloc; lines = lines; signed = table.signed; waiting = table.waiting; next = table.next; over = table.over } in
     let signed : table.signed.items ≡ table.signed.items ++ (if old.is_signed then [] else c.args.number ∷ []) = search rules in
     record {
       serves = λ records given waiting s.

@@ -21,9 +21,9 @@ returns-in_default g c = record {
       let lines = c.get_mut.follows.lender-at-none in
       let same : lines ≡ table.lines = search rules in
       let none : get nat_eq table.lines c.args.number ≡ None = search rules in
-      let later : Table g.row.G.Denot = record { alloc = table.alloc; lines = lines; signed = table.signed; next = table.next; over = table.over } in
+      let later : Table g.row.G.Denot = record { alloc = table.alloc; lines = lines; signed = table.signed; waiting = table.waiting; next = table.next; over = table.over } in
       serves-waiting g.G.Gate.delivered g.G.Gate.took g.G.Gate.has_ended c.args.core.now.journal.records c.args.given.now.items (c.args.number ∷ waiting) waiting table later s
-      (ap (λ (m : _). record { alloc = table.alloc; lines = m; signed = table.signed; next = table.next; over = table.over }) same)
+      (ap (λ (m : _). record { alloc = table.alloc; lines = m; signed = table.signed; waiting = table.waiting; next = table.next; over = table.over }) same)
       (taken-without g.G.Gate.delivered g.G.Gate.took g.G.Gate.has_ended waiting table c.args.number s.taken none);
 }
 
@@ -36,7 +36,7 @@ returns-in-Ok g c = record {
       let lines = c.get_mut.follows.lender line in
       let was : get nat_eq table.lines c.args.number ≡ Some old = search rules in
       let moved : (n : ℕ) → get nat_eq lines n ≡ (if c.args.number == n then Some line else get nat_eq table.lines n) = search rules in
-      let later : Table g.row.G.Denot = record { alloc = table.alloc; lines = lines; signed = table.signed; next = table.next; over = table.over } in
+      let later : Table g.row.G.Denot = record { alloc = table.alloc; lines = lines; signed = table.signed; waiting = table.waiting; next = table.next; over = table.over } in
       let given : c.append.new.self.items ≡ c.args.given.now.items ++ c.in_ok-more.more.items = search rules in
       subst (λ (xs : List Record). Serves g.G.Gate.delivered g.G.Gate.took g.G.Gate.has_ended c.step.new.core.journal.records xs waiting later) (sym given)
       (serves-stepped g.G.Gate.delivered g.G.Gate.took g.G.Gate.has_ended old.inbox.items c.args.given.now.items c.in_ok-more.more.items c.args.core.now c.step.new.core waiting table later c.args.number old line s was moved

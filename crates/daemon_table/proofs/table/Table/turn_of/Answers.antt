@@ -16,9 +16,9 @@ returns-in_default g c = record {
       let table = c.args.self.now in
       let lines = c.get_mut.follows.lender-at-none in
       let same : lines ≡ table.lines = search rules in
-      let later : Table g.row.G.Denot = record { alloc = table.alloc; lines = lines; signed = table.signed; next = table.next; over = table.over } in
+      let later : Table g.row.G.Denot = record { alloc = table.alloc; lines = lines; signed = table.signed; waiting = table.waiting; next = table.next; over = table.over } in
       serves-waiting g.G.Gate.delivered g.G.Gate.took g.G.Gate.has_ended c.args.core.now.journal.records [] waiting (waiting ++ c.args.number ∷ []) table later s
-      (ap (λ (m : _). record { alloc = table.alloc; lines = m; signed = table.signed; next = table.next; over = table.over }) same)
+      (ap (λ (m : _). record { alloc = table.alloc; lines = m; signed = table.signed; waiting = table.waiting; next = table.next; over = table.over }) same)
       (taken-more g.G.Gate.delivered g.G.Gate.took g.G.Gate.has_ended waiting table c.args.number s.taken);
 }
 
@@ -32,5 +32,5 @@ returns g c = record {
       let was : get nat_eq table.lines c.args.number ≡ Some old = search rules in
       let moved : (n : ℕ) → get nat_eq lines n ≡ (if c.args.number == n then Some line else get nat_eq table.lines n) = search rules in
       line-behind g.G.Gate.delivered g.G.Gate.took g.G.Gate.has_ended c.args.core.now.journal.records waiting table
-      (record { alloc = table.alloc; lines = lines; signed = table.signed; next = table.next; over = table.over }) c.args.number old line s was moved refl refl c.in_ok-turn.ensures.number c.in_ok-turn.ensures.line;
+      (record { alloc = table.alloc; lines = lines; signed = table.signed; waiting = c.saturating_sub-self.result; next = table.next; over = table.over }) c.args.number old line s was moved refl refl c.in_ok-turn.ensures.number c.in_ok-turn.ensures.line;
 }
