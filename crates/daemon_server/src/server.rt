@@ -174,6 +174,21 @@ impl<D: Dues + Drop, W: Write + Drop, G: Gate + Drop> Server<D, W, G> {
         self.table.open()
     }
 
+    /// How many messages came whole from clients.
+    pub fn messages(&self) -> u64 {
+        self.core.completed()
+    }
+
+    /// How many messages are kept: those that are still to be sent or decided, and a few that are over.
+    pub fn kept(&self) -> usize {
+        self.core.kept()
+    }
+
+    /// How many octets the frames have that wait for connections that are open, without those that their engines have.
+    pub fn waiting(&self) -> u64 {
+        self.table.waiting()
+    }
+
     /// Gives the writer back, and lets all connections go.
     pub fn into_writer(self) -> W
         ensures held { W.contents result ≡ self.core.journal.held }
