@@ -109,6 +109,7 @@ impl Gate for SocketGate {
         match self.connection.read(buffer) {
             Moved::Octets(n) => {
                 self.heard = self.heard.saturating_add(n);
+                self.notice.count_moved(n);
                 Delivered::Octets(n)
             }
             Moved::Nothing => {
@@ -137,6 +138,7 @@ impl Gate for SocketGate {
         let has_failed = match self.connection.write(octets) {
             Moved::Octets(n) => {
                 self.deaf_since = None;
+                self.notice.count_moved(n);
                 return Taken::Took(n);
             }
             Moved::Nothing | Moved::End => self.is_deaf(octets),

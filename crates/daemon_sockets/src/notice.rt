@@ -2,8 +2,8 @@
 
 use std::sync::atomic::{AtomicBool, AtomicU64, Ordering};
 
-/// The moment, and whether the octets of clients are read. One thread alone writes and reads it; its gates are owned elsewhere, so
-/// that it is shared.
+/// The moment, whether the octets of clients are read, and how many were moved. One thread alone writes and reads it; its gates are
+/// owned elsewhere, so that it is shared.
 #[derive(Drop)]
 pub(crate) struct Notice {
     // In milliseconds from some start.
@@ -12,6 +12,8 @@ pub(crate) struct Notice {
     is_held: AtomicBool,
     // None are read any more.
     is_over: AtomicBool,
+    // How many octets were read and written, of all clients, counted in 64 bits.
+    moved: AtomicU64,
 }
 
 impl Notice {
@@ -21,6 +23,7 @@ impl Notice {
             moment: AtomicU64::new(0),
             is_held: AtomicBool::new(false),
             is_over: AtomicBool::new(false),
+            moved: AtomicU64::new(0),
         }
     }
 
@@ -37,6 +40,16 @@ impl Notice {
     /// Whether none are read any more, and each gate is to say that it has ended.
     pub(crate) fn is_over(&self) -> bool {
         self.is_over.load(Ordering::SeqCst)
+    }
+
+    /// How many octets were read and written, of all clients, counted in 64 bits.
+    pub(crate) fn moved(&self) -> u64 {
+        self.moved.load(Ordering::SeqCst)
+    }
+
+    /// So many octets more were read or written.
+    pub(crate) fn count_moved(&self, octets: usize) {
+        self.moved.fetch_add(octets as u64, Ordering::SeqCst);
     }
 
     /// This is the moment.

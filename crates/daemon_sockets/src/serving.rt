@@ -41,13 +41,15 @@ const LAST_WAIT: u64 = 100;
 /// So many rounds it has at its end at most, of which the first ends all connections but those to which something is due.
 const LAST_ROUNDS: usize = 100;
 
-/// How many connections there may be.
+/// How many connections there may be, and how much may wait for them.
 #[derive(Clone, Copy, Debug, PartialEq, Eq)]
 pub struct Limits {
-    /// At a time. More wait at the listener.
+    /// So many connections at a time. More wait at the listener.
     pub most: usize,
-    /// In all: once they have ended the router is done.
+    /// So many connections in all: once they have ended the router is done.
     pub until: Option<u64>,
+    /// So many octets may wait for all clients together. While more do, no client is heard, so that no more comes due.
+    pub buffer: u64,
 }
 
 /// What a router has served so far.
@@ -59,6 +61,14 @@ pub struct Tally {
     pub live: usize,
     /// The records that its capture's writer has.
     pub records: u64,
+    /// Messages that came whole.
+    pub messages: u64,
+    /// How many of them are still to be sent or decided; a few may be among them that are over.
+    pub kept: usize,
+    /// Octets that were read from clients and written to them, counted in 64 bits.
+    pub octets: u64,
+    /// Octets that wait for clients to take them.
+    pub waiting: u64,
 }
 
 /// A router that one thread serves over sockets: its server, their poll, and how far it is.
@@ -74,6 +84,8 @@ pub struct SocketServer<D: Dues, W: Write> {
     is_signed: bool,
     // How many looks there were since anything was seen.
     looks: u32,
+    // Whether more waits for clients than may.
+    is_full: bool,
 }
 
 // Written out, and not derived, so that where one is let go the prover need not go through all that it owns.
@@ -88,6 +100,7 @@ impl<D: Dues + Drop, W: Write + Drop> Drop for SocketServer<D, W> {
             beaten: _,
             is_signed: _,
             looks: _,
+            is_full: _,
         } = self;
     }
 }
@@ -115,6 +128,7 @@ impl<D: Dues + Drop, W: Write + Drop> SocketServer<D, W> {
             beaten: 0,
             is_signed: false,
             looks: 0,
+            is_full: false,
         })
     }
 
@@ -133,6 +147,10 @@ impl<D: Dues + Drop, W: Write + Drop> SocketServer<D, W> {
             connections: self.came,
             live: self.server.open(),
             records: self.records,
+            messages: self.server.messages(),
+            kept: self.server.kept(),
+            octets: self.sockets.notice().moved(),
+            waiting: self.server.waiting(),
         }
     }
 
@@ -157,7 +175,8 @@ impl<D: Dues + Drop, W: Write + Drop> SocketServer<D, W> {
     }
 
     /// Waits for a sign of a socket, a tenth of a second at most and not at all where a connection has a turn already; takes the
-    /// connections that have come; and serves a round. Tells what the wait saw.
+    /// connections that have come; and serves a round, in which no client is heard where more waits for clients than may. Tells what
+    /// the wait saw.
     ///
     /// # Errors
     ///
@@ -168,6 +187,7 @@ impl<D: Dues + Drop, W: Write + Drop> SocketServer<D, W> {
         let patience = self.patience();
         let seen = self.look(clock, patience)?;
         self.take_all()?;
+        self.hold_where_full()?;
         self.serve(buffer)?;
         Ok(seen)
     }
@@ -215,6 +235,7 @@ impl<D: Dues + Drop, W: Write + Drop> SocketServer<D, W> {
             beaten: _,
             is_signed: _,
             looks: _,
+            is_full: _,
         } = self;
         server.into_writer()
     }
@@ -307,6 +328,17 @@ impl<D: Dues + Drop, W: Write + Drop> SocketServer<D, W> {
         match self.server.admit(gate)? {
             Some(number) => self.sockets.name(key, number),
             None => self.sockets.dismiss(key),
+        }
+        Ok(())
+    }
+
+    /// While more waits for clients than may, none is heard. Once it is less, all have a turn, since signs may have passed.
+    fn hold_where_full(&mut self) -> Result<(), Halt> {
+        let was_full = self.is_full;
+        self.is_full = self.limits.buffer < self.server.waiting();
+        self.sockets.notice().hold(self.is_full);
+        if was_full && !self.is_full {
+            self.server.sign_all()?;
         }
         Ok(())
     }
