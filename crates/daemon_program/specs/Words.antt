@@ -16,6 +16,8 @@ pub record IsUsual (words : Words) : Type 0 where
   pub rules : words.rules.items ≡ []
   pub most : words.most ≡ 10000
   pub until : words.until ≡ None
+  pub buffer : words.buffer ≡ 67108864
+  pub sync : words.sync ≡ false
   pub stats : words.stats ≡ None
 
 -- the words of rules, and the one that serves anonymous senders behind them (own format)
@@ -59,6 +61,10 @@ most_argument = asking_argument (codes "max-connections") (Signed (pos 1) (pos 1
 abbrev pub until_argument : Rule
 until_argument = asking_argument (codes "until-connections") (Unsigned 0 18446744073709551615)
 
+-- how many octets may wait for all clients
+abbrev pub buffer_argument : Rule
+buffer_argument = asking_argument (codes "buffer") (Unsigned 0 18446744073709551615)
+
 -- how many seconds lie between two lines, at most a day
 abbrev pub stats_argument : Rule
 stats_argument = asking_argument (codes "stats") (Signed (pos 1) (pos 86400))
@@ -67,4 +73,5 @@ stats_argument = asking_argument (codes "stats") (Signed (pos 1) (pos 86400))
 abbrev pub command_line : App
 command_line =
     let served = with_rule (with_rule placing_command (flag_argument (codes "anonymous"))) most_argument in
-    with_rule (with_rule served until_argument) stats_argument
+    let bounded = with_rule (with_rule served until_argument) buffer_argument in
+    with_rule (with_rule bounded (flag_argument (codes "sync"))) stats_argument

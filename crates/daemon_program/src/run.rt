@@ -17,7 +17,7 @@ use route_work::Work;
 use router_words::{Outcome, Service, Words as Asked, tell};
 use std::alloc::Global;
 use std::convert::AsStr;
-use std::fs::File;
+use std::fs::{File, OpenFile};
 use std::io;
 use std::io::{Read, Write};
 use std::net::{Net, SocketAddr};
@@ -100,7 +100,7 @@ fn served<R: Files + Wait + Net + Clock, I: Read, E: Write>(
         }
     };
     let file = match File::create_new(rt, service.capture) {
-        Ok(file) => CaptureFile::new(file),
+        Ok(file) => CaptureFile::new(file, words.sync),
         Err(error) => {
             return refused(err, "capture", words.capture, &error, Outcome::NotWritten);
         }
@@ -126,13 +126,14 @@ fn begun<R: Net, W: Write + Drop>(
     let limits = Limits {
         most: words.most as usize,
         until: words.until,
+        buffer: words.buffer,
     };
     let server = Server::new(alloc, rules, LIMIT, writer)?;
     Ok(SocketServer::new(rt, alloc, listener, server, limits)?)
 }
 
 /// Serves until it is told to end.
-fn served_by<R: Wait + Clock, F: Write + Drop, I: Read, E: Write>(
+fn served_by<R: Wait + Clock, F: Write + OpenFile + Drop, I: Read, E: Write>(
     rt: &R,
     mut server: SocketServer<Work, CaptureFile<F>>,
     words: &Words<'_>,

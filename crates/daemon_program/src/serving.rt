@@ -13,13 +13,57 @@ use std::time::Clock;
 /// The most octets of one read: those of four of the largest frames, or of some hundreds of small messages.
 const BUFFER: usize = 65536;
 
+/// What had been served at a moment.
+#[derive(Clone, Copy, Debug)]
+struct Mark {
+    // In milliseconds.
+    moment: u64,
+    messages: u64,
+    octets: u64,
+}
+
+/// How many messages and octets came and went in a second.
+#[derive(Clone, Copy, Debug)]
+struct Rates {
+    messages: u64,
+    octets: u64,
+}
+
+impl Mark {
+    /// What was served until this moment.
+    fn new(moment: u64, tally: &Tally) -> Mark {
+        Mark {
+            moment,
+            messages: tally.messages,
+            octets: tally.octets,
+        }
+    }
+
+    /// How many a second there were from this one to a later one.
+    fn rates_to(&self, later: &Mark) -> Rates {
+        let millis = later.moment.saturating_sub(self.moment).max(1);
+        Rates {
+            messages: in_a_second(later.messages.saturating_sub(self.messages), millis),
+            octets: in_a_second(later.octets.wrapping_sub(self.octets), millis),
+        }
+    }
+}
+
+/// So many in these milliseconds, of which there are some, are so many in a second.
+fn in_a_second(count: u64, millis: u64) -> u64 {
+    if millis == 0 {
+        return 0;
+    }
+    count.saturating_mul(1000) / millis
+}
+
 /// When lines of what was served are due.
 #[derive(Clone, Copy, Debug)]
 struct Report {
     // How many milliseconds lie between two of them, if any is due.
     every: Option<u64>,
-    // When the last one was due, in milliseconds; first, when it began.
-    last: Option<u64>,
+    // What had been served when the last one was due; first, when it began.
+    last: Option<Mark>,
 }
 
 impl Report {
@@ -31,18 +75,16 @@ impl Report {
         }
     }
 
-    /// Whether a line is due at this moment.
-    fn is_due(&mut self, now: u64) -> bool {
-        let Some(every) = self.every else {
-            return false;
-        };
-        let last = self.last.unwrap_or(now);
+    /// How many came and went in a second since the last line, where one is due at this moment.
+    fn due(&mut self, now: &Mark) -> Option<Rates> {
+        let every = self.every?;
+        let last = self.last.unwrap_or(*now);
         self.last = Some(last);
-        if now.saturating_sub(last) < every {
-            return false;
+        if now.moment.saturating_sub(last.moment) < every {
+            return None;
         }
-        self.last = Some(now);
-        true
+        self.last = Some(*now);
+        Some(last.rates_to(now))
     }
 }
 
@@ -89,8 +131,9 @@ fn serve_on<R: Wait + Clock, W: Write + Drop, I: Read, E: Write>(
         if seen.watched && hears_end(server, heard, &mut order, input) {
             return Ok(());
         }
-        if report.is_due(server.now()) {
-            tell_tally(&server.tally(), err);
+        let tally = server.tally();
+        if let Some(rates) = report.due(&Mark::new(server.now(), &tally)) {
+            tell_tally(&tally, rates, err);
         }
     }
     unreachable!()
@@ -123,15 +166,23 @@ fn hears_end<W: Write + Drop, I: Read>(
 }
 
 /// Writes a line of what was served.
-fn tell_tally<E: Write>(tally: &Tally, err: &mut E) {
+fn tell_tally<E: Write>(tally: &Tally, rates: Rates, err: &mut E) {
     let Tally {
         connections,
         live,
         records,
+        messages,
+        kept,
+        octets: _,
+        waiting,
     } = *tally;
+    let Rates {
+        messages: each_second,
+        octets,
+    } = rates;
     // Nobody may be there any more to read it, which is no reason to end.
     let _ = writeln!(
         err,
-        "connections={connections} open={live} records={records}"
+        "connections={connections} open={live} records={records} messages={messages} kept={kept} waiting={waiting} messages/s={each_second} octets/s={octets}"
     );
 }

@@ -22,6 +22,10 @@ pub struct Words<'a> {
     pub most: u32,
     /// How many connections are to be served in all, if it is said.
     pub until: Option<u64>,
+    /// How many octets may wait for all clients together.
+    pub buffer: u64,
+    /// Whether the capture is to be on its disk before a client sees what it tells.
+    pub sync: bool,
     /// How many seconds lie between two lines of what was served, if it is said.
     pub stats: Option<u32>,
 }
@@ -34,6 +38,9 @@ const CAPTURE: &str = "amqp.cap";
 
 /// How many connections may be open at a time, where no word says it.
 const MOST: u32 = 10_000;
+
+/// How many octets may wait for all clients together, where no word says it: 64 MiB.
+const BUFFER: u64 = 67_108_864;
 
 impl<'a> Words<'a> {
     ghost use Rattle.daemon_program.specs.Words.{AnswersWords};
@@ -52,6 +59,8 @@ impl<'a> Words<'a> {
             rules: rules_of(alloc, spelled, is_anonymous)?,
             most: matches.get_one("max-connections").unwrap_or(MOST),
             until: matches.get_one("until-connections"),
+            buffer: matches.get_one("buffer").unwrap_or(BUFFER),
+            sync: matches.get_flag("sync"),
             stats: matches.get_one("stats"),
         })
     }
@@ -107,6 +116,12 @@ fn command_line<'a>(alloc: Global) -> Result<Command<'a>, AllocError>
         ))?
         .arg(asking(alloc, "until-connections", value_parser!(u64), "N").help(
             "Ends when so many connections have come and gone",
+        ))?
+        .arg(asking(alloc, "buffer", value_parser!(u64), "OCTETS").help(
+            "While more octets wait for clients to take them no client is heard; 67108864 where it is not said",
+        ))?
+        .arg(flag(alloc, "sync").help(
+            "Has the system write the capture to its disk before a client sees what it tells",
         ))?
         .arg(asking(
             alloc,
