@@ -13,6 +13,8 @@ pub enum RunRules {
     Plain,
     /// One: `q` is closest.
     Closest,
+    /// One: `q` is multicast.
+    Multicast,
     /// None, and anonymous senders are served.
     Anonymous,
 }
@@ -25,21 +27,22 @@ pub enum RunRules {
 pub fn rules(alloc: Global, of: RunRules) -> Result<Rules, AllocError> {
     let list = match of {
         RunRules::Plain | RunRules::Anonymous => Vec::new(alloc),
-        RunRules::Closest => closest(alloc)?,
+        RunRules::Closest => one_rule(alloc, Distribution::Closest)?,
+        RunRules::Multicast => one_rule(alloc, Distribution::Multicast)?,
     };
     let rules = Rules::new(list).ok().ok_or(AllocError)?;
     Ok(match of {
-        RunRules::Plain | RunRules::Closest => rules,
+        RunRules::Plain | RunRules::Closest | RunRules::Multicast => rules,
         RunRules::Anonymous => rules.with_anonymous(),
     })
 }
 
-/// `q` is closest.
-fn closest(alloc: Global) -> Result<Vec<Rule>, AllocError> {
+/// `q` is distributed so.
+fn one_rule(alloc: Global, distribution: Distribution) -> Result<Vec<Rule>, AllocError> {
     let prefix = String::from_str(alloc, "q")?;
     let mut rules = Vec::new(alloc);
     rules.push(Rule {
-        distribution: Distribution::Closest,
+        distribution,
         prefix,
     })?;
     Ok(rules)

@@ -76,6 +76,7 @@ fn exchange<R: Print>(rt: &R, alloc: Global) -> io::Result<()> {
     for (rules, name) in [
         (RunRules::Plain, "no rules"),
         (RunRules::Closest, "closest:q"),
+        (RunRules::Multicast, "multicast:q"),
     ] {
         let pair = Pair {
             rules,

@@ -37,11 +37,37 @@ pub enum Ending {
     Endless,
 }
 
-/// What came of a run: how the server ended, what the auditor says of what its writer took, and of how many octets this is; how many
-/// octets each client took; and whether each was shut once, and not called behind that.
+/// What a server had when it ended: how many messages came whole, how many of them it still kept, and how many octets waited for
+/// clients.
+#[derive(Clone, Copy)]
+pub struct Left {
+    messages: u64,
+    kept: usize,
+    waiting: u64,
+}
+
+impl Left {
+    const NOTHING: Left = Left {
+        messages: 0,
+        kept: 0,
+        waiting: 0,
+    };
+
+    fn of(server: &Server<Work, Sheet, Client>) -> Left {
+        Left {
+            messages: server.messages(),
+            kept: server.kept(),
+            waiting: server.waiting(),
+        }
+    }
+}
+
+/// What came of a run: how the server ended, and what it had then; what the auditor says of what its writer took, and of how many octets
+/// this is; how many octets each client took; and whether each was shut once, and not called behind that.
 #[derive(Clone, Copy)]
 pub struct Came {
     pub ending: Ending,
+    pub left: Left,
     pub verdict: Verdict,
     pub octets: usize,
     took: (u64, u64),
@@ -62,8 +88,16 @@ impl Came {
 impl fmt::Display for Came {
     fn fmt<W: fmt::Write>(&self, f: &mut fmt::Formatter<W>) -> fmt::Result {
         let (first, second) = self.took;
+        let Left {
+            messages,
+            kept,
+            waiting,
+        } = self.left;
         match self.ending {
-            Ending::Done if self.are_left_alone => write!(f, "took {first} and {second}, ")?,
+            Ending::Done if self.are_left_alone => write!(
+                f,
+                "took {first} and {second}, kept {kept} of {messages}, {waiting} wait, "
+            )?,
             Ending::Done => f.write_str("not left alone, ")?,
             Ending::Halted(Halt::Core(_)) => f.write_str("core failed, ")?,
             Ending::Halted(Halt::NotWritten(_)) => f.write_str("not written, ")?,
@@ -98,12 +132,13 @@ fn serve_at(
 ) -> Result<Came, AllocError> {
     let (first, second) = clients_at(alloc, pair.first, pair.second, one, two)?;
     let writer = Sheet::new(alloc, pair.room);
-    let (ending, octets) = match Server::new(alloc, rules, pair.limit, writer) {
+    let (ending, left, octets) = match Server::new(alloc, rules, pair.limit, writer) {
         Ok(server) => serve(server, first, second),
-        Err(halt) => (Ending::Halted(halt), Vec::new(alloc)),
+        Err(halt) => (Ending::Halted(halt), Left::NOTHING, Vec::new(alloc)),
     };
     Ok(Came {
         ending,
+        left,
         verdict: audit_bytes(alloc, octets.as_slice()),
         octets: octets.len(),
         took: (one.taken(), two.taken()),
@@ -111,12 +146,12 @@ fn serve_at(
     })
 }
 
-/// Serves two clients, and gives what the writer took.
+/// Serves two clients, and gives what the server had in the end, and what the writer took.
 fn serve(
     mut server: Server<Work, Sheet, Client>,
     first: Client,
     second: Client,
-) -> (Ending, Vec<u8>)
+) -> (Ending, Left, Vec<u8>)
     requires first { (first.at ≡ 0) × (first.taken.items ≡ []) }
     requires second { (second.at ≡ 0) × (second.taken.items ≡ []) }
 {
@@ -124,8 +159,9 @@ fn serve(
         Ok(ending) => ending,
         Err(halt) => Ending::Halted(halt),
     };
+    let left = Left::of(&server);
     let Sheet { octets, .. } = server.into_writer();
-    (ending, octets)
+    (ending, left, octets)
 }
 
 /// Serves two clients, round by round.
