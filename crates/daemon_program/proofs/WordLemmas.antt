@@ -46,6 +46,14 @@ pub until-none : one_of (codes "until-connections") (matches_of command_line [])
 unfolding clap_on_literals
 until-none = refl
 
+pub buffer-none : one_of (codes "buffer") (matches_of command_line []) ≡ None
+unfolding clap_on_literals
+buffer-none = refl
+
+pub sync-none : one_of (codes "sync") (matches_of command_line []) ≡ Some (codes "false")
+unfolding clap_on_literals
+sync-none = refl
+
 pub stats-none : one_of (codes "stats") (matches_of command_line []) ≡ None
 unfolding clap_on_literals
 stats-none = refl

@@ -7,7 +7,7 @@ use Rattle.clap.specs.Words.{HasKind, app_of, fault_of, matches_of, rows_of}
 use Rattle.clap.proofs.WalkLemmas.{first_value-rows, one_text-rows, raw_values-rows}
 use Rattle.program_ends.proofs.Parsing.{faults_of, rows_are}
 use Rattle.daemon_program.specs.Words.{AnswersWords, command_line}
-use Rattle.daemon_program.proofs.WordLemmas.{anonymous-none, answers_refused, answers_taken, capture-none, command_line-is_free, listen-none, most-none, rules-none, rules_unread, stats-none, text_unread, texts_unread, until-none}
+use Rattle.daemon_program.proofs.WordLemmas.{anonymous-none, answers_refused, answers_taken, buffer-none, capture-none, command_line-is_free, listen-none, most-none, rules-none, rules_unread, stats-none, sync-none, text_unread, texts_unread, until-none}
 use Rattle.daemon_program.proofs.words.Words.read.Goals as goal
 
 pub returns-in_err-matches : goal.returns-in_err-matches
@@ -38,5 +38,7 @@ returns g c =
       rules = rules_unread _ _ _ c.in_ok-rules_of.ensures (ap (λ s. s.now) spelled) unasked;
       most = c.unwrap_or-3.ensures ∙ ap (λ o. unwrap_or o 10000) (c.get_one.ensures.none (one_text-rows found (codes "max-connections") ∙ ap (one_of (codes "max-connections")) rows ∙ most-none));
       until = c.get_one-2.ensures.none (one_text-rows found (codes "until-connections") ∙ ap (one_of (codes "until-connections")) rows ∙ until-none);
-      stats = c.get_one-3.ensures.none (one_text-rows found (codes "stats") ∙ ap (one_of (codes "stats")) rows ∙ stats-none);
+      buffer = c.unwrap_or-4.ensures ∙ ap (λ o. unwrap_or o 67108864) (c.get_one-3.ensures.none (one_text-rows found (codes "buffer") ∙ ap (one_of (codes "buffer")) rows ∙ buffer-none));
+      sync = c.get_flag.ensures.other (one_text-rows found (codes "sync") ∙ ap (one_of (codes "sync")) rows ∙ sync-none);
+      stats = c.get_one-4.ensures.none (one_text-rows found (codes "stats") ∙ ap (one_of (codes "stats")) rows ∙ stats-none);
     })
