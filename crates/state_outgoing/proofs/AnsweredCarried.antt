@@ -1,4 +1,4 @@
--- What the unsettled deliveries carry of which an event's consumer speaks is found by their numbers.
+-- The unsettled deliveries of which an event's consumer speaks are found, and so is what they carry, by their numbers.
 use Rattle.std.proofs.Common.{◌≡◌, ap, ◌∙◌, ◌<◌, ◌^◌, ℕ, true, List, Some, IfSome, is_some, nat_eq}
 use Rattle.std.specs.Prelude.{Contains}
 use Rattle.std.specs.List.{list_any}
@@ -27,11 +27,16 @@ named-number (notes.Told why) n is = absurd cc
 
 module _ (rules : RuleSet) (past : List Event) (are : AreJudged rules past) (table : SentDeliveries) (is_table : IsTable table past) (e : Event)
     (small : IfSome (answered_id e) (λ at. at.id < 2 ^ 32)) (spoken : List ℕ) (among : (n : ℕ) → is_among spoken n ≡ is_spoken_of table.groups e n) where
-  pub carries-answered : (j : Outgoing) → Contains (outgoing_deliveries past) j → is_left_unsettled past j ≡ true → is_some (answering j e) ≡ true → (n : ℕ) → names n j.note ≡ true
-      → list_any (λ m. is_some_and (carried (sent_in table m)) (nat_eq n)) spoken ≡ true
-  carries-answered j has opens says n named =
-      let at : outgoing_at j.number past ≡ Some j = contained-at rules past are j has in
-      let entry : sent_in table j.number ≡ Some (sent past j) = unfinished-entry table past is_table j.number j at (unsettled-unfinished past j opens) in
-      any-at (λ m. is_some_and (carried (sent_in table m)) (nat_eq n)) j.number
-      (ap (λ o. is_some_and (carried o) (nat_eq n)) entry ∙ named-number j.note n named) spoken
-      (among j.number ∙ speaks table.groups (sent_in table) is_table.groups j.number (sent past j) entry opens e small says)
+  module _ (j : Outgoing) (has : Contains (outgoing_deliveries past) j) (opens : is_left_unsettled past j ≡ true) (says : is_some (answering j e) ≡ true) where
+    entry : sent_in table j.number ≡ Some (sent past j)
+    entry = unfinished-entry table past is_table j.number j (contained-at rules past are j has) (unsettled-unfinished past j opens)
+
+    -- its own number is among those found
+    pub speaks-among : is_among spoken j.number ≡ true
+    speaks-among = among j.number ∙ speaks table.groups (sent_in table) is_table.groups j.number (sent past j) entry opens e small says
+
+    -- and so is that of what it carries, among theirs
+    pub carries-answered : (n : ℕ) → names n j.note ≡ true → list_any (λ m. is_some_and (carried (sent_in table m)) (nat_eq n)) spoken ≡ true
+    carries-answered n named =
+        any-at (λ m. is_some_and (carried (sent_in table m)) (nat_eq n)) j.number
+        (ap (λ o. is_some_and (carried o) (nat_eq n)) entry ∙ named-number j.note n named) spoken speaks-among

@@ -1,6 +1,6 @@
 //! The deliveries to clients, by the record that began each, and in groups.
 
-ghost use Rattle.std.specs.Prelude.{◌≡◌, ◌∷◌, ◌++◌, ◌<◌, ◌^◌, ℕ, List, [], Contains, None, IfOk, IfSome, OnOk, map, nat_eq, option_map, reverse, slice_get, false, true, ◌==◌, if◌then◌else◌};
+ghost use Rattle.std.specs.Prelude.{◌≡◌, ◌∷◌, ◌++◌, ◌<◌, ◌^◌, ℕ, List, [], Contains, None, IfOk, IfSome, OnOk, is_some, map, nat_eq, option_map, reverse, slice_get, false, true, ◌==◌, if◌then◌else◌};
 ghost use Rattle.std.specs.List.{list_all, list_any};
 ghost use Rattle.std.specs.Option.{option_copied};
 ghost use Rattle.indexmap.specs.IndexMap.{get};
@@ -214,16 +214,21 @@ impl SentDeliveries {
         &self.groups.of_id
     }
 
-    /// The unsettled ones of which the event's consumer speaks.
+    /// The numbers of the unsettled deliveries of which the event's consumer speaks, each once. It takes the time of those of the
+    /// id that it names, or where it names more, of those of its session.
     ///
     /// # Errors
     ///
     /// Memory was refused.
-    pub(crate) fn spoken_of(&self, alloc: Global, event: &Event) -> Result<NumberSet, AllocError>
-        ensures spoken { IfOk result (λ spoken. (n : ℕ) → is_among spoken n ≡ is_spoken_of self.now.groups (event_view event.now) n) }
+    pub fn spoken_of(&self, alloc: Global, event: &Event) -> Result<NumberSet, AllocError>
+        ensures stored { IfOk result (λ spoken. (n : ℕ) → is_among spoken n ≡ is_spoken_of self.now.groups (event_view event.now) n) }
         ensures counted { OnOk result (IfSome (answered_id (event_view event.now)) (λ at. at.id < 2 ^ 32)) }
+        ensures known { IfOk result (λ spoken. (rules : RuleSet) (records : List Record) → IsTable self.now (history rules records) →
+            (j : Outgoing) → Contains (law.outgoing_deliveries (history rules records)) j → kept.is_left_unsettled (history rules records) j ≡ true →
+            is_some (law.answering j (event_view event.now)) ≡ true → is_among spoken j.number ≡ true) }
     {
-        self.groups.spoken_of(alloc, event)
+        let spoken = self.groups.spoken_of(alloc, event)?;
+        Ok(spoken)
     }
 
     /// The event follows those so far. These links live before it and end with it. It gives what stands behind the event, of

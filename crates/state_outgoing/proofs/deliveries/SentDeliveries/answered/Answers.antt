@@ -11,5 +11,5 @@ returns c =
     IfOk-weaker c.all_carried.result _ _ (λ numbers of rules records table j has opens says n named.
     of (nat_eq n)
     ∙ carries-answered rules (history rules records) (history-judged rules records) c.args.self.now table (event_view c.args.event.now) c.in_ok-spoken.ensures.counted c.in_ok-spoken.spoken
-    c.in_ok-spoken.ensures.spoken j has opens says n named)
+    c.in_ok-spoken.ensures.stored j has opens says n named)
     c.all_carried.ensures
