@@ -1,11 +1,13 @@
-//! Numbers, alone and under keys of a number, of a pair of numbers and of octets; and values under numbers.
+//! Numbers, alone and under keys of a number, of a pair of numbers and of octets; and values under numbers, each with an entry
+//! of its own or neighbours in one.
 
 use crate::words::{Answer, Subject, done, number, parted, parts, small, told, word};
 use number_groups::{Ascending, Groups, IdOn, NumberKey, NumberSet, OctetGroups};
 use number_map::NumberMap;
+use number_runs::NumberRuns;
 use std::alloc::{AllocError, Global};
 
-/// Groups of each kind of key, numbers without one, and a map.
+/// Groups of each kind of key, numbers without one, a map, and runs.
 #[derive(Drop)]
 pub struct Keyed {
     alloc: Global,
@@ -15,6 +17,7 @@ pub struct Keyed {
     set: NumberSet,
     ascending: Ascending,
     map: NumberMap<u64, u64>,
+    runs: NumberRuns<u64>,
 }
 
 impl Keyed {
@@ -27,6 +30,7 @@ impl Keyed {
             set: NumberSet::new(alloc),
             ascending: Ascending::new(alloc),
             map: NumberMap::new(alloc),
+            runs: NumberRuns::new(alloc),
         }
     }
 }
@@ -50,6 +54,7 @@ impl Subject for Keyed {
             "set" => self.set_answer(verb, number(key)),
             "ascending" => self.ascending_answer(verb, number(key)),
             "map" => self.map_answer(verb, number(key), value),
+            "runs" => self.runs_answer(verb, small(key), value),
             _ => Ok(None),
         }
     }
@@ -102,6 +107,16 @@ impl Keyed {
             "remove" => told(self.alloc, self.map.swap_remove(&key)),
             "get" => told(self.alloc, self.map.get(&key)),
             "count" => told(self.alloc, self.map.len()),
+            _ => Ok(None),
+        }
+    }
+
+    /// What comes of a word about the values under numbers of which neighbours with one value take one entry.
+    fn runs_answer(&mut self, verb: &str, key: u32, value: u64) -> Answer {
+        match verb {
+            "insert" => told(self.alloc, self.runs.insert(key, value)?),
+            "get" => told(self.alloc, self.runs.get(key)),
+            "count" => told(self.alloc, self.runs.runs()),
             _ => Ok(None),
         }
     }
