@@ -15,7 +15,7 @@ use Rattle.state_tables.specs.declared.connection.Seen.{Seen}
 abbrev made : Bool → Bool → Bool → Bool → Bool → Bool → ℕ → Seen
 made a b c d e f n = record { is_over = a; was_opened = b; was_finished = c; was_stopped = d; has_out_frame = e; has_in_open = f; frame_limit = n }
 
-made-same : (a a' b b' c c' d d' e e' f f' : Bool) (n n' : ℕ) → a ≡ a' → b ≡ b' → c ≡ c' → d ≡ d' → e ≡ e' → f ≡ f' → n ≡ n'
+pub made-same : (a a' b b' c c' d d' e e' f f' : Bool) (n n' : ℕ) → a ≡ a' → b ≡ b' → c ≡ c' → d ≡ d' → e ≡ e' → f ≡ f' → n ≡ n'
     → made a b c d e f n ≡ made a' b' c' d' e' f' n'
 made-same a a' b b' c c' d d' e e' f f' n n' p q r s t u v = rw (p, q, r, s, t, u, v) refl
 

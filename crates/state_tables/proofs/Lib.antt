@@ -1,8 +1,10 @@
 mod ConnectionSteps
+mod SeenSame
 mod UnansweredSteps
 mod SessionSteps
 mod KeptSteps
 mod EntrySteps
+mod RetireSteps
 mod LiveEntries
 mod LinkSteps
 mod HandleSteps

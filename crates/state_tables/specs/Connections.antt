@@ -1,6 +1,7 @@
 -- What the table of connections stands for.
-use Rattle.std.specs.Prelude.{◌≡◌, ℕ, true, false, ◌||◌, ◌⊎◌, List, ◌∷◌, Option, Some, None, IfSome, is_some, option_map, option_and_then, unwrap_or, nat_eq, ◌==◌, ◌&&◌, if◌then◌else◌}
+use Rattle.std.specs.Prelude.{◌≡◌, ℕ, true, false, ◌||◌, ◌⊎◌, List, ◌∷◌, Option, Some, None, IfSome, IsSomeAnd, is_some, option_map, option_and_then, unwrap_or, nat_eq, ◌==◌, ◌&&◌, if◌then◌else◌}
 use Rattle.indexmap.specs.IndexMap.{get, spare}
+use Rattle.number_runs.specs.Runs.{value_in}
 use Rattle.flow_counts.specs.declared.profile.TheConstants.{MIN_MAX_FRAME_SIZE}
 use Rattle.capture_form.specs.declared.records.Record.{Record}
 use Rattle.capture_form.specs.Rules.{RuleSet}
@@ -93,9 +94,9 @@ session_on x channel = option_and_then (λ b. session_among b.value channel) x.c
 abbrev pub unanswered_on : Connection → ℕ → Unanswered
 unanswered_on x channel = unwrap_or (option_map (λ b. unanswered_among b.value channel) x.channels) nothing
 
--- nothing stands there
-pub record IsFresh (x : Connection) : Type 0 where
-  pub seen : x.seen ≡ fresh
+-- it has come to this, and nothing stands on its channels
+pub record IsBare (seen : Seen) (x : Connection) : Type 0 where
+  pub seen-is : x.seen ≡ seen
   pub sessions : (channel : ℕ) → session_on x channel ≡ None
   pub unanswered : (channel : ℕ) → unanswered_on x channel ≡ nothing
 
@@ -123,15 +124,23 @@ IsFull x = IfSome x.channels (λ b. AreFull b.value)
 
 -- ---- all of them
 
--- what the table has of a connection, and of a channel
+-- what the table has of a connection without an entry: what its run says
+abbrev pub seen_over : Connections → ℕ → Seen
+seen_over table c = unwrap_or (value_in table.over c) fresh
+
+-- what it has of a connection, and of a channel
 abbrev pub seen_in : Connections → ℕ → Seen
-seen_in table c = unwrap_or (option_map (λ x. x.seen) (get nat_eq table.entries c)) fresh
+seen_in table c = unwrap_or (option_map (λ x. x.seen) (get nat_eq table.entries c)) (seen_over table c)
 
 abbrev pub session_in : Connections → ℕ → ℕ → Option Counted
 session_in table c channel = option_and_then (λ x. session_on x channel) (get nat_eq table.entries c)
 
 abbrev pub unanswered_in : Connections → ℕ → ℕ → Unanswered
 unanswered_in table c channel = unwrap_or (option_map (λ x. unanswered_on x channel) (get nat_eq table.entries c)) nothing
+
+-- an entry has come to this, and nothing stands on its channels
+abbrev pub IsDone : Seen → Option Connection → Type 0
+IsDone seen entry = IsSomeAnd entry (λ x. (x.seen ≡ seen) × (x.channels ≡ None))
 
 -- the table is what these events left, as far as connections go
 abbrev pub AreSeen : Connections → List Event → Type 0
@@ -162,7 +171,7 @@ pub record AreSame (earlier later : Connections) : Type 0 where
   pub unanswered : (c channel : ℕ) → unanswered_in later c channel ≡ unanswered_in earlier c channel
 
 -- no room is left for what the event adds: for a begin or an end, in a table of its connection that is full or is not there
--- yet; or the connection is new, and so is its table for a begin or an end, or the table of connections is full
+-- yet; or the connection has no entry, and so no table for a begin or an end, or the table of connections is full
 abbrev pub NoRoomIn : Connections → Event → Option Connection → Type 0
 NoRoomIn table e (Some x) = (opens_or_ends e ≡ true) × IsFull x
 NoRoomIn table e None = (opens_or_ends e ≡ true) ⊎ (spare table.entries ≡ 0)

@@ -1,5 +1,6 @@
--- How many entries the tables have: a connection of which a record stands; a session that is live or awaits its end; a link
--- that is live or awaits its detach; and each begin, attach, detach or end of a client that is still to be answered (own rules).
+-- How many entries the tables have: a connection of which a record stands, where of neighbours of which nothing more is to come
+-- and that came to the same all are one; a session that is live or awaits its end; a link that is live or awaits its detach; and
+-- each begin, attach, detach or end of a client that is still to be answered (own rules).
 use Rattle.std.specs.Prelude.{ℕ, ◌+◌, ◌-◌, ◌^◌, min, Bool, length, is_some, option_map, unwrap_or, if◌then◌else◌}
 use Rattle.std.specs.List.{sum_by}
 use Rattle.indexmap.specs.IndexMap.{values}
@@ -32,7 +33,7 @@ abbrev pub entries_of_connection : Connection → ℕ
 entries_of_connection x = 1 + unwrap_or (option_map (λ b. entries_among b.value) x.channels) 0
 
 abbrev pub entries_of_connections : Connections → ℕ
-entries_of_connections table = sum_by entries_of_connection (values table.entries)
+entries_of_connections table = length table.over + sum_by entries_of_connection (values table.entries)
 
 -- of a handle: its link, an attach and a detach that are to be answered, and a detach that is awaited
 abbrev pub entries_of_handle : Standing → ℕ

@@ -1,8 +1,8 @@
 //! A connection: whether it is opened, over, closed from either end, how long a frame may be (part 2 of the standard,
 //! section 2.4), and what stands on its channels.
 
-ghost use Rattle.std.specs.Prelude.{◌≡◌, ℕ, None, true, OnOk, OnErr};
-ghost use Rattle.state_tables.specs.Connections.{IsFresh, IsFull, IsSame, Takes, TakesOn, fresh, seen_next, session_on, unanswered_on};
+ghost use Rattle.std.specs.Prelude.{◌≡◌, ℕ, None, true, IsTrue, OnOk, OnErr};
+ghost use Rattle.state_tables.specs.Connections.{IsBare, IsFull, IsSame, Takes, TakesOn, fresh, seen_next, session_on, unanswered_on};
 ghost use Rattle.state_tables.specs.Entries.{capped, entries_of_connection};
 ghost use Rattle.state_tables.specs.Sessions.{opens_or_ends};
 ghost use Rattle.trace_values.specs.View.{event_view};
@@ -11,6 +11,7 @@ use crate::on_channels::OnChannels;
 use crate::sessions::{Counted, opens_or_ends};
 use crate::unanswered::Unanswered;
 use flow_counts::{MAX_FRAME_SIZE, MIN_MAX_FRAME_SIZE};
+use number_runs::RunValue;
 use std::alloc::{AllocError, Global};
 use trace_values::Event;
 
@@ -79,6 +80,12 @@ impl Seen {
     }
 }
 
+impl RunValue for Seen {
+    fn is_same(self, other: Seen) -> bool {
+        self == other
+    }
+}
+
 /// A connection, with what stands on its channels.
 #[doc(hidden)]
 #[derive(Drop)]
@@ -91,13 +98,13 @@ pub struct Connection {
 }
 
 impl Connection {
-    /// Before its first record.
-    pub(crate) fn new(alloc: Global) -> Connection
-        ensures { IsFresh result }
+    /// It has come to this, and nothing stands on its channels.
+    pub(crate) fn of(alloc: Global, seen: Seen) -> Connection
+        ensures { IsBare seen result }
     {
         Connection {
             alloc,
-            seen: Seen::new(),
+            seen,
             channels: None,
         }
     }
@@ -107,6 +114,13 @@ impl Connection {
         ensures { result ≡ self.now.seen }
     {
         self.seen
+    }
+
+    /// Nothing stands on its channels.
+    pub(crate) fn has_none(&self) -> bool
+        ensures { IsTrue result → self.now.channels ≡ None }
+    {
+        self.channels.is_none()
     }
 
     /// The live session of the channel.
