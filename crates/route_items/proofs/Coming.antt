@@ -1,7 +1,6 @@
 -- What became of a connection once an item came.
-use Rattle.std.proofs.Common.{◌≡◌, refl, sym, ap, ◌∙◌, ℕ, Bool, true, false, ◌&&◌, List, [], ◌∷◌, ◌++◌, Option, Some, cond, unwrap_or, nat_eq, ◌==◌}
+use Rattle.std.proofs.Common.{◌≡◌, refl, sym, ap, ◌∙◌, ℕ, Bool, true, false, ◌&&◌, List, [], ◌∷◌, ◌++◌, if◌then◌else◌, ◌==◌}
 use Rattle.std.proofs.lemmas.Bool.{eqb-true}
-use Rattle.indexmap.specs.IndexMap.{get}
 use Rattle.capture_form.specs.declared.records.Record.{Record}
 use Rattle.capture_form.specs.declared.records.What.{What}
 use Rattle.route_items.specs.declared.item.Item.{Item}
@@ -10,7 +9,7 @@ use Rattle.route_items.specs.Items.{record_of, connection_of}
 use Rattle.route_items.specs.declared.lives.Life.{Life}
 use Rattle.route_items.specs.declared.lives.Lives.{Lives}
 use Rattle.route_items.specs.Inputs.{has_one, is_opening, is_losing, is_breaking}
-use Rattle.route_items.specs.Lives.{AreLives, life_in, life_of, life_after, no_life}
+use Rattle.route_items.specs.Lives.{AreLives, IsNow, life_in, life_of, life_after}
 use Rattle.route_items.proofs.Appended.{has_one-other, has_one-now}
 
 abbrev made : Bool → Bool → Bool → Life
@@ -44,11 +43,10 @@ here c records (Lost k) same =
 
 -- the table behind an item, from the one before it
 module _ (old new : Lives) (item : Item) (life : Life) (is : life ≡ life_after (life_in old (connection_of item)) item) where
-  pub came : ((q : ℕ) → get nat_eq new.entries q ≡ cond (nat_eq (connection_of item) q) (Some life) (get nat_eq old.entries q))
-      → (inputs : List Record) → AreLives old inputs → AreLives new (inputs ++ record_of item ∷ [])
-  came updates inputs told c = ap (λ (o : Option Life). unwrap_or o no_life) (updates c) ∙ by (nat_eq (connection_of item) c) refl
+  pub came : IsNow (connection_of item) life old new → (inputs : List Record) → AreLives old inputs → AreLives new (inputs ++ record_of item ∷ [])
+  came now inputs told c = now c ∙ by (connection_of item == c) refl
     where
-      by : (b : Bool) → nat_eq (connection_of item) c ≡ b → unwrap_or (cond b (Some life) (get nat_eq old.entries c)) no_life ≡ life_of c (inputs ++ record_of item ∷ [])
+      by : (b : Bool) → (connection_of item == c) ≡ b → (if b then life else life_in old c) ≡ life_of c (inputs ++ record_of item ∷ [])
       by true same =
           is
           ∙ (ap (λ l. life_after l item) (told (connection_of item) ∙ ap (λ k. life_of k inputs) (eqb-true (connection_of item) c same))

@@ -1,6 +1,7 @@
 -- The table of what became of each connection (own rules).
-use Rattle.std.specs.Prelude.{◌≡◌, ℕ, true, false, List, unwrap_or, nat_eq}
+use Rattle.std.specs.Prelude.{◌≡◌, ℕ, true, false, List, unwrap_or, if◌then◌else◌, nat_eq, ◌==◌}
 use Rattle.indexmap.specs.IndexMap.{get}
+use Rattle.number_runs.specs.Runs.{value_in}
 use Rattle.capture_form.specs.declared.records.Record.{Record}
 use Rattle.route_items.specs.declared.item.Item.{Item}
 use Rattle.route_items.specs.declared.item.Item.TheVariants.{Opened, In, Broken, Lost}
@@ -12,9 +13,17 @@ use Rattle.route_items.specs.Inputs.{is_opening, is_losing, is_breaking, has_one
 abbrev pub no_life : Life
 no_life = record { is_opened = false; is_lost = false; is_broken = false }
 
--- what the table has of the connection
+-- what the table has of a connection without an entry: what its run says
+abbrev pub life_over : Lives → ℕ → Life
+life_over lives c = unwrap_or (value_in lives.over c) no_life
+
+-- what it has of a connection
 abbrev pub life_in : Lives → ℕ → Life
-life_in lives c = unwrap_or (get nat_eq lives.entries c) no_life
+life_in lives c = unwrap_or (get nat_eq lives.entries c) (life_over lives c)
+
+-- this became of the connection, and of the others what had become of them
+abbrev pub IsNow : ℕ → Life → Lives → Lives → Type 0
+IsNow c life old new = (n : ℕ) → life_in new n ≡ (if c == n then life else life_in old n)
 
 -- what is of a connection once the item came to it
 abbrev pub life_after : Life → Item → Life

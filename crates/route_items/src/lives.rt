@@ -1,17 +1,19 @@
-//! What became of each connection.
+//! What became of each connection. Those that are lost stand in runs of neighbours of which the same became, so that one that
+//! came and went takes no memory for ever.
 
-ghost use Rattle.std.specs.Prelude.{◌≡◌, ◌∷◌, [], ◌++◌, List, OnOk};
+ghost use Rattle.std.specs.Prelude.{◌≡◌, ◌∷◌, [], ◌++◌, List, ℕ, IsFalse, IsTrue, OnOk};
 ghost use Rattle.capture_form.specs.declared.records.Record.{Record};
 ghost use Rattle.route_items.specs.Items.{record_of};
 ghost use Rattle.route_items.specs.Inputs as law;
-ghost use Rattle.route_items.specs.Lives.{AreLives, life_after, life_in};
+ghost use Rattle.route_items.specs.Lives.{AreLives, IsNow, life_after, life_in, life_over};
 
 use crate::Item;
 use number_map::NumberMap;
+use number_runs::{NumberRuns, RunValue};
 use std::alloc::{AllocError, Global};
 
 /// What became of a connection.
-#[derive(Clone, Copy)]
+#[derive(Clone, Copy, PartialEq, Eq)]
 pub(crate) struct Life {
     is_opened: bool,
     is_lost: bool,
@@ -41,10 +43,19 @@ impl Life {
     }
 }
 
+impl RunValue for Life {
+    fn is_same(self, other: Life) -> bool {
+        self == other
+    }
+}
+
 /// What became of each connection, by the inputs that came; one without any was not opened.
 #[derive(Drop)]
 pub struct Lives {
+    /// Of those that are not lost, and of one to which something came behind that. They are asked first.
     entries: NumberMap<u32, Life>,
+    /// Of those that are lost.
+    over: NumberRuns<Life>,
 }
 
 impl Lives {
@@ -54,6 +65,7 @@ impl Lives {
     {
         Lives {
             entries: NumberMap::new(alloc),
+            over: NumberRuns::new(alloc),
         }
     }
 
@@ -63,6 +75,16 @@ impl Lives {
     {
         match self.entries.get(&connection) {
             Some(life) => *life,
+            None => self.life_over(connection),
+        }
+    }
+
+    /// What became of the connection, where it has no entry.
+    fn life_over(&self, connection: u32) -> Life
+        ensures { result ≡ life_over self.now connection }
+    {
+        match self.over.get(connection) {
+            Some(life) => life,
             None => Life {
                 is_opened: false,
                 is_lost: false,
@@ -94,7 +116,44 @@ impl Lives {
     {
         let connection = item.connection();
         let life = self.life(connection).after(item);
+        match item {
+            Item::Lost(_) => self.lose(connection, life),
+            _ => self.put(connection, life),
+        }
+    }
+
+    /// The connection is lost, and this became of it.
+    fn lose(&mut self, connection: u32, life: Life) -> Result<(), AllocError>
+        ensures { OnOk result (IsNow connection life self.old self.new) }
+    {
+        if self.retires(connection, life) {
+            Ok(())
+        } else {
+            self.put(connection, life)
+        }
+    }
+
+    /// This became of the connection, as its entry says.
+    fn put(&mut self, connection: u32, life: Life) -> Result<(), AllocError>
+        ensures { OnOk result (IsNow connection life self.old self.new) }
+    {
         self.entries.insert(connection, life)?;
         Ok(())
+    }
+
+    /// This became of the connection, as its run says, and its entry goes. Where a run says already what became of it, or
+    /// there is no memory for the run, it is not done, and all stays as it was.
+    fn retires(&mut self, connection: u32, life: Life) -> bool
+        ensures done { IsTrue result → IsNow connection life self.old self.new }
+        ensures unchanged { IsFalse result → (n : ℕ) → life_in self.new n ≡ life_in self.old n }
+    {
+        match self.over.insert(connection, life) {
+            Ok(true) => {
+                self.entries.swap_remove(&connection);
+                true
+            }
+            Ok(false) => false,
+            Err(_) => false,
+        }
     }
 }
