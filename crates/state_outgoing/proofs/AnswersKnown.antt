@@ -145,10 +145,10 @@ bears-mark : (past : List Event) (j : Outgoing) → is_to_settle past j ≡ true
 bears-mark past j is = unsettled-bits j.link.is_pre_settled (stands_unsettled past j) (first_deciding j past) (carries_closed past j) (sym (is_to_settle-parts past j) ∙ is)
 
 module _ (rules : RuleSet) (past : List Event) (are : AreJudged rules past) (table : SentDeliveries) (is_table : IsTable table past) where
-  pub progress-table : (l : Link) (last : Option ℕ) → last ≡ last_number l.number past → unsent (option_and_then (sent_in table) last) ≡ law.in_progress l past
+  pub progress-table : (l : Link) (last : Option ℕ) → last ≡ last_number table.let_go.items l.number past → unsent (option_and_then (sent_in table) last) ≡ law.in_progress l past
   progress-table l last is = progress-entry rules past are table.let_go.items (sent_in table) is_table.entries l.number last is is_table.finished l refl
 
-  pub carried-table : table.let_go.items ≡ [] → (l : Link) (last : Option ℕ) → last ≡ last_number l.number past → option_and_then (λ n. incoming_at n past) (carried (option_and_then (sent_in table) last)) ≡ carried_before l past
+  pub carried-table : table.let_go.items ≡ [] → (l : Link) (last : Option ℕ) → last ≡ last_number table.let_go.items l.number past → option_and_then (λ n. incoming_at n past) (carried (option_and_then (sent_in table) last)) ≡ carried_before l past
   carried-table none l last is =
       carried-noted (option_and_then (sent_in table) last) past ∙ carried-entry rules past are table.let_go.items (sent_in table) is_table.entries l.number last is none l refl
 

@@ -22,7 +22,7 @@ use Rattle.state_outgoing.specs.Sent.{Sent, sent, outgoing_at}
 use Rattle.state_outgoing.specs.LastBegun.{last_on, last_number, begins_on, on_link_next}
 use Rattle.trace_clauses.proofs.WaitingQueue.{find_has}
 use Rattle.state_outgoing.proofs.SentKept.{IsOver, all-kept, unfinished-names, unsent-unfinished}
-use Rattle.state_outgoing.proofs.OutgoingNumbers.{found-passes, found-earlier, found-at, found-known, found-entry, found-numbered, last-step, number-step}
+use Rattle.state_outgoing.proofs.OutgoingNumbers.{begun-number, found-passes, found-earlier, found-at, found-known, found-entry, last-step}
 
 -- ---- one more event
 
@@ -30,27 +30,25 @@ module _ (e : Event) (past : List Event) where
   pub last_on-step : (link : ℕ) → last_on link (e ∷ past) ≡ (if begins_on e link then outgoing_begun e else last_on link past)
   last_on-step link = last-step e past (λ (j : Outgoing). j.link.number == link)
 
-  pub last_number-step : (link : ℕ) → last_number link (e ∷ past) ≡ (if begins_on e link then Some e.number else last_number link past)
-  last_number-step link = number-step e past (λ (j : Outgoing). j.link.number == link)
-
--- so what a table has of a link is moved
-pub last-moved : (e : Event) (past : List Event) (link : ℕ) (old new : Option ℕ) → old ≡ last_number link past → new ≡ on_link_next e link old → new ≡ last_number link (e ∷ past)
-last-moved e past link old new was moved =
-    moved ∙ (ap (on_link_next e link) was ∙ sym (last_number-step e past link))
-
--- nothing has begun on a link that isn't opened yet
-pub last-unopened : (rules : RuleSet) (past : List Event) → AreJudged rules past → (link : ℕ) → length past ≤ link → last_number link past ≡ None
-last-unopened rules past are link le = ap (option_map (λ (j : Outgoing). j.number)) (by (outgoing_deliveries past) (deliveries-earlier past (judged-on_earlier rules past are)))
+-- so what a table has of a link is moved, by an event that begins none that carries what was let go
+pub last-moved : (gone : List (ℕ × Unit {0})) (e : Event) (past : List Event) → is_some_and (outgoing_begun e) (λ j. names_let_go gone j.note) ≡ false
+    → (link : ℕ) (old new : Option ℕ) → old ≡ last_number gone link past → new ≡ on_link_next e link old → new ≡ last_number gone link (e ∷ past)
+last-moved gone e past apart link old new was moved =
+    moved ∙ (ap (on_link_next e link) was ∙ (by (outgoing_begun e) refl apart ∙ sym (ap (λ o. option_map (λ (j : Outgoing). j.number) (where_passes stays o)) (last_on-step e past link))))
   where
-    by : (js : List Outgoing) → AllByRecursion (IsOnEarlier (length past)) js → find (λ j. j.link.number == link) js ≡ None
-    by [] all = refl
-    by (j ∷ js) all =
-        let lt = all.0 in
-        ap (λ b. if b then Some j else find (λ k. k.link.number == link) js) (ne_eqb j.link.number link (λ same. absurd (omega (arith, lt, le, same)))) ∙ by js all.1
+    stays : Outgoing → Bool
+    stays j = not (names_let_go gone j.note)
 
--- the number says which it is
-pub last_on-numbered : (rules : RuleSet) (past : List Event) → AreJudged rules past → (link : ℕ) → option_and_then (λ n. outgoing_at n past) (last_number link past) ≡ last_on link past
-last_on-numbered rules past are link = found-numbered rules past are (λ (j : Outgoing). j.link.number == link)
+    begun : (j : Outgoing) → j.number ≡ e.number → names_let_go gone j.note ≡ false → (b : Bool)
+        → (if b then Some e.number else last_number gone link past) ≡ option_map (λ (k : Outgoing). k.number) (where_passes stays (if b then Some j else last_on link past))
+    begun j number none true = ap Some (sym number) ∙ sym (ap (λ b. option_map (λ (k : Outgoing). k.number) (if not b then Some j else None)) none)
+    begun j number none false = refl
+
+    by : (o : Option Outgoing) → outgoing_begun e ≡ o → is_some_and o (λ j. names_let_go gone j.note) ≡ false
+        → (if is_some_and o (λ j. j.link.number == link) then Some e.number else last_number gone link past)
+        ≡ option_map (λ (k : Outgoing). k.number) (where_passes stays (if is_some_and o (λ j. j.link.number == link) then o else last_on link past))
+    by None none none_begun = refl
+    by (Some j) is none_begun = begun j (begun-number e j is) none_begun (j.link.number == link)
 
 -- ---- the delivery in progress is the last that began, until it is sent
 
@@ -240,10 +238,20 @@ carried-known rules past are l = by (carried_before l past) refl
 -- ---- where what is known of each delivery is kept by its number, and the number of the last that began on the link
 
 module _ (rules : RuleSet) (past : List Event) (are : AreJudged rules past) (gone : List (ℕ × Unit {0})) (kept : ℕ → Option Sent) (were : (n : ℕ) → kept n ≡ kept_at gone n past)
-    (link : ℕ) (last : Option ℕ) (is_last : last ≡ last_number link past) where
+    (link : ℕ) (last : Option ℕ) (is_last : last ≡ last_number gone link past) where
   -- what is kept of it
   pub last-entry : option_and_then kept last ≡ where_kept gone (option_map (sent past) (last_on link past))
-  last-entry = ap (option_and_then kept) is_last ∙ found-entry rules past are (λ (j : Outgoing). j.link.number == link) gone kept were
+  last-entry = ap (option_and_then kept) is_last ∙ by (last_on link past) (found-entry rules past are (λ (j : Outgoing). j.link.number == link) gone kept were)
+    where
+      one : (j : Outgoing) (b : Bool) → names_let_go gone j.note ≡ b → kept j.number ≡ where_kept gone (Some (sent past j))
+          → option_and_then kept (option_map (λ (k : Outgoing). k.number) (if not b then Some j else None)) ≡ where_kept gone (Some (sent past j))
+      one j true is entry = sym (ap (λ b. if not b then Some (sent past j) else None) is)
+      one j false is entry = entry
+
+      by : (o : Option Outgoing) → option_and_then kept (option_map (λ j. j.number) o) ≡ where_kept gone (option_map (sent past) o)
+          → option_and_then kept (option_map (λ j. j.number) (where_passes (λ j. not (names_let_go gone j.note)) o)) ≡ where_kept gone (option_map (sent past) o)
+      by None entry = refl
+      by (Some j) entry = one j (names_let_go gone j.note) refl entry
 
   -- it is in progress, until it is sent; and what carries one that was let go is finished
   pub progress-entry : IsOver gone past → (l : Link) → l.number ≡ link

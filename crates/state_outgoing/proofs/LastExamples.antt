@@ -14,9 +14,9 @@ use Rattle.trace_clauses.specs.Written.{spoken_octets}
 use Rattle.trace_clauses.proofs.Made.{from, from_with, carry, gives, first, next, with_more, hi, q, consumer, sent}
 use Rattle.state_outgoing.specs.LastBegun.{last_number, begins_on, carrier_number, carrier_numbers, begins_carrier, carriers_next}
 
-unfoldable last_in : List Record → ℕ → Option ℕ
+unfoldable last_in : List (ℕ × Unit {0}) → List Record → ℕ → Option ℕ
 unfolding frame_read whole_frame frame_at sized_frame headed_frame read digits spoken_octets frame_octets written
-last_in records link = last_number link (history no_rules records)
+last_in gone records link = last_number gone link (history no_rules records)
 
 unfoldable begins_in : List Record → Record → ℕ → Bool
 unfolding frame_read whole_frame frame_at sized_frame headed_frame read digits spoken_octets frame_octets written
@@ -66,30 +66,39 @@ both = sent ++ consumer 2 Mixed q ++ (from 2 (AFlow (gives 0 0 10)) ∷ carry 1 
 
 -- ---- on a link
 
-last-none : last_in sent 13 ≡ None
+last-none : last_in [] sent 13 ≡ None
 unfolding last_in
 last-none = refl
 
 -- a later part begins nothing
-last-first_part : last_in in_parts 13 ≡ Some 17
+last-first_part : last_in [] in_parts 13 ≡ Some 17
 unfolding last_in
 last-first_part = refl
 
-last-of_producer : last_in in_parts 6 ≡ None
+last-of_producer : last_in [] in_parts 6 ≡ None
 unfolding last_in
 last-of_producer = refl
 
-last-of_two : last_in two 13 ≡ Some 19
+last-of_two : last_in [] two 13 ≡ Some 19
 unfolding last_in
 last-of_two = refl
 
-last-elsewhere : last_in elsewhere 23 ≡ Some 25
+last-elsewhere : last_in [] elsewhere 23 ≡ Some 25
 unfolding last_in
 last-elsewhere = refl
 
-last-not_elsewhere : last_in elsewhere 13 ≡ None
+last-not_elsewhere : last_in [] elsewhere 13 ≡ None
 unfolding last_in
 last-not_elsewhere = refl
+
+-- where it carries one that was let go, there is none, and not the one before it
+last-let_go : last_in ((17, tt) ∷ []) two 13 ≡ None
+unfolding last_in
+last-let_go = refl
+
+last-other_let_go : last_in ((16, tt) ∷ []) two 13 ≡ Some 19
+unfolding last_in
+last-other_let_go = refl
 
 begins-there : begins_in sent half 13 ≡ true
 unfolding begins_in

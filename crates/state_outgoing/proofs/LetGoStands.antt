@@ -7,23 +7,24 @@ use Rattle.number_groups.specs.Numbers.{is_among}
 use Rattle.pairing_cert.specs.declared.note.Note.{Note}
 use Rattle.pairing_cert.specs.declared.note.Note.TheVariants as notes
 use Rattle.capture_form.specs.Rules.{RuleSet}
-use Rattle.trace_events.specs.Words.{is_some_and}
+use Rattle.trace_events.specs.Words.{is_some_and, where_passes}
 use Rattle.trace_events.specs.Event.{Event, Outgoing}
 use Rattle.trace_events.specs.Outgoing.{names, outgoing_deliveries}
 use Rattle.trace_events.proofs.Judged.{AreJudged}
 use Rattle.trace_clauses.proofs.WaitingQueue.{filter_has, in_filter}
 use Rattle.state_outgoing.specs.Carriers.{carriers_in}
-use Rattle.state_outgoing.specs.LastBegun.{carrier_numbers, carriers}
+use Rattle.state_outgoing.specs.LastBegun.{carrier_numbers, carriers, last_number, last_on}
 use Rattle.state_outgoing.specs.LetGo.{is_let_go, names_let_go, where_kept, kept_at, is_finished}
 use Rattle.state_outgoing.specs.Sent.{Sent, sent, is_left_unsettled, outgoing_at}
 use Rattle.state_outgoing.specs.SentGrouped.{AreGrouped, is_of_link, is_of_session, has_id}
-use Rattle.state_outgoing.specs.SentTables.{IsTable, sent_in}
+use Rattle.state_outgoing.specs.SentTables.{IsTable, last_without, sent_in}
 use Rattle.state_outgoing.specs.declared.deliveries.SentDeliveries.{SentDeliveries}
 use Rattle.state_outgoing.specs.declared.groups.SentGroups.{SentGroups}
 use Rattle.state_outgoing.proofs.CarriersKnown.{among-gives, among-has, named-gone}
 use Rattle.state_outgoing.proofs.GroupLists.{swapped}
+use Rattle.state_outgoing.proofs.OutgoingNumbers.{found-at, found-passes}
 use Rattle.state_outgoing.proofs.SentBegun.{at-number}
-use Rattle.state_outgoing.proofs.SentKept.{contained-at, entry-law, found-contained, none-kept}
+use Rattle.state_outgoing.proofs.SentKept.{contained-at, entry-law, found-contained, none-kept, stays-kept}
 use Rattle.state_outgoing.proofs.SentKnown.{sent-of}
 
 same_some : {A : Type 0} (a b : A) → Some a ≡ Some b → a ≡ b
@@ -201,7 +202,60 @@ module _ (rules : RuleSet) (past : List Event) (are : AreJudged rules past) (tab
         by true before is = is_table.finished j has before
         by false other is = carries j has is
 
-    module _ (groups : later.groups ≡ table.groups) (on_link : later.begun.on_link ≡ table.begun.on_link)
+    -- of each link the last one is left, unless it is one of those
+    left-last : (link : ℕ) → last_without (sent_in table) (is_among has_in) link (get nat_eq table.begun.on_link link) ≡ last_number (more gone number) link past
+    left-last link = ap (last_without (sent_in table) (is_among has_in) link) (is_table.begun.on_link link) ∙ by (last_on link past) refl
+      where
+        test : Outgoing → Bool
+        test j = j.link.number == link
+
+        without : Option ℕ → Option ℕ
+        without = last_without (sent_in table) (is_among has_in) link
+
+        numbered : Bool → Outgoing → Option ℕ
+        numbered b j = option_map (λ (k : Outgoing). k.number) (if not b then Some j else None)
+
+        -- it is one of them
+        goes : (j : Outgoing) → outgoing_at j.number past ≡ Some j → test j ≡ true → names_let_go gone j.note ≡ false → names number j.note ≡ true → without (Some j.number) ≡ None
+        goes j at on stays named =
+            let all : has_in ≡ carrier_numbers number past =
+            is_table.begun.carriers number ∙ ap (λ b. if b then [] else carrier_numbers number past) (sym (named-gone gone number j.note named) ∙ stays) in
+            let among : is_among has_in j.number ≡ true =
+            ap (λ xs. is_among xs j.number) all ∙ among-has (λ (k : Outgoing). k.number) (carriers number past) j (filter_has names-it (outgoing_deliveries past) j named (found-contained past j.number j at)) in
+            let entry : sent_in table j.number ≡ Some (sent past j) =
+            is_table.entries j.number ∙ (ap (λ o. where_kept gone (option_map (sent past) o)) at ∙ stays-kept gone (sent past j) stays) in
+            ap (λ b. if b && is_some_and (sent_in table j.number) (λ x. is_of_link link x.delivery) then None else Some j.number) among
+            ∙ (ap (λ o. if is_some_and o (λ (x : Sent). is_of_link link x.delivery) then None else Some j.number) entry ∙ ap (λ b. if b then None else Some j.number) on)
+
+        -- it is none of them
+        stays-last : (j : Outgoing) → outgoing_at j.number past ≡ Some j → names number j.note ≡ false → without (Some j.number) ≡ Some j.number
+        stays-last j at other = by_among (is_among has_in j.number) refl
+          where
+            by_among : (b : Bool) → is_among has_in j.number ≡ b
+                → (if b && is_some_and (sent_in table j.number) (λ x. is_of_link link x.delivery) then None else Some j.number) ≡ Some j.number
+            by_among false off = refl
+            by_among true here =
+                let c = carrier-at j.number here in
+                let same : c.delivery ≡ j = same_some c.delivery j (sym c.at ∙ at) in
+                let never : true ≡ false = sym c.named ∙ (ap names-it same ∙ other) in
+                absurd cc
+
+        one : (j : Outgoing) → outgoing_at j.number past ≡ Some j → test j ≡ true → (a b : Bool) → names_let_go gone j.note ≡ a → names number j.note ≡ b
+            → without (numbered a j) ≡ numbered (a || b) j
+        one j at on true b before named = refl
+        one j at on false true stays named = goes j at on stays named
+        one j at on false false stays other = stays-last j at other
+
+        by : (o : Option Outgoing) → last_on link past ≡ o
+            → without (option_map (λ (k : Outgoing). k.number) (where_passes (λ j. not (names_let_go gone j.note)) o))
+            ≡ option_map (λ (k : Outgoing). k.number) (where_passes (λ j. not (names_let_go (more gone number) j.note)) o)
+        by None none = refl
+        by (Some j) found =
+            one j (found-at rules past are test j found) (found-passes test (outgoing_deliveries past) j found) (names_let_go gone j.note) (names number j.note) refl refl
+            ∙ ap (λ b. numbered b j) (sym (names-more gone number j.note))
+
+    module _ (groups : later.groups ≡ table.groups)
+        (on_link : (n : ℕ) → get nat_eq later.begun.on_link n ≡ last_without (sent_in table) (is_among has_in) n (get nat_eq table.begun.on_link n))
         (left : (n : ℕ) → carriers_in later.begun n ≡ (if number == n then [] else carriers_in table.begun n)) where
       others : (n : ℕ) → carriers_in later.begun n ≡ (if is_let_go (more gone number) n then [] else carrier_numbers n past)
       others n =
@@ -220,7 +274,7 @@ module _ (rules : RuleSet) (past : List Event) (are : AreJudged rules past) (tab
         entries = λ n. entries n ∙ ap (λ g. kept_at g n past) (sym noted);
         groups = subst (λ (g : SentGroups). AreGrouped g (sent_in later)) (sym groups) (fewer-grouped table.groups (sent_in table) (sent_in later) fewer is_table.groups);
         begun = record {
-          on_link = λ n. ap (λ m. get nat_eq m n) on_link ∙ is_table.begun.on_link n;
+          on_link = λ n. on_link n ∙ (left-last n ∙ ap (λ (g : List (ℕ × Unit {0})). last_number g n past) (sym noted));
           carriers = λ n. others n ∙ ap (λ (g : List (ℕ × Unit {0})). if is_let_go g n then [] else carrier_numbers n past) (sym noted);
         };
         finished = λ j has named. finished j has (sym (ap (λ (g : List (ℕ × Unit {0})). names_let_go g j.note) noted) ∙ named);

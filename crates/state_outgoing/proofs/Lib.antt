@@ -17,6 +17,7 @@ pub mod AnswersKnown
 mod GroupLists
 mod Removed
 mod SentRegrouped
+mod LeftLinks
 mod LetGoStands
 mod SentFound
 mod SentTaken

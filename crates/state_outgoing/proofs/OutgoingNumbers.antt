@@ -80,14 +80,6 @@ module _ (rules : RuleSet) (past : List Event) (are : AreJudged rules past) (tes
       by None none = tt
       by (Some j) found = found-at j found
 
-  -- and its number says which it is
-  pub found-numbered : option_and_then (λ n. outgoing_at n past) (option_map (λ j. j.number) (find test (outgoing_deliveries past))) ≡ find test (outgoing_deliveries past)
-  found-numbered = by (find test (outgoing_deliveries past)) refl
-    where
-      by : (o : Option Outgoing) → find test (outgoing_deliveries past) ≡ o → option_and_then (λ n. outgoing_at n past) (option_map (λ j. j.number) o) ≡ o
-      by None none = refl
-      by (Some j) found = found-at j found
-
   -- and where those that were not let go are kept by their numbers, what is kept of it
   pub found-entry : (gone : List (ℕ × Unit {0})) (kept : ℕ → Option Sent) → ((n : ℕ) → kept n ≡ kept_at gone n past)
       → option_and_then kept (option_map (λ j. j.number) (find test (outgoing_deliveries past))) ≡ where_kept gone (option_map (sent past) (find test (outgoing_deliveries past)))
@@ -107,18 +99,3 @@ module _ (e : Event) (past : List Event) (test : Outgoing → Bool) where
   -- it is the one that the event begins, where that passes
   pub last-step : find test (outgoing_deliveries (e ∷ past)) ≡ (if is_some_and (outgoing_begun e) test then outgoing_begun e else find test (outgoing_deliveries past))
   last-step = find-step (outgoing_begun e)
-
-  -- whose number is the event's
-  pub number-step : option_map (λ j. j.number) (find test (outgoing_deliveries (e ∷ past)))
-      ≡ (if is_some_and (outgoing_begun e) test then Some e.number else option_map (λ j. j.number) (find test (outgoing_deliveries past)))
-  number-step = by (outgoing_begun e) refl
-    where
-      named : (j : Outgoing) → j.number ≡ e.number → (b : Bool) → option_map (λ (x : Outgoing). x.number) (if b then Some j else find test (outgoing_deliveries past))
-          ≡ (if b then Some e.number else option_map (λ (x : Outgoing). x.number) (find test (outgoing_deliveries past)))
-      named j number true = ap Some number
-      named j number false = refl
-
-      by : (o : Option Outgoing) → outgoing_begun e ≡ o → option_map (λ j. j.number) (find test (cons_option o (outgoing_deliveries past)))
-          ≡ (if is_some_and o test then Some e.number else option_map (λ j. j.number) (find test (outgoing_deliveries past)))
-      by None none = refl
-      by (Some j) begun = named j (begun-number e j begun) (test j)

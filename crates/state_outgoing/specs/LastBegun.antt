@@ -1,16 +1,18 @@
 -- The last delivery to a client that began on a link, and those that carry a delivery from a client (own rules).
-use Rattle.std.specs.Prelude.{ℕ, Bool, List, ◌∷◌, Option, Some, option_map, map, filter, find, ◌==◌, if◌then◌else◌}
-use Rattle.trace_events.specs.Words.{is_some_and}
+use Rattle.std.specs.Prelude.{ℕ, Bool, not, List, ◌∷◌, Option, Some, option_map, map, filter, find, ◌==◌, if◌then◌else◌}
+use Rattle.trace_events.specs.Words.{is_some_and, where_passes}
 use Rattle.trace_events.specs.Event.{Event, Outgoing}
 use Rattle.trace_events.specs.Outgoing.{outgoing_begun, outgoing_deliveries, names}
+use Rattle.state_outgoing.specs.LetGo.{names_let_go}
 
 -- ---- on the link of a number
 
 abbrev pub last_on : ℕ → List Event → Option Outgoing
 last_on link past = find (λ j. j.link.number == link) (outgoing_deliveries past)
 
-abbrev pub last_number : ℕ → List Event → Option ℕ
-last_number link past = option_map (λ j. j.number) (last_on link past)
+-- its number, unless what it carries was let go
+abbrev pub last_number : List (ℕ × Unit {0}) → ℕ → List Event → Option ℕ
+last_number gone link past = option_map (λ j. j.number) (where_passes (λ j. not (names_let_go gone j.note)) (last_on link past))
 
 -- the event begins a delivery on the link
 abbrev pub begins_on : Event → ℕ → Bool

@@ -1,5 +1,5 @@
 -- What the table of deliveries to clients stands for.
-use Rattle.std.specs.Prelude.{◌≡◌, ℕ, Bool, true, List, [], Contains, Option, option_map, unwrap_or, nat_eq, ◌==◌, if◌then◌else◌}
+use Rattle.std.specs.Prelude.{◌≡◌, ℕ, Bool, true, ◌&&◌, List, [], Contains, Option, None, option_map, unwrap_or, nat_eq, ◌==◌, if◌then◌else◌}
 use Rattle.indexmap.specs.IndexMap.{get}
 use Rattle.trace_events.specs.Words.{is_some_and}
 use Rattle.trace_events.specs.Event.{Event, Outgoing}
@@ -8,7 +8,7 @@ use Rattle.state_outgoing.specs.Sent.{Sent, sent_next}
 use Rattle.state_outgoing.specs.Carriers.{carriers_in}
 use Rattle.state_outgoing.specs.LastBegun.{last_number, carrier_numbers}
 use Rattle.state_outgoing.specs.LetGo.{is_let_go, names_let_go, kept_at, is_done, is_finished}
-use Rattle.state_outgoing.specs.SentGrouped.{AreGrouped}
+use Rattle.state_outgoing.specs.SentGrouped.{AreGrouped, is_of_link}
 use Rattle.state_outgoing.specs.SentViews.{sent_view}
 use Rattle.state_outgoing.specs.declared.begun.LastNumbers.{LastNumbers}
 use Rattle.state_outgoing.specs.declared.deliveries.SentDeliveries.{SentDeliveries}
@@ -29,10 +29,10 @@ is_done_in table n = is_some_and (sent_in table n) is_done
 abbrev pub AreSent : SentDeliveries → List Event → Type 0
 AreSent table past = (n : ℕ) → sent_in table n ≡ kept_at table.let_go.items n past
 
--- these are the deliveries that began last, and those that carry each delivery from a client, without the carriers of what was
--- let go
+-- these are the deliveries that began last on each link, and those that carry each delivery from a client, without the carriers
+-- of what was let go
 pub record AreBegun (gone : List (ℕ × Unit {0})) (begun : LastNumbers) (past : List Event) : Type 0 where
-  pub on_link : (n : ℕ) → get nat_eq begun.on_link n ≡ last_number n past
+  pub on_link : (n : ℕ) → get nat_eq begun.on_link n ≡ last_number gone n past
   pub carriers : (n : ℕ) → carriers_in begun n ≡ (if is_let_go gone n then [] else carrier_numbers n past)
 
 -- what carries one that was let go is finished
@@ -49,6 +49,10 @@ pub record IsTable (table : SentDeliveries) (past : List Event) : Type 0 where
 -- this is made of the delivery of this number, and nothing of any other
 abbrev pub MovesAt : ℕ → (Option Sent → Option Sent) → SentDeliveries → SentDeliveries → Type 0
 MovesAt n step earlier later = (m : ℕ) → sent_in later m ≡ (if n == m then step (sent_in earlier m) else sent_in earlier m)
+
+-- the number of a link's last delivery, but where that has such a number and an entry on the link
+abbrev pub last_without : (ℕ → Option Sent) → (ℕ → Bool) → ℕ → Option ℕ → Option ℕ
+last_without kept passes link last = if is_some_and last (λ n. passes n && is_some_and (kept n) (λ x. is_of_link link x.delivery)) then None else last
 
 -- of the numbers that pass, the event moves the deliveries, and no other
 abbrev pub AreMovedBy : (ℕ → Bool) → Event → SentDeliveries → SentDeliveries → Type 0

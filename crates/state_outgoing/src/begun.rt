@@ -1,10 +1,11 @@
 //! Which deliveries to clients began last on each link, and which carry the same delivery from a client.
 
-ghost use Rattle.std.specs.Prelude.{◌≡◌, ℕ, [], ◌∷◌, OnOk, nat_eq, slice_get, ◌==◌, if◌then◌else◌};
+ghost use Rattle.std.specs.Prelude.{◌≡◌, ℕ, ◌&&◌, [], ◌∷◌, None, OnOk, nat_eq, slice_get, ◌==◌, if◌then◌else◌};
 ghost use Rattle.indexmap.specs.IndexMap.{get};
 ghost use Rattle.state_outgoing.specs.Carriers.{listed, carriers_in};
 ghost use Rattle.state_outgoing.specs.LastBegun.{on_link_next, carriers_next};
 ghost use Rattle.state_outgoing.specs.SentTables.{AreBegun};
+ghost use Rattle.trace_events.specs.Words.{is_number};
 ghost use Rattle.trace_values.specs.View.{event_view};
 
 use crate::carriers::Carriers;
@@ -14,7 +15,7 @@ use std::alloc::{AllocError, Global};
 use trace_values::Event;
 
 /// The numbers of the deliveries that began last, by the number of their link; and of all that began, by the number of the
-/// delivery from a client that their note names.
+/// delivery from a client that their note names. Of what carries a delivery that was let go there is neither.
 #[doc(hidden)]
 #[derive(Drop)]
 pub struct LastNumbers {
@@ -81,6 +82,21 @@ impl LastNumbers {
         self.carriers
             .insert(carried, Carriers::new(self.alloc, number))?;
         Ok(())
+    }
+
+    /// The delivery of this number is the last on the link no more, if it was.
+    pub(crate) fn leave_link(&mut self, link: u64, number: u64)
+        ensures on_link { (n : ℕ) → get nat_eq self.new.on_link n
+            ≡ (if (link == n) && is_number (get nat_eq self.old.on_link n) number then None else get nat_eq self.old.on_link n) }
+        ensures carriers { self.new.carriers ≡ self.old.carriers }
+    {
+        let is_last = match self.on_link.get(&link) {
+            Some(last) => *last == number,
+            None => false,
+        };
+        if is_last {
+            self.on_link.swap_remove(&link);
+        }
     }
 
     /// The number of the last one that carries the delivery from a client of this number.

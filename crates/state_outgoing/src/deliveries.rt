@@ -26,7 +26,7 @@ ghost use Rattle.state_outgoing.specs.Sent as kept;
 ghost use Rattle.state_outgoing.specs.Sent.{sent_begun, sent_next};
 ghost use Rattle.state_outgoing.specs.SentAnswers.{KnowsOrBegins};
 ghost use Rattle.state_outgoing.specs.SentGrouped.{AreGrouped};
-ghost use Rattle.state_outgoing.specs.SentTables.{AreMovedBy, AreSent, IsTable, MovesAt, is_done_in, sent_in, sent_count_in};
+ghost use Rattle.state_outgoing.specs.SentTables.{AreMovedBy, AreSent, IsTable, MovesAt, is_done_in, last_without, sent_in, sent_count_in};
 ghost use Rattle.state_outgoing.specs.SentTouched.{answered_id, is_spoken_of};
 ghost use Rattle.state_outgoing.specs.SentViews.{sent_view};
 ghost use Rattle.trace_values.specs.Known.{IsCarriedBy};
@@ -84,6 +84,44 @@ fn remove_all(entries: &mut NumberMap<u64, SentDelivery>, numbers: &[u64])
     }
 }
 
+/// Where the delivery of this number is the last that began on its link, the link has none.
+fn leave_link(begun: &mut LastNumbers, entries: &NumberMap<u64, SentDelivery>, number: u64)
+    ensures on_link { (n : ℕ) → get nat_eq begun.new.on_link n
+        ≡ last_without (λ m. option_map sent_view (get nat_eq entries.now m)) (λ m. m == number) n (get nat_eq begun.old.on_link n) }
+    ensures carriers { begun.new.carriers ≡ begun.old.carriers }
+{
+    if let Some(own) = entries.get(&number) {
+        begun.leave_link(own.delivery().link.number, number);
+    }
+}
+
+/// So with each of these.
+fn leave_links(begun: &mut LastNumbers, entries: &NumberMap<u64, SentDelivery>, numbers: &[u64])
+    ensures on_link { (n : ℕ) → get nat_eq begun.new.on_link n
+        ≡ last_without (λ m. option_map sent_view (get nat_eq entries.now m)) (is_among numbers.now) n (get nat_eq begun.old.on_link n) }
+    ensures carriers { begun.new.carriers ≡ begun.old.carriers }
+{
+    for number in numbers {
+        leave_link(begun, entries, *number);
+    }
+}
+
+/// So with those that carry the same delivery.
+fn leave_all(
+    begun: &mut LastNumbers,
+    entries: &NumberMap<u64, SentDelivery>,
+    carriers: &Option<Carriers>,
+)
+    ensures on_link { (n : ℕ) → get nat_eq begun.new.on_link n
+        ≡ last_without (λ m. option_map sent_view (get nat_eq entries.now m)) (is_among (listed carriers.now)) n (get nat_eq begun.old.on_link n) }
+    ensures carriers { begun.new.carriers ≡ begun.old.carriers }
+{
+    if let Some(carriers) = carriers {
+        leave_link(begun, entries, carriers.last);
+        leave_links(begun, entries, &carriers.earlier);
+    }
+}
+
 /// The entries of those that carry the same delivery go, where there are any.
 fn remove_carriers(entries: &mut NumberMap<u64, SentDelivery>, carriers: Option<Carriers>)
     ensures { (n : ℕ) → get nat_eq entries.new n ≡ (if is_among (listed carriers) n then None else get nat_eq entries.old n) }
@@ -138,9 +176,9 @@ impl SentDeliveries {
         }
     }
 
-    /// The number of the last delivery that began on the link of this number.
+    /// The number of the last delivery that began on the link of this number, unless what it carries was let go.
     pub fn last_begun_on(&self, link: u64) -> Option<u64>
-        ensures { (history : Events) → IsTable self.now history → result ≡ last_number link history }
+        ensures { (history : Events) → IsTable self.now history → result ≡ last_number self.now.let_go.items link history }
     {
         self.begun.on_link.get(&link).copied()
     }
@@ -203,6 +241,7 @@ impl SentDeliveries {
             IsTable self.new (history rules records) }
     {
         let carriers = self.begun.let_go(number);
+        leave_all(&mut self.begun, &self.entries, &carriers);
         remove_carriers(&mut self.entries, carriers);
         self.let_go = self.let_go.and(&number, &());
     }

@@ -8,7 +8,7 @@ use Rattle.trace_events.proofs.Judged.{AreJudged, history-judged}
 use Rattle.trace_values.specs.View.{event_view, link_view}
 use Rattle.state_outgoing.specs.Carriers.{carriers_in}
 use Rattle.state_outgoing.specs.Given.{gives, says}
-use Rattle.state_outgoing.specs.LastBegun.{carrier_numbers}
+use Rattle.state_outgoing.specs.LastBegun.{carrier_numbers, last_number}
 use Rattle.state_outgoing.specs.LetGo.{is_let_go, names_let_go, kept_at}
 use Rattle.state_outgoing.specs.Sent.{Sent, sent_begun}
 use Rattle.state_outgoing.specs.SentTouched.{touches}
@@ -48,7 +48,8 @@ returns-clause-kept c = λ rules records r next table ends apart.
       groups = c.in_ok-begin.ensures.grouped (c.in_ok-given.ensures.grouped table.groups)
           (mid-none rules e past are gone apart old mid (sent_in c.begin.new.self) all table.entries off c.in_ok-given.ensures.touched c.in_ok-begin.ensures.begun);
       begun = record {
-        on_link = λ n. last-moved e past n _ _ ((still n).0 ∙ table.begun.on_link n) (c.in_ok-take.ensures.on_link n);
+        on_link = λ n. last-moved gone e past apart n _ _ ((still n).0 ∙ table.begun.on_link n) (c.in_ok-take.ensures.on_link n)
+            ∙ ap (λ (g : List (ℕ × Unit {0})). last_number g n (e ∷ past)) (sym let_go);
         carriers = λ n. carriers-kept gone n e apart past _ _ ((still n).1 ∙ table.begun.carriers n) (c.in_ok-take.ensures.carriers n)
             ∙ ap (λ (g : List (ℕ × Unit {0})). if is_let_go g n then [] else carrier_numbers n (e ∷ past)) (sym let_go);
       };
