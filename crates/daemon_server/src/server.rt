@@ -6,6 +6,8 @@ ghost use Rattle.trace_events.specs.History.{history};
 ghost use Rattle.trace_clauses.specs.Clauses.{first_broken};
 ghost use Rattle.trace_duties.specs.Diligent.{is_diligent};
 ghost use Rattle.trace_duties.specs.Turn.{is_ordered};
+ghost use Rattle.indexmap.specs.IndexMap.{index_map_len};
+ghost use Rattle.state_answers.specs.Tables.{completed_by_all};
 ghost use Rattle.daemon_table.specs.Lines.{HasCome};
 ghost use Rattle.daemon_server.specs.Servers.{IsServing};
 
@@ -170,12 +172,17 @@ impl<D: Dues + Drop, W: Write + Drop, G: Gate + Drop> Server<D, W, G> {
     }
 
     /// How many connections are open.
-    pub fn open(&self) -> usize {
+    pub fn open(&self) -> usize
+        ensures { result ≡ index_map_len self.now.table.lines }
+    {
         self.table.open()
     }
 
-    /// How many messages came whole from clients.
-    pub fn messages(&self) -> u64 {
+    /// How many messages came whole from clients; the greatest number where they are more.
+    pub fn messages(&self) -> u64
+        ensures { self.now.core.has_failed ≡ false →
+            result ≡ completed_by_all (history self.now.core.journal.rules self.now.core.journal.records) }
+    {
         self.core.completed()
     }
 
@@ -185,7 +192,9 @@ impl<D: Dues + Drop, W: Write + Drop, G: Gate + Drop> Server<D, W, G> {
     }
 
     /// How many octets the frames have that wait for connections that are open, without those that their engines have.
-    pub fn waiting(&self) -> u64 {
+    pub fn waiting(&self) -> u64
+        ensures { result ≡ self.now.table.waiting }
+    {
         self.table.waiting()
     }
 

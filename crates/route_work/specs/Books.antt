@@ -6,7 +6,7 @@ use Rattle.trace_events.specs.Event.{Event}
 use Rattle.trace_events.specs.History.{judge, history}
 use Rattle.trace_clauses.specs.Clauses.{broken_clause}
 use Rattle.state_answers.specs.declared.looked.Looked.{Looked}
-use Rattle.state_answers.specs.Tables.{StandFor, AreTables}
+use Rattle.state_answers.specs.Tables.{StandFor, AreTables, completed_by_all}
 use Rattle.route_dues.specs.Writing.{IsInOrder}
 use Rattle.route_work.specs.declared.books.Books.{Books}
 
@@ -21,9 +21,10 @@ abbrev pub IsUnbroken : RuleSet → List Record → Record → Type 0
 IsUnbroken rules records r = let past = history rules records in broken_clause rules (judge rules past r) past ≡ None
 
 module _ {D : Type 0} (HasAll : D → RuleSet → List Event → Type 0) where
-  -- the tables tell of these records, and all that is due is listed
+  -- the tables tell of these records, and so how many deliveries they complete; and all that is due is listed
   pub record AreBooks (rules : RuleSet) (books : Books D) (records : List Record) : Type 0 where
     pub tables : AreTables rules books.tables (history rules records)
+    pub counted : books.tables.completed ≡ completed_by_all (history rules records)
     pub listed : HasAll books.dues rules (history rules records)
 
   -- of some records, which are in order

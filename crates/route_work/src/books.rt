@@ -4,7 +4,7 @@ ghost use Rattle.std.specs.Prelude.{◌≡◌, ◌∷◌, [], ◌++◌, List, No
 ghost use Rattle.capture_form.specs.Rules.{RuleSet};
 ghost use Rattle.capture_form.specs.declared.records.Record.{Record};
 ghost use Rattle.trace_events.specs.History.{history, judge, moment_of};
-ghost use Rattle.state_answers.specs.Tables.{kept_in};
+ghost use Rattle.state_answers.specs.Tables.{completed_by_all, kept_in};
 ghost use Rattle.state_ledger.specs.HeldEvents.{held_event_view};
 ghost use Rattle.trace_duties.specs.Quiet.{is_quiet};
 ghost use Rattle.route_work.specs.Dues.{IsNextFrame};
@@ -64,7 +64,8 @@ impl<D: Dues> Books<D> {
 
     /// How many deliveries from clients were completed; the greatest number where they are more.
     pub fn completed(&self) -> u64
-        ensures { result ≡ self.now.tables.completed }
+        ensures { (rules : RuleSet) (records : List Record) → AreBooks D.has_all rules self.now records →
+            result ≡ completed_by_all (history rules records) }
     {
         self.tables.completed()
     }

@@ -1,5 +1,5 @@
 -- What the tables stand for, all of them.
-use Rattle.std.specs.Prelude.{◌≡◌, ℕ, ◌+◌, true, false, List, [], None, is_some, nat_eq, nat_lt, if◌then◌else◌}
+use Rattle.std.specs.Prelude.{◌≡◌, ℕ, ◌+◌, true, false, List, [], ◌∷◌, None, is_some, nat_eq, nat_lt, if◌then◌else◌}
 use Rattle.std.specs.List.{list_all}
 use Rattle.capture_form.specs.Rules.{RuleSet}
 use Rattle.number_groups.specs.Groups.{is_member}
@@ -64,6 +64,11 @@ turn_behind tables = if nat_lt tables.turn (count_of tables.deliveries) then tab
 -- how many deliveries from clients were completed, with one event more
 abbrev pub completed_with : Event → ℕ → ℕ
 completed_with e n = if is_some (completed_by e) then capped (n + 1) else n
+
+-- and by all of these
+abbrev pub completed_by_all : List Event → ℕ
+completed_by_all [] = 0
+completed_by_all (e ∷ past) = let earlier = completed_by_all past in completed_with e earlier
 
 -- how many are kept
 abbrev pub kept_in : Tables → ℕ

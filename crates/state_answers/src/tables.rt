@@ -71,6 +71,7 @@ impl Tables {
     pub fn new(alloc: Global) -> Tables
         ensures stand { (rules : RuleSet) → AreTables rules result [] }
         ensures whole { AreWhole result }
+        ensures counted { result.completed ≡ 0 }
     {
         Tables {
             alloc,
@@ -203,6 +204,7 @@ impl Tables {
             self.new.deliveries.let_go.items ≡ self.old.deliveries.let_go.items ++ (n, tt) ∷ [] }
         ensures turns { ((n : ℕ) → number_at self.old.deliveries self.old.turn ≡ Some n → IsReady self.old n → ⊥) →
             self.new.turn ≡ turn_behind self.old }
+        ensures counted { self.new.completed ≡ self.old.completed }
     {
         match self.deliveries.spent_at(self.turn) {
             // The last entry has its place then.

@@ -1,3 +1,4 @@
+use Rattle.std.proofs.Common.{◌∙◌}
 use Rattle.trace_events.specs.History.{history}
 use Rattle.route_work.proofs.books.Books.next_record.Goals as goal
 
@@ -11,4 +12,8 @@ pub returns-in-None-clause-kept : goal.returns-in-None-clause-kept
 returns-in-None-clause-kept g c = λ records stand.
     let rules = c.args.rules.now in
     let tell = c.looked-looked.ensures.stand rules (history rules records) stand.tables in
-    record { tables = c.let_go_next-in-None.ensures.stand rules records (c.let_go_next.ensures.stand rules records stand.tables); listed = c.in-None.ensures.kept records tell stand.listed }
+    record {
+      tables = c.let_go_next-in-None.ensures.stand rules records (c.let_go_next.ensures.stand rules records stand.tables);
+      counted = c.let_go_next-in-None.ensures.counted ∙ (c.let_go_next.ensures.counted ∙ stand.counted);
+      listed = c.in-None.ensures.kept records tell stand.listed;
+    }
