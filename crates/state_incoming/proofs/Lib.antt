@@ -24,3 +24,4 @@ pub mod GroupAnswers
 mod ArrivingKnown
 pub mod KnownEntries
 pub mod CarriedHeld
+mod WaitingCountExamples

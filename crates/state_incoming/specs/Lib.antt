@@ -7,3 +7,4 @@ pub mod LetGo
 pub mod HeldTables
 pub mod EntryAnswers
 pub mod Completed
+pub mod WaitingCount

@@ -10,6 +10,7 @@ ghost use Rattle.trace_events.specs.Waiting as waiting;
 ghost use Rattle.trace_values.specs.View.{Events, incoming_view, link_view};
 ghost use Rattle.state_incoming.specs.EntryAnswers.{Knows};
 ghost use Rattle.state_incoming.specs.HeldTables.{AreHeld, IsHistory, IsTable, held_in};
+ghost use Rattle.state_incoming.specs.WaitingCount as counts;
 
 use crate::deliveries::Deliveries;
 use number_groups::IdOn;
@@ -23,6 +24,14 @@ impl Deliveries {
             result ≡ waiting.has_waiting rules address.now history }
     {
         !self.groups.waiting.is_empty(address)
+    }
+
+    /// How many deliveries wait at the address.
+    pub fn waiting_count(&self, address: &[u8]) -> usize
+        ensures { (rules : RuleSet) (history : Events) → IsHistory rules history → IsTable rules self.now history →
+            result ≡ counts.waiting_count rules address.now history }
+    {
+        self.groups.waiting.count(address)
     }
 
     /// A delivery of this id on the session is not decided yet.
