@@ -27,3 +27,6 @@ mod SentExamples
 mod LetGoExamples
 mod LastExamples
 mod EarliestExamples
+pub mod OutgoingCounts
+mod UnsettledCount
+mod UnsettledExamples

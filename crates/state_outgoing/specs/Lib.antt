@@ -9,3 +9,4 @@ pub mod Carriers
 pub mod LetGo
 pub mod SentTables
 pub mod SentAnswers
+pub mod UnsettledCount

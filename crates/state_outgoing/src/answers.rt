@@ -18,6 +18,7 @@ ghost use Rattle.state_outgoing.specs.Sent.{is_left_unsettled};
 ghost use Rattle.state_outgoing.specs.SentAnswers as entries;
 ghost use Rattle.state_outgoing.specs.SentAnswers.{AreClosings, Knows, KnowsOrBegins};
 ghost use Rattle.state_outgoing.specs.SentTables.{AreSent, IsTable, sent_in};
+ghost use Rattle.state_outgoing.specs.UnsettledCount as counts;
 ghost use Rattle.trace_values.specs.View.{decision_view, event_view, incoming_view, link_view, outgoing_view};
 
 use crate::closings::{Closings, Settleable};
@@ -84,6 +85,14 @@ impl SentDeliveries {
             option_map decision_view result ≡ option_map terminal_state (law.decision (outgoing_view delivery.now) (history rules records)) }
     {
         self.decided(delivery.number)
+    }
+
+    /// How many deliveries on the link to a client are still unsettled.
+    pub fn unsettled_count(&self, link: &Link) -> usize
+        ensures { (rules : RuleSet) (records : List Record) → IsTable self.now (history rules records) →
+            result ≡ counts.unsettled_count (link_view link.now) (history rules records) }
+    {
+        self.of_link().count(&link.number)
     }
 
     /// The earliest delivery of the id on the session that the router is to settle, given of which deliveries from clients

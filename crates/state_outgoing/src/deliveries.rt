@@ -253,6 +253,13 @@ impl SentDeliveries {
         &self.groups.of_id
     }
 
+    /// The unsettled deliveries by the number of their link.
+    pub(crate) fn of_link(&self) -> &Groups<u64>
+        ensures { result.now ≡ self.now.groups.of_link }
+    {
+        &self.groups.of_link
+    }
+
     /// The numbers of the unsettled deliveries of which the event's consumer speaks, each once. It takes the time of those of the
     /// id that it names, or where it names more, of those of its session.
     ///
