@@ -10,7 +10,7 @@ use Rattle.trace_events.specs.Words.{is_some_and}
 use Rattle.trace_events.specs.Event.{Event, Outgoing}
 use Rattle.trace_events.specs.Outgoing.{answering, names, outgoing_deliveries}
 use Rattle.trace_events.proofs.Judged.{AreJudged}
-use Rattle.state_outgoing.specs.Sent.{is_left_unsettled, outgoing_at, sent}
+use Rattle.state_outgoing.specs.Sent.{is_left_unsettled, sent}
 use Rattle.state_outgoing.specs.SentAnswers.{carried, number_of}
 use Rattle.state_outgoing.specs.SentTables.{IsTable, sent_in}
 use Rattle.state_outgoing.specs.SentTouched.{answered_id, is_spoken_of}
