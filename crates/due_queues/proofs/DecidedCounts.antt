@@ -1,27 +1,29 @@
 -- What an event decides is counted once for each link, in whichever order it is found.
-use Rattle.std.proofs.Common.{◌≡◌, refl, sym, ap, subst, ◌∙◌, ◌+◌, ◌<◌, ◌^◌, ℕ, Bool, true, false, cond, ◌&&◌, List, [], ◌∷◌, ◌++◌, map, filter, Option, Some, None, IfSome, is_some, is_none, not, nat_eq, option_map, if◌then◌else◌, ◌==◌, arith, eqb-true, count_by}
+use Rattle.std.proofs.Common.{◌≡◌, refl, sym, ap, subst, ◌∙◌, ◌+◌, ℕ, Bool, true, false, cond, ◌&&◌, ◌||◌, List, [], ◌∷◌, ◌++◌, map, filter, Option, Some, None, is_some, is_none, find, nat_eq, option_map, if◌then◌else◌, ◌==◌, arith, eqb-true, count_by}
+use Rattle.std.specs.Prelude.{Contains}
 use Rattle.std.specs.List.{list_any, cons_option, filter_map, AllByRecursion, IsDistinct}
 use Rattle.std.proofs.lemmas.List.Sums.{length-filter, sum_by-cons}
 use Rattle.capture_form.specs.Rules.{RuleSet}
 use Rattle.flow_counts.specs.Picks.{Decided}
+use Rattle.number_groups.specs.Numbers.{is_among}
 use Rattle.trace_events.specs.Words.{is_some_and}
 use Rattle.trace_events.specs.Event.{Event, Outgoing}
 use Rattle.trace_events.specs.Disposition.{is_decisive, terminal_state}
 use Rattle.trace_events.specs.Link.{is_live}
 use Rattle.trace_events.specs.Outgoing.{outgoing_deliveries, answering, decision}
+use Rattle.trace_events.specs.Work.{decides_now}
 use Rattle.trace_events.proofs.Judged.{AreJudged}
+use Rattle.trace_events.proofs.SettlingSteps.{is_decided-step}
 use Rattle.trace_clauses.proofs.WaitingQueue.{in_filter, filter_has}
 use Rattle.trace_duties.specs.Consumers.{decides_outgoing}
 use Rattle.trace_duties.proofs.ConsumersCounted.{decided_count}
-use Rattle.state_outgoing.specs.Sent.{Sent, sent, outgoing_at}
+use Rattle.state_outgoing.specs.Sent.{Sent, sent, outgoing_at, is_left_unsettled}
+use Rattle.state_outgoing.proofs.SentKept.{found-contained}
 use Rattle.due_queues.specs.AddressCounts.{decided_on}
-use Rattle.due_queues.specs.Picks.{decided_among}
-use Rattle.due_queues.specs.Undecided.{decides, decided_link, HaveOpen, answer_of, is_found}
-use Rattle.due_queues.specs.declared.undecided.Undecided.{Undecided}
+use Rattle.due_queues.specs.Picks.{decided_among, decided_link, decides}
 use Rattle.due_queues.proofs.EndedConsumers.{any-gives, any-from, and_first, and_last, and_both, both-ways}
-use Rattle.due_queues.proofs.OpenDeliveries.{decides-is, speaks}
 use Rattle.due_queues.proofs.OutgoingCounts.{length-counted}
-use Rattle.due_queues.proofs.SentKnown.{IsKnown, decided-kept, decided-known}
+use Rattle.due_queues.proofs.SentKnown.{IsKnown, decided-known, decides-unsettled}
 
 -- ---- on lists
 
@@ -98,17 +100,26 @@ some-from : {A : Type 0} (o : Option A) (test : A → Bool) → is_some_and o te
 some-from None test is = absurd cc
 some-from (Some x) test is = (x, refl, is)
 
--- what is decided was open
-open-parts : {A B : Type 0} (f : A → B) (settled live answers : Bool) (o : Option A) → is_none (option_map f o) && (live && (not settled && answers)) ≡ true
-    → (not settled && live && is_none o ≡ true) × (answers ≡ true)
-open-parts f settled live answers (Some x) is = absurd cc
-open-parts f settled false answers None is = absurd cc
-open-parts f true true answers None is = absurd cc
-open-parts f false true answers None is = (refl, is)
+-- what is found by its number has it
+found-number : (n : ℕ) (js : List Outgoing) (j : Outgoing) → find (λ (x : Outgoing). x.number == n) js ≡ Some j → j.number ≡ n
+found-number n [] j found = absurd cc
+found-number n (k ∷ js) j found = by (k.number == n) refl found (found-number n js j)
+  where
+    by : (b : Bool) → (k.number == n) ≡ b → (if b then Some k else find (λ (x : Outgoing). x.number == n) js) ≡ Some j → (find (λ (x : Outgoing). x.number == n) js ≡ Some j → j.number ≡ n) → j.number ≡ n
+    by true same found later = let one : k ≡ j = cc in ap (λ (x : Outgoing). x.number) (sym one) ∙ eqb-true k.number n same
+    by false other found later = later found
 
-module _ (rules : RuleSet) (e : Event) (past : List Event) (are : AreJudged rules past) (kept : ℕ → Option Sent) (were : (n : ℕ) → IsKnown past kept n)
-    (ids : (n : ℕ) → IfSome (kept n) (λ x. IfSome x.delivery.id (λ id. id < 2 ^ 32))) (groups : Undecided) (opened : HaveOpen groups past) (ns : List ℕ) (distinct : IsDistinct nat_eq ns)
-    (found : (n : ℕ) → is_found groups (answer_of e) e.session n ≡ true → list_any (nat_eq n) ns ≡ true) (small : IfSome (answer_of e) (λ fields. fields.first < 2 ^ 32)) (link : ℕ) where
+-- by what the table has of a delivery it is decided where the law says so
+decides-bits : {A B : Type 0} (f : A → B) (a : Bool) (o : Option A) → is_none (option_map f o) && a ≡ is_none o && (is_some o || a)
+decides-bits f a (Some x) = refl
+decides-bits f a None = refl
+
+decides-is : (e : Event) (past : List Event) (j : Outgoing) → decides e past (sent past j) ≡ decides_outgoing e past j
+decides-is e past j =
+    decides-bits terminal_state (is_live past j.link && decides_now e j) (decision j past) ∙ ap (λ b. is_none (decision j past) && b) (sym (is_decided-step e past j))
+
+module _ (rules : RuleSet) (e : Event) (past : List Event) (are : AreJudged rules past) (kept : ℕ → Option Sent) (were : (n : ℕ) → IsKnown past kept n) (ns : List ℕ) (distinct : IsDistinct nat_eq ns)
+    (spoken : (j : Outgoing) → Contains (outgoing_deliveries past) j → is_left_unsettled past j ≡ true → is_some (answering j e) ≡ true → is_among ns j.number ≡ true) (link : ℕ) where
   abbrev passes : Outgoing → Bool
   passes j = decides_outgoing e past j && (link == j.link.number)
 
@@ -128,10 +139,9 @@ module _ (rules : RuleSet) (e : Event) (past : List Event) (are : AreJudged rule
       let one = some-from (outgoing_at n past) passes is in
       let j = one.0 in
       let decided : decides e past (sent past j) ≡ true = decides-is e past j ∙ and_first (decides_outgoing e past j) (link == j.link.number) one.2 in
-      let entry : kept n ≡ Some (sent past j) = decided-kept rules e past are kept n (were n) j one.1 decided in
-      let parts = open-parts terminal_state j.link.is_pre_settled (is_live past j.link) (is_some_and (answering j e) is_decisive) (decision j past) decided in
-      let own : IfSome j.id (λ id. id < 2 ^ 32) = subst (λ (o : Option Sent). IfSome o (λ x. IfSome x.delivery.id (λ id. id < 2 ^ 32))) entry (ids n) in
-      found n (speaks groups past opened n j one.1 parts.0 own e small (some-and_some (answering j e) is_decisive parts.1))
+      let stood = decides-unsettled rules e past are n j one.1 decided in
+      subst (λ m. is_among ns m ≡ true) (found-number n (outgoing_deliveries past) j one.1)
+      (spoken j (found-contained past n j one.1) stood.0 (some-and_some (answering j e) is_decisive stood.1))
 
   pub as-many : count_by (λ x. link == x) (filter_map (λ n. decided_link e past (kept n)) ns) ≡ decided_count link e past
   as-many =

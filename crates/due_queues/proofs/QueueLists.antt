@@ -1,13 +1,12 @@
 -- How the queue of an address moves with each event, and which delivery is the first of it.
-use Rattle.std.proofs.Common.{◌≡◌, refl, sym, ap, subst, ◌∙◌, inl, inr, ℕ, Bool, true, false, ◌&&◌, not, List, [], ◌∷◌, ◌++◌, Option, Some, None, filter, map, reverse, option_map, if◌then◌else◌, ◌==◌}
+use Rattle.std.proofs.Common.{◌≡◌, refl, sym, ap, subst, ◌∙◌, inl, inr, ℕ, Bool, true, false, ◌&&◌, not, List, [], ◌∷◌, ◌++◌, filter, map, reverse, if◌then◌else◌}
 use Rattle.std.specs.Prelude.{Contains, bytes_eq}
 use Rattle.std.specs.List.{cons_option}
 use Rattle.std.proofs.lemmas.List.{append_assoc, map-append, reverse-append}
 use Rattle.std.proofs.lemmas.List.Elements.{Contains-append_cases, Contains-append_left, Contains-append_right, filter-append}
 use Rattle.capture_form.specs.Rules.{RuleSet}
-use Rattle.trace_events.specs.Words.{is_some_and, where_passes}
 use Rattle.trace_events.specs.Event.{Event, Incoming}
-use Rattle.trace_events.specs.Incoming.{address_of, completed_by, incoming_at, incoming_deliveries, is_complete}
+use Rattle.trace_events.specs.Incoming.{address_of, completed_by, is_complete}
 use Rattle.trace_events.specs.Outgoing.{is_paired}
 use Rattle.trace_events.specs.Queue.{stays, completed_deliveries, waiting_queue, waits_at}
 use Rattle.trace_events.specs.Address.{has_multicast}

@@ -1,4 +1,3 @@
 pub mod AddressCounts
-pub mod Undecided
 pub mod Picks
 pub mod Queues

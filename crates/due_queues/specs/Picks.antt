@@ -1,18 +1,20 @@
 -- What is kept of the links of consumers for picks (own rules, after the message routing of the Qpid Dispatch Router).
-use Rattle.std.specs.Prelude.{◌≡◌, ℕ, ◌<◌, ◌^◌, true, List, [], ◌∷◌, ◌++◌, Option, IfSome, nat_eq}
-use Rattle.std.specs.List.{list_any, IsDistinct}
+use Rattle.std.specs.Prelude.{◌≡◌, ℕ, Bool, true, ◌&&◌, List, [], ◌∷◌, ◌++◌, Option, Some, None, Contains, is_none, is_some, option_and_then, nat_eq, if◌then◌else◌}
+use Rattle.std.specs.List.{IsDistinct}
 use Rattle.flow_counts.specs.Picks.{AddressEvent}
 use Rattle.address_table.specs.Links.{IsCount}
 use Rattle.address_table.specs.declared.table.Table.{Table}
 use Rattle.capture_form.specs.Rules.{RuleSet}
-use Rattle.trace_events.specs.Event.{Event}
-use Rattle.state_outgoing.specs.Sent.{Sent}
+use Rattle.number_groups.specs.Numbers.{is_among}
+use Rattle.trace_events.specs.Event.{Event, Outgoing}
+use Rattle.trace_events.specs.Link.{is_live}
+use Rattle.trace_events.specs.Outgoing.{answering, outgoing_deliveries}
+use Rattle.trace_events.specs.Work.{decides_now}
+use Rattle.state_outgoing.specs.Sent.{Sent, is_left_unsettled}
 use Rattle.state_answers.specs.Tables.{StandFor}
 use Rattle.state_answers.specs.declared.looked.Looked.{Looked}
 use Rattle.trace_duties.specs.Consumers.{address_events}
 use Rattle.due_queues.specs.AddressCounts.{CountsMore, decided_on}
-use Rattle.due_queues.specs.Undecided.{HaveOpen, answer_of, decided_link, is_found}
-use Rattle.due_queues.specs.declared.undecided.Undecided.{Undecided}
 use Rattle.due_queues.specs.declared.picks.Picks.{Picks}
 
 -- the tables, lent, are those of these events
@@ -21,20 +23,29 @@ StandsFor rules looked past =
     StandFor rules looked.connections.now looked.links.now looked.consumers.now looked.deliveries.now
     looked.consumer_links.now looked.copies.now looked.sent.now looked.verdicts.now past
 
--- the table has counted what happened to the links of consumers, and each delivery that may still be decided is kept
-pub record ArePicks (picks : Picks) (past : List Event) : Type 0 where
-  pub counted : IsCount picks.table (address_events past)
-  pub are_open : HaveOpen picks.undecided past
+-- the table has counted what happened to the links of consumers
+abbrev pub ArePicks : Picks → List Event → Type 0
+ArePicks picks past = IsCount picks.table (address_events past)
+
+-- ---- what an event decides (part 2 of the standard, sections 2.6.12 and 2.7.6)
+
+-- what the table of deliveries has of it says that the consumer decides it with the event
+abbrev pub decides : Event → List Event → Sent → Bool
+decides e past x = is_none x.decision && (is_live past x.delivery.link && decides_now e x.delivery)
+
+-- the link of the delivery, if the event decides it
+abbrev pub decided_link : Event → List Event → Option Sent → Option ℕ
+decided_link e past o = option_and_then (λ x. if decides e past x then Some x.delivery.link.number else None) o
 
 -- of the deliveries of these numbers those that the event decides, the first last
 abbrev pub decided_among : Event → List Event → (ℕ → Option Sent) → List ℕ → List AddressEvent
 decided_among e past kept [] = []
 decided_among e past kept (n ∷ ns) = decided_on (decided_link e past (kept n)) ++ decided_among e past kept ns
 
--- the table has counted, once each, all that the event decides
-pub record DecidesAll (e : Event) (past : List Event) (kept : ℕ → Option Sent) (groups : Undecided) (earlier later : Table) : Type 0 where
+-- the table has counted, once each, all that the event decides: those of some numbers, among which is each delivery that is left
+-- unsettled and of which the event's consumer speaks
+pub record DecidesAll (e : Event) (past : List Event) (kept : ℕ → Option Sent) (earlier later : Table) : Type 0 where
   pub listed : List ℕ
   pub distinct : IsDistinct nat_eq listed
-  pub found : (n : ℕ) → is_found groups (answer_of e) e.session n ≡ true → list_any (nat_eq n) listed ≡ true
-  pub small : IfSome (answer_of e) (λ fields. fields.first < 2 ^ 32)
+  pub spoken : (j : Outgoing) → Contains (outgoing_deliveries past) j → is_left_unsettled past j ≡ true → is_some (answering j e) ≡ true → is_among listed j.number ≡ true
   pub counted : CountsMore (decided_among e past kept listed) earlier later

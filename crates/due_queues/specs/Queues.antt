@@ -1,5 +1,5 @@
 -- The deliveries that wait at each address, the first completed first (own rules).
-use Rattle.std.specs.Prelude.{◌≡◌, ℕ, Bool, true, false, ◌&&◌, not, List, [], ◌∷◌, ◌++◌, Option, Some, None, Contains, filter, map, reverse, bytes_eq, if◌then◌else◌}
+use Rattle.std.specs.Prelude.{◌≡◌, ℕ, Bool, false, ◌&&◌, not, List, [], ◌∷◌, ◌++◌, Option, Some, None, Contains, filter, map, reverse, bytes_eq, if◌then◌else◌}
 use Rattle.std.specs.declared.collections.VecDeque.{VecDeque}
 use Rattle.indexmap.specs.IndexMap.{get_by}
 use Rattle.capture_form.specs.Rules.{RuleSet}
@@ -8,7 +8,7 @@ use Rattle.trace_events.specs.Event.{Event, Incoming}
 use Rattle.trace_events.specs.Incoming.{address_of}
 use Rattle.trace_events.specs.Queue.{completed_deliveries}
 use Rattle.trace_events.specs.Waiting.{is_of_multicast, is_waiting}
-use Rattle.state_incoming.specs.Held.{Held, says_waiting}
+use Rattle.state_incoming.specs.Held.{says_waiting}
 use Rattle.state_incoming.specs.HeldTables.{held_in}
 use Rattle.state_incoming.specs.declared.deliveries.Deliveries.{Deliveries}
 use Rattle.due_queues.specs.declared.queues.Queues.{Queues}

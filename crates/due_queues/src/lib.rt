@@ -1,14 +1,11 @@
 //! The links that deliveries go to, and the queues of addresses in which they wait.
 //!
-//! - `undecided`: the deliveries to clients that their consumers may still decide;
 //! - `picks`: the consumer's link that a delivery of an address goes to;
 //! - `queues`: the deliveries that wait at each address, in the order in which they were completed.
 #![tactic(auto)]
 
 mod picks;
 mod queues;
-mod undecided;
 
 pub use picks::Picks;
 pub use queues::Queues;
-pub use undecided::Undecided;

@@ -20,10 +20,8 @@ ghost use Rattle.state_addresses.specs.ConsumerLinks.{consumer_at};
 ghost use Rattle.state_outgoing.specs.SentTables.{sent_in};
 ghost use Rattle.state_outgoing.specs.SentViews.{sent_view};
 ghost use Rattle.due_queues.specs.AddressCounts.{AreFew, CountsMore, HasNamedSource, decided_on, detached_all, named_source};
-ghost use Rattle.due_queues.specs.Picks.{ArePicks, DecidesAll, StandsFor};
-ghost use Rattle.due_queues.specs.Undecided.{Spares, decided_link, decides};
+ghost use Rattle.due_queues.specs.Picks.{ArePicks, DecidesAll, StandsFor, decided_link, decides};
 
-use crate::undecided::Undecided;
 use address_table::Table;
 use amqp_perf::{Address, Role};
 use capture_form::{RuleSet, distribution_of};
@@ -39,7 +37,6 @@ use trace_values::{Event, Link, is_decisive};
 pub struct Picks {
     alloc: Global,
     table: Table,
-    undecided: Undecided,
 }
 
 /// The consumer's link that the event opens.
@@ -124,13 +121,12 @@ impl Picks {
         Picks {
             alloc,
             table: Table::new(alloc),
-            undecided: Undecided::new(alloc),
         }
     }
 
     /// The event follows those so far; `before` are the tables without it. The rules say only at which addresses picks are to
-    /// be fast. It takes the time of the links that the event ends and of the deliveries of which a consumer speaks with it;
-    /// where one of these is of a balanced address, or begins there, also that of the links of the address.
+    /// be fast. It takes the time of the links that the event ends and of the unsettled deliveries of which a consumer speaks
+    /// with it; where one of these is of a balanced address, or begins there, also that of the links of the address.
     ///
     /// # Errors
     ///
@@ -150,7 +146,6 @@ impl Picks {
         self.begin(event);
         self.decide(event, before)?;
         self.detach(ended);
-        self.undecided.begin(event)?;
         Ok(())
     }
 
@@ -179,8 +174,7 @@ impl Picks {
 
     /// The link of a consumer that the event opens is attached to its address.
     fn attach(&mut self, rules: &RuleSet, event: &Event) -> Result<(), AllocError>
-        ensures counted { OnOk result (HasNamedSource (event_view event.now) → CountsMore (attached_as (own_link (event_view event.now))) self.old.table self.new.table) }
-        ensures same { self.new.undecided ≡ self.old.undecided }
+        ensures { OnOk result (HasNamedSource (event_view event.now) → CountsMore (attached_as (own_link (event_view event.now))) self.old.table self.new.table) }
     {
         let Some(link) = opened(event) else {
             return Ok(());
@@ -196,7 +190,6 @@ impl Picks {
     fn begin(&mut self, event: &Event)
         ensures counted { (past : List AddressEvent) → AreFew past (outgoing.outgoing_begun (event_view event.now)) → IsCount self.old.table past →
             IsCount self.new.table (begun_by (event_view event.now) ++ past) }
-        ensures same { self.new.undecided ≡ self.old.undecided }
         ensures number { event.now.number < 2 ^ 64 }
     {
         let number = event.number;
@@ -210,13 +203,11 @@ impl Picks {
 
     /// The deliveries that the event decides are decided.
     fn decide(&mut self, event: &Event, before: &Looked<'_>) -> Result<(), AllocError>
-        ensures counted { OnOk result ((history : Events) → AreLinked before.now.links.now history →
-            DecidesAll (event_view event.now) history (sent_in before.now.sent.now) self.old.undecided self.old.table self.new.table) }
-        ensures spared { OnOk result ((history : Events) → AreLinked before.now.links.now history →
-            Spares (λ n. is_some (decided_link (event_view event.now) history (sent_in before.now.sent.now n))) self.old.undecided self.new.undecided) }
+        ensures { OnOk result ((rules : RuleSet) (records : List Record) → StandsFor rules before.now (history rules records) →
+            DecidesAll (event_view event.now) (history rules records) (sent_in before.now.sent.now) self.old.table self.new.table) }
     {
-        let mut answered = self.undecided.answered(self.alloc, event)?;
-        while let Some(number) = answered.pop() {
+        let mut spoken = before.sent.spoken_of(self.alloc, event)?;
+        while let Some(number) = spoken.pop() {
             self.decide_one(number, event, before);
         }
         Ok(())
@@ -224,10 +215,8 @@ impl Picks {
 
     /// The delivery of this number is decided, if the event decides it.
     fn decide_one(&mut self, number: u64, event: &Event, before: &Looked<'_>)
-        ensures counted { (history : Events) → AreLinked before.now.links.now history →
+        ensures { (history : Events) → AreLinked before.now.links.now history →
             CountsMore (decided_on (decided_link (event_view event.now) history (sent_in before.now.sent.now number))) self.old.table self.new.table }
-        ensures spared { (history : Events) → AreLinked before.now.links.now history →
-            Spares (λ n. is_some (decided_link (event_view event.now) history (sent_in before.now.sent.now n))) self.old.undecided self.new.undecided }
     {
         let Some(own) = before.sent.get(number) else {
             return;
@@ -239,13 +228,11 @@ impl Picks {
         if self.table.undecided(delivery.link.number) > 0 {
             self.table.decided(delivery.link.number);
         }
-        self.undecided.leave(&delivery, number);
     }
 
     /// The links of consumers that end are detached.
     fn detach(&mut self, ended: Vec<Link>)
-        ensures counted { CountsMore (detached_all (views ended.entry.items)) self.old.table self.new.table }
-        ensures same { self.new.undecided ≡ self.old.undecided }
+        ensures { CountsMore (detached_all (views ended.entry.items)) self.old.table self.new.table }
     {
         let mut left = ended;
         while let Some(link) = left.pop() {

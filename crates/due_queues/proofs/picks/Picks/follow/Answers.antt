@@ -1,4 +1,4 @@
-use Rattle.std.proofs.Common.{◌∙◌, ◌∷◌, ◌++◌, List, subst, sym, is_some}
+use Rattle.std.proofs.Common.{◌∷◌, ◌++◌, List, subst}
 use Rattle.std.specs.List.{filter_map}
 use Rattle.flow_counts.specs.Picks.{AddressEvent}
 use Rattle.address_table.specs.Links.{IsCount}
@@ -10,14 +10,12 @@ use Rattle.trace_duties.specs.Consumers.{attached_as, begun_by, address_events}
 use Rattle.state_outgoing.specs.SentTables.{sent_in}
 use Rattle.state_tables.specs.EndedLinks.{views}
 use Rattle.due_queues.specs.AddressCounts.{detached_all}
-use Rattle.due_queues.specs.Undecided.{HaveOpen, Spares, decided_link}
-use Rattle.due_queues.specs.declared.undecided.Undecided.{Undecided}
+use Rattle.due_queues.specs.Picks.{decided_link}
 use Rattle.due_queues.proofs.Begins.{are-few}
 use Rattle.due_queues.proofs.Sources.{named-source}
 use Rattle.due_queues.proofs.Counts.{counted-same}
 use Rattle.due_queues.proofs.EndedConsumers.{ended-same}
 use Rattle.due_queues.proofs.DecidedCounts.{among-mapped, as-many}
-use Rattle.due_queues.proofs.OpenDeliveries.{open-behind}
 use Rattle.due_queues.proofs.SentKnown.{known-in}
 use Rattle.due_queues.proofs.picks.Picks.follow.Goals as goal
 
@@ -33,20 +31,13 @@ returns c = λ rules records r next tables picks.
     let known = known-in c.args.before.now.sent.now past sent in
     let links = views c.in_ok-ended.ended.items in
     let ended = c.in_ok-ended.ensures rules records r next.0 linked in
-    let decided = c.in_ok-decide.ensures.counted past linked in
-    let opened : HaveOpen c.begin.new.self.undecided past =
-    subst (λ (groups : Undecided). HaveOpen groups past) (sym (c.begin.ensures.same ∙ c.attach.ensures.same)) picks.are_open in
+    let decided = c.in_ok-decide.ensures rules records tables in
     let before : List AddressEvent = begun_by e ++ (attached_as (own_link e) ++ address_events past) in
-    let attached = c.in_ok-attach.ensures.counted (named-source rules e past are) (address_events past) picks.counted in
+    let attached = c.in_ok-attach.ensures (named-source rules e past are) (address_events past) picks in
     let begun = c.begin.ensures.counted (attached_as (own_link e) ++ address_events past) (are-few rules e past are c.begin.ensures.number) attached in
-    let counted = c.detach.ensures.counted _ (decided.counted before begun) in
+    let counted = c.detach.ensures _ (decided.counted before begun) in
     let mapped = among-mapped e past kept decided.listed in
-    record {
-      counted = counted-same e past links (filter_map (λ n. decided_link e past (kept n)) decided.listed) (ended-same rules e past are links ended)
-          (λ n. as-many rules e past were kept known sent.groups.counted c.begin.new.self.undecided opened decided.listed decided.distinct decided.found decided.small n)
-          c.detach.new.self.table
-          (subst (λ (events : List AddressEvent). IsCount c.detach.new.self.table (detached_all links ++ (events ++ before))) mapped counted);
-      are_open = open-behind rules e past are kept known c.begin.new.self.undecided c.detach.new.self.undecided c.begin-2.new.self opened
-          (subst (λ (groups : Undecided). Spares (λ n. is_some (decided_link e past (kept n))) c.begin.new.self.undecided groups) (sym c.detach.ensures.same) (c.in_ok-decide.ensures.spared past linked))
-          c.in_ok-begin.ensures;
-    }
+    counted-same e past links (filter_map (λ n. decided_link e past (kept n)) decided.listed) (ended-same rules e past are links ended)
+    (λ n. as-many rules e past were kept known decided.listed decided.distinct decided.spoken n)
+    c.detach.new.self.table
+    (subst (λ (events : List AddressEvent). IsCount c.detach.new.self.table (detached_all links ++ (events ++ before))) mapped counted)

@@ -1,4 +1,4 @@
-use Rattle.std.proofs.Common.{◌≡◌, ◌∙◌, ◌∷◌, ap, sym, Option, None, Some, not, option_map}
+use Rattle.std.proofs.Common.{◌≡◌, ◌∙◌, ◌∷◌, ap, sym, None, Some, not, option_map}
 use Rattle.trace_events.specs.Words.{where_passes}
 use Rattle.trace_events.specs.Incoming.{completed_by}
 use Rattle.trace_events.specs.Address.{has_multicast}
