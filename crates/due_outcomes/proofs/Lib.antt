@@ -1,6 +1,5 @@
 mod GroupLists
 mod UnderKeys
-mod Spoken
 mod UnsettledSteps
 mod UntoldSteps
 mod SettlingsDue

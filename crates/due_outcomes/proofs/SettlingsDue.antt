@@ -18,7 +18,7 @@ use Rattle.state_incoming.specs.EntryAnswers.{is_shut}
 use Rattle.state_incoming.specs.HeldTables.{held_in}
 use Rattle.state_incoming.proofs.CarriedHeld.{IsCarried, carried-of, carried-shut}
 use Rattle.state_incoming.proofs.GroupAnswers.{judged-of}
-use Rattle.state_outgoing.specs.Sent.{Sent, sent, outgoing_at, to_settle}
+use Rattle.state_outgoing.specs.Sent.{Sent, sent, outgoing_at, is_left_unsettled, to_settle}
 use Rattle.state_outgoing.specs.SentAnswers.{carried, closes, number_of}
 use Rattle.state_outgoing.specs.SentTables.{sent_in}
 use Rattle.state_outgoing.proofs.SentKept.{contained-at, entry-law, unfinished-entry, unsettled-unfinished}
@@ -26,9 +26,8 @@ use Rattle.state_answers.specs.declared.looked.Looked.{Looked}
 use Rattle.number_groups.specs.Ascending.{has}
 use Rattle.due_outcomes.specs.LookedTables.{AreLooked}
 use Rattle.due_outcomes.specs.Parked.{is_parked}
-use Rattle.due_outcomes.specs.SentNumbers.{IsUnder}
-use Rattle.due_outcomes.specs.Settlings.{IsDueSettling, due_in, says_open, waits_in}
-use Rattle.due_outcomes.specs.Unsettled.{HasUnsettled, IsParked, is_decided, is_open}
+use Rattle.due_outcomes.specs.Settlings.{IsDueSettling, due_in, waits_in}
+use Rattle.due_outcomes.specs.Unsettled.{HasUnsettled, IsParked, is_decided}
 use Rattle.due_outcomes.specs.declared.unsettled.Unsettled.{Unsettled}
 use Rattle.due_outcomes.proofs.UnderKeys.{or-first, or-last}
 
@@ -65,18 +64,18 @@ or-cases false b is = inr is
 waits-bits : (a b : Bool) → a ≡ true → b ≡ true → a && b ≡ true
 waits-bits a b is so = ap (λ x. x && b) is ∙ so
 
--- what is to be settled is open and decided, and carries what is closed
-settles-as : (past : List Event) (j : Outgoing) → is_open past j && is_decided past j && carries_closed past j ≡ is_to_settle past j
+-- what is to be settled is unsettled and decided, and carries what is closed
+settles-as : (past : List Event) (j : Outgoing) → is_left_unsettled past j && is_decided past j && carries_closed past j ≡ is_to_settle past j
 settles-as past j = settle-bits j.link.is_pre_settled (stands_unsettled past j) (first_deciding j past) (carries_closed past j) ∙ sym (is_to_settle-parts past j)
 
-pub settled-parts : (past : List Event) (j : Outgoing) → is_to_settle past j ≡ true → (is_open past j ≡ true) × (is_decided past j ≡ true) × (carries_closed past j ≡ true)
+pub settled-parts : (past : List Event) (j : Outgoing) → is_to_settle past j ≡ true → (is_left_unsettled past j ≡ true) × (is_decided past j ≡ true) × (carries_closed past j ≡ true)
 settled-parts past j is =
-    let all = and-both (is_open past j && is_decided past j) (carries_closed past j) (settles-as past j ∙ is) in
-    let two = and-both (is_open past j) (is_decided past j) all.0 in
+    let all = and-both (is_left_unsettled past j && is_decided past j) (carries_closed past j) (settles-as past j ∙ is) in
+    let two = and-both (is_left_unsettled past j) (is_decided past j) all.0 in
     (two.0, two.1, all.1)
 
-pub settled-of : (past : List Event) (j : Outgoing) → is_open past j ≡ true → is_decided past j ≡ true → carries_closed past j ≡ true → is_to_settle past j ≡ true
-settled-of past j opens decides closed = sym (settles-as past j) ∙ all (is_open past j) (is_decided past j) (carries_closed past j) opens decides closed
+pub settled-of : (past : List Event) (j : Outgoing) → is_left_unsettled past j ≡ true → is_decided past j ≡ true → carries_closed past j ≡ true → is_to_settle past j ≡ true
+settled-of past j opens decides closed = sym (settles-as past j) ∙ all (is_left_unsettled past j) (is_decided past j) (carries_closed past j) opens decides closed
   where
     all : (a b c : Bool) → a ≡ true → b ≡ true → c ≡ true → a && b && c ≡ true
     all a b c is so too = rw (is, so, too) refl
@@ -88,8 +87,8 @@ module _ (rules : RuleSet) (past : List Event) (looked : Looked) (stands : AreLo
   lawful : first_broken rules past ≡ None
   lawful = stands.1.1.1.1.1.1.1.0
 
-  -- one that is open has its entry
-  entry : (j : Outgoing) → Contains (outgoing_deliveries past) j → is_open past j ≡ true → sent_in looked.sent.now j.number ≡ Some (sent past j)
+  -- one that is unsettled has its entry
+  entry : (j : Outgoing) → Contains (outgoing_deliveries past) j → is_left_unsettled past j ≡ true → sent_in looked.sent.now j.number ≡ Some (sent past j)
   entry j there opens =
       unfinished-entry looked.sent.now past stands.1.1.1.1.1.1.1.1.0 j.number j (contained-at rules past are j there) (unsettled-unfinished past j opens)
 
@@ -103,8 +102,8 @@ module _ (rules : RuleSet) (past : List Event) (looked : Looked) (stands : AreLo
   -- its entry says so just where the law does
   entry-settles : (j : Outgoing) → outgoing_at j.number past ≡ Some j → to_settle (sent past j) (closes (λ n. is_shut (held_in looked.deliveries.now n)) j.note) ≡ is_to_settle past j
   entry-settles j at =
-      ap (λ b. is_open past j && is_some (option_map terminal_state (decision j past)) && b) (closings j at)
-      ∙ (ap (λ b. is_open past j && b && carries_closed past j) (some-map terminal_state (decision j past))
+      ap (λ b. is_left_unsettled past j && is_some (option_map terminal_state (decision j past)) && b) (closings j at)
+      ∙ (ap (λ b. is_left_unsettled past j && b && carries_closed past j) (some-map terminal_state (decision j past))
       ∙ (settle-bits j.link.is_pre_settled (stands_unsettled past j) (first_deciding j past) (carries_closed past j) ∙ sym (is_to_settle-parts past j)))
 
   abbrev settles : Sent → Bool
@@ -145,55 +144,38 @@ module _ (rules : RuleSet) (past : List Event) (looked : Looked) (stands : AreLo
 
   -- ---- with more that is parked
 
-  pub kept-parked : (earlier later : Unsettled) → HasUnsettled earlier past → later.candidates ≡ earlier.candidates → later.numbers ≡ earlier.numbers
+  pub kept-parked : (earlier later : Unsettled) → HasUnsettled earlier past → later.candidates ≡ earlier.candidates
       → ((n m : ℕ) → is_parked earlier.parked n m ≡ true → is_parked later.parked n m ≡ true) → HasUnsettled later past
-  kept-parked earlier later was candidates numbers kept = record {
+  kept-parked earlier later was candidates kept = record {
     due = λ j there is. ap (λ c. has c j.number) candidates ∙ was.due j there is;
     decided = λ j there opens decides d at unclosed. elim (or-cases (has earlier.candidates j.number) (is_parked earlier.parked d.number j.number) (was.decided j there opens decides d at unclosed)) [
       | inl among ↦ or-first (has later.candidates j.number) (is_parked later.parked d.number j.number) (ap (λ c. has c j.number) candidates ∙ among)
       | inr under ↦ or-last (has later.candidates j.number) (is_parked later.parked d.number j.number) (kept d.number j.number under)
     ];
-    found = λ j there opens. subst (λ x. IsUnder x j j.number) (sym numbers) (was.found j there opens);
   }
 
   -- ---- what is no candidate any more
 
   module _ (earlier later : Unsettled) (number : ℕ) (was : HasUnsettled earlier past)
-      (left : (n : ℕ) → has later.candidates n ≡ (has earlier.candidates n && not (number == n)))
-      (settled : (j : Outgoing) (n : ℕ) → (number == n) ≡ false → IsUnder earlier.numbers j n → IsUnder later.numbers j n)
-      (same : says_open (sent_in looked.sent.now number) ≡ true → later.numbers ≡ earlier.numbers) where
+      (left : (n : ℕ) → has later.candidates n ≡ (has earlier.candidates n && not (number == n))) where
     -- all others are candidates still
     still : (n : ℕ) → (number == n) ≡ false → has earlier.candidates n ≡ true → has later.candidates n ≡ true
     still n another among = left n ∙ (ap (λ b. b && not (number == n)) among ∙ ap not another)
 
-    own-entry : (j : Outgoing) → Contains (outgoing_deliveries past) j → is_open past j ≡ true → (number == j.number) ≡ true → sent_in looked.sent.now number ≡ Some (sent past j)
+    own-entry : (j : Outgoing) → Contains (outgoing_deliveries past) j → is_left_unsettled past j ≡ true → (number == j.number) ≡ true → sent_in looked.sent.now number ≡ Some (sent past j)
     own-entry j there opens is = ap (sent_in looked.sent.now) (eqb-true number j.number is) ∙ entry j there opens
 
-    stays : (j : Outgoing) → Contains (outgoing_deliveries past) j → is_open past j ≡ true → IsUnder later.numbers j j.number
-    stays j there opens = by (says_open (sent_in looked.sent.now number)) refl
-      where
-        apart : says_open (sent_in looked.sent.now number) ≡ false → (b : Bool) → (number == j.number) ≡ b → (number == j.number) ≡ false
-        apart shut false is = is
-        apart shut true is =
-            let says : says_open (sent_in looked.sent.now number) ≡ true = ap says_open (own-entry j there opens is) ∙ opens in
-            let never : true ≡ false = sym says ∙ shut in
-            absurd cc
-
-        by : (b : Bool) → says_open (sent_in looked.sent.now number) ≡ b → IsUnder later.numbers j j.number
-        by true is = subst (λ numbers. IsUnder numbers j j.number) (sym (same is)) (was.found j there opens)
-        by false is = settled j j.number (apart is (number == j.number) refl) (was.found j there opens)
-
-    -- ---- as it is no decided one that is open
+    -- ---- as it is no decided one that is unsettled
 
     module _ (gone : waits_in (sent_in looked.sent.now number) ≡ false) (kept : (n m : ℕ) → is_parked earlier.parked n m ≡ true → is_parked later.parked n m ≡ true) where
-      another : (j : Outgoing) → Contains (outgoing_deliveries past) j → is_open past j ≡ true → is_decided past j ≡ true → (number == j.number) ≡ false
+      another : (j : Outgoing) → Contains (outgoing_deliveries past) j → is_left_unsettled past j ≡ true → is_decided past j ≡ true → (number == j.number) ≡ false
       another j there opens decides = by (number == j.number) refl
         where
           by : (b : Bool) → (number == j.number) ≡ b → (number == j.number) ≡ false
           by false is = is
           by true is =
               let waits : waits_in (sent_in looked.sent.now number) ≡ true =
-              ap waits_in (own-entry j there opens is) ∙ waits-bits (is_open past j) (is_some (option_map terminal_state (decision j past))) opens (some-map terminal_state (decision j past) ∙ decides) in
+              ap waits_in (own-entry j there opens is) ∙ waits-bits (is_left_unsettled past j) (is_some (option_map terminal_state (decision j past))) opens (some-map terminal_state (decision j past) ∙ decides) in
               let never : true ≡ false = sym waits ∙ gone in
               absurd cc
 
@@ -204,14 +186,13 @@ module _ (rules : RuleSet) (past : List Event) (looked : Looked) (stands : AreLo
           | inl among ↦ or-first (has later.candidates j.number) (is_parked later.parked d.number j.number) (still j.number (another j there opens decides) among)
           | inr under ↦ or-last (has later.candidates j.number) (is_parked later.parked d.number j.number) (kept d.number j.number under)
         ];
-        found = stays;
       }
 
     -- ---- as it is parked
 
     module _ (p : IsParked later.parked looked.deliveries.now number (sent_in looked.sent.now number)) (kept : (n m : ℕ) → is_parked earlier.parked n m ≡ true → is_parked later.parked n m ≡ true) where
       -- of what it carries more is to be told
-      module _ (j : Outgoing) (there : Contains (outgoing_deliveries past) j) (opens : is_open past j ≡ true) (is : (number == j.number) ≡ true) where
+      module _ (j : Outgoing) (there : Contains (outgoing_deliveries past) j) (opens : is_left_unsettled past j ≡ true) (is : (number == j.number) ≡ true) where
         c : IsCarried rules past j
         c = carried-of rules past are lawful (λ (k : Outgoing). k.number == j.number) j (contained-at rules past are j there)
 
@@ -233,7 +214,7 @@ module _ (rules : RuleSet) (past : List Event) (looked : Looked) (stands : AreLo
       due-by j there is false other = still j.number other (was.due j there is)
       due-by j there is true own = let parts = settled-parts past j is in let never : true ≡ false = sym parts.2 ∙ more j there parts.0 own in absurd cc
 
-      decided-by : (j : Outgoing) → Contains (outgoing_deliveries past) j → is_open past j ≡ true → is_decided past j ≡ true → (d : Incoming) → noted j.note past ≡ Some d → is_closed past d ≡ false
+      decided-by : (j : Outgoing) → Contains (outgoing_deliveries past) j → is_left_unsettled past j ≡ true → is_decided past j ≡ true → (d : Incoming) → noted j.note past ≡ Some d → is_closed past d ≡ false
           → (b : Bool) → (number == j.number) ≡ b → has later.candidates j.number || is_parked later.parked d.number j.number ≡ true
       decided-by j there opens decides d at unclosed true own = or-last (has later.candidates j.number) (is_parked later.parked d.number j.number) (parked-own j there opens own d at)
       decided-by j there opens decides d at unclosed false other =
@@ -246,7 +227,6 @@ module _ (rules : RuleSet) (past : List Event) (looked : Looked) (stands : AreLo
       parked-aside = record {
         due = λ j there is. due-by j there is (number == j.number) refl;
         decided = λ j there opens decides d at unclosed. decided-by j there opens decides d at unclosed (number == j.number) refl;
-        found = stays;
       }
 
   -- ---- where none is given, none is left

@@ -1,6 +1,6 @@
 -- The deliveries that are to be settled, and those that are decided and still unsettled, behind one more event: each was so
 -- before, or is one of which its consumer speaks with the event, or that carries what the event closes.
-use Rattle.std.proofs.Common.{◌≡◌, refl, sym, ap, subst, ◌∙◌, ◌⊎◌, inl, inr, ℕ, Bool, true, false, ◌&&◌, ◌||◌, not, List, ◌∷◌, Option, Some, None, IfSome, is_some, ◌==◌, eqb-true}
+use Rattle.std.proofs.Common.{◌≡◌, refl, sym, ap, subst, ◌∙◌, ◌⊎◌, inl, inr, ℕ, Bool, true, false, ◌&&◌, ◌||◌, not, List, ◌∷◌, Option, Some, None, is_some, ◌==◌, eqb-true}
 use Rattle.std.specs.Prelude.{Contains}
 use Rattle.std.specs.List.{cons_option}
 use Rattle.amqp_perf.specs.Meaning.{DispositionFields}
@@ -21,11 +21,12 @@ use Rattle.trace_clauses.proofs.BegunDeliveries.{IsBegun, begun-noted, begun-not
 use Rattle.trace_clauses.proofs.LinkEnds.{is_live-next}
 use Rattle.trace_clauses.proofs.WaitingQueue.{all_contained, contains_cases}
 use Rattle.number_groups.specs.Ascending.{has}
+use Rattle.state_outgoing.specs.Sent.{is_left_unsettled}
 use Rattle.state_tables.specs.EndedLinks.{AreEnded}
 use Rattle.due_outcomes.specs.Closings.{may_close}
 use Rattle.due_outcomes.specs.Parked.{IsLeft, is_parked}
-use Rattle.due_outcomes.specs.SentNumbers.{Grows, IsUnder, KeepsAll}
-use Rattle.due_outcomes.specs.Unsettled.{HasUnsettled, is_decided, is_open}
+use Rattle.due_outcomes.specs.Candidates.{Grows}
+use Rattle.due_outcomes.specs.Unsettled.{HasUnsettled, is_decided}
 use Rattle.due_outcomes.specs.declared.unsettled.Unsettled.{Unsettled}
 use Rattle.due_outcomes.proofs.Closings.{closing}
 use Rattle.due_outcomes.proofs.SettlingsDue.{settled-of, settled-parts}
@@ -51,10 +52,6 @@ or-none : (a b : Bool) → a || b ≡ false → a ≡ false
 or-none false b is = refl
 or-none true b is = absurd cc
 
-open-bits : (s stands : Bool) → not s && stands ≡ true → s ≡ false
-open-bits true stands is = absurd cc
-open-bits false stands is = refl
-
 pub some-of : (o : Option DispositionFields) → is_some_and o is_decisive ≡ true → is_some o ≡ true
 some-of None is = absurd cc
 some-of (Some fields) is = refl
@@ -63,9 +60,9 @@ module _ (rules : RuleSet) (e : Event) (past : List Event) (are : AreJudged rule
   begun-all : (j : Outgoing) → Contains (outgoing_deliveries past) j → IsBegun past j
   begun-all j there = all_contained (IsBegun past) (outgoing_deliveries past) j (judged-begun rules past are.1 lawful) there
 
-  -- what is open behind the event was before
-  open-before : (j : Outgoing) → IsBegun past j → is_open (e ∷ past) j ≡ true → is_open past j ≡ true
-  open-before j b is =
+  -- what is unsettled behind the event was before
+  unsettled-before : (j : Outgoing) → IsBegun past j → is_left_unsettled (e ∷ past) j ≡ true → is_left_unsettled past j ≡ true
+  unsettled-before j b is =
       let stands = and-both (stands_unsettled past j) (keeps_unsettled e j)
       (sym (stands_unsettled-step e past j (is_live-next rules e past are j.link b.linked.at)) ∙ (and-both (not j.link.is_pre_settled) (stands_unsettled (e ∷ past) j) is).1) in
       ap (λ b. b && stands_unsettled past j) (and-both (not j.link.is_pre_settled) (stands_unsettled (e ∷ past) j) is).0 ∙ stands.0
@@ -86,19 +83,15 @@ module _ (rules : RuleSet) (e : Event) (past : List Event) (are : AreJudged rule
   closed-now : (j : Outgoing) (b : IsBegun past j) → is_closed (e ∷ past) b.delivery ≡ is_closed past b.delivery || closes_incoming e b.delivery
   closed-now j b = is_closed-step e past b.delivery (is_live-next rules e past are b.delivery.link b.kept.link.at)
 
-  module _ (ended : List Link) (over : AreEnded e past ended) (earlier later : Unsettled) (was : HasUnsettled earlier past) (kept : KeepsAll earlier.numbers later.numbers)
-      (begun : IfSome (outgoing_begun e) (λ j. j.link.is_pre_settled ≡ false → IsUnder later.numbers j j.number)) (grown : Grows earlier.candidates later.candidates)
-      (answered : (j : Outgoing) (n : ℕ) → IsUnder later.numbers j n → is_some (answering j e) ≡ true → has later.candidates n ≡ true)
+  module _ (ended : List Link) (over : AreEnded e past ended) (earlier later : Unsettled) (was : HasUnsettled earlier past) (grown : Grows earlier.candidates later.candidates)
+      (spoken : (j : Outgoing) → Contains (outgoing_deliveries past) j → is_left_unsettled past j ≡ true → is_some (answering j e) ≡ true → has later.candidates j.number ≡ true)
       (released : (n m : ℕ) → may_close e ended n ≡ true → is_parked earlier.parked n m ≡ true → has later.candidates m ≡ true) (left : IsLeft later.candidates earlier.parked later.parked) where
     undecided-new : (j : Outgoing) → outgoing_begun e ≡ Some j → {A : Type 0} → is_decided (e ∷ past) j ≡ true → A
     undecided-new j is decides = let never : true ≡ false = sym decides ∙ undecided-begun j is in absurd cc
 
-    speaks-of : (j : Outgoing) → Contains (outgoing_deliveries past) j → is_open past j ≡ true → is_some (answering j e) ≡ true → has later.candidates j.number ≡ true
-    speaks-of j there opens now = answered j j.number (kept j j.number (was.found j there opens)) now
-
     -- ---- those to settle
 
-    module _ (j : Outgoing) (there : Contains (outgoing_deliveries past) j) (b : IsBegun past j) (opens : is_open past j ≡ true) (decides : is_decided past j ≡ true) where
+    module _ (j : Outgoing) (there : Contains (outgoing_deliveries past) j) (b : IsBegun past j) (opens : is_left_unsettled past j ≡ true) (decides : is_decided past j ≡ true) where
       due-by : (closed : Bool) → is_closed past b.delivery ≡ closed → closed || closes_incoming e b.delivery ≡ true → has later.candidates j.number ≡ true
       due-by true closed closes = grown j.number (was.due j there (settled-of past j opens decides (ap (λ o. is_some_and o (is_closed past)) (begun-noted past j b) ∙ closed)))
       due-by false unclosed closes =
@@ -111,20 +104,20 @@ module _ (rules : RuleSet) (e : Event) (past : List Event) (are : AreJudged rule
     due-old j there is =
         let b = begun-all j there in
         let parts = settled-parts (e ∷ past) j is in
-        let opens = open-before j b parts.0 in
+        let opens = unsettled-before j b parts.0 in
         let carries : carries_closed (e ∷ past) j ≡ is_closed (e ∷ past) b.delivery = ap (λ o. is_some_and o (is_closed (e ∷ past))) (begun-noted_later rules e past are j b) in
         elim (decided-before j parts.1) [
           | inl then ↦ due-by j there b opens then (is_closed past b.delivery) refl (sym (closed-now j b) ∙ (sym carries ∙ parts.2))
-          | inr now ↦ speaks-of j there opens now
+          | inr now ↦ spoken j there opens now
         ]
 
     -- ---- those that are decided
 
-    decided-old : (j : Outgoing) → Contains (outgoing_deliveries past) j → is_open (e ∷ past) j ≡ true → is_decided (e ∷ past) j ≡ true → (d : Incoming) → noted j.note (e ∷ past) ≡ Some d → is_closed (e ∷ past) d ≡ false
+    decided-old : (j : Outgoing) → Contains (outgoing_deliveries past) j → is_left_unsettled (e ∷ past) j ≡ true → is_decided (e ∷ past) j ≡ true → (d : Incoming) → noted j.note (e ∷ past) ≡ Some d → is_closed (e ∷ past) d ≡ false
         → has later.candidates j.number || is_parked later.parked d.number j.number ≡ true
     decided-old j there is decides d at unclosed =
         let b = begun-all j there in
-        let opens = open-before j b is in
+        let opens = unsettled-before j b is in
         let same : b.delivery ≡ d = same_some b.delivery d (sym (begun-noted_later rules e past are j b) ∙ at) in
         let before : is_closed past b.delivery ≡ false =
         or-none (is_closed past b.delivery) (closes_incoming e b.delivery) (sym (closed-now j b) ∙ (ap (is_closed (e ∷ past)) same ∙ unclosed)) in
@@ -135,14 +128,8 @@ module _ (rules : RuleSet) (e : Event) (past : List Event) (are : AreJudged rule
         ] in
         elim (decided-before j decides) [
           | inl then ↦ subst (λ (x : Incoming). has later.candidates j.number || is_parked later.parked x.number j.number ≡ true) same (then_by then)
-          | inr now ↦ or-first (has later.candidates j.number) (is_parked later.parked d.number j.number) (speaks-of j there opens now)
+          | inr now ↦ or-first (has later.candidates j.number) (is_parked later.parked d.number j.number) (spoken j there opens now)
         ]
-
-    -- ---- those that are unsettled
-
-    found-new : (j : Outgoing) → outgoing_begun e ≡ Some j → is_open (e ∷ past) j ≡ true → IsUnder later.numbers j j.number
-    found-new j at is =
-        subst (λ (o : Option Outgoing). IfSome o (λ k. k.link.is_pre_settled ≡ false → IsUnder later.numbers k k.number)) at begun (open-bits j.link.is_pre_settled (stands_unsettled (e ∷ past) j) is)
 
     -- so the list follows the event
     pub unsettled-next : HasUnsettled later (e ∷ past)
@@ -154,9 +141,5 @@ module _ (rules : RuleSet) (e : Event) (past : List Event) (are : AreJudged rule
       decided = λ j there is decides d at unclosed. elim (first-or-earlier (outgoing_begun e) (outgoing_deliveries past) j there) [
         | inl new ↦ undecided-new j new decides
         | inr old ↦ decided-old j old is decides d at unclosed
-      ];
-      found = λ j there is. elim (first-or-earlier (outgoing_begun e) (outgoing_deliveries past) j there) [
-        | inl new ↦ found-new j new is
-        | inr old ↦ kept j j.number (was.found j old (open-before j (begun-all j old) is))
       ];
     }

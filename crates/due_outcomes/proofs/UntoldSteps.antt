@@ -45,7 +45,7 @@ use Rattle.number_groups.specs.Ascending.{has}
 use Rattle.state_outgoing.specs.Sent.{is_left_unsettled}
 use Rattle.state_outgoing.proofs.SentDecided.{judged-decided}
 use Rattle.state_verdicts.specs.Verdicts.{awaits_at}
-use Rattle.due_outcomes.specs.SentNumbers.{Grows}
+use Rattle.due_outcomes.specs.Candidates.{Grows}
 use Rattle.due_outcomes.specs.Untold.{HasUntold, IsOn, KeepsOn, waits_in}
 use Rattle.due_outcomes.specs.declared.untold.Untold.{Untold}
 use Rattle.due_outcomes.proofs.LastVerdicts.{IsLast, IsSpokenOf, last-verdict}

@@ -1,5 +1,4 @@
-pub mod Answered
-pub mod SentNumbers
+pub mod Candidates
 pub mod Parked
 pub mod Closings
 pub mod Unsettled

@@ -19,10 +19,7 @@ pub record IsDueSettling (past : List Event) (j : Outgoing) : Type 0 where
 
 -- ---- of an entry
 
--- it is still unsettled, and of those decided
-abbrev pub says_open : Option Sent → Bool
-says_open o = is_some_and o (λ x. x.is_unsettled)
-
+-- it is decided, and still unsettled
 abbrev pub waits_in : Option Sent → Bool
 waits_in o = is_some_and o (λ x. x.is_unsettled && is_some x.decision)
 

@@ -3,20 +3,19 @@
 //! of each, the lowest first: this is the code's doing, shown by worked captures; neither law nor duties ask for it, so no
 //! clause says it.
 //!
-//! - `sent_numbers`: numbers by the deliveries to clients that they stand for: by their link, their session and their id there;
+//! - `candidates`: what becomes a candidate, for both lists;
 //! - `parked`: deliveries to clients that are not to be settled yet, by what they carry;
 //! - `unsettled`: the deliveries to settle with their consumers;
 //! - `untold`: the outcomes to tell, each with its row (`outcome`) and the state that it tells (`state`).
 #![tactic(auto)]
 
+mod candidates;
 mod outcome;
 mod parked;
-mod sent_numbers;
 mod state;
 mod unsettled;
 mod untold;
 
 pub use outcome::DueOutcome;
-pub use sent_numbers::SentNumbers;
 pub use unsettled::Unsettled;
 pub use untold::Untold;

@@ -4,9 +4,9 @@ ghost use Rattle.std.specs.Prelude.{◌≡◌, ◌||◌, ℕ, true, OnOk, nat_eq
 ghost use Rattle.number_groups.specs.Ascending.{has};
 ghost use Rattle.number_groups.specs.Groups.{is_member};
 ghost use Rattle.due_outcomes.specs.Parked.{IsLeft, is_parked};
-ghost use Rattle.due_outcomes.specs.SentNumbers.{Grows};
+ghost use Rattle.due_outcomes.specs.Candidates.{Grows};
 
-use crate::sent_numbers::add_group;
+use crate::candidates::add_group;
 use number_groups::{Ascending, Groups};
 use std::alloc::{AllocError, Global};
 
@@ -59,7 +59,7 @@ impl Parked {
         ensures released { OnOk result ((m : ℕ) → is_parked self.old carried m ≡ true → has candidates.new m ≡ true) }
         ensures left { OnOk result (IsLeft candidates.new self.old self.new) }
     {
-        add_group(candidates, &self.carrying, &carried)?;
+        add_group(candidates, &self.carrying, carried)?;
         self.clear(carried);
         Ok(())
     }

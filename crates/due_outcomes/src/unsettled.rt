@@ -1,14 +1,12 @@
 //! The deliveries to settle with their consumers (part 2 of the standard, section 2.6.12).
 
-ghost use Rattle.std.specs.Prelude.{◌≡◌, ◌<◌, ◌∷◌, ◌&&◌, ◌==◌, ◌⊎◌, ℕ, not, List, [], true, false, None, Some, IfSome, OnOk, is_some, option_map};
+ghost use Rattle.std.specs.Prelude.{◌≡◌, ◌∷◌, ◌==◌, ◌⊎◌, ℕ, List, [], true, false, None, Some, IfSome, OnOk, is_some, option_map};
 ghost use Rattle.std.specs.List.{list_any};
 ghost use Rattle.std.specs.Option.{option_copied};
 ghost use Rattle.capture_form.specs.Rules.{RuleSet};
 ghost use Rattle.capture_form.specs.declared.records.Record.{Record};
 ghost use Rattle.trace_events.specs.History.{history};
-ghost use Rattle.trace_events.specs.Event as events;
 ghost use Rattle.trace_events.specs.Link.{is_producer};
-ghost use Rattle.trace_events.specs.Outgoing.{outgoing_begun};
 ghost use Rattle.trace_events.specs.Words.{is_number, is_some_and};
 ghost use Rattle.amqp_perf.specs.View.{disposition_fields};
 ghost use Rattle.trace_duties.specs.Quiet.{none_is_unsettled};
@@ -20,16 +18,16 @@ ghost use Rattle.state_incoming.specs.EntryAnswers.{is_shut};
 ghost use Rattle.state_incoming.specs.HeldTables.{held_in};
 ghost use Rattle.state_tables.specs.Connections.{IsLawfulNext};
 ghost use Rattle.state_tables.specs.EndedLinks.{views};
-ghost use Rattle.number_groups.specs.Ascending.{count_of, has};
+ghost use Rattle.number_groups.specs.Ascending.{has};
 ghost use Rattle.due_outcomes.specs.LookedTables.{AreLooked};
+ghost use Rattle.due_outcomes.specs.Candidates.{Grows};
 ghost use Rattle.due_outcomes.specs.Closings as law;
 ghost use Rattle.due_outcomes.specs.Parked.{IsLeft, is_parked};
-ghost use Rattle.due_outcomes.specs.SentNumbers.{Grows, IsUnder, KeepsAll};
-ghost use Rattle.due_outcomes.specs.Settlings.{IsDueSettling, due_in, says_open, waits_in};
+ghost use Rattle.due_outcomes.specs.Settlings.{IsDueSettling, due_in, waits_in};
 ghost use Rattle.due_outcomes.specs.Unsettled.{HasUnsettled, IsParked};
 
+use crate::candidates::add_set;
 use crate::parked::Parked;
-use crate::sent_numbers::SentNumbers;
 use amqp_perf::{Disposition, Role};
 use number_groups::{Ascending, NumberTest};
 use pairing_cert::Note;
@@ -45,8 +43,6 @@ pub struct Unsettled {
     candidates: Ascending,
     /// Those that wait until nothing more is to be told of what they carry.
     parked: Parked,
-    /// Those that are unsettled, under themselves.
-    numbers: SentNumbers,
 }
 
 impl Unsettled {
@@ -58,12 +54,11 @@ impl Unsettled {
             alloc,
             candidates: Ascending::new(alloc),
             parked: Parked::new(alloc),
-            numbers: SentNumbers::new(alloc),
         }
     }
 
     /// The event follows; `before` are the tables without it. It takes the time of the unsettled deliveries of which their
-    /// consumer speaks with it, of those on the links that it ends, and of those that carry what it tells; where a producer
+    /// consumer speaks with it, of the links that it ends, and of the deliveries that carry what it tells; where a producer
     /// settles ids or its link ends, of all that are parked.
     ///
     /// # Errors
@@ -74,10 +69,9 @@ impl Unsettled {
             AreLooked rules before.now (history rules records) →
             HasUnsettled self.old (history rules records) → HasUnsettled self.new (event_view event.now ∷ history rules records)) }
     {
-        self.begin(event)?;
-        self.numbers.add_answered(&mut self.candidates, event)?;
+        let spoken = before.sent.spoken_of(self.alloc, event)?;
+        add_set(&mut self.candidates, spoken)?;
         let ended = before.links.ended(self.alloc, event)?;
-        self.numbers.add_links(&mut self.candidates, &ended)?;
         self.release(event, &ended)?;
         Ok(())
     }
@@ -98,28 +92,12 @@ impl Unsettled {
         settling_of(looked, number)
     }
 
-    /// The delivery that the event begins is found by what its consumer says, if it may be settled.
-    fn begin(&mut self, event: &Event) -> Result<(), AllocError>
-        ensures begun { OnOk result (IfSome (outgoing_begun (event_view event.now)) (λ j. j.link.is_pre_settled ≡ false → IsUnder self.new.numbers j j.number)) }
-        ensures kept { OnOk result (KeepsAll self.old.numbers self.new.numbers) }
-        ensures same { self.new.candidates ≡ self.old.candidates }
-        ensures parked { self.new.parked ≡ self.old.parked }
-    {
-        match event.outgoing_begun() {
-            Some(delivery) if !delivery.link.is_pre_settled => self
-                .numbers
-                .put(&delivery, delivery.number),
-            _ => Ok(()),
-        }
-    }
-
     /// What carries a delivery of which nothing more is to be told with the event becomes a candidate.
     fn release(&mut self, event: &Event, ended: &[Link]) -> Result<(), AllocError>
         ensures grown { OnOk result (Grows self.old.candidates self.new.candidates) }
         ensures released { OnOk result ((n m : ℕ) → law.may_close (event_view event.now) (views ended.now) n ≡ true → is_parked self.old.parked n m ≡ true →
             has self.new.candidates m ≡ true) }
         ensures left { OnOk result (IsLeft self.new.candidates self.old.parked self.new.parked) }
-        ensures same { self.new.numbers ≡ self.old.numbers }
     {
         if settles_ids(event) || has_producer(ended) {
             return self.parked.release_all(&mut self.candidates);
@@ -133,7 +111,6 @@ impl Unsettled {
         ensures grown { OnOk result (Grows self.old.candidates self.new.candidates) }
         ensures released { OnOk result ((n m : ℕ) → is_number carried n ≡ true → is_parked self.old.parked n m ≡ true → has self.new.candidates m ≡ true) }
         ensures left { OnOk result (IsLeft self.new.candidates self.old.parked self.new.parked) }
-        ensures same { self.new.numbers ≡ self.old.numbers }
     {
         match carried {
             Some(number) => self.parked.release(&mut self.candidates, number),
@@ -147,11 +124,10 @@ impl Unsettled {
             HasUnsettled self.old (history rules records) → HasUnsettled self.new (history rules records) }
     {
         while let Some(number) = self.candidates.first() {
-            let entry = looked.sent.get(number);
-            if self.stays(looked, number, entry) {
+            if self.stays(looked, number, looked.sent.get(number)) {
                 return;
             }
-            self.forget(number, entry);
+            self.candidates.remove(number);
         }
     }
 
@@ -161,7 +137,6 @@ impl Unsettled {
             ⊎ IsParked self.new.parked looked.now.deliveries.now number (option_map sent_view (option_copied entry.entry)) }
         ensures kept { (n m : ℕ) → is_parked self.old.parked n m ≡ true → is_parked self.new.parked n m ≡ true }
         ensures candidates { self.new.candidates ≡ self.old.candidates }
-        ensures numbers { self.new.numbers ≡ self.old.numbers }
     {
         waits(entry) && !self.park(looked, number, entry)
     }
@@ -172,28 +147,10 @@ impl Unsettled {
         ensures parked { result ≡ true → IsParked self.new.parked looked.now.deliveries.now number (option_map sent_view (option_copied entry.entry)) }
         ensures kept { (n m : ℕ) → is_parked self.old.parked n m ≡ true → is_parked self.new.parked n m ≡ true }
         ensures candidates { self.new.candidates ≡ self.old.candidates }
-        ensures numbers { self.new.numbers ≡ self.old.numbers }
     {
         match carried_open(looked, entry) {
             Some(carried) => self.parked.put(carried, number).is_ok(),
             None => false,
-        }
-    }
-
-    /// The delivery of the number is no candidate, and if it is settled, not found any more.
-    #[inline(never)]
-    fn forget(&mut self, number: u64, entry: Option<&SentDelivery>)
-        ensures left { (n : ℕ) → has self.new.candidates n ≡ (has self.old.candidates n && not (number == n)) }
-        ensures shorter { has self.old.candidates number ≡ true → count_of self.new.candidates < count_of self.old.candidates }
-        ensures settled { (j : events.Outgoing) (n : ℕ) → (number == n) ≡ false → IsUnder self.old.numbers j n → IsUnder self.new.numbers j n }
-        ensures unsettled { says_open (option_map sent_view (option_copied entry.entry)) ≡ true → self.new.numbers ≡ self.old.numbers }
-        ensures parked { self.new.parked ≡ self.old.parked }
-    {
-        self.candidates.remove(number);
-        if let Some(own) = entry
-            && !own.is_unsettled()
-        {
-            self.numbers.remove(&own.delivery(), number);
         }
     }
 }

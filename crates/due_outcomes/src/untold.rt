@@ -2,7 +2,6 @@
 
 ghost use Rattle.std.specs.Prelude.{◌≡◌, ◌<◌, ◌∷◌, ◌||◌, ◌&&◌, ◌==◌, ℕ, not, List, [], true, false, None, IfSome, OnOk, option_map};
 ghost use Rattle.std.specs.List.{list_any};
-ghost use Rattle.number_groups.specs.Numbers.{is_among};
 ghost use Rattle.number_groups.specs.OctetGroups as octets;
 ghost use Rattle.capture_form.specs.Rules.{RuleSet};
 ghost use Rattle.capture_form.specs.declared.records.Record.{Record};
@@ -26,8 +25,8 @@ ghost use Rattle.due_outcomes.specs.DueOutcomes.{IsDueOutcome};
 ghost use Rattle.due_outcomes.specs.LookedTables.{AreLooked};
 ghost use Rattle.due_outcomes.specs.Untold.{HasUntold, IsOn, KeepsOn, waits_in};
 
+use crate::candidates::{add, add_all, add_of_links};
 use crate::outcome::{DueOutcome, outcome_of};
-use crate::sent_numbers::add_of_links;
 use capture_form::RuleSet;
 use number_groups::{Ascending, Groups, OctetGroups};
 use pairing_cert::Note;
@@ -46,26 +45,6 @@ pub struct Untold {
     waiting: OctetGroups,
     /// Those of anycast that went to a consumer, by the number of the link that they went over.
     carried: Groups<u64>,
-}
-
-/// The number becomes a candidate, if there is one.
-fn add(candidates: &mut Ascending, number: Option<u64>) -> Result<(), AllocError>
-    ensures { OnOk result ((n : ℕ) → has candidates.new n ≡ (has candidates.old n || is_number number n)) }
-{
-    if let Some(number) = number {
-        candidates.insert(number)?;
-    }
-    Ok(())
-}
-
-/// These become candidates.
-fn add_all(candidates: &mut Ascending, numbers: &[u64]) -> Result<(), AllocError>
-    ensures { OnOk result ((n : ℕ) → has candidates.new n ≡ (has candidates.old n || is_among numbers.now n)) }
-{
-    for number in numbers {
-        candidates.insert(*number)?;
-    }
-    Ok(())
 }
 
 /// All numbers of the group of an address become candidates.

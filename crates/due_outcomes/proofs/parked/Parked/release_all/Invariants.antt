@@ -1,5 +1,5 @@
 use Rattle.number_groups.specs.Ascending.{count_of}
-use Rattle.due_outcomes.specs.SentNumbers.{Grows}
+use Rattle.due_outcomes.specs.Candidates.{Grows}
 use Rattle.due_outcomes.proofs.ParkedSteps.{IsMoved}
 use Rattle.due_outcomes.proofs.parked.Parked.release_all.Given as goal
 

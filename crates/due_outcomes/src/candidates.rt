@@ -1,0 +1,72 @@
+//! What becomes a candidate: numbers one by one, those of a group, and those that stand under links.
+
+ghost use Rattle.std.specs.Prelude.{◌≡◌, ◌||◌, ℕ, OnOk, nat_eq};
+ghost use Rattle.std.specs.List.{list_any};
+ghost use Rattle.number_groups.specs.Ascending.{has};
+ghost use Rattle.number_groups.specs.Groups.{is_member};
+ghost use Rattle.number_groups.specs.Numbers.{is_among};
+ghost use Rattle.trace_events.specs.Words.{is_number};
+ghost use Rattle.trace_values.specs.View.{link_view};
+
+use number_groups::{Ascending, Groups, NumberSet};
+use std::alloc::AllocError;
+use trace_values::Link;
+
+/// The number becomes a candidate, if there is one.
+pub(crate) fn add(candidates: &mut Ascending, number: Option<u64>) -> Result<(), AllocError>
+    ensures { OnOk result ((n : ℕ) → has candidates.new n ≡ (has candidates.old n || is_number number n)) }
+{
+    if let Some(number) = number {
+        candidates.insert(number)?;
+    }
+    Ok(())
+}
+
+/// These become candidates.
+pub(crate) fn add_all(candidates: &mut Ascending, numbers: &[u64]) -> Result<(), AllocError>
+    ensures { OnOk result ((n : ℕ) → has candidates.new n ≡ (has candidates.old n || is_among numbers.now n)) }
+{
+    for number in numbers {
+        candidates.insert(*number)?;
+    }
+    Ok(())
+}
+
+/// Those of the set do.
+pub(crate) fn add_set(candidates: &mut Ascending, mut numbers: NumberSet) -> Result<(), AllocError>
+    ensures { OnOk result ((n : ℕ) → has candidates.new n ≡ (has candidates.old n || is_among numbers n)) }
+{
+    while let Some(number) = numbers.pop() {
+        candidates.insert(number)?;
+    }
+    Ok(())
+}
+
+/// All numbers of the group become candidates.
+pub(crate) fn add_group(
+    candidates: &mut Ascending,
+    groups: &Groups<u64>,
+    key: u64,
+) -> Result<(), AllocError>
+    ensures { OnOk result ((n : ℕ) → has candidates.new n ≡ (has candidates.old n || is_member nat_eq groups.now key n)) }
+{
+    for index in 0..groups.count(&key) {
+        add(candidates, groups.get(&key, index))?;
+    }
+    Ok(())
+}
+
+/// All numbers of the groups of these links become candidates.
+pub(crate) fn add_of_links(
+    candidates: &mut Ascending,
+    groups: &Groups<u64>,
+    links: &[Link],
+) -> Result<(), AllocError>
+    ensures { OnOk result ((n : ℕ) → has candidates.new n
+        ≡ (has candidates.old n || list_any (λ l. is_member nat_eq groups.now (link_view l).number n) links.now)) }
+{
+    for link in links {
+        add_group(candidates, groups, link.number)?;
+    }
+    Ok(())
+}
