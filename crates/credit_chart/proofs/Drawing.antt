@@ -12,19 +12,19 @@ use Rattle.svg_text.specs.Grammar as grammar
 use Rattle.svg_text.specs.Grammar.{start_text}
 use Rattle.svg_text.specs.Escaping.{pieces_of}
 use Rattle.svg_text.specs.Drawn.{Drawn, end_octets, root_end, root_octets, start_octets}
-use Rattle.svg_parts.specs.Parts.{Draws, element_octets, label_octets, line_octets, path_octets}
-use Rattle.svg_parts.proofs.Drawings.{Ends, closed, draws_then}
+use Rattle.svg_parts.specs.Parts.{Draws, DrawsSome, element_octets, label_octets, line_octets, path_octets}
+use Rattle.svg_parts.proofs.Drawings.{Ends, closed, draws_then, if_some_then, some_then}
 use Rattle.credit_chart.specs.declared.level.Level.{Level}
 use Rattle.credit_chart.specs.declared.level.Quantity.{Quantity}
-use Rattle.credit_chart.specs.declared.level.Quantity.TheVariants.{Credit, Draining, Waiting, Window}
+use Rattle.credit_chart.specs.declared.level.Quantity.TheVariants.{Credit, Draining, Unsettled, Waiting, Window}
 use Rattle.credit_chart.specs.declared.scale.Scale.{Scale}
 use Rattle.credit_chart.specs.declared.scale.TheConstants.{ABOVE, BELOW, HEIGHT, LEFT, RIGHT, WIDTH}
 use Rattle.credit_chart.specs.declared.thinning.Extent.{Extent}
 use Rattle.credit_chart.specs.Levels.{class_of, name_of}
 use Rattle.credit_chart.specs.Thinning.{column_of, top_of}
-use Rattle.credit_chart.specs.Places.{bottom_of, height_of}
+use Rattle.credit_chart.specs.Places.{bottom_of, height_of, scale_of, span_of}
 use Rattle.credit_chart.specs.Paths.{column_text, comes_to, path_text}
-use Rattle.credit_chart.specs.Curves.{HasCurves, curve_text, group_octets, heading, panel_octets, panels_octets, records_words}
+use Rattle.credit_chart.specs.Curves.{HasCurves, curve_text, group_octets, heading, panel_octets, panel_with, panels_octets, records_words}
 
 -- ---- curves
 
@@ -55,53 +55,66 @@ group_is class quantity is =
 panel_assoc : (s t h l p e : List ℕ) → s ++ ((t ++ (h ++ (l ++ p))) ++ e) ≡ s ++ (t ++ (h ++ (l ++ (p ++ e))))
 panel_assoc s t h l p e = simp append_assoc
 
-pub panel_drawn : {E : Type 0} (r : Result Drawn E) (levels : List (Option Level)) (quantity : Quantity) (a opened titled headed ruled drawn : Drawn) (start name words along class : List ℕ) (bottom height top : ℕ)
+pub panel_drawn : {E : Type 0} (r : Result Drawn E) (quantity : Quantity) (top : ℕ) (along : List ℕ) (a opened titled headed ruled drawn : Drawn) (start name words curve : List ℕ) (bottom height : ℕ)
     → opened ≡ record { octets = a.octets ++ start; unclosed = a.unclosed ++ Group ∷ [] } → start ≡ group_octets quantity
-    → bottom ≡ bottom_of quantity → height ≡ bottom - (height_of quantity + 8) → top ≡ top_of quantity levels
+    → bottom ≡ bottom_of quantity → height ≡ bottom - (height_of quantity + 8)
     → Draws opened titled (element_octets Title name) → name ≡ name_of quantity
     → Draws titled headed (label_octets (LEFT, height) words) → words ≡ heading quantity top
     → Draws headed ruled (line_octets (codes "axis") (LEFT, bottom) (RIGHT, bottom))
-    → Draws ruled drawn (path_octets (codes "curve") along) → along ≡ curve_text levels quantity → Ends r drawn
-    → IfOk r (λ after. Draws a after (panel_octets levels quantity))
-unfolding panel_octets
-panel_drawn r levels quantity a opened titled headed ruled drawn start name words along class bottom height top is start_is bottom_is height_is top_is first name_is second words_is third fourth along_is ends =
+    → Draws ruled drawn (path_octets (codes "curve") curve) → curve ≡ along → Ends r drawn
+    → IfOk r (λ after. Draws a after (panel_with quantity top along))
+unfolding panel_with
+panel_drawn r quantity top along a opened titled headed ruled drawn start name words curve bottom height is start_is bottom_is height_is first name_is second words_is third fourth along_is ends =
     let label = label_octets (LEFT, height) words in
     let line = line_octets (codes "axis") (LEFT, bottom) (RIGHT, bottom) in
-    let path = path_octets (codes "curve") along in
+    let path = path_octets (codes "curve") curve in
     let inside = element_octets Title name ++ (label ++ (line ++ path)) in
     let draws : Draws opened drawn inside =
     draws_then opened titled drawn (element_octets Title name) _ first
     (draws_then titled headed drawn label _ second
     (draws_then headed ruled drawn line path third fourth)) in
-    let label_is : label ≡ label_octets (LEFT, bottom_of quantity - (height_of quantity + 8)) (heading quantity (top_of quantity levels)) =
+    let label_is : label ≡ label_octets (LEFT, bottom_of quantity - (height_of quantity + 8)) (heading quantity top) =
     ap (λ (n : ℕ). label_octets (LEFT, n) words) (height_is ∙ ap (λ (n : ℕ). n - (height_of quantity + 8)) bottom_is)
-    ∙ ap (label_octets (LEFT, bottom_of quantity - (height_of quantity + 8))) (words_is ∙ ap (heading quantity) top_is) in
+    ∙ ap (label_octets (LEFT, bottom_of quantity - (height_of quantity + 8))) words_is in
     let line_is : line ≡ line_octets (codes "axis") (LEFT, bottom_of quantity) (RIGHT, bottom_of quantity) =
     ap (λ (n : ℕ). line_octets (codes "axis") (LEFT, n) (RIGHT, n)) bottom_is in
-    let parts : start ++ (inside ++ end_octets Group) ≡ panel_octets levels quantity =
+    let parts : start ++ (inside ++ end_octets Group) ≡ panel_with quantity top along =
     panel_assoc start (element_octets Title name) label line path (end_octets Group)
     ∙ ap (λ (t : List ℕ). t ++ (element_octets Title name ++ (label ++ (line ++ (path ++ end_octets Group))))) start_is
     ∙ ap (λ (t : List ℕ). group_octets quantity ++ (element_octets Title t ++ (label ++ (line ++ (path ++ end_octets Group))))) name_is
     ∙ ap (λ (t : List ℕ). group_octets quantity ++ (element_octets Title (name_of quantity) ++ (t ++ (line ++ (path ++ end_octets Group))))) label_is
-    ∙ ap (λ (t : List ℕ). group_octets quantity ++ (element_octets Title (name_of quantity) ++ (label_octets (LEFT, bottom_of quantity - (height_of quantity + 8)) (heading quantity (top_of quantity levels)) ++ (t ++ (path ++ end_octets Group))))) line_is
-    ∙ ap (λ (t : List ℕ). group_octets quantity ++ (element_octets Title (name_of quantity) ++ (label_octets (LEFT, bottom_of quantity - (height_of quantity + 8)) (heading quantity (top_of quantity levels)) ++ (line_octets (codes "axis") (LEFT, bottom_of quantity) (RIGHT, bottom_of quantity) ++ (path_octets (codes "curve") t ++ end_octets Group))))) along_is in
+    ∙ ap (λ (t : List ℕ). group_octets quantity ++ (element_octets Title (name_of quantity) ++ (label_octets (LEFT, bottom_of quantity - (height_of quantity + 8)) (heading quantity top) ++ (t ++ (path ++ end_octets Group))))) line_is
+    ∙ ap (λ (t : List ℕ). group_octets quantity ++ (element_octets Title (name_of quantity) ++ (label_octets (LEFT, bottom_of quantity - (height_of quantity + 8)) (heading quantity top) ++ (line_octets (codes "axis") (LEFT, bottom_of quantity) (RIGHT, bottom_of quantity) ++ (path_octets (codes "curve") t ++ end_octets Group))))) along_is in
     IfOk-weaker r _ _ (λ after drawn_so. subst (Draws a after) parts drawn_so) (closed r a opened drawn Group start inside is draws ends)
 
-pub four_panels : {E : Type 0} (r : Result Drawn E) (levels : List (Option Level)) (a credit window waiting : Drawn)
+-- where its highest value and its curve are those of levels, it is the panel of these
+pub panel_of : (levels : List (Option Level)) (quantity : Quantity) (top : ℕ) (along : List ℕ) → top ≡ top_of quantity levels → along ≡ curve_text levels quantity → panel_with quantity top along ≡ panel_octets levels quantity
+panel_of levels quantity top along top_is along_is = ap (λ n. panel_with quantity n along) top_is ∙ ap (panel_with quantity (top_of quantity levels)) along_is
+
+pub some_panels : {E : Type 0} (r : Result Drawn E) (a credit window waiting unsettled : Drawn)
+    → DrawsSome a credit → DrawsSome credit window → DrawsSome window waiting → DrawsSome waiting unsettled → IfOk r (λ after. DrawsSome unsettled after) → IfOk r (λ after. DrawsSome a after)
+some_panels r a credit window waiting unsettled first second third fourth last =
+    if_some_then r a unsettled (some_then a waiting unsettled (some_then a window waiting (some_then a credit window first second) third) fourth) last
+
+pub five_panels : (levels : List (Option Level)) (a credit window waiting unsettled after : Drawn)
     → Draws a credit (panel_octets levels Credit) → Draws credit window (panel_octets levels Window) → Draws window waiting (panel_octets levels Waiting)
-    → IfOk r (λ after. Draws waiting after (panel_octets levels Draining)) → IfOk r (λ after. Draws a after (panels_octets levels))
-four_panels r levels a credit window waiting first second third last =
-    IfOk-weaker r _ _ (λ after draws.
-    draws_then a credit after _ _ first (draws_then credit window after _ _ second (draws_then window waiting after _ _ third draws))) last
+    → Draws waiting unsettled (panel_octets levels Unsettled) → Draws unsettled after (panel_octets levels Draining) → Draws a after (panels_octets levels)
+five_panels levels a credit window waiting unsettled after first second third fourth last =
+    draws_then a credit after _ _ first
+    (draws_then credit window after _ _ second (draws_then window waiting after _ _ third (draws_then waiting unsettled after _ _ fourth last)))
 
 -- ---- documents
 
-pub document_drawn : {A E : Type 0} (text_of : A → List ℕ) (r : Result A E) (title style words : List ℕ) (levels : List (Option Level)) (started titled styled headed drawn labelled : Drawn)
+-- the scale of as many records as there are
+pub drawn_scale : (scale : Scale) (records span many : ℕ) → (span ≡ span_of records → scale ≡ scale_of records) → records ≡ many → span ≡ span_of many → scale ≡ scale_of many
+drawn_scale scale records span many computed counts is = computed (is ∙ ap span_of (sym counts)) ∙ ap scale_of counts
+
+document_of : {A : Type 0} (text_of : A → List ℕ) (title style words : List ℕ) (levels : List (Option Level)) (started titled styled headed drawn labelled : Drawn)
     → started ≡ record { octets = root_octets WIDTH HEIGHT; unclosed = [] } → Draws started titled (element_octets Title title) → Draws titled styled (element_octets Style style)
     → Draws styled headed (label_octets (LEFT, ABOVE) title)
     → Draws headed drawn (panels_octets levels) → Draws drawn labelled (label_octets (LEFT, BELOW) words) → words ≡ records_words (length levels)
-    → IfOk r (λ text. text_of text ≡ labelled.octets ++ root_end) → IfOk r (λ text. HasCurves title levels (text_of text))
-document_drawn text_of r title style words levels started titled styled headed drawn labelled is first second third fourth fifth words_is end =
+    → (text : A) → text_of text ≡ labelled.octets ++ root_end → HasCurves title levels (text_of text)
+document_of text_of title style words levels started titled styled headed drawn labelled is first second third fourth fifth words_is text is_text =
     let heads = element_octets Title title in
     let looks = element_octets Style style in
     let above = label_octets (LEFT, ABOVE) title in
@@ -111,9 +124,18 @@ document_drawn text_of r title style words levels started titled styled headed d
     (draws_then titled styled labelled looks _ second
     (draws_then styled headed labelled above _ third
     (draws_then headed drawn labelled panels _ fourth fifth))) in
-    IfOk-weaker r _ _ (λ text is_text. record {
+    record {
       looks = looks;
       parts = is_text
           ∙ ap (λ (t : List ℕ). t ++ root_end) (draws.octets ∙ ap (λ (d : Drawn). d.octets ++ (heads ++ (looks ++ (above ++ (panels ++ label_octets (LEFT, BELOW) words))))) is)
           ∙ ap (λ (t : List ℕ). (root_octets WIDTH HEIGHT ++ (heads ++ (looks ++ (above ++ (panels ++ label_octets (LEFT, BELOW) t))))) ++ root_end) words_is;
-    }) end
+    }
+
+pub document_drawn : {A E : Type 0} (text_of : A → List ℕ) (r : Result A E) (title style words : List ℕ) (Are : List (Option Level) → Type 0) (started titled styled headed drawn labelled : Drawn)
+    → started ≡ record { octets = root_octets WIDTH HEIGHT; unclosed = [] } → Draws started titled (element_octets Title title) → Draws titled styled (element_octets Style style)
+    → Draws styled headed (label_octets (LEFT, ABOVE) title)
+    → ((levels : List (Option Level)) → Are levels → Draws headed drawn (panels_octets levels)) → Draws drawn labelled (label_octets (LEFT, BELOW) words)
+    → ((levels : List (Option Level)) → Are levels → words ≡ records_words (length levels))
+    → IfOk r (λ text. text_of text ≡ labelled.octets ++ root_end) → IfOk r (λ text. (levels : List (Option Level)) → Are levels → HasCurves title levels (text_of text))
+document_drawn text_of r title style words Are started titled styled headed drawn labelled is first second third panels_are fifth words_are end =
+    IfOk-weaker r _ _ (λ text is_text levels are. document_of text_of title style words levels started titled styled headed drawn labelled is first second third (panels_are levels are) fifth (words_are levels are) text is_text) end

@@ -7,12 +7,13 @@ use lib.Utf8.{encode}
 use Rattle.svg_text.specs.declared.element.Element.TheVariants.{Title}
 use Rattle.svg_text.specs.Drawn.{root_end, root_octets, start_octets}
 use Rattle.svg_parts.specs.Parts.{element_octets, label_octets}
+use Rattle.std.specs.Int.Count.{count_leading_zeros}
 use Rattle.credit_chart.specs.declared.level.Level.{Level}
-use Rattle.credit_chart.specs.declared.level.Quantity.TheVariants.{Credit, Draining, Waiting, Window}
+use Rattle.credit_chart.specs.declared.level.Quantity.TheVariants.{Credit, Draining, Unsettled, Waiting, Window}
 use Rattle.credit_chart.specs.declared.scale.Scale.{Scale}
 use Rattle.credit_chart.specs.declared.scale.TheConstants.{ABOVE, BELOW, HEIGHT, LEFT, WIDTH}
 use Rattle.credit_chart.specs.Levels.{value_of}
-use Rattle.credit_chart.specs.Thinning.{Spans, extent_of, levels_at, top_of, values_of}
+use Rattle.credit_chart.specs.Thinning.{Spans, both, extent_of, levels_at, top_of, values_of}
 use Rattle.credit_chart.specs.Places.{count_of, row_of, span_of}
 use Rattle.credit_chart.specs.Paths.{path_text}
 use Rattle.credit_chart.specs.Curves.{HasCurves, heading, panels_octets, records_words}
@@ -20,21 +21,21 @@ use Rattle.credit_chart.proofs.Extents.{column_kept}
 
 -- ---- values
 
--- ten deliveries might begin, of which one waits
+-- ten deliveries might begin, three wait, and none is unsettled
 ten : Level
-ten = record { credit = 10; window = 2048; has_waiting = true; is_draining = false }
+ten = record { credit = 10; window = 2048; waiting = 3; unsettled = 0; is_draining = false }
 
--- one fewer, and the client drains the link
+-- one went out, and the client drains the link
 nine : Level
-nine = record { credit = 9; window = 2047; has_waiting = false; is_draining = true }
+nine = record { credit = 9; window = 2047; waiting = 2; unsettled = 1; is_draining = true }
 
-ten_values : (value_of Credit ten ≡ 10) × (value_of Window ten ≡ 2048) × (value_of Waiting ten ≡ 1) × (value_of Draining ten ≡ 0)
+ten_values : (value_of Credit ten ≡ 10) × (value_of Window ten ≡ 2048) × (value_of Waiting ten ≡ 3) × (value_of Unsettled ten ≡ 0) × (value_of Draining ten ≡ 0)
 unfolding ten
-ten_values = (refl, refl, refl, refl)
+ten_values = (refl, refl, refl, refl, refl)
 
-nine_values : (value_of Waiting nine ≡ 0) × (value_of Draining nine ≡ 1)
+nine_values : (value_of Waiting nine ≡ 2) × (value_of Unsettled nine ≡ 1) × (value_of Draining nine ≡ 1)
 unfolding nine
-nine_values = (refl, refl)
+nine_values = (refl, refl, refl)
 
 -- a record without a level has none
 some_values : values_of Credit (None ∷ Some ten ∷ None ∷ Some nine ∷ []) ≡ 10 ∷ 9 ∷ []
@@ -73,13 +74,25 @@ low_is_too_high spans = let at : (9 ≤ 5) × (5 ≤ 9) = spans.within 0 0 (omeg
 
 -- ---- columns
 
--- so many records have a column each, one more two
-few_records : (span_of 999 ≡ 1) × (count_of 999 ≡ 1000) × (span_of 1000 ≡ 2) × (count_of 1000 ≡ 501)
-few_records = (refl, refl, refl, refl)
+-- no records, and so many, have a column each; with one more a column stands for two
+few_records : (span_of 0 ≡ 1) × (span_of 999 ≡ 1) × (count_of 999 ≡ 1000) × (span_of 1000 ≡ 2) × (count_of 1000 ≡ 501)
+unfolding count_leading_zeros
+few_records = (refl, refl, refl, refl, refl)
+
+-- and so on
+more_records : (span_of 1999 ≡ 2) × (count_of 1999 ≡ 1000) × (span_of 2000 ≡ 4) × (count_of 2000 ≡ 501)
+unfolding count_leading_zeros
+more_records = (refl, refl, refl, refl)
 
 -- a million fit
-many_records : (span_of 1000000 ≡ 1001) × (count_of 1000000 ≡ 1000)
+many_records : (span_of 1000000 ≡ 1024) × (count_of 1000000 ≡ 977)
+unfolding count_leading_zeros
 many_records = (refl, refl)
+
+-- of two columns made one: neither has a value, one has some, or both
+two_made_one : (both None None ≡ None) × (both None (Some (record { low = 3; high = 5 })) ≡ Some (record { low = 3; high = 5 }))
+    × (both (Some (record { low = 4; high = 9 })) (Some (record { low = 3; high = 5 })) ≡ Some (record { low = 3; high = 9 }))
+two_made_one = (refl, refl, refl)
 
 second_column : levels_at 2 (Some ten ∷ None ∷ Some nine ∷ []) 1 ≡ Some nine ∷ []
 second_column = refl
@@ -88,8 +101,8 @@ behind_all : levels_at 2 (Some ten ∷ None ∷ Some nine ∷ []) 2 ≡ []
 behind_all = refl
 
 -- the highest value is at the top, 0 at the bottom
-rows : (row_of Credit 10 10 ≡ 70) × (row_of Credit 10 0 ≡ 200) × (row_of Credit 10 5 ≡ 135) × (row_of Waiting 1 1 ≡ 430)
-rows = (refl, refl, refl, refl)
+rows : (row_of Credit 10 10 ≡ 70) × (row_of Credit 10 0 ≡ 200) × (row_of Credit 10 5 ≡ 135) × (row_of Waiting 2 1 ≡ 495) × (row_of Draining 1 1 ≡ 790)
+rows = (refl, refl, refl, refl, refl)
 
 tops : (top_of Credit (Some nine ∷ Some ten ∷ None ∷ []) ≡ 10) × (top_of Credit (None ∷ []) ≡ 1)
 unfolding ten nine

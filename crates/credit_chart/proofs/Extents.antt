@@ -1,33 +1,48 @@
--- The lowest and the highest of values, found one by one.
-use Rattle.std.proofs.Common.{◌≡◌, ℕ, ◌+◌, ◌<◌, ◌≤◌, ◌⊎◌, inl, inr, min, max, Bool, true, false, leb, Contains, List, [], ◌∷◌, ◌++◌, length, take, get_or, Option, Some, None, option_map, refl, sym, ap, subst, ◌∙◌, append_assoc, append-nil, arith}
+-- The lowest and the highest of values, found one by one, and of the values of both of two lists.
+use Rattle.std.proofs.Common.{◌≡◌, ℕ, ◌<◌, ◌≤◌, ◌⊎◌, inl, inr, min, max, Bool, true, false, leb, Contains, List, [], ◌∷◌, ◌++◌, Option, Some, None, option_map, refl, sym, ap, subst, ◌∙◌, append_assoc, append-nil, arith}
 use Rattle.std.proofs.lemmas.Bool.{leb-true, leb-false}
-use Rattle.std.proofs.lemmas.List.{take_more}
 use Rattle.std.proofs.lemmas.List.Elements.{All-push, All-weaker, Contains-append_left, Contains-push, filter_map-append}
 use Rattle.credit_chart.specs.declared.level.Level.{Level}
 use Rattle.credit_chart.specs.declared.level.Quantity.{Quantity}
 use Rattle.credit_chart.specs.declared.thinning.Extent.{Extent}
 use Rattle.credit_chart.specs.Levels.{value_of}
-use Rattle.credit_chart.specs.Thinning.{IsColumn, Spans, extent_of, extent_on, values_of, with_found, with_value}
+use Rattle.credit_chart.specs.Thinning.{IsColumn, Spans, both, extent_of, extent_on, values_of, with_value}
 
--- ---- one value more
+-- ---- of the values of both
 
-extent_push : (extent : Option Extent) (values : List ℕ) (value : ℕ) → extent_on extent (values ++ value ∷ []) ≡ Some (with_value (extent_on extent values) value)
-extent_push extent [] value = refl
-extent_push extent (first ∷ rest) value = extent_push (Some (with_value extent first)) rest value
+min_thrice : (a b c : ℕ) → min (min a b) c ≡ min a (min b c)
+min_thrice a b c = omega arith
 
-found_push : (quantity : Quantity) (levels : List (Option Level)) (found : Option Level)
-    → extent_of (values_of quantity (levels ++ found ∷ [])) ≡ with_found quantity (extent_of (values_of quantity levels)) found
-found_push quantity levels None =
-    ap extent_of (filter_map-append (option_map (value_of quantity)) levels (None ∷ []) ∙ append-nil (values_of quantity levels))
-found_push quantity levels (Some level) =
-    ap extent_of (filter_map-append (option_map (value_of quantity)) levels (Some level ∷ []))
-    ∙ extent_push None (values_of quantity levels) (value_of quantity level)
+max_thrice : (a b c : ℕ) → max (max a b) c ≡ max a (max b c)
+max_thrice a b c = omega arith
 
--- what stands at one record more
-pub found_more : (quantity : Quantity) (levels : List (Option Level)) (i : ℕ) (d : Option Level) → i < length levels
-    → extent_of (values_of quantity (take (i + 1) levels)) ≡ with_found quantity (extent_of (values_of quantity (take i levels))) (get_or levels i d)
-found_more quantity levels i d below =
-    ap (λ (t : List (Option Level)). extent_of (values_of quantity t)) (take_more levels i d below) ∙ found_push quantity (take i levels) (get_or levels i d)
+same_extent : (low high low' high' : ℕ) → low ≡ low' → high ≡ high' → Some ((let e : Extent = record { low = low; high = high } in e)) ≡ Some (record { low = low'; high = high' })
+same_extent low high low' high' is so = rw (is, so) refl
+
+first_both : (extent : Extent) (value : ℕ) (o : Option Extent) → both (Some (with_value (Some extent) value)) o ≡ both (Some extent) (both (Some (record { low = value; high = value })) o)
+first_both extent value None = refl
+first_both extent value (Some other) =
+    same_extent (min (min extent.low value) other.low) (max (max extent.high value) other.high) (min extent.low (min value other.low)) (max extent.high (max value other.high))
+    (min_thrice extent.low value other.low) (max_thrice extent.high value other.high)
+
+some_both : (extent : Extent) (values : List ℕ) → extent_on (Some extent) values ≡ both (Some extent) (extent_of values)
+some_both extent [] = refl
+some_both extent (value ∷ rest) =
+    some_both (with_value (Some extent) value) rest
+    ∙ (first_both extent value (extent_of rest) ∙ ap (both (Some extent)) (sym (some_both (record { low = value; high = value }) rest)))
+
+on_both : (extent : Option Extent) (values : List ℕ) → extent_on extent values ≡ both extent (extent_of values)
+on_both None values = refl
+on_both (Some extent) values = some_both extent values
+
+extent_append : (extent : Option Extent) (values more : List ℕ) → extent_on extent (values ++ more) ≡ extent_on (extent_on extent values) more
+extent_append extent [] more = refl
+extent_append extent (value ∷ rest) more = extent_append (Some (with_value extent value)) rest more
+
+pub levels_both : (quantity : Quantity) (levels more : List (Option Level)) → extent_of (values_of quantity (levels ++ more)) ≡ both (extent_of (values_of quantity levels)) (extent_of (values_of quantity more))
+levels_both quantity levels more =
+    ap extent_of (filter_map-append (option_map (value_of quantity)) levels more)
+    ∙ (extent_append None (values_of quantity levels) (values_of quantity more) ∙ on_both (extent_of (values_of quantity levels)) (values_of quantity more))
 
 -- ---- the lowest and the highest are among the values
 

@@ -8,7 +8,7 @@ use Rattle.svg_text.specs.Drawn.{end_octets, root_end, root_octets}
 use Rattle.svg_parts.specs.Parts.{element_octets, label_octets, line_octets, path_octets}
 use Rattle.credit_chart.specs.declared.level.Level.{Level}
 use Rattle.credit_chart.specs.declared.level.Quantity.{Quantity}
-use Rattle.credit_chart.specs.declared.level.Quantity.TheVariants.{Credit, Window, Waiting, Draining}
+use Rattle.credit_chart.specs.declared.level.Quantity.TheVariants.{Credit, Window, Waiting, Unsettled, Draining}
 use Rattle.credit_chart.specs.declared.scale.TheConstants.{ABOVE, BELOW, HEIGHT, LEFT, RIGHT, WIDTH}
 use Rattle.credit_chart.specs.Levels.{class_of, name_of}
 use Rattle.credit_chart.specs.Thinning.{top_of}
@@ -30,16 +30,21 @@ group_octets quantity =
 unfoldable pub curve_text : List (Option Level) → Quantity → List ℕ
 curve_text levels quantity = path_text quantity levels (scale_of (length levels)) (top_of quantity levels) (count_of (length levels))
 
--- the panel of a quantity: a group with its name as its title, its heading, the line on which the value 0 stands, and the curve
-unfoldable pub panel_octets : List (Option Level) → Quantity → List ℕ
-panel_octets levels quantity = group_octets quantity
+-- the panel of a quantity whose highest value is this and whose curve is this: a group with its name as its title, its heading, the line
+-- on which the value 0 stands, and the curve
+unfoldable pub panel_with : Quantity → ℕ → List ℕ → List ℕ
+panel_with quantity top along = group_octets quantity
     ++ (element_octets Title (name_of quantity)
-    ++ (label_octets (LEFT, bottom_of quantity - (height_of quantity + 8)) (heading quantity (top_of quantity levels))
+    ++ (label_octets (LEFT, bottom_of quantity - (height_of quantity + 8)) (heading quantity top)
     ++ (line_octets (codes "axis") (LEFT, bottom_of quantity) (RIGHT, bottom_of quantity)
-    ++ (path_octets (codes "curve") (curve_text levels quantity) ++ end_octets Group))))
+    ++ (path_octets (codes "curve") along ++ end_octets Group))))
+
+abbrev pub panel_octets : List (Option Level) → Quantity → List ℕ
+panel_octets levels quantity = panel_with quantity (top_of quantity levels) (curve_text levels quantity)
 
 abbrev pub panels_octets : List (Option Level) → List ℕ
-panels_octets levels = panel_octets levels Credit ++ (panel_octets levels Window ++ (panel_octets levels Waiting ++ panel_octets levels Draining))
+panels_octets levels =
+    panel_octets levels Credit ++ (panel_octets levels Window ++ (panel_octets levels Waiting ++ (panel_octets levels Unsettled ++ panel_octets levels Draining)))
 
 -- ---- documents
 

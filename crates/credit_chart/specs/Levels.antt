@@ -2,7 +2,7 @@
 use Rattle.std.specs.Prelude.{ℕ, Bool, true, false, List, codes}
 use Rattle.credit_chart.specs.declared.level.Level.{Level}
 use Rattle.credit_chart.specs.declared.level.Quantity.{Quantity}
-use Rattle.credit_chart.specs.declared.level.Quantity.TheVariants.{Credit, Window, Waiting, Draining}
+use Rattle.credit_chart.specs.declared.level.Quantity.TheVariants.{Credit, Window, Waiting, Unsettled, Draining}
 
 -- whether something was so, as a number
 abbrev pub as_number : Bool → ℕ
@@ -13,7 +13,8 @@ as_number false = 0
 abbrev pub value_of : Quantity → Level → ℕ
 value_of Credit level = level.credit
 value_of Window level = level.window
-value_of Waiting level = as_number level.has_waiting
+value_of Waiting level = level.waiting
+value_of Unsettled level = level.unsettled
 value_of Draining level = as_number level.is_draining
 
 -- ---- in words
@@ -21,11 +22,13 @@ value_of Draining level = as_number level.is_draining
 abbrev pub name_of : Quantity → List ℕ
 name_of Credit = codes "link credit"
 name_of Window = codes "session window"
-name_of Waiting = codes "a delivery waits at the address"
+name_of Waiting = codes "deliveries waiting at the address"
+name_of Unsettled = codes "deliveries unsettled on the link"
 name_of Draining = codes "the client drains the link"
 
 abbrev pub class_of : Quantity → List ℕ
 class_of Credit = codes "credit"
 class_of Window = codes "window"
 class_of Waiting = codes "waiting"
+class_of Unsettled = codes "unsettled"
 class_of Draining = codes "draining"

@@ -2,5 +2,6 @@
 pub mod Levels
 pub mod Thinning
 pub mod Places
+pub mod Thinned
 pub mod Paths
 pub mod Curves

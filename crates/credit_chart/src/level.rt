@@ -7,8 +7,10 @@ pub struct Level {
     pub credit: u32,
     /// How many transfers might still be sent on its session.
     pub window: u32,
-    /// A delivery waited at its address.
-    pub has_waiting: bool,
+    /// How many deliveries waited at its address.
+    pub waiting: u32,
+    /// How many deliveries on it were unsettled.
+    pub unsettled: u32,
     /// Its client asked that the credit be used up.
     pub is_draining: bool,
 }
@@ -18,8 +20,8 @@ pub struct Level {
 pub enum Quantity {
     Credit,
     Window,
-    /// 1 where a delivery waited, else 0.
     Waiting,
+    Unsettled,
     /// 1 where the client asked that the credit be used up, else 0.
     Draining,
 }
@@ -35,7 +37,8 @@ impl Quantity {
         match self {
             Quantity::Credit => level.credit,
             Quantity::Window => level.window,
-            Quantity::Waiting => u32::from(level.has_waiting),
+            Quantity::Waiting => level.waiting,
+            Quantity::Unsettled => level.unsettled,
             Quantity::Draining => u32::from(level.is_draining),
         }
     }
@@ -46,7 +49,8 @@ impl Quantity {
         match self {
             Quantity::Credit => "link credit",
             Quantity::Window => "session window",
-            Quantity::Waiting => "a delivery waits at the address",
+            Quantity::Waiting => "deliveries waiting at the address",
+            Quantity::Unsettled => "deliveries unsettled on the link",
             Quantity::Draining => "the client drains the link",
         }
     }
@@ -58,6 +62,7 @@ impl Quantity {
             Quantity::Credit => "credit",
             Quantity::Window => "window",
             Quantity::Waiting => "waiting",
+            Quantity::Unsettled => "unsettled",
             Quantity::Draining => "draining",
         }
     }

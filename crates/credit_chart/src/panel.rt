@@ -1,15 +1,17 @@
 //! The panel of a quantity.
 
-ghost use Rattle.std.specs.Prelude.{◌≡◌, ◌<◌, IfOk, length};
+ghost use Rattle.std.specs.Prelude.{◌≡◌, ◌<◌, IfOk, List, Option, length};
 ghost use Rattle.std.specs.String.{string_bytes};
-ghost use Rattle.svg_parts.specs.Parts.{Draws};
+ghost use Rattle.svg_parts.specs.Parts.{Draws, DrawsSome};
+ghost use Rattle.credit_chart.specs.declared.level.Level.{Level};
 ghost use Rattle.credit_chart.specs.Places.{scale_of};
+ghost use Rattle.credit_chart.specs.Thinned.{AreThinned};
 ghost use Rattle.credit_chart.specs.Curves.{heading, panel_octets};
 
-use crate::level::{Level, Quantity};
+use crate::level::Quantity;
 use crate::path::path_of;
 use crate::scale::{LEFT, RIGHT, Scale, bottom_of, height_of};
-use crate::thinning::top_of;
+use crate::thinned::Thinned;
 use itoa::Buffer;
 use std::alloc::{AllocError, Global};
 use svg_parts::{draw_label, draw_line, draw_path, draw_words};
@@ -19,16 +21,17 @@ use svg_text::{Attribute, Drawing, Element, Name, Value};
 pub(crate) fn draw_panel(
     alloc: Global,
     drawing: Drawing,
-    levels: &[Option<Level>],
+    thinned: &Thinned,
     scale: Scale,
     quantity: Quantity,
 ) -> Result<Drawing, AllocError>
-    requires { scale ≡ scale_of (length levels.now) }
-    ensures { IfOk result (λ after. Draws drawing after (panel_octets levels.now quantity)) }
+    ensures some { IfOk result (λ after. DrawsSome drawing after) }
+    ensures curve { IfOk result (λ after. (levels : List (Option Level)) → AreThinned levels thinned.now → scale ≡ scale_of (length levels) →
+        Draws drawing after (panel_octets levels quantity)) }
 {
-    let top = top_of(quantity, levels);
+    let top = thinned.top(quantity);
     let words = heading_of(alloc, quantity, top)?;
-    let along = path_of(alloc, quantity, levels, scale, top)?;
+    let along = path_of(alloc, quantity, thinned, scale, top)?;
     let bottom = bottom_of(quantity);
     let attributes = [Attribute {
         name: Name::Class,

@@ -1,12 +1,15 @@
 //! A curve as the data of a path (SVG 1.1, 8.3).
 
-ghost use Rattle.std.specs.Prelude.{◌≡◌, ◌++◌, ◌<◌, decimal, length, IfOk, OnOk};
+ghost use Rattle.std.specs.Prelude.{◌≡◌, ◌++◌, ◌<◌, decimal, IfOk, List, OnOk, Option};
 ghost use Rattle.std.specs.String.{string_bytes};
+ghost use Rattle.credit_chart.specs.declared.level.Level.{Level};
 ghost use Rattle.credit_chart.specs.Paths.{column_text, path_text};
+ghost use Rattle.credit_chart.specs.Thinned.{AreThinned};
 
-use crate::level::{Level, Quantity};
+use crate::level::Quantity;
 use crate::scale::{Scale, place_of, row_of};
-use crate::thinning::{Extent, column_at, extent_of};
+use crate::thinned::Thinned;
+use crate::thinning::Extent;
 use itoa::Buffer;
 use std::alloc::{AllocError, Global};
 
@@ -15,17 +18,18 @@ use std::alloc::{AllocError, Global};
 pub(crate) fn path_of(
     alloc: Global,
     quantity: Quantity,
-    levels: &[Option<Level>],
+    thinned: &Thinned,
     scale: Scale,
     top: u32,
 ) -> Result<String, AllocError>
     requires { 0 < top }
-    ensures { IfOk result (λ text. string_bytes text ≡ path_text quantity levels.now scale top scale.count) }
+    ensures { IfOk result (λ text. (levels : List (Option Level)) → AreThinned levels thinned.now → scale.span ≡ thinned.now.span →
+        string_bytes text ≡ path_text quantity levels scale top scale.count) }
 {
     let mut text = String::new(alloc);
     let mut is_down = false;
     for column in 0..scale.count {
-        let extent = extent_of(quantity, column_at(levels, scale.span, column));
+        let extent = thinned.extent(quantity, column);
         put_column(&mut text, quantity, scale, top, is_down, column, extent)?;
         is_down = extent.is_some();
     }

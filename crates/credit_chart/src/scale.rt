@@ -1,6 +1,6 @@
 //! Where columns and values stand, in pixels.
 
-ghost use Rattle.std.specs.Prelude.{◌≡◌, ◌<◌, ◌≤◌};
+ghost use Rattle.std.specs.Prelude.{◌≡◌, ◌<◌, ◌≤◌, List, Option, length};
 ghost use Rattle.credit_chart.specs.Places as spec;
 
 use crate::level::Quantity;
@@ -14,11 +14,11 @@ pub(crate) const RIGHT: u32 = 1040;
 /// The place of the title above all panels.
 pub(crate) const ABOVE: u32 = 24;
 /// The place of the words below all panels.
-pub(crate) const BELOW: u32 = 520;
+pub(crate) const BELOW: u32 = 830;
 /// How wide and how high a document is.
 pub(crate) const WIDTH: u32 = 1080;
 
-pub(crate) const HEIGHT: u32 = 540;
+pub(crate) const HEIGHT: u32 = 850;
 
 /// Where the lowest value of a panel stands.
 pub(crate) fn bottom_of(quantity: Quantity) -> u32
@@ -27,8 +27,9 @@ pub(crate) fn bottom_of(quantity: Quantity) -> u32
     match quantity {
         Quantity::Credit => 200,
         Quantity::Window => 380,
-        Quantity::Waiting => 440,
-        Quantity::Draining => 490,
+        Quantity::Waiting => 560,
+        Quantity::Unsettled => 740,
+        Quantity::Draining => 800,
     }
 }
 
@@ -37,8 +38,8 @@ pub(crate) fn height_of(quantity: Quantity) -> u32
     ensures { result ≡ spec.height_of quantity }
 {
     match quantity {
-        Quantity::Credit | Quantity::Window => 130,
-        Quantity::Waiting | Quantity::Draining => 10,
+        Quantity::Credit | Quantity::Window | Quantity::Waiting | Quantity::Unsettled => 130,
+        Quantity::Draining => 10,
     }
 }
 
@@ -53,13 +54,12 @@ pub(crate) struct Scale {
     pub step: u32,
 }
 
-/// The columns of this many records.
-pub(crate) fn scale_of(records: usize) -> Scale
-    ensures computed { result ≡ spec.scale_of records }
-    ensures few { result.count ≤ COLUMNS }
+/// The columns of this many records, where each stands for so many.
+pub(crate) fn scale_of(records: usize, span: usize) -> Scale
+    ensures computed { span ≡ spec.span_of records → result ≡ spec.scale_of records }
+    ensures few { span ≡ spec.span_of records → result.count ≤ COLUMNS }
 {
-    let span = records / COLUMNS + 1;
-    let count = records / span + 1;
+    let count = records.checked_div(span).unwrap_or(0).saturating_add(1);
     Scale {
         span,
         count,

@@ -1,8 +1,9 @@
-//! Of the records for which a column stands, the lowest and the highest value.
+//! Of the records for which a column stands, of each quantity the lowest and the highest value.
 
-ghost use Rattle.std.specs.Prelude.{◌≡◌, ◌*◌, ◌≤◌, drop, take};
-ghost use Rattle.credit_chart.specs.Thinning.{IsColumn, extent_of, values_of, with_found, with_value};
-ghost use Rattle.credit_chart.specs.Thinning as spec;
+ghost use Rattle.std.specs.Prelude.{◌≡◌, ◌∷◌, [], Some, min, max};
+ghost use Rattle.credit_chart.specs.declared.level.Quantity.{Quantity};
+ghost use Rattle.credit_chart.specs.Levels.{value_of};
+ghost use Rattle.credit_chart.specs.Thinning.{both, extent_at, extent_in, extent_of, values_of};
 
 use crate::level::{Level, Quantity};
 
@@ -13,69 +14,82 @@ pub(crate) struct Extent {
     pub high: u32,
 }
 
-/// The levels for which a column stands, by its number, if each stands for so many records; the last may have fewer.
-pub(crate) fn column_at(levels: &[Option<Level>], span: usize, column: usize) -> &[Option<Level>]
-    ensures { result.now ≡ take span (drop (column * span) levels.now) }
-{
-    let rest = match column.checked_mul(span) {
-        Some(start) => levels_from(levels, start),
-        None => &[],
-    };
-    rest.get(..span).unwrap_or(rest)
+/// What stood at records of which some have a level: of each quantity the lowest value, and the highest.
+#[doc(hidden)]
+#[derive(Clone, Copy, Debug)]
+pub struct Column {
+    pub(crate) low: Level,
+    pub(crate) high: Level,
 }
 
-fn levels_from(levels: &[Option<Level>], start: usize) -> &[Option<Level>]
-    ensures { result.now ≡ drop start levels.now }
-{
-    levels.get(start..).unwrap_or(&[])
-}
-
-/// The lowest and the highest value of the records that have one.
-pub(crate) fn extent_of(quantity: Quantity, levels: &[Option<Level>]) -> Option<Extent>
-    ensures computed { result ≡ extent_of (values_of quantity levels.now) }
-    // Both are values of these records, and each other one lies between them; there is none just where no record has one.
-    ensures kept { IsColumn (values_of quantity levels.now) result }
-{
-    let mut extent = None;
-    for found in levels {
-        extent = with_found(quantity, extent, *found);
+impl Column {
+    /// The lowest and the highest value of a quantity.
+    pub(crate) fn extent(self, quantity: Quantity) -> Extent
+        ensures { result ≡ extent_at quantity self }
+    {
+        Extent {
+            low: quantity.value_of(self.low),
+            high: quantity.value_of(self.high),
+        }
     }
-    extent
+
+    /// Of the records of both.
+    fn joined(self, other: Column) -> Column
+        ensures { (quantity : Quantity) → Some (extent_at quantity result) ≡ both (Some (extent_at quantity self)) (Some (extent_at quantity other)) }
+    {
+        Column {
+            low: lowest(self.low, other.low),
+            high: highest(self.high, other.high),
+        }
+    }
 }
 
-/// Both, with what stood at one record more.
-fn with_found(quantity: Quantity, extent: Option<Extent>, found: Option<Level>) -> Option<Extent>
-    ensures { result ≡ with_found quantity extent found }
+/// Of one record.
+pub(crate) fn column_of(found: Option<Level>) -> Option<Column>
+    ensures { (quantity : Quantity) → extent_in quantity result ≡ extent_of (values_of quantity (found ∷ [])) }
 {
     match found {
-        Some(level) => Some(with_value(extent, quantity.value_of(level))),
-        None => extent,
+        Some(level) => Some(Column {
+            low: level,
+            high: level,
+        }),
+        None => None,
     }
 }
 
-/// Both, with one value more.
-fn with_value(extent: Option<Extent>, value: u32) -> Extent
-    ensures { result ≡ with_value extent value }
+/// Of the records of both.
+pub(crate) fn joined(first: Option<Column>, second: Option<Column>) -> Option<Column>
+    ensures { (quantity : Quantity) → extent_in quantity result ≡ both (extent_in quantity first) (extent_in quantity second) }
 {
-    match extent {
-        Some(extent) => Extent {
-            low: extent.low.min(value),
-            high: extent.high.max(value),
-        },
-        None => Extent {
-            low: value,
-            high: value,
-        },
+    match (first, second) {
+        (Some(first), Some(second)) => Some(first.joined(second)),
+        (Some(first), None) => Some(first),
+        (None, second) => second,
     }
 }
 
-/// The highest value of all records; 1 at least.
-pub(crate) fn top_of(quantity: Quantity, levels: &[Option<Level>]) -> u32
-    ensures computed { result ≡ spec.top_of quantity levels.now }
-    ensures some { 1 ≤ result }
+/// The lowest value of each quantity.
+fn lowest(first: Level, second: Level) -> Level
+    ensures { (quantity : Quantity) → value_of quantity result ≡ min (value_of quantity first) (value_of quantity second) }
 {
-    match extent_of(quantity, levels) {
-        Some(extent) => extent.high.max(1),
-        None => 1,
+    Level {
+        credit: first.credit.min(second.credit),
+        window: first.window.min(second.window),
+        waiting: first.waiting.min(second.waiting),
+        unsettled: first.unsettled.min(second.unsettled),
+        is_draining: first.is_draining && second.is_draining,
+    }
+}
+
+/// The highest value of each quantity.
+fn highest(first: Level, second: Level) -> Level
+    ensures { (quantity : Quantity) → value_of quantity result ≡ max (value_of quantity first) (value_of quantity second) }
+{
+    Level {
+        credit: first.credit.max(second.credit),
+        window: first.window.max(second.window),
+        waiting: first.waiting.max(second.waiting),
+        unsettled: first.unsettled.max(second.unsettled),
+        is_draining: first.is_draining || second.is_draining,
     }
 }

@@ -1,13 +1,17 @@
-use Rattle.std.proofs.Common.{ap, ◌∙◌}
-use Rattle.credit_chart.specs.Thinning.{extent_of, values_of}
+use Rattle.std.proofs.Common.{ap, sym, ◌∙◌}
+use Rattle.credit_chart.specs.Thinning.{column_of}
 use Rattle.credit_chart.proofs.Drawing.{comes_more, path_more}
 use Rattle.credit_chart.proofs.path.path_of.Goals as goal
 
 pub loop-column-preserved : goal.loop-column-preserved
 loop-column-preserved c =
-    let at = c.extent_of-extent.ensures.computed ∙ ap (λ t. extent_of (values_of c.args.quantity t)) c.column_at.ensures in
+    let column = c.loop-column.column in
     record {
-      text = path_more c.args.quantity c.args.levels.now c.args.scale c.args.top c.loop-column.column _ _ c.loop-column.is_down c.extent_of-extent.result
-          c.loop-column.invariant.text c.loop-column.invariant.down at c.in_ok-put_column.ensures;
-      down = comes_more c.args.quantity c.args.levels.now c.args.scale c.loop-column.column c.extent_of-extent.result c.is_some-is_down.result at c.is_some-is_down.ensures;
+      text = λ levels are spans.
+          path_more c.args.quantity levels c.args.scale c.args.top column _ _ c.loop-column.is_down c.extent-extent.result
+          (c.loop-column.invariant.text levels are spans) (c.loop-column.invariant.down levels are spans)
+          (c.extent-extent.ensures.computed levels are ∙ ap (λ n. column_of c.args.quantity n levels column) (sym spans)) c.in_ok-put_column.ensures;
+      down = λ levels are spans.
+          comes_more c.args.quantity levels c.args.scale column c.extent-extent.result c.is_some-is_down.result
+          (c.extent-extent.ensures.computed levels are ∙ ap (λ n. column_of c.args.quantity n levels column) (sym spans)) c.is_some-is_down.ensures;
     }
