@@ -3,7 +3,8 @@ use Rattle.std.specs.Prelude.{◌≡◌, ℕ, Bool, true, false, List, [], ◌�
 use Rattle.std.specs.Borrow.{Bor}
 use Rattle.std.specs.Fmt.{digits}
 use Rattle.amqp_perf.proofs.Opened.{read, written}
-use Rattle.amqp_perf.specs.Meaning.{AFlow, AnAttach}
+use Rattle.amqp_perf.specs.declared.attach.Role.TheVariants.{Receiver}
+use Rattle.amqp_perf.specs.Meaning.{ADisposition, AFlow, AnAttach, ATransfer}
 use Rattle.amqp_frames.specs.Writing.{frame_octets}
 use Rattle.amqp_frames.specs.Reading.{whole_frame, frame_at, sized_frame, headed_frame}
 use Rattle.capture_form.specs.declared.records.Record.{Record}
@@ -11,7 +12,7 @@ use Rattle.capture_form.specs.Rules.{no_rules}
 use Rattle.trace_events.specs.Frame.{frame_read}
 use Rattle.trace_events.specs.History.{history}
 use Rattle.trace_clauses.specs.Written.{spoken_octets}
-use Rattle.trace_clauses.proofs.Made.{carry, detach_of, draining, first, from, gives, hi, q, receives_from, sent}
+use Rattle.trace_clauses.proofs.Made.{accepted, carry, detach_of, disposes, draining, first, from, from_with, gives, hi, q, receives_from, sent}
 use Rattle.credit_chart.specs.declared.level.Level.{Level}
 use Rattle.credit_levels.specs.declared.pick.Pick.{Pick}
 use Rattle.credit_levels.specs.declared.pick.Place.{Place}
@@ -67,8 +68,8 @@ last [] = None
 last (level ∷ []) = level
 last (level ∷ more ∷ rest) = last (more ∷ rest)
 
-level : ℕ → ℕ → Bool → Bool → Option Level
-level credit window has_waiting is_draining = Some (record { credit = credit; window = window; has_waiting = has_waiting; is_draining = is_draining })
+level : ℕ → ℕ → ℕ → ℕ → Bool → Option Level
+level credit window waiting unsettled is_draining = Some (record { credit = credit; window = window; waiting = waiting; unsettled = unsettled; is_draining = is_draining })
 
 -- a producer's link opens in record 6, a consumer's in record 13
 of_consumer : place_in any sent ≡ Some (record { number = 13; connection = 1; channel = 0; handle = 0 })
@@ -87,19 +88,29 @@ not_so_named = refl
 -- behind each record: the link opens without credit, its client gives 10, and a delivery waits
 behind_each : levels_in any sent
     ≡ None ∷ None ∷ None ∷ None ∷ None ∷ None ∷ None ∷ None ∷ None ∷ None ∷ None ∷ None ∷ None
-    ∷ level 0 100 false false ∷ level 0 100 false false ∷ level 10 100 false false ∷ level 10 100 true false ∷ []
+    ∷ level 0 100 0 0 false ∷ level 0 100 0 0 false ∷ level 10 100 0 0 false ∷ level 10 100 1 0 false ∷ []
 unfolding levels_in any level
 behind_each = refl
 
--- the delivery goes to the client
-behind_transfer : last (levels_in any (sent ++ carry 1 16 (first 0) hi ∷ [])) ≡ level 9 99 false false
+-- the delivery goes to the client, unsettled
+behind_transfer : last (levels_in any (sent ++ carry 1 16 (first 0) hi ∷ [])) ≡ level 9 99 0 1 false
 unfolding levels_in any level
 behind_transfer = refl
 
 -- the client drains the link
-behind_drain : last (levels_in any (sent ++ from 1 (AFlow (draining (gives 0 0 10))) ∷ [])) ≡ level 10 100 true true
+behind_drain : last (levels_in any (sent ++ from 1 (AFlow (draining (gives 0 0 10))) ∷ [])) ≡ level 10 100 1 0 true
 unfolding levels_in any level
 behind_drain = refl
+
+-- another waits behind the one that goes to the client, which then settles that
+behind_another : last (levels_in any (sent ++ from_with 0 (ATransfer (first 1)) hi ∷ carry 1 16 (first 0) hi ∷ [])) ≡ level 9 99 1 1 false
+unfolding levels_in any level
+behind_another = refl
+
+behind_outcome : last (levels_in any (sent ++ from_with 0 (ATransfer (first 1)) hi ∷ carry 1 16 (first 0) hi ∷ from 1 (ADisposition (disposes Receiver 0 true accepted)) ∷ []))
+    ≡ level 9 99 1 0 false
+unfolding levels_in any level
+behind_outcome = refl
 
 -- the link ends
 behind_detach : last (levels_in any (sent ++ from 1 (detach_of true) ∷ [])) ≡ None

@@ -6,8 +6,11 @@ use Rattle.trace_events.specs.Event.{Event, Link, Moment}
 use Rattle.trace_events.specs.Link.{is_consumer, live_link}
 use Rattle.trace_events.specs.Credit.{is_draining, link_credit}
 use Rattle.trace_events.specs.Window.{session_window}
-use Rattle.trace_events.specs.Waiting.{has_waiting}
+use Rattle.state_incoming.specs.WaitingCount.{waiting_count}
+use Rattle.state_outgoing.specs.UnsettledCount.{unsettled_count}
 use Rattle.credit_chart.specs.declared.level.Level.{Level}
+use Rattle.credit_chart.specs.Places.{most}
+use Rattle.credit_chart.specs.Thinned.{AreThinned}
 use Rattle.credit_levels.specs.declared.pick.Pick.{Pick}
 use Rattle.credit_levels.specs.declared.pick.Place.{Place}
 use Rattle.credit_levels.specs.declared.levels.Levels.{Levels}
@@ -30,12 +33,14 @@ chosen pick (e ∷ past) = let earlier = chosen pick past in or_else earlier (op
 
 -- ---- numbers
 
--- the link's credit, its session's window, whether a delivery waits at its address, and whether its client drains it
+-- the link's credit, its session's window, how many deliveries wait at its address and how many are unsettled on it, each as a number of
+-- 32 bits that stops at the largest, and whether its client drains it
 abbrev pub level_on : RuleSet → List Event → Link → Level
 level_on rules now l = record {
   credit = link_credit l now;
   window = session_window l.session now;
-  has_waiting = has_waiting rules l.address now;
+  waiting = most (waiting_count rules l.address now);
+  unsettled = most (unsettled_count l now);
   is_draining = is_draining l now;
 }
 
@@ -54,8 +59,8 @@ levels_of pick rules (e ∷ past) = let earlier = levels_of pick rules past in e
 
 -- ---- values of the code
 
--- what was taken is that of these records, judged by these rules
+-- what was taken is that of these records, judged by these rules; what stands behind each is thinned
 pub record AreOf (pick : Pick) (rules : RuleSet) (taken : Levels) (past : List Event) : Type 0 where
   pub asks : taken.pick ≡ pick
   pub place : taken.place ≡ chosen pick past
-  pub levels : taken.levels.items ≡ levels_of pick rules past
+  pub levels : AreThinned (levels_of pick rules past) taken.levels

@@ -1,14 +1,16 @@
 //! What stands at a place, asked of whoever can tell of the past.
 
 ghost use Rattle.capture_form.specs.Rules.{RuleSet};
-ghost use Rattle.std.specs.Prelude.{List, ◌≡◌, ◌==◌, IfSome, option_map};
+ghost use Rattle.std.specs.Prelude.{List, ◌≡◌, ◌==◌, IfSome, option_and_then, option_map};
 ghost use Rattle.trace_events.specs.History.{moment_of};
 ghost use Rattle.trace_events.specs.Link.{IsLiveLink, is_consumer, live_link};
-ghost use Rattle.trace_events.specs.Words.{is_some_and, where_passes};
+ghost use Rattle.trace_events.specs.Words.{is_some_and, or_else, where_passes};
 ghost use Rattle.trace_values.specs.View.{Events, link_view};
+ghost use Rattle.credit_chart.specs.Places.{most};
 ghost use Rattle.credit_levels.specs.Levels as spec;
 
 use crate::pick::{Pick, Place};
+use crate::standing::Standing;
 use capture_form::{Record, RuleSet};
 use credit_chart::Level;
 use trace_judge::{Counts, Inputs};
@@ -51,7 +53,7 @@ fn of_number<'a>(link: Option<Link<'a>>, number: u64) -> Option<Link<'a>>
 }
 
 /// Where the link stands that opened with the last record, of this number, if it is one of a consumer that is picked.
-pub(crate) fn opened<'a, P: Inputs<'a>>(
+fn opened<'a, P: Inputs<'a>>(
     past: &P,
     pick: &Pick<'_>,
     number: u64,
@@ -65,6 +67,23 @@ pub(crate) fn opened<'a, P: Inputs<'a>>(
     is_consumers(link_at(past, place)).then_some(place)
 }
 
+/// The same, unless one stood before.
+pub(crate) fn placed<'a, P: Inputs<'a>>(
+    earlier: Option<Place>,
+    past: &P,
+    pick: &Pick<'_>,
+    number: u64,
+    entry: &Record,
+) -> Option<Place>
+    ensures { (rules : RuleSet) (history : Events) → P.stands_for past.now rules history →
+        result ≡ or_else earlier (spec.opened pick.now number entry.now.connection (moment_of entry.now.what) history) }
+{
+    match earlier {
+        Some(place) => Some(place),
+        None => opened(past, pick, number, entry),
+    }
+}
+
 /// There is a link, and it is a consumer's.
 fn is_consumers(link: Option<Link<'_>>) -> bool
     ensures { result ≡ is_some_and (option_map link_view link.entry) is_consumer }
@@ -75,8 +94,19 @@ fn is_consumers(link: Option<Link<'_>>) -> bool
     }
 }
 
+/// What stands at a place, if there is one and a link lives there.
+pub(crate) fn level_of<'a, P: Inputs<'a> + Counts + Standing>(
+    past: &P,
+    rules: &RuleSet,
+    place: Option<Place>,
+) -> Option<Level>
+    ensures { (history : Events) → P.stands_for past.now rules.now history → result ≡ option_and_then (λ at. spec.level_at rules.now at history) place }
+{
+    level_at(past, rules, place?)
+}
+
 /// What stands at a place, if a link lives there.
-pub(crate) fn level_at<'a, P: Inputs<'a> + Counts>(
+fn level_at<'a, P: Inputs<'a> + Counts + Standing>(
     past: &P,
     rules: &RuleSet,
     place: Place,
@@ -87,7 +117,15 @@ pub(crate) fn level_at<'a, P: Inputs<'a> + Counts>(
     Some(Level {
         credit: past.link_credit(&link),
         window: past.session_window(link.session),
-        has_waiting: past.has_waiting(rules, link.address),
+        waiting: narrowed(past.waiting_count(rules, link.address)),
+        unsettled: narrowed(past.unsettled_count(rules, &link)),
         is_draining: past.is_draining(&link),
     })
+}
+
+/// It stops at the largest number.
+fn narrowed(number: usize) -> u32
+    ensures { result ≡ most number }
+{
+    u32::try_from(number).unwrap_or(u32::MAX)
 }

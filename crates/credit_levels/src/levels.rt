@@ -1,9 +1,10 @@
 //! The levels of the records so far.
 
-use crate::asking::{level_at, opened};
+use crate::asking::{level_of, placed};
 use crate::pick::{Pick, Place};
+use crate::standing::Standing;
 use capture_form::{Record, RuleSet};
-use credit_chart::Level;
+use credit_chart::Thinned;
 use std::alloc::{AllocError, Global};
 use trace_judge::{Counts, Inputs};
 
@@ -12,7 +13,7 @@ use trace_judge::{Counts, Inputs};
 pub struct Levels<'p> {
     pick: Pick<'p>,
     place: Option<Place>,
-    levels: Vec<Option<Level>>,
+    levels: Thinned,
 }
 
 impl<'p> Levels<'p> {
@@ -21,6 +22,7 @@ impl<'p> Levels<'p> {
     ghost use Rattle.trace_events.specs.History.{judge};
     ghost use Rattle.trace_values.specs.View.{Events};
     ghost use Rattle.credit_levels.specs.declared.pick.Pick.{Pick};
+    ghost use Rattle.credit_chart.specs.Thinned.{AreThinned};
     ghost use Rattle.credit_levels.specs.Levels.{AreOf, chosen, levels_of};
 
     /// No records yet.
@@ -30,7 +32,7 @@ impl<'p> Levels<'p> {
         Levels {
             pick,
             place: None,
-            levels: Vec::new(alloc),
+            levels: Thinned::new(alloc),
         }
     }
 
@@ -42,14 +44,18 @@ impl<'p> Levels<'p> {
     }
 
     /// What stood behind each record, where that link lived.
-    pub fn levels(&self) -> &[Option<Level>]
-        ensures { (pick : Pick) (rules : RuleSet) (history : Events) → AreOf pick rules self.now history → result.now ≡ levels_of pick rules history }
+    pub fn levels(&self) -> &Thinned
+        ensures { (pick : Pick) (rules : RuleSet) (history : Events) → AreOf pick rules self.now history → AreThinned (levels_of pick rules history) result.now }
     {
-        self.levels.as_slice()
+        &self.levels
     }
 
     /// Takes what stands behind one record more, of this number.
-    pub fn take<'a, P: Inputs<'a> + Counts>(
+    ///
+    /// # Errors
+    ///
+    /// Memory was refused; then what stood behind the records so far is kept.
+    pub fn take<'a, P: Inputs<'a> + Counts + Standing>(
         &mut self,
         past: &P,
         rules: &RuleSet,
@@ -59,14 +65,8 @@ impl<'p> Levels<'p> {
         ensures { OnOk result ((pick : Pick) (history : Events) → number ≡ length history → P.stands_for past.now rules.now (judge rules.now history entry.now ∷ history) →
             AreOf pick rules.now self.old history → AreOf pick rules.now self.new (judge rules.now history entry.now ∷ history)) }
     {
-        if self.place.is_none() {
-            self.place = opened(past, &self.pick, number, entry);
-        }
-        let level = match self.place {
-            Some(place) => level_at(past, rules, place),
-            None => None,
-        };
-        self.levels.push(level)?;
-        Ok(())
+        self.place = placed(self.place, past, &self.pick, number, entry);
+        let level = level_of(past, rules, self.place);
+        self.levels.push(level)
     }
 }
