@@ -144,10 +144,10 @@ refused is red, and those that it is compared with are marked too, where they ar
 record has more than 2000, and no option chooses among them, OUT has that record, those that it is compared with, and of the \
 others 100 in front of it and 20 behind it. All of the capture is kept in memory.
 
-With --credit the capture is audited, and OUT is an SVG with a panel for each of four curves over the records that were taken: \
-the credit of a consumer's link, the window of its session, whether a delivery waits at its address, and whether its client \
-drains it. The link is the first that opens of those that are chosen; the curves break off where it ends. Where none opens there \
-is no file, and of an accepted capture the line is: no such link of a consumer.
+With --credit the capture is audited, and OUT is an SVG with a panel for each of five curves over the records that were taken: \
+the credit of a consumer's link, the window of its session, how many deliveries wait at its address, how many on it are \
+unsettled, and whether its client drains it. The link is the first that opens of those that are chosen; the curves break off \
+where it ends. Where none opens there is no file, and of an accepted capture the line is: no such link of a consumer.
 
 Packets and charts are those of the whole records in front of a fault where the capture has one, and curves those of the records \
 in front of a fault or of a refused record.";
