@@ -1,6 +1,6 @@
 //! Levels of more records than a picture has columns, drawn as curves.
 
-use credit_chart::{Level, draw_levels};
+use credit_chart::{Level, Thinned, draw_levels};
 use std::{fs, io};
 
 /// Draws the levels that the lines of `levels.cases` tell.
@@ -17,7 +17,8 @@ fn tell_lines(rt: &HostRuntime, cases: &str, levels: &mut Vec<Option<Level>>) ->
         take_line(rt, line, levels)?;
     }
     println!(rt; "== levels")?;
-    rt.print(draw_levels(rt.alloc(), "levels", levels.as_slice())?.as_str())
+    let thinned = Thinned::of(rt.alloc(), levels.as_slice())?;
+    rt.print(draw_levels(rt.alloc(), "levels", &thinned)?.as_str())
 }
 
 /// Takes what a line tells of levels, or tells the line.
@@ -35,9 +36,15 @@ fn take_words(
 ) -> io::Result<()> {
     match words {
         [records, "records"] => levels.resize(number(records), None)?,
-        [record, credit, window, waits, drains] => {
+        [record, credit, window, waiting, unsettled, drains] => {
             if let Some(level) = levels.get_mut(number(record)) {
-                *level = Some(level_of(credit, window, waits, drains));
+                *level = Some(Level {
+                    credit: count(credit),
+                    window: count(window),
+                    waiting: count(waiting),
+                    unsettled: count(unsettled),
+                    is_draining: says_yes(drains),
+                });
             }
         }
         _ => rt.println(line)?,
@@ -45,13 +52,12 @@ fn take_words(
     Ok(())
 }
 
-fn level_of(credit: &str, window: &str, waits: &str, drains: &str) -> Level {
-    Level {
-        credit: credit.parse::<u32>().unwrap_or(0),
-        window: window.parse::<u32>().unwrap_or(0),
-        has_waiting: waits == "yes",
-        is_draining: drains == "yes",
-    }
+fn says_yes(word: &str) -> bool {
+    word == "yes"
+}
+
+fn count(word: &str) -> u32 {
+    word.parse::<u32>().unwrap_or(0)
 }
 
 /// The number of a record, or of records; no word is more than a number of 16 bits.

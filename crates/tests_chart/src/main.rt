@@ -3,7 +3,8 @@
 //! `names.cap` a client gives its links such names, and sends octets that are no frames. In `outcomes.cap`, which no router
 //! wrote, ids of deliveries are used again, and told of three deliveries and of none. A line of `curves.cases` names a
 //! capture and the consumer's link that is picked of it; in `curves/reopened.cap` that link is drained, detached and opened
-//! again. Of the 1,500 levels of `levels.cases` two share a column, and in some columns one of the two is an extreme.
+//! again, and in `curves/waiting.cap` three deliveries wait, of which two go to it. Of the 2,500 levels of `levels.cases` four
+//! share a column, once columns were made one two times, and in some columns one of the four is an extreme.
 //!
 //! `stdout` holds what is expected, of the curves worked out by hand from docs/LAW and docs/FORMATS; an independent parser of
 //! XML read each document of it, and found there each text that was handed in.
