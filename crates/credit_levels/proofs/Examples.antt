@@ -4,7 +4,7 @@ use Rattle.std.specs.Borrow.{Bor}
 use Rattle.std.specs.Fmt.{digits}
 use Rattle.amqp_perf.proofs.Opened.{read, written}
 use Rattle.amqp_perf.specs.declared.attach.Role.TheVariants.{Receiver}
-use Rattle.amqp_perf.specs.Meaning.{ADisposition, AFlow, AnAttach, ATransfer}
+use Rattle.amqp_perf.specs.Meaning.{ADisposition, AFlow, AnAttach, ATransfer, DispositionFields}
 use Rattle.amqp_frames.specs.Writing.{frame_octets}
 use Rattle.amqp_frames.specs.Reading.{whole_frame, frame_at, sized_frame, headed_frame}
 use Rattle.capture_form.specs.declared.records.Record.{Record}
@@ -102,17 +102,24 @@ behind_drain : last (levels_in any (sent ++ from 1 (AFlow (draining (gives 0 0 1
 unfolding levels_in any level
 behind_drain = refl
 
--- another waits behind the one that goes to the client, which then settles that
-behind_another : last (levels_in any (sent ++ from_with 0 (ATransfer (first 1)) hi ∷ carry 1 16 (first 0) hi ∷ [])) ≡ level 9 99 1 1 false
-unfolding levels_in any level
-behind_another = refl
-
-behind_outcome : last (levels_in any (sent ++ from_with 0 (ATransfer (first 1)) hi ∷ carry 1 16 (first 0) hi ∷ from 1 (ADisposition (disposes Receiver 0 true accepted)) ∷ []))
-    ≡ level 9 99 1 0 false
-unfolding levels_in any level
-behind_outcome = refl
-
 -- the link ends
 behind_detach : last (levels_in any (sent ++ from 1 (detach_of true) ∷ [])) ≡ None
 unfolding levels_in any
 behind_detach = refl
+
+-- three wait, two of them go to the client, which then settles both
+abbrev two_gone : List Record
+two_gone =
+    sent
+    ++ (from_with 0 (ATransfer (first 1)) hi ∷ from_with 0 (ATransfer (first 2)) hi ∷ carry 1 16 (first 0) hi ∷ carry 1 17 (first 1) hi ∷ [])
+
+settles_both : DispositionFields
+settles_both = let fields = disposes Receiver 0 true accepted in record fields { last = Some 1 }
+
+behind_two : last (levels_in any two_gone) ≡ level 8 98 1 2 false
+unfolding levels_in any level
+behind_two = refl
+
+behind_both : last (levels_in any (two_gone ++ from 1 (ADisposition settles_both) ∷ [])) ≡ level 8 98 1 0 false
+unfolding levels_in any level settles_both
+behind_both = refl
