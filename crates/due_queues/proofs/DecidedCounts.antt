@@ -22,7 +22,7 @@ use Rattle.state_outgoing.proofs.SentKept.{found-contained}
 use Rattle.due_queues.specs.AddressCounts.{decided_on}
 use Rattle.due_queues.specs.Picks.{decided_among, decided_link, decides}
 use Rattle.due_queues.proofs.EndedConsumers.{any-gives, any-from, and_first, and_last, and_both, both-ways}
-use Rattle.due_queues.proofs.OutgoingCounts.{length-counted}
+use Rattle.state_outgoing.proofs.OutgoingCounts.{length-counted}
 use Rattle.due_queues.proofs.SentKnown.{IsKnown, decided-known, decides-unsettled}
 
 -- ---- on lists

@@ -3,7 +3,6 @@ pub mod Sources
 pub mod Counts
 pub mod EndedConsumers
 pub mod SentKnown
-pub mod OutgoingCounts
 pub mod DecidedCounts
 pub mod Moves
 pub mod Texts
