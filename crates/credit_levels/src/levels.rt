@@ -18,7 +18,7 @@ pub struct Levels<'p> {
 
 impl<'p> Levels<'p> {
     ghost use Rattle.capture_form.specs.Rules.{RuleSet};
-    ghost use Rattle.std.specs.Prelude.{List, ◌≡◌, ◌∷◌, [], OnOk, length};
+    ghost use Rattle.std.specs.Prelude.{List, ◌≡◌, ◌∷◌, [], OnErr, OnOk, length};
     ghost use Rattle.trace_events.specs.History.{judge};
     ghost use Rattle.trace_values.specs.View.{Events};
     ghost use Rattle.credit_levels.specs.declared.pick.Pick.{Pick};
@@ -54,7 +54,7 @@ impl<'p> Levels<'p> {
     ///
     /// # Errors
     ///
-    /// Memory was refused; then what stood behind the records so far is kept.
+    /// Memory was refused; then all stays as it was.
     pub fn take<'a, P: Inputs<'a> + Counts + Standing>(
         &mut self,
         past: &P,
@@ -62,11 +62,14 @@ impl<'p> Levels<'p> {
         number: u64,
         entry: &Record,
     ) -> Result<(), AllocError>
-        ensures { OnOk result ((pick : Pick) (history : Events) → number ≡ length history → P.stands_for past.now rules.now (judge rules.now history entry.now ∷ history) →
+        ensures taken { OnOk result ((pick : Pick) (history : Events) → number ≡ length history → P.stands_for past.now rules.now (judge rules.now history entry.now ∷ history) →
             AreOf pick rules.now self.old history → AreOf pick rules.now self.new (judge rules.now history entry.now ∷ history)) }
+        ensures unchanged { OnErr result ((pick : Pick) (rules : RuleSet) (history : Events) → AreOf pick rules self.old history → AreOf pick rules self.new history) }
     {
-        self.place = placed(self.place, past, &self.pick, number, entry);
-        let level = level_of(past, rules, self.place);
-        self.levels.push(level)
+        let place = placed(self.place, past, &self.pick, number, entry);
+        let level = level_of(past, rules, place);
+        self.levels.push(level)?;
+        self.place = place;
+        Ok(())
     }
 }
