@@ -65,10 +65,10 @@ impl Thinned {
     ///
     /// Memory was refused, or there are as many records as a number of 64 bits can count; then all stays as it was.
     pub fn push(&mut self, found: Option<Level>) -> Result<(), AllocError>
-        // There are never more columns than a picture has.
-        ensures few { OnOk result ((levels : List (Option Level)) → AreThinned levels self.old → length self.new.columns.items ≤ COLUMNS) }
         ensures taken { OnOk result ((levels : List (Option Level)) → AreThinned levels self.old → AreThinned (levels ++ found ∷ []) self.new) }
         ensures unchanged { OnErr result ((levels : List (Option Level)) → AreThinned levels self.old → AreThinned levels self.new) }
+        // There are never more columns than a picture has.
+        ensures few { OnOk result ((levels : List (Option Level)) → AreThinned levels self.old → length self.new.columns.items ≤ COLUMNS) }
     {
         let Some(records) = self.records.checked_add(1) else {
             return Err(AllocError);
