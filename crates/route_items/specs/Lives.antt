@@ -1,5 +1,5 @@
 -- The table of what became of each connection (own rules).
-use Rattle.std.specs.Prelude.{◌≡◌, ℕ, true, false, List, unwrap_or, if◌then◌else◌, nat_eq, ◌==◌}
+use Rattle.std.specs.Prelude.{◌≡◌, ℕ, true, false, ◌&&◌, not, List, unwrap_or, if◌then◌else◌, nat_eq, ◌==◌}
 use Rattle.indexmap.specs.IndexMap.{get}
 use Rattle.number_runs.specs.Runs.{value_in}
 use Rattle.capture_form.specs.declared.records.Record.{Record}
@@ -25,16 +25,16 @@ life_in lives c = unwrap_or (get nat_eq lives.entries c) (life_over lives c)
 abbrev pub IsNow : ℕ → Life → Lives → Lives → Type 0
 IsNow c life old new = (n : ℕ) → life_in new n ≡ (if c == n then life else life_in old n)
 
--- what is of a connection once the item came to it
+-- what is of a connection once the item came to it; that what it sent was broken is forgotten with its loss
 abbrev pub life_after : Life → Item → Life
 life_after life (Opened c) = record life { is_opened = true }
 life_after life (In c frame) = life
-life_after life (Broken c) = record life { is_broken = true }
-life_after life (Lost c) = record life { is_lost = true }
+life_after life (Broken c) = record life { is_broken = not life.is_lost }
+life_after life (Lost c) = record life { is_lost = true; is_broken = false }
 
 -- what these records say of it
 abbrev pub life_of : ℕ → List Record → Life
-life_of c records = record { is_opened = has_one is_opening c records; is_lost = has_one is_losing c records; is_broken = has_one is_breaking c records }
+life_of c records = record { is_opened = has_one is_opening c records; is_lost = has_one is_losing c records; is_broken = not (has_one is_losing c records) && has_one is_breaking c records }
 
 abbrev pub AreLives : Lives → List Record → Type 0
 AreLives lives records = (c : ℕ) → life_in lives c ≡ life_of c records

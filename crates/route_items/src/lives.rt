@@ -12,7 +12,8 @@ use number_map::NumberMap;
 use number_runs::{NumberRuns, RunValue};
 use std::alloc::{AllocError, Global};
 
-/// What became of a connection.
+/// What became of a connection. That what it sent was broken tells nothing once it is lost, and is forgotten then: so all that
+/// were opened and are lost are alike.
 #[derive(Clone, Copy, PartialEq, Eq)]
 pub(crate) struct Life {
     is_opened: bool,
@@ -32,11 +33,12 @@ impl Life {
             },
             Item::In(..) => self,
             Item::Broken(_) => Life {
-                is_broken: true,
+                is_broken: !self.is_lost,
                 ..self
             },
             Item::Lost(_) => Life {
                 is_lost: true,
+                is_broken: false,
                 ..self
             },
         }
