@@ -19,6 +19,7 @@ mod Removed
 mod SentRegrouped
 mod LeftLinks
 mod LetGoStands
+mod SpokenNone
 mod SentFound
 mod SentTaken
 mod VerdictsGiven

@@ -261,12 +261,32 @@ impl SentDeliveries {
     }
 
     /// The numbers of the unsettled deliveries of which the event's consumer speaks, each once. It takes the time of those of the
-    /// id that it names, or where it names more, of those of its session.
+    /// id that it names, or where it names more, of those of its session; and hardly any where it is no client's disposition.
     ///
     /// # Errors
     ///
     /// Memory was refused.
+    #[inline(always)]
     pub fn spoken_of(&self, alloc: Global, event: &Event) -> Result<NumberSet, AllocError>
+        ensures stored { IfOk result (λ spoken. (n : ℕ) → is_among spoken n ≡ is_spoken_of self.now.groups (event_view event.now) n) }
+        ensures counted { OnOk result (IfSome (answered_id (event_view event.now)) (λ at. at.id < 2 ^ 32)) }
+        ensures known { IfOk result (λ spoken. (rules : RuleSet) (records : List Record) → IsTable self.now (history rules records) →
+            (j : Outgoing) → Contains (law.outgoing_deliveries (history rules records)) j → kept.is_left_unsettled (history rules records) j ≡ true →
+            is_some (law.answering j (event_view event.now)) ≡ true → is_among spoken j.number ≡ true) }
+    {
+        match event.in_disposition() {
+            Some(_) => self.spoken_by(alloc, event),
+            None => Ok(NumberSet::new(alloc)),
+        }
+    }
+
+    /// The same of an event of any kind.
+    ///
+    /// # Errors
+    ///
+    /// Memory was refused.
+    #[inline(never)]
+    fn spoken_by(&self, alloc: Global, event: &Event) -> Result<NumberSet, AllocError>
         ensures stored { IfOk result (λ spoken. (n : ℕ) → is_among spoken n ≡ is_spoken_of self.now.groups (event_view event.now) n) }
         ensures counted { OnOk result (IfSome (answered_id (event_view event.now)) (λ at. at.id < 2 ^ 32)) }
         ensures known { IfOk result (λ spoken. (rules : RuleSet) (records : List Record) → IsTable self.now (history rules records) →
