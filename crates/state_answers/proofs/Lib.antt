@@ -3,5 +3,6 @@ mod ToldKnown
 mod OutgoingKnown
 mod LetGoKnown
 mod LetGoNext
+mod CompletedExamples
 mod CarriedKnown
 pub mod NextKnown
