@@ -12,7 +12,7 @@ use Rattle.state_addresses.specs.Copies.{AreCopies}
 use Rattle.state_incoming.specs.EntryAnswers.{Knows}
 use Rattle.state_incoming.specs.declared.deliveries.Deliveries.{Deliveries}
 use Rattle.due_copies.specs.Lists.{Waits, copy_on, stands}
-use Rattle.due_copies.specs.declared.copies.DueCopy.{DueCopy}
+use Rattle.due_flows.specs.declared.begin.DueBegin.{DueBegin}
 use Rattle.due_copies.specs.declared.copies.UnsentCopies.{UnsentCopies}
 
 -- a copy of the delivery is due to the live link, and not sent
@@ -31,7 +31,7 @@ pub record HasUnsent (rules : RuleSet) (copies : UnsentCopies) (past : List Even
   pub waits : (l : Link) (d : Incoming) → IsUnsentOn rules l d past → may_take past l ≡ true → Waits copies.lists l.number
 
 -- the earliest unsent copy of a consumer's live link that may be sent a delivery
-pub record IsDueCopy (rules : RuleSet) (copy : DueCopy) (past : List Event) : Type 0 where
+pub record IsDueCopy (rules : RuleSet) (copy : DueBegin) (past : List Event) : Type 0 where
   pub live : IsLiveLink (link_view copy.link) past
   pub at : link_at (link_view copy.link).number past ≡ Some (link_view copy.link)
   pub consumer : is_consumer (link_view copy.link) ≡ true

@@ -2,11 +2,3 @@ pub mod Candidates
 pub mod ByLink
 pub mod Lists
 pub mod Copies
-pub use Rattle.due_flows.specs.Credits
-pub use Rattle.due_flows.specs.Draining
-pub use Rattle.due_flows.specs.Drains
-pub use Rattle.due_flows.specs.Lacking
-pub use Rattle.due_flows.specs.Parts
-pub use Rattle.due_flows.specs.Topping
-pub use Rattle.due_flows.specs.Windows
-pub use Rattle.due_flows.specs.declared.parts.DuePart

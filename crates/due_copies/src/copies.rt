@@ -12,25 +12,18 @@ ghost use Rattle.trace_duties.specs.Quiet.{copies_are_sent, has_earlier_unsent};
 ghost use Rattle.trace_values.specs.View.{Events, event_view, incoming_view, link_view};
 ghost use Rattle.state_tables.specs.Connections.{IsLawfulNext};
 ghost use Rattle.state_addresses.specs.Addressed.{IsAddressed};
-ghost use Rattle.due_flows.specs.Lent.{AreOf};
 ghost use Rattle.due_copies.specs.Copies.{HasUnsent, IsDueCopy, IsKnownCopy, IsReady, IsUnsentOn};
+ghost use Rattle.state_answers.specs.Tables.{TellsOf};
 
 use crate::lists::Lists;
 use capture_form::RuleSet;
-use due_flows::Looked;
+use due_flows::DueBegin;
 use pairing_cert::Note;
 use state_addresses::{Copies, receivers_of};
+use state_answers::Looked;
 use std::alloc::{AllocError, Global};
 use trace_judge::{Carriage, Counts};
 use trace_values::{Event, Incoming, Link};
-
-/// A copy that is due: of this delivery to this link, with the delivery's payload.
-#[derive(Clone, Copy)]
-pub struct DueCopy<'t> {
-    pub link: Link<'t>,
-    pub delivery: Incoming<'t>,
-    pub payload: &'t [u8],
-}
 
 /// The copies that are still to be sent.
 #[derive(Drop)]
@@ -70,7 +63,7 @@ impl UnsentCopies {
     ) -> Result<(), AllocError>
         ensures { OnOk result ((records : List Record) (r : Record) → IsLawfulNext rules.now records r (event_view event.now) →
             IsAddressed (event_view event.now) (history rules.now records) address.now →
-            AreOf rules.now before.now (history rules.now records) → HasUnsent rules.now self.old (history rules.now records) →
+            TellsOf rules.now before.now (history rules.now records) → HasUnsent rules.now self.old (history rules.now records) →
             HasUnsent rules.now self.new (event_view event.now ∷ history rules.now records)) }
     {
         let ended = before.links.ended(self.alloc, event)?;
@@ -95,11 +88,11 @@ impl UnsentCopies {
 
     /// Of the copies that may be sent the one whose delivery was completed first, and of one delivery that to the link with
     /// the lowest number. Links before it are candidates no more.
-    pub fn first_due<'t>(&mut self, rules: &RuleSet, looked: &Looked<'t>) -> Option<DueCopy<'t>>
-        ensures due { IfSome result (λ copy. (past : Events) → AreOf rules.now looked.now past → HasUnsent rules.now self.old past →
+    pub fn first_due<'t>(&mut self, rules: &RuleSet, looked: &Looked<'t>) -> Option<DueBegin<'t>>
+        ensures due { IfSome result (λ copy. (past : Events) → TellsOf rules.now looked.now past → HasUnsent rules.now self.old past →
             IsDueCopy rules.now copy past) }
-        ensures kept { (past : Events) → AreOf rules.now looked.now past → HasUnsent rules.now self.old past → HasUnsent rules.now self.new past }
-        ensures quiet { (past : Events) → AreOf rules.now looked.now past → HasUnsent rules.now self.old past → result ≡ None →
+        ensures kept { (past : Events) → TellsOf rules.now looked.now past → HasUnsent rules.now self.old past → HasUnsent rules.now self.new past }
+        ensures quiet { (past : Events) → TellsOf rules.now looked.now past → HasUnsent rules.now self.old past → result ≡ None →
             copies_are_sent rules.now past ≡ true }
     {
         while let Some((completion, link)) = self.lists.links.first() {
@@ -118,12 +111,12 @@ impl UnsentCopies {
         number: u64,
         rules: &RuleSet,
         looked: &Looked<'t>,
-    ) -> Option<DueCopy<'t>>
-        ensures due { IfSome result (λ copy. (past : Events) → AreOf rules.now looked.now past → HasUnsent rules.now self.old past →
+    ) -> Option<DueBegin<'t>>
+        ensures due { IfSome result (λ copy. (past : Events) → TellsOf rules.now looked.now past → HasUnsent rules.now self.old past →
             IsDueCopy rules.now copy past) }
-        ensures found { (past : Events) → AreOf rules.now looked.now past → HasUnsent rules.now self.old past → (l : law.Link) → l.number ≡ number →
+        ensures found { (past : Events) → TellsOf rules.now looked.now past → HasUnsent rules.now self.old past → (l : law.Link) → l.number ≡ number →
             IsReady rules.now l past → is_some result ≡ true }
-        ensures kept { (past : Events) → AreOf rules.now looked.now past → HasUnsent rules.now self.old past → HasUnsent rules.now self.new past }
+        ensures kept { (past : Events) → TellsOf rules.now looked.now past → HasUnsent rules.now self.old past → HasUnsent rules.now self.new past }
         ensures links { self.new.lists.links ≡ self.old.lists.links }
     {
         let link = looked.consumer_links.get(number)?;
@@ -132,7 +125,7 @@ impl UnsentCopies {
         }
         let delivery = self.earliest(&link, rules, looked)?;
         let payload = looked.deliveries.payload(&delivery);
-        Some(DueCopy {
+        Some(DueBegin {
             link,
             delivery,
             payload,
@@ -146,13 +139,13 @@ impl UnsentCopies {
         rules: &RuleSet,
         looked: &Looked<'t>,
     ) -> Option<Incoming<'t>>
-        ensures copy { (past : Events) → AreOf rules.now looked.now past → IsLiveLink (link_view link.now) past →
+        ensures copy { (past : Events) → TellsOf rules.now looked.now past → IsLiveLink (link_view link.now) past →
             IfSome (option_map incoming_view result) (IsKnownCopy rules.now looked.now.deliveries.now (link_view link.now) past) }
-        ensures first { (past : Events) → AreOf rules.now looked.now past → HasUnsent rules.now self.old past → IsLiveLink (link_view link.now) past →
+        ensures first { (past : Events) → TellsOf rules.now looked.now past → HasUnsent rules.now self.old past → IsLiveLink (link_view link.now) past →
             IfSome (option_map incoming_view result) (λ f. has_earlier_unsent rules.now past (link_view link.now) f ≡ false) }
-        ensures none { (past : Events) → AreOf rules.now looked.now past → HasUnsent rules.now self.old past → IsLiveLink (link_view link.now) past →
+        ensures none { (past : Events) → TellsOf rules.now looked.now past → HasUnsent rules.now self.old past → IsLiveLink (link_view link.now) past →
             result ≡ None → has_unsent rules.now (link_view link.now) past ≡ false }
-        ensures kept { (past : Events) → AreOf rules.now looked.now past → HasUnsent rules.now self.old past → IsLiveLink (link_view link.now) past →
+        ensures kept { (past : Events) → TellsOf rules.now looked.now past → HasUnsent rules.now self.old past → IsLiveLink (link_view link.now) past →
             HasUnsent rules.now self.new past }
         ensures links { self.new.lists.links ≡ self.old.lists.links }
     {
@@ -168,7 +161,7 @@ impl UnsentCopies {
 
 /// A live link may be sent a delivery: it has credit, its session has window, and nothing is in progress.
 fn may_take(link: &Link, looked: &Looked<'_>) -> bool
-    ensures { (rules : RuleSet) (past : Events) → AreOf rules looked.now past → IsLiveLink (link_view link.now) past →
+    ensures { (rules : RuleSet) (past : Events) → TellsOf rules looked.now past → IsLiveLink (link_view link.now) past →
         result ≡ may_take past (link_view link.now) }
 {
     looked.link_credit(link) > 0
@@ -183,9 +176,9 @@ fn unsent_copy<'t>(
     rules: &RuleSet,
     looked: &Looked<'t>,
 ) -> Option<Incoming<'t>>
-    ensures copy { (past : Events) → AreOf rules.now looked.now past → IsLiveLink (link_view link.now) past →
+    ensures copy { (past : Events) → TellsOf rules.now looked.now past → IsLiveLink (link_view link.now) past →
         IfSome (option_map incoming_view result) (λ d. IsKnownCopy rules.now looked.now.deliveries.now (link_view link.now) past d × (d.number ≡ number)) }
-    ensures found { (past : Events) → AreOf rules.now looked.now past → (d : law.Incoming) → d.number ≡ number →
+    ensures found { (past : Events) → TellsOf rules.now looked.now past → (d : law.Incoming) → d.number ≡ number →
         IsUnsentOn rules.now (link_view link.now) d past → option_map incoming_view result ≡ Some d }
 {
     let delivery = looked.deliveries.to_carry(Note::Pair(number))?;

@@ -12,5 +12,4 @@ mod candidates;
 mod copies;
 mod lists;
 
-pub use copies::{DueCopy, UnsentCopies};
-pub use due_flows::{Credits, Drains, DuePart, Parts, Windows};
+pub use copies::UnsentCopies;

@@ -28,12 +28,12 @@ use Rattle.state_incoming.proofs.OverKnown.{undecided-kept}
 use Rattle.state_addresses.specs.ConsumerLinks.{has_number}
 use Rattle.state_answers.specs.declared.looked.Looked.{Looked}
 use Rattle.due_flows.specs.Credits.{HasCredits, IsIn, AreEndedIn, AreFreedIn, AreOpenedIn, HasMore, AreTouchedIn, AreWokenIn, has_waited, place_in, on_session, at_address, waits}
-use Rattle.due_flows.specs.Lent.{AreOf}
 use Rattle.due_flows.specs.Topping.{IsProducing, IsToppable, IsDecidedOn, EndsWaited}
 use Rattle.due_flows.specs.declared.credits.Credits.{Credits}
 use Rattle.due_flows.proofs.LiveOnes.{link-before, live-known, live_links-live}
 use Rattle.due_flows.proofs.PartsFollowed.{not-ended}
 use Rattle.due_flows.proofs.ToppedLinks.{Touches, Names, Tells, Carries, Settles, Serves, Frees, lived-before, some-any}
+use Rattle.state_answers.specs.Tables.{TellsOf}
 
 -- ---- what is undecided is kept
 
@@ -75,7 +75,7 @@ in-more c c' l more is = record {
 }
 
 module _ (rules : RuleSet) (e : Event) (past : List Event) (are : AreJudged rules (e ∷ past)) (lawful : first_broken rules (e ∷ past) ≡ None)
-    (before : Looked) (tables : AreOf rules before past) (ended : List Link) (all : (l : Link) → Contains ended l ↔ IsLiveLink l past × (ends_link l e ≡ true))
+    (before : Looked) (tables : TellsOf rules before past) (ended : List Link) (all : (l : Link) → Contains ended l ↔ IsLiveLink l past × (ends_link l e ≡ true))
     (old without with_opened touched waked now : Credits) (ends : AreEndedIn ended old without) (opens : AreOpenedIn e without with_opened) (touches : AreTouchedIn e before with_opened touched)
     (wakes : AreWokenIn e before touched waked) (frees : AreFreedIn ended before waked now) (has : HasCredits rules old past) where
   woken : (n : ℕ) → waits touched n ≡ true → waits now n ≡ true

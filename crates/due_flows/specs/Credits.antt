@@ -15,11 +15,11 @@ use Rattle.state_incoming.specs.EntryAnswers.{Knows}
 use Rattle.state_addresses.specs.ConsumerLinks.{has_number}
 use Rattle.state_answers.specs.declared.looked.Looked.{Looked}
 use Rattle.due_flows.specs.Candidates.{value_of}
-use Rattle.due_flows.specs.Lent.{AreOf}
 use Rattle.due_flows.specs.Numbers.{has}
 use Rattle.due_flows.specs.Topping.{IsProducing, carried_number, consumer_opened, settles}
 use Rattle.due_flows.specs.declared.credits.Credits.{Credits}
 use Rattle.due_flows.specs.declared.credits.Place.{Place}
+use Rattle.state_answers.specs.Tables.{TellsOf}
 
 abbrev pub place_of : Link → Place
 place_of l = record { connection = l.session.connection; channel = l.session.channel; handle = l.handle }
@@ -77,14 +77,14 @@ pub record HasMore (earlier later : Credits) : Type 0 where
 pub record AreTouchedIn (e : Event) (before : Looked) (earlier later : Credits) : Type 0 where
   pub more : HasMore earlier later
   pub names : (l : Link) → e.link ≡ Some l → is_producer l ≡ true → waits later l.number ≡ true
-  pub tells : (rules : RuleSet) (past : List Event) → AreOf rules before past → (d : Incoming) → e.told ≡ Some d.number → Knows before.deliveries.now d → waits later d.link.number ≡ true
-  pub carries : (rules : RuleSet) (past : List Event) → AreOf rules before past → (d : Incoming) → carried_number e ≡ Some d.number → Knows before.deliveries.now d → waits later d.link.number ≡ true
+  pub tells : (rules : RuleSet) (past : List Event) → TellsOf rules before past → (d : Incoming) → e.told ≡ Some d.number → Knows before.deliveries.now d → waits later d.link.number ≡ true
+  pub carries : (rules : RuleSet) (past : List Event) → TellsOf rules before past → (d : Incoming) → carried_number e ≡ Some d.number → Knows before.deliveries.now d → waits later d.link.number ≡ true
 
 -- so are those of the session on which a producer's disposition stands, and of the address that has its first consumer
 pub record AreWokenIn (e : Event) (before : Looked) (earlier later : Credits) : Type 0 where
   pub more : HasMore earlier later
   pub settled : (session : ℕ) → settles e ≡ true → option_map (λ (s : Session). s.number) e.session ≡ Some session → (n : ℕ) → on_session earlier session n ≡ true → waits later n ≡ true
-  pub served : (rules : RuleSet) (past : List Event) → AreOf rules before past → (l : Link) → consumer_opened e ≡ Some l → has_consumer l.address past ≡ false
+  pub served : (rules : RuleSet) (past : List Event) → TellsOf rules before past → (l : Link) → consumer_opened e ≡ Some l → has_consumer l.address past ≡ false
       → (n : ℕ) → at_address earlier l.address n ≡ true → waits later n ≡ true
 
 -- one of these links is a consumer's at whose address deliveries wait
@@ -94,4 +94,4 @@ has_waited rules past ended = list_any (λ l. is_consumer l && has_waiting rules
 -- where such a link ends, all links without address are candidates
 pub record AreFreedIn (ended : List Link) (before : Looked) (earlier later : Credits) : Type 0 where
   pub more : HasMore earlier later
-  pub freed : (rules : RuleSet) (past : List Event) → AreOf rules before past → has_waited rules past ended ≡ true → (n : ℕ) → at_address earlier [] n ≡ true → waits later n ≡ true
+  pub freed : (rules : RuleSet) (past : List Event) → TellsOf rules before past → has_waited rules past ended ≡ true → (n : ℕ) → at_address earlier [] n ≡ true → waits later n ≡ true

@@ -1,6 +1,5 @@
 pub mod Candidates
 pub mod Numbers
-pub mod Lent
 pub mod Lacking
 pub mod Standing
 pub mod Draining

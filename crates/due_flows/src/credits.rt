@@ -16,10 +16,10 @@ ghost use Rattle.state_incoming.specs.EntryAnswers.{Knows};
 ghost use Rattle.state_tables.specs.Connections.{IsLawfulNext};
 ghost use Rattle.state_tables.specs.EndedLinks.{views};
 ghost use Rattle.state_addresses.specs.ConsumerLinks.{has_number};
-ghost use Rattle.due_flows.specs.Lent.{AreOf};
 ghost use Rattle.due_flows.specs.Topping.{IsToppable, carried_number, consumer_opened, settles};
 ghost use Rattle.due_flows.specs.Credits.{HasCredits, AreEndedIn, AreFreedIn, AreOpenedIn, AreTouchedIn, AreWokenIn, has_waited, place_of};
 ghost use Rattle.trace_values.specs.View.{Events, event_view, link_view};
+ghost use Rattle.state_answers.specs.Tables.{TellsOf};
 
 use crate::candidates::Candidates;
 use crate::numbers::Numbers;
@@ -74,7 +74,7 @@ impl Credits {
     /// Memory was refused; then a link that may be given more credit may not be found.
     pub fn follow(&mut self, event: &Event, before: &Looked<'_>) -> Result<(), AllocError>
         ensures { OnOk result ((rules : RuleSet) (records : List Record) (r : Record) → IsLawfulNext rules records r (event_view event.now) →
-            AreOf rules before.now (history rules records) → HasCredits rules self.old (history rules records) →
+            TellsOf rules before.now (history rules records) → HasCredits rules self.old (history rules records) →
             HasCredits rules self.new (event_view event.now ∷ history rules records)) }
     {
         let ended = before.links.ended(self.alloc, event)?;
@@ -147,9 +147,9 @@ impl Credits {
 
     /// The live link with the lowest number that may be given more credit. Links below it are candidates no more.
     pub fn first_due<'t>(&mut self, rules: &RuleSet, looked: &Looked<'t>) -> Option<Link<'t>>
-        ensures due { IfSome result (λ link. (past : Events) → AreOf rules.now looked.now past → IsToppable rules.now (link_view link) past) }
-        ensures kept { (past : Events) → AreOf rules.now looked.now past → HasCredits rules.now self.old past → HasCredits rules.now self.new past }
-        ensures quiet { (past : Events) → AreOf rules.now looked.now past → HasCredits rules.now self.old past → result ≡ None →
+        ensures due { IfSome result (λ link. (past : Events) → TellsOf rules.now looked.now past → IsToppable rules.now (link_view link) past) }
+        ensures kept { (past : Events) → TellsOf rules.now looked.now past → HasCredits rules.now self.old past → HasCredits rules.now self.new past }
+        ensures quiet { (past : Events) → TellsOf rules.now looked.now past → HasCredits rules.now self.old past → result ≡ None →
             none_lacks_credit rules.now past ≡ true }
     {
         while let Some(number) = self.links.first() {
@@ -204,7 +204,7 @@ fn carried(event: &Event) -> Option<u64>
 
 /// The number of the link of the delivery of this number, where the tables have it.
 fn producer_of(number: Option<u64>, before: &Looked<'_>) -> Option<u64>
-    ensures { (rules : RuleSet) (past : Events) → AreOf rules before.now past → (d : law.Incoming) → number ≡ Some d.number →
+    ensures { (rules : RuleSet) (past : Events) → TellsOf rules before.now past → (d : law.Incoming) → number ≡ Some d.number →
         Knows before.now.deliveries.now d → result ≡ Some d.link.number }
 {
     Some(before.deliveries.incoming_at(number?)?.link.number)
@@ -222,7 +222,7 @@ fn settled_session(event: &Event) -> Option<u64>
 
 /// The address of the consumer's link that the event opens, where it has none yet.
 fn served<'a>(event: &Event<'a, '_>, before: &Looked<'_>) -> Option<&'a [u8]>
-    ensures { (rules : RuleSet) (past : Events) → AreOf rules before.now past → (l : law.Link) → consumer_opened (event_view event.now) ≡ Some l →
+    ensures { (rules : RuleSet) (past : Events) → TellsOf rules before.now past → (l : law.Link) → consumer_opened (event_view event.now) ≡ Some l →
         addresses.has_consumer l.address past ≡ false → option_map (λ octets. octets.now) result ≡ Some l.address }
 {
     match event.link {
@@ -239,7 +239,7 @@ fn served<'a>(event: &Event<'a, '_>, before: &Looked<'_>) -> Option<&'a [u8]>
 
 /// The link is a consumer's at whose address deliveries wait.
 fn is_waited(link: &Link, before: &Looked<'_>) -> bool
-    ensures { (rules : RuleSet) (past : Events) → AreOf rules before.now past →
+    ensures { (rules : RuleSet) (past : Events) → TellsOf rules before.now past →
         result ≡ (is_consumer (link_view link.now) && has_waiting rules (link_view link.now).address past) }
 {
     link.is_consumer() && before.deliveries.has_waiting(link.address)
@@ -247,7 +247,7 @@ fn is_waited(link: &Link, before: &Looked<'_>) -> bool
 
 /// One of these links is such a one.
 fn has_waited(ended: &[Link], before: &Looked<'_>) -> bool
-    ensures { (rules : RuleSet) (past : Events) → AreOf rules before.now past → result ≡ has_waited rules past (views ended.now) }
+    ensures { (rules : RuleSet) (past : Events) → TellsOf rules before.now past → result ≡ has_waited rules past (views ended.now) }
 {
     let mut has = false;
     for link in ended {
@@ -264,8 +264,8 @@ fn credit_due<'t>(
     rules: &RuleSet,
     looked: &Looked<'t>,
 ) -> Option<Link<'t>>
-    ensures due { IfSome result (λ link. (past : Events) → AreOf rules.now looked.now past → IsToppable rules.now (link_view link) past) }
-    ensures found { (past : Events) → AreOf rules.now looked.now past → (l : law.Link) → l.number ≡ number → place ≡ Some (place_of l) →
+    ensures due { IfSome result (λ link. (past : Events) → TellsOf rules.now looked.now past → IsToppable rules.now (link_view link) past) }
+    ensures found { (past : Events) → TellsOf rules.now looked.now past → (l : law.Link) → l.number ≡ number → place ≡ Some (place_of l) →
         IsToppable rules.now l past → is_some result ≡ true }
 {
     let place = place?;

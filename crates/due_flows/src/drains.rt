@@ -10,11 +10,11 @@ ghost use Rattle.trace_duties.specs.Quiet.{none_is_undrained};
 ghost use Rattle.state_tables.specs.Connections.{IsLawfulNext};
 ghost use Rattle.state_tables.specs.EndedLinks.{views};
 ghost use Rattle.state_addresses.specs.ConsumerLinks.{has_number};
-ghost use Rattle.due_flows.specs.Lent.{AreOf};
 ghost use Rattle.due_flows.specs.Draining.{IsDrainable, asks_drain, writes_part};
 ghost use Rattle.due_flows.specs.Drains.{HasDrains, stands, waits};
 ghost use Rattle.trace_events.specs.Link.{IsLiveLink};
 ghost use Rattle.trace_values.specs.View.{Events, event_view, link_view};
+ghost use Rattle.state_answers.specs.Tables.{TellsOf};
 
 use crate::numbers::Numbers;
 use amqp_perf::Performative;
@@ -54,7 +54,7 @@ impl Drains {
     /// Memory was refused; then a drain that may be answered may not be found.
     pub fn follow(&mut self, event: &Event, before: &Looked<'_>) -> Result<(), AllocError>
         ensures { OnOk result ((rules : RuleSet) (records : List Record) (r : Record) → IsLawfulNext rules records r (event_view event.now) →
-            AreOf rules before.now (history rules records) → HasDrains rules self.old (history rules records) →
+            TellsOf rules before.now (history rules records) → HasDrains rules self.old (history rules records) →
             HasDrains rules self.new (event_view event.now ∷ history rules records)) }
     {
         let ended = before.links.ended(self.alloc, event)?;
@@ -108,9 +108,9 @@ impl Drains {
 
     /// The live link with the lowest number whose drain may be answered. Links below it are candidates no more.
     pub fn first_due<'t>(&mut self, rules: &RuleSet, looked: &Looked<'t>) -> Option<Link<'t>>
-        ensures due { IfSome result (λ link. (past : Events) → AreOf rules.now looked.now past → IsDrainable rules.now (link_view link) past) }
-        ensures kept { (past : Events) → AreOf rules.now looked.now past → HasDrains rules.now self.old past → HasDrains rules.now self.new past }
-        ensures quiet { (past : Events) → AreOf rules.now looked.now past → HasDrains rules.now self.old past → result ≡ None →
+        ensures due { IfSome result (λ link. (past : Events) → TellsOf rules.now looked.now past → IsDrainable rules.now (link_view link) past) }
+        ensures kept { (past : Events) → TellsOf rules.now looked.now past → HasDrains rules.now self.old past → HasDrains rules.now self.new past }
+        ensures quiet { (past : Events) → TellsOf rules.now looked.now past → HasDrains rules.now self.old past → result ≡ None →
             none_is_undrained rules.now past ≡ true }
     {
         while let Some(number) = self.links.first() {
@@ -139,8 +139,8 @@ fn asks_drain(event: &Event) -> bool
 /// The link of this number, where its drain may be answered.
 #[inline(never)]
 fn drain_due<'t>(number: u64, rules: &RuleSet, looked: &Looked<'t>) -> Option<Link<'t>>
-    ensures due { IfSome result (λ link. (past : Events) → AreOf rules.now looked.now past → IsDrainable rules.now (link_view link) past) }
-    ensures found { (past : Events) → AreOf rules.now looked.now past → (l : law.Link) → l.number ≡ number → IsDrainable rules.now l past →
+    ensures due { IfSome result (λ link. (past : Events) → TellsOf rules.now looked.now past → IsDrainable rules.now (link_view link) past) }
+    ensures found { (past : Events) → TellsOf rules.now looked.now past → (l : law.Link) → l.number ≡ number → IsDrainable rules.now l past →
         is_some result ≡ true }
 {
     let link = looked.consumer_links.get(number)?;
@@ -153,7 +153,7 @@ fn drain_due<'t>(number: u64, rules: &RuleSet, looked: &Looked<'t>) -> Option<Li
 
 /// The credit of a live link may be used up: its client asks for it, and nothing waits.
 fn may_be_drained(rules: &RuleSet, link: &Link, looked: &Looked<'_>) -> bool
-    ensures { (past : Events) → AreOf rules.now looked.now past → IsLiveLink (link_view link.now) past →
+    ensures { (past : Events) → TellsOf rules.now looked.now past → IsLiveLink (link_view link.now) past →
         result ≡ may_be_drained rules.now past (link_view link.now) }
 {
     looked.is_draining(link)

@@ -5,6 +5,7 @@
 //! consumer's link at which deliveries wait. That it is the lowest is the code's doing, shown by worked captures: neither law
 //! nor duties ask for it, so no clause says it.
 //!
+//! - `begin`: a delivery that is due to begin, as the lists of other crates answer it;
 //! - `windows`: the sessions whose window is to be given anew;
 //! - `parts`: the deliveries to consumers that may go on;
 //! - `credits`: the links of producers that may be given more credit;
@@ -12,9 +13,10 @@
 //! - `candidates`, `numbers`: what may be to do, in the order of its numbers.
 //!
 //! In `specs/`, each list has a file of its name, which says what it has; `Lacking`, `Standing`, `Topping` and `Draining` are
-//! what they list, in the law's words; `Lent` is what the tables stand for.
+//! what they list, in the law's words.
 #![tactic(auto)]
 
+mod begin;
 mod candidates;
 mod credits;
 mod drains;
@@ -22,8 +24,8 @@ mod numbers;
 mod parts;
 mod windows;
 
+pub use begin::DueBegin;
 pub use credits::Credits;
 pub use drains::Drains;
 pub use parts::{DuePart, Parts};
-pub use state_answers::Looked;
 pub use windows::Windows;

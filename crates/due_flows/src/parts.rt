@@ -13,10 +13,10 @@ ghost use Rattle.trace_duties.specs.Quiet.{none_stands_still};
 ghost use Rattle.state_tables.specs.Connections.{IsLawfulNext};
 ghost use Rattle.state_tables.specs.EndedLinks.{views};
 ghost use Rattle.state_addresses.specs.ConsumerLinks.{has_number};
-ghost use Rattle.due_flows.specs.Lent.{AreOf};
 ghost use Rattle.due_flows.specs.Standing.{IsStill, goes_on, grants_window};
 ghost use Rattle.due_flows.specs.Parts.{HasParts, IsDuePart, stands, waits};
 ghost use Rattle.trace_values.specs.View.{Events, event_view};
+ghost use Rattle.state_answers.specs.Tables.{TellsOf};
 
 use crate::numbers::Numbers;
 use flow_counts::WindowEvent;
@@ -64,7 +64,7 @@ impl Parts {
     /// Memory was refused; then a delivery that may go on may not be found.
     pub fn follow(&mut self, event: &Event, before: &Looked<'_>) -> Result<(), AllocError>
         ensures { OnOk result ((rules : RuleSet) (records : List Record) (r : Record) → IsLawfulNext rules records r (event_view event.now) →
-            AreOf rules before.now (history rules records) → HasParts self.old (history rules records) →
+            TellsOf rules before.now (history rules records) → HasParts self.old (history rules records) →
             HasParts self.new (event_view event.now ∷ history rules records)) }
     {
         let ended = before.links.ended(self.alloc, event)?;
@@ -120,9 +120,9 @@ impl Parts {
 
     /// The part that is due on the live link with the lowest number. Links below it are candidates no more.
     pub fn first_due<'t>(&mut self, looked: &Looked<'t>) -> Option<DuePart<'t>>
-        ensures due { IfSome result (λ part. (rules : RuleSet) (past : Events) → AreOf rules looked.now past → IsDuePart part past) }
-        ensures kept { (rules : RuleSet) (past : Events) → AreOf rules looked.now past → HasParts self.old past → HasParts self.new past }
-        ensures quiet { (rules : RuleSet) (past : Events) → AreOf rules looked.now past → HasParts self.old past → result ≡ None →
+        ensures due { IfSome result (λ part. (rules : RuleSet) (past : Events) → TellsOf rules looked.now past → IsDuePart part past) }
+        ensures kept { (rules : RuleSet) (past : Events) → TellsOf rules looked.now past → HasParts self.old past → HasParts self.new past }
+        ensures quiet { (rules : RuleSet) (past : Events) → TellsOf rules looked.now past → HasParts self.old past → result ≡ None →
             none_stands_still past ≡ true }
     {
         while let Some(number) = self.links.first() {
@@ -158,8 +158,8 @@ fn granted(event: &Event) -> Option<u64>
 /// The part that is due on the link of this number.
 #[inline(never)]
 fn part_due<'t>(number: u64, looked: &Looked<'t>) -> Option<DuePart<'t>>
-    ensures due { IfSome result (λ part. (rules : RuleSet) (past : Events) → AreOf rules looked.now past → IsDuePart part past) }
-    ensures found { (rules : RuleSet) (past : Events) → AreOf rules looked.now past → (l : law.Link) → l.number ≡ number → IsStill l past →
+    ensures due { IfSome result (λ part. (rules : RuleSet) (past : Events) → TellsOf rules looked.now past → IsDuePart part past) }
+    ensures found { (rules : RuleSet) (past : Events) → TellsOf rules looked.now past → (l : law.Link) → l.number ≡ number → IsStill l past →
         is_some result ≡ true }
 {
     let link = looked.consumer_links.get(number)?;

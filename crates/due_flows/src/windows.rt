@@ -7,10 +7,10 @@ ghost use Rattle.trace_events.specs.declared.session.Session.{Session};
 ghost use Rattle.trace_events.specs.History.{history};
 ghost use Rattle.trace_duties.specs.Quiet.{none_lacks_window};
 ghost use Rattle.state_tables.specs.Connections.{IsLawfulNext};
-ghost use Rattle.due_flows.specs.Lent.{AreOf};
 ghost use Rattle.due_flows.specs.Lacking.{HasLowered, IsLacking};
 ghost use Rattle.due_flows.specs.Windows.{HasLacking};
 ghost use Rattle.trace_values.specs.View.{Events, event_view};
+ghost use Rattle.state_answers.specs.Tables.{TellsOf};
 
 use crate::candidates::Candidates;
 use flow_counts::RENEWAL_MARK;
@@ -43,7 +43,7 @@ impl Windows {
     /// Memory was refused; then a session that lacks window may not be found.
     pub fn follow(&mut self, event: &Event, before: &Looked<'_>) -> Result<(), AllocError>
         ensures { OnOk result ((rules : RuleSet) (records : List Record) (r : Record) → IsLawfulNext rules records r (event_view event.now) →
-            AreOf rules before.now (history rules records) → HasLacking self.old (history rules records) →
+            TellsOf rules before.now (history rules records) → HasLacking self.old (history rules records) →
             HasLacking self.new (event_view event.now ∷ history rules records)) }
     {
         let Some(session) = lowered(event, before) else {
@@ -54,9 +54,9 @@ impl Windows {
 
     /// The live session with the lowest number whose window is to be given anew. Those below it are candidates no more.
     pub fn first_due(&mut self, looked: &Looked<'_>) -> Option<Session>
-        ensures due { IfSome result (λ s. (rules : RuleSet) (past : Events) → AreOf rules looked.now past → IsLacking s past) }
-        ensures kept { (rules : RuleSet) (past : Events) → AreOf rules looked.now past → HasLacking self.old past → HasLacking self.new past }
-        ensures quiet { (rules : RuleSet) (past : Events) → AreOf rules looked.now past → HasLacking self.old past → result ≡ None →
+        ensures due { IfSome result (λ s. (rules : RuleSet) (past : Events) → TellsOf rules looked.now past → IsLacking s past) }
+        ensures kept { (rules : RuleSet) (past : Events) → TellsOf rules looked.now past → HasLacking self.old past → HasLacking self.new past }
+        ensures quiet { (rules : RuleSet) (past : Events) → TellsOf rules looked.now past → HasLacking self.old past → result ≡ None →
             none_lacks_window past ≡ true }
     {
         while let Some((number, candidate)) = self.sessions.first() {
@@ -72,7 +72,7 @@ impl Windows {
 /// The session on which the event stands, where it may lack window behind it.
 fn lowered(event: &Event, before: &Looked<'_>) -> Option<Session>
     ensures known { (rules : RuleSet) (records : List Record) (r : Record) → IsLawfulNext rules records r (event_view event.now) →
-        AreOf rules before.now (history rules records) → HasLowered result (event_view event.now) (history rules records) }
+        TellsOf rules before.now (history rules records) → HasLowered result (event_view event.now) (history rules records) }
     ensures stands { (s : Session) → result ≡ Some s → (event_view event.now).session ≡ Some s }
 {
     let session = event.session?;
@@ -86,8 +86,8 @@ fn lowered(event: &Event, before: &Looked<'_>) -> Option<Session>
 /// The live session of the candidate's channel, where it is the candidate and lacks window.
 #[inline(never)]
 fn lacking(candidate: Session, looked: &Looked<'_>) -> Option<Session>
-    ensures due { IfSome result (λ s. (rules : RuleSet) (past : Events) → AreOf rules looked.now past → IsLacking s past) }
-    ensures found { (rules : RuleSet) (past : Events) → AreOf rules looked.now past → IsLacking candidate past → result ≡ Some candidate }
+    ensures due { IfSome result (λ s. (rules : RuleSet) (past : Events) → TellsOf rules looked.now past → IsLacking s past) }
+    ensures found { (rules : RuleSet) (past : Events) → TellsOf rules looked.now past → IsLacking candidate past → result ≡ Some candidate }
 {
     let session = looked.live_session(candidate.connection, candidate.channel)?;
     if session.number == candidate.number && looked.given_window(session) <= RENEWAL_MARK {

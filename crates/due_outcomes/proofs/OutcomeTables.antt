@@ -21,7 +21,7 @@ use Rattle.state_incoming.proofs.CarriedHeld.{knows-held}
 use Rattle.state_incoming.proofs.GroupAnswers.{judged-of}
 use Rattle.state_incoming.proofs.OverKnown.{open-kept}
 use Rattle.state_answers.specs.declared.looked.Looked.{Looked}
-use Rattle.due_outcomes.specs.LookedTables.{AreLooked}
+use Rattle.state_answers.specs.Tables.{TellsOf}
 
 -- one that may be told is kept
 held-bits : (complete settled told live gone other : Bool) → complete && not settled && not told && live ≡ true → (if complete then not (gone && (told || settled || not live)) else other) ≡ true
@@ -47,7 +47,7 @@ knows-has table d knows = by (held_in table d.number) knows
     by None is = absurd cc
     by (Some x) is = refl
 
-module _ (rules : RuleSet) (past : List Event) (looked : Looked) (stands : AreLooked rules looked past) where
+module _ (rules : RuleSet) (past : List Event) (looked : Looked) (stands : TellsOf rules looked past) where
   are : AreJudged rules past
   are = judged-of rules past stands.0
 

@@ -26,10 +26,10 @@ use Rattle.state_incoming.proofs.OverKnown.{waiting-kept}
 use Rattle.state_outgoing.proofs.SentKept.{contained-at}
 use Rattle.state_answers.specs.declared.looked.Looked.{Looked}
 use Rattle.number_groups.specs.Ascending.{has}
-use Rattle.due_outcomes.specs.LookedTables.{AreLooked}
 use Rattle.due_outcomes.specs.Untold.{HasUntold, IsOn, waits_in}
 use Rattle.number_groups.specs.declared.groups.Groups.{Groups}
 use Rattle.due_outcomes.specs.declared.untold.Untold.{Untold}
+use Rattle.state_answers.specs.Tables.{TellsOf}
 
 same_some : {A : Type 0} (a b : A) → Some a ≡ Some b → a ≡ b
 same_some a b is = cc
@@ -50,7 +50,7 @@ fate-bits false true true had is = absurd cc
 fate-bits false true false true is = refl
 fate-bits false true false false is = absurd cc
 
-module _ (rules : RuleSet) (past : List Event) (looked : Looked) (stands : AreLooked rules looked past) where
+module _ (rules : RuleSet) (past : List Event) (looked : Looked) (stands : TellsOf rules looked past) where
   are : AreJudged rules past
   are = judged-of rules past stands.0
 

@@ -24,12 +24,12 @@ use Rattle.state_outgoing.specs.SentTables.{sent_in}
 use Rattle.state_outgoing.proofs.SentKept.{contained-at, entry-law, unfinished-entry, unsettled-unfinished}
 use Rattle.state_answers.specs.declared.looked.Looked.{Looked}
 use Rattle.number_groups.specs.Ascending.{has}
-use Rattle.due_outcomes.specs.LookedTables.{AreLooked}
 use Rattle.due_outcomes.specs.Parked.{is_parked}
 use Rattle.due_outcomes.specs.Settlings.{IsDueSettling, due_in, waits_in}
 use Rattle.due_outcomes.specs.Unsettled.{HasUnsettled, IsParked, is_decided}
 use Rattle.due_outcomes.specs.declared.unsettled.Unsettled.{Unsettled}
 use Rattle.due_outcomes.proofs.UnderKeys.{or-first, or-last}
+use Rattle.state_answers.specs.Tables.{TellsOf}
 
 same_some : {A : Type 0} (a b : A) → Some a ≡ Some b → a ≡ b
 same_some a b is = cc
@@ -80,7 +80,7 @@ settled-of past j opens decides closed = sym (settles-as past j) ∙ all (is_lef
     all : (a b c : Bool) → a ≡ true → b ≡ true → c ≡ true → a && b && c ≡ true
     all a b c is so too = rw (is, so, too) refl
 
-module _ (rules : RuleSet) (past : List Event) (looked : Looked) (stands : AreLooked rules looked past) where
+module _ (rules : RuleSet) (past : List Event) (looked : Looked) (stands : TellsOf rules looked past) where
   are : AreJudged rules past
   are = judged-of rules past stands.0
 

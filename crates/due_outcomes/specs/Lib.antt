@@ -4,5 +4,4 @@ pub mod Closings
 pub mod Unsettled
 pub mod Untold
 pub mod DueOutcomes
-pub mod LookedTables
 pub mod Settlings

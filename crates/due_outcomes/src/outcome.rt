@@ -9,7 +9,7 @@ ghost use Rattle.trace_events.specs.Incoming.{incoming_deliveries};
 ghost use Rattle.trace_judge.specs.Told.{told_view};
 ghost use Rattle.trace_values.specs.View.{incoming_view};
 ghost use Rattle.due_outcomes.specs.DueOutcomes.{IsDueOutcome};
-ghost use Rattle.due_outcomes.specs.LookedTables.{AreLooked};
+ghost use Rattle.state_answers.specs.Tables.{TellsOf};
 
 use capture_form::RuleSet;
 use pairing_cert::Why;
@@ -33,9 +33,9 @@ pub(crate) fn outcome_of<'t>(
     looked: &Looked<'t>,
     number: u64,
 ) -> Option<DueOutcome<'t>>
-    ensures due { IfSome result (λ due. (records : List Record) → AreLooked rules.now looked.now (history rules.now records) →
+    ensures due { IfSome result (λ due. (records : List Record) → TellsOf rules.now looked.now (history rules.now records) →
         IsDueOutcome rules.now (history rules.now records) (incoming_view due.delivery) due.why (told_view due.told)) }
-    ensures none { result ≡ None → (records : List Record) → AreLooked rules.now looked.now (history rules.now records) →
+    ensures none { result ≡ None → (records : List Record) → TellsOf rules.now looked.now (history rules.now records) →
         (d : events.Incoming) → Contains (incoming_deliveries (history rules.now records)) d → d.number ≡ number →
         is_to_tell rules.now (history rules.now records) d ≡ false }
 {

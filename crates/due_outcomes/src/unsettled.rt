@@ -19,12 +19,12 @@ ghost use Rattle.state_incoming.specs.HeldTables.{held_in};
 ghost use Rattle.state_tables.specs.Connections.{IsLawfulNext};
 ghost use Rattle.state_tables.specs.EndedLinks.{views};
 ghost use Rattle.number_groups.specs.Ascending.{has};
-ghost use Rattle.due_outcomes.specs.LookedTables.{AreLooked};
 ghost use Rattle.due_outcomes.specs.Candidates.{Grows};
 ghost use Rattle.due_outcomes.specs.Closings as law;
 ghost use Rattle.due_outcomes.specs.Parked.{IsLeft, is_parked};
 ghost use Rattle.due_outcomes.specs.Settlings.{IsDueSettling, due_in, waits_in};
 ghost use Rattle.due_outcomes.specs.Unsettled.{HasUnsettled, IsParked};
+ghost use Rattle.state_answers.specs.Tables.{TellsOf};
 
 use crate::candidates::add_set;
 use crate::parked::Parked;
@@ -66,7 +66,7 @@ impl Unsettled {
     /// Memory was refused; then the list may agree with no records any more.
     pub fn follow(&mut self, event: &Event, before: &Looked<'_>) -> Result<(), AllocError>
         ensures { OnOk result ((rules : RuleSet) (records : List Record) (r : Record) → IsLawfulNext rules records r (event_view event.now) →
-            AreLooked rules before.now (history rules records) →
+            TellsOf rules before.now (history rules records) →
             HasUnsettled self.old (history rules records) → HasUnsettled self.new (event_view event.now ∷ history rules records)) }
     {
         let spoken = before.sent.spoken_of(self.alloc, event)?;
@@ -80,11 +80,11 @@ impl Unsettled {
     /// answered stays a candidate. Decided deliveries that carry one of which more is to be told are parked, each once; where
     /// memory is refused for that, it passes over them.
     pub fn first_due<'t>(&mut self, looked: &Looked<'t>) -> Option<Outgoing<'t>>
-        ensures due { IfSome result (λ j. (rules : RuleSet) (records : List Record) → AreLooked rules looked.now (history rules records) →
+        ensures due { IfSome result (λ j. (rules : RuleSet) (records : List Record) → TellsOf rules looked.now (history rules records) →
             IsDueSettling (history rules records) (outgoing_view j)) }
-        ensures kept { (rules : RuleSet) (records : List Record) → AreLooked rules looked.now (history rules records) →
+        ensures kept { (rules : RuleSet) (records : List Record) → TellsOf rules looked.now (history rules records) →
             HasUnsettled self.old (history rules records) → HasUnsettled self.new (history rules records) }
-        ensures quiet { result ≡ None → (rules : RuleSet) (records : List Record) → AreLooked rules looked.now (history rules records) →
+        ensures quiet { result ≡ None → (rules : RuleSet) (records : List Record) → TellsOf rules looked.now (history rules records) →
             HasUnsettled self.old (history rules records) → none_is_unsettled (history rules records) ≡ true }
     {
         self.sort_lowest(looked);
@@ -120,7 +120,7 @@ impl Unsettled {
 
     /// The lowest are forgotten or parked, up to one that is to be settled.
     fn sort_lowest(&mut self, looked: &Looked<'_>)
-        ensures { (rules : RuleSet) (records : List Record) → AreLooked rules looked.now (history rules records) →
+        ensures { (rules : RuleSet) (records : List Record) → TellsOf rules looked.now (history rules records) →
             HasUnsettled self.old (history rules records) → HasUnsettled self.new (history rules records) }
     {
         while let Some(number) = self.candidates.first() {

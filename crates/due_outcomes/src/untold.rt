@@ -22,8 +22,8 @@ ghost use Rattle.state_addresses.specs.Addressed.{IsAddressed};
 ghost use Rattle.state_tables.specs.Connections.{IsLawfulNext};
 ghost use Rattle.number_groups.specs.Ascending.{count_of, has};
 ghost use Rattle.due_outcomes.specs.DueOutcomes.{IsDueOutcome};
-ghost use Rattle.due_outcomes.specs.LookedTables.{AreLooked};
 ghost use Rattle.due_outcomes.specs.Untold.{HasUntold, IsOn, KeepsOn, waits_in};
+ghost use Rattle.state_answers.specs.Tables.{TellsOf};
 
 use crate::candidates::{add, add_all, add_of_links};
 use crate::outcome::{DueOutcome, outcome_of};
@@ -127,7 +127,7 @@ impl Untold {
     ) -> Result<(), AllocError>
         ensures { OnOk result ((records : List Record) (r : Record) → IsLawfulNext rules.now records r (event_view event.now) →
             IsAddressed (event_view event.now) (history rules.now records) address.now →
-            AreLooked rules.now before.now (history rules.now records) →
+            TellsOf rules.now before.now (history rules.now records) →
             HasUntold rules.now self.old (history rules.now records) → HasUntold rules.now self.new (event_view event.now ∷ history rules.now records)) }
     {
         self.complete(rules, event, address)?;
@@ -145,11 +145,11 @@ impl Untold {
     /// The outcome that is to be told next: of the delivery with the lowest number, by the first reason that applies. Those of
     /// which none is to be told are forgotten; the one that is answered stays a candidate.
     pub fn first_due<'t>(&mut self, rules: &RuleSet, looked: &Looked<'t>) -> Option<DueOutcome<'t>>
-        ensures due { IfSome result (λ due. (records : List Record) → AreLooked rules.now looked.now (history rules.now records) →
+        ensures due { IfSome result (λ due. (records : List Record) → TellsOf rules.now looked.now (history rules.now records) →
             IsDueOutcome rules.now (history rules.now records) (incoming_view due.delivery) due.why (told_view due.told)) }
-        ensures kept { (records : List Record) → AreLooked rules.now looked.now (history rules.now records) →
+        ensures kept { (records : List Record) → TellsOf rules.now looked.now (history rules.now records) →
             HasUntold rules.now self.old (history rules.now records) → HasUntold rules.now self.new (history rules.now records) }
-        ensures quiet { result ≡ None → (records : List Record) → AreLooked rules.now looked.now (history rules.now records) →
+        ensures quiet { result ≡ None → (records : List Record) → TellsOf rules.now looked.now (history rules.now records) →
             HasUntold rules.now self.old (history rules.now records) → none_is_untold rules.now (history rules.now records) ≡ true }
     {
         while let Some(number) = self.candidates.first() {

@@ -4,24 +4,15 @@ use Rattle.std.specs.List.{IsDistinct}
 use Rattle.flow_counts.specs.Picks.{AddressEvent}
 use Rattle.address_table.specs.Links.{IsCount}
 use Rattle.address_table.specs.declared.table.Table.{Table}
-use Rattle.capture_form.specs.Rules.{RuleSet}
 use Rattle.number_groups.specs.Numbers.{is_among}
 use Rattle.trace_events.specs.Event.{Event, Outgoing}
 use Rattle.trace_events.specs.Link.{is_live}
 use Rattle.trace_events.specs.Outgoing.{answering, outgoing_deliveries}
 use Rattle.trace_events.specs.Work.{decides_now}
 use Rattle.state_outgoing.specs.Sent.{Sent, is_left_unsettled}
-use Rattle.state_answers.specs.Tables.{StandFor}
-use Rattle.state_answers.specs.declared.looked.Looked.{Looked}
 use Rattle.trace_duties.specs.Consumers.{address_events}
 use Rattle.due_queues.specs.AddressCounts.{CountsMore, decided_on}
 use Rattle.due_queues.specs.declared.picks.Picks.{Picks}
-
--- the tables, lent, are those of these events
-abbrev pub StandsFor : RuleSet → Looked → List Event → Type 0
-StandsFor rules looked past =
-    StandFor rules looked.connections.now looked.links.now looked.consumers.now looked.deliveries.now
-    looked.consumer_links.now looked.copies.now looked.sent.now looked.verdicts.now past
 
 -- the table has counted what happened to the links of consumers
 abbrev pub ArePicks : Picks → List Event → Type 0

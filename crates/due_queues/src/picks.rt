@@ -20,7 +20,8 @@ ghost use Rattle.state_addresses.specs.ConsumerLinks.{consumer_at};
 ghost use Rattle.state_outgoing.specs.SentTables.{sent_in};
 ghost use Rattle.state_outgoing.specs.SentViews.{sent_view};
 ghost use Rattle.due_queues.specs.AddressCounts.{AreFew, CountsMore, HasNamedSource, decided_on, detached_all, named_source};
-ghost use Rattle.due_queues.specs.Picks.{ArePicks, DecidesAll, StandsFor, decided_link, decides};
+ghost use Rattle.due_queues.specs.Picks.{ArePicks, DecidesAll, decided_link, decides};
+ghost use Rattle.state_answers.specs.Tables.{TellsOf};
 
 use address_table::Table;
 use amqp_perf::{Address, Role};
@@ -90,7 +91,7 @@ fn text_of(octets: &[u8]) -> Option<&str>
 /// The consumer's live link of this number may be sent a delivery: it has credit, its session has window, and nothing is in
 /// progress.
 fn may_take(looked: &Looked<'_>, number: u64) -> bool
-    ensures { (rules : RuleSet) (records : List Record) → StandsFor rules looked.now (history rules records) →
+    ensures { (rules : RuleSet) (records : List Record) → TellsOf rules looked.now (history rules records) →
         result ≡ is_some_and (consumer_at number (history rules records)) (may_take (history rules records)) }
 {
     match looked.consumer_links.get(number) {
@@ -101,7 +102,7 @@ fn may_take(looked: &Looked<'_>, number: u64) -> bool
 
 /// The same of a live link.
 fn takes(looked: &Looked<'_>, link: &Link) -> bool
-    ensures { (rules : RuleSet) (records : List Record) → StandsFor rules looked.now (history rules records) →
+    ensures { (rules : RuleSet) (records : List Record) → TellsOf rules looked.now (history rules records) →
         IsLiveLink (link_view link.now) (history rules records) → result ≡ may_take (history rules records) (link_view link.now) }
 {
     if looked.links.link_credit(link) == 0 {
@@ -138,7 +139,7 @@ impl Picks {
         before: &Looked<'_>,
     ) -> Result<(), AllocError>
         ensures { OnOk result ((rules : RuleSet) (records : List Record) (r : Record) → IsLawfulNext rules records r (event_view event.now) →
-            StandsFor rules before.now (history rules records) →
+            TellsOf rules before.now (history rules records) →
             ArePicks self.old (history rules records) → ArePicks self.new (event_view event.now ∷ history rules records)) }
     {
         let ended = before.links.ended(self.alloc, event)?;
@@ -154,9 +155,9 @@ impl Picks {
     /// with the fewest deliveries that are not decided; of equal ones the one that was attached first. `None` where none
     /// may be sent one, and for a multicast address. It takes time linear in the links of the address, and no memory.
     pub fn pick<'t>(&self, address: &[u8], rules: &RuleSet, looked: &Looked<'t>) -> Option<Link<'t>>
-        ensures picked { (records : List Record) → StandsFor rules.now looked.now (history rules.now records) → ArePicks self.now (history rules.now records) →
+        ensures picked { (records : List Record) → TellsOf rules.now looked.now (history rules.now records) → ArePicks self.now (history rules.now records) →
             option_map (λ l. (link_view l).number) result ≡ pick rules.now address.now (history rules.now records) }
-        ensures known { (records : List Record) → StandsFor rules.now looked.now (history rules.now records) → ArePicks self.now (history rules.now records) →
+        ensures known { (records : List Record) → TellsOf rules.now looked.now (history rules.now records) → ArePicks self.now (history rules.now records) →
             IfSome (option_map link_view result) (λ l. link_at l.number (history rules.now records) ≡ Some l) }
     {
         let text = text_of(address)?;
@@ -165,7 +166,7 @@ impl Picks {
             text,
             distribution,
             |number: u64| -> bool
-                ensures { (rules : RuleSet) (records : List Record) → StandsFor rules looked.entry.now (history rules records) →
+                ensures { (rules : RuleSet) (records : List Record) → TellsOf rules looked.entry.now (history rules records) →
                     result ≡ is_some_and (consumer_at number (history rules records)) (may_take (history rules records)) }
             { may_take(looked, number) },
         )?;
@@ -203,7 +204,7 @@ impl Picks {
 
     /// The deliveries that the event decides are decided.
     fn decide(&mut self, event: &Event, before: &Looked<'_>) -> Result<(), AllocError>
-        ensures { OnOk result ((rules : RuleSet) (records : List Record) → StandsFor rules before.now (history rules records) →
+        ensures { OnOk result ((rules : RuleSet) (records : List Record) → TellsOf rules before.now (history rules records) →
             DecidesAll (event_view event.now) (history rules records) (sent_in before.now.sent.now) self.old.table self.new.table) }
     {
         let mut spoken = before.sent.spoken_of(self.alloc, event)?;

@@ -14,8 +14,8 @@ ghost use Rattle.trace_duties.specs.Diligent.{is_next_waiting};
 ghost use Rattle.trace_values.specs.View.{event_view, incoming_view};
 ghost use Rattle.state_addresses.specs.Addressed.{IsAddressed};
 ghost use Rattle.state_tables.specs.Connections.{IsLawfulNext};
-ghost use Rattle.due_queues.specs.Picks.{StandsFor};
 ghost use Rattle.due_queues.specs.Queues.{HaveQueues, IsPushed, IsShorter, queued, waits_in};
+ghost use Rattle.state_answers.specs.Tables.{TellsOf};
 
 use capture_form::RuleSet;
 use indexmap::IndexMap;
@@ -127,12 +127,12 @@ impl Queues {
 
     /// The delivery that was completed first of those that wait at the address. Those in front of it, which wait no more, go.
     pub fn first<'t>(&mut self, address: &[u8], looked: &Looked<'t>) -> Option<Incoming<'t>>
-        ensures kept { (rules : RuleSet) (records : List Record) → StandsFor rules looked.now (history rules records) →
+        ensures kept { (rules : RuleSet) (records : List Record) → TellsOf rules looked.now (history rules records) →
             HaveQueues rules self.old (history rules records) → HaveQueues rules self.new (history rules records) }
-        ensures first { (rules : RuleSet) (records : List Record) → StandsFor rules looked.now (history rules records) →
+        ensures first { (rules : RuleSet) (records : List Record) → TellsOf rules looked.now (history rules records) →
             HaveQueues rules self.old (history rules records) → IfSome (option_map incoming_view result) (λ d. (received.address_of d (history rules records) ≡ address.now)
             × (received.incoming_at d.number (history rules records) ≡ Some d) × (is_next_waiting rules (history rules records) d ≡ true)) }
-        ensures none { (rules : RuleSet) (records : List Record) → StandsFor rules looked.now (history rules records) →
+        ensures none { (rules : RuleSet) (records : List Record) → TellsOf rules looked.now (history rules records) →
             HaveQueues rules self.old (history rules records) → result ≡ None → waiting_queue rules address.now (history rules records) ≡ [] }
     {
         let Some(queue) = self.entries.get_mut(address) else {

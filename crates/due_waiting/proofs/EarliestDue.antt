@@ -18,7 +18,7 @@ use Rattle.trace_values.specs.View.{incoming_view}
 use Rattle.due_flows.proofs.Members.{none-passes, found-contained}
 use Rattle.due_waiting.specs.Waiting.{IsDueWaiting, earlier_of, is_ahead}
 use Rattle.due_waiting.specs.Waking.{MayBegin}
-use Rattle.due_waiting.specs.declared.waiting.DueWaiting.{DueWaiting}
+use Rattle.due_flows.specs.declared.begin.DueBegin.{DueBegin}
 use Rattle.due_waiting.proofs.Chosen.{next-waits}
 use Rattle.due_waiting.proofs.Woken.{complete-of}
 
@@ -66,7 +66,7 @@ module _ (rules : RuleSet) (past : List Event) (are : AreJudged rules past) wher
           let lt = x.lower in
           absurd (omega (arith, one, two, lt))
 
-  ahead-later : (first : Option DueWaiting) (due : DueWaiting) (d : Incoming) → is_ahead past first d ≡ true → is_ahead past (Some (earlier_of past first due)) d ≡ true
+  ahead-later : (first : Option DueBegin) (due : DueBegin) (d : Incoming) → is_ahead past first d ≡ true → is_ahead past (Some (earlier_of past first due)) d ≡ true
   ahead-later None due d ahead = absurd cc
   ahead-later (Some a) due d ahead = by (completed_before (incoming_view due.delivery) (incoming_view a.delivery) past) refl
     where
@@ -80,7 +80,7 @@ module _ (rules : RuleSet) (past : List Event) (are : AreJudged rules past) wher
       by true is = apart is (completed_before d (incoming_view due.delivery) past) refl
       by false is = ahead
 
-  ahead-here : (first : Option DueWaiting) (due : DueWaiting) (d : Incoming) → is_waiting rules (incoming_view due.delivery) past ≡ true
+  ahead-here : (first : Option DueBegin) (due : DueBegin) (d : Incoming) → is_waiting rules (incoming_view due.delivery) past ≡ true
       → completed_before d (incoming_view due.delivery) past ≡ false → is_ahead past (Some (earlier_of past first due)) d ≡ true
   ahead-here None due d waits none = ap not none
   ahead-here (Some a) due d waits none = by (completed_before (incoming_view due.delivery) (incoming_view a.delivery) past) refl
@@ -99,7 +99,7 @@ module _ (rules : RuleSet) (past : List Event) (are : AreJudged rules past) wher
 
   -- ---- one address more
 
-  pub ahead-more : (first : Option DueWaiting) (due : DueWaiting) → IsDueWaiting rules due past → (d : Incoming) (l : Link) → MayBegin rules past d l → (seen seen' : Bool)
+  pub ahead-more : (first : Option DueBegin) (due : DueBegin) → IsDueWaiting rules due past → (d : Incoming) (l : Link) → MayBegin rules past d l → (seen seen' : Bool)
       → seen' ≡ seen || bytes_eq (address_of d past) (address_of (incoming_view due.delivery) past) → (seen ≡ true → is_ahead past first d ≡ true) → seen' ≡ true
       → is_ahead past (Some (earlier_of past first due)) d ≡ true
   ahead-more first due is d l h seen seen' more ahead now = by seen (bytes_eq (address_of d past) (address_of (incoming_view due.delivery) past)) refl refl (sym more ∙ now)
@@ -113,10 +113,10 @@ module _ (rules : RuleSet) (past : List Event) (are : AreJudged rules past) wher
 
 -- ---- of two the one that was completed first
 
-pub other-comes : (past : List Event) (first : Option DueWaiting) (other due : DueWaiting) → first ≡ Some due
+pub other-comes : (past : List Event) (first : Option DueBegin) (other due : DueBegin) → first ≡ Some due
     → completed_before (incoming_view other.delivery) (incoming_view due.delivery) past ≡ true → other ≡ earlier_of past first other
-other-comes past first other due is before = sym (ap (λ (o : Option DueWaiting). earlier_of past o other) is ∙ ap (λ b. if b then other else due) before)
+other-comes past first other due is before = sym (ap (λ (o : Option DueBegin). earlier_of past o other) is ∙ ap (λ b. if b then other else due) before)
 
-pub first-stays : (past : List Event) (first : Option DueWaiting) (other due : DueWaiting) → first ≡ Some due
+pub first-stays : (past : List Event) (first : Option DueBegin) (other due : DueBegin) → first ≡ Some due
     → completed_before (incoming_view other.delivery) (incoming_view due.delivery) past ≡ false → due ≡ earlier_of past first other
-first-stays past first other due is before = sym (ap (λ (o : Option DueWaiting). earlier_of past o other) is ∙ ap (λ b. if b then other else due) before)
+first-stays past first other due is before = sym (ap (λ (o : Option DueBegin). earlier_of past o other) is ∙ ap (λ b. if b then other else due) before)

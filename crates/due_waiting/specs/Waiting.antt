@@ -13,7 +13,7 @@ use Rattle.due_queues.specs.Queues.{HaveQueues}
 use Rattle.due_waiting.specs.Awake.{is_awake}
 use Rattle.due_waiting.specs.BySession.{stands}
 use Rattle.due_waiting.specs.Waking.{MayBegin}
-use Rattle.due_waiting.specs.declared.waiting.DueWaiting.{DueWaiting}
+use Rattle.due_flows.specs.declared.begin.DueBegin.{DueBegin}
 use Rattle.due_waiting.specs.declared.waiting.Waiting.{Waiting}
 
 -- the picks and the queues are those of the events, each live link of a consumer stands with its session, and an address at
@@ -25,7 +25,7 @@ pub record HasWaiting (rules : RuleSet) (waiting : Waiting) (past : List Event) 
   pub awake : (d : Incoming) (l : Link) → MayBegin rules past d l → is_awake waiting.awake (address_of d past) ≡ true
 
 -- the delivery that comes next at its address, and the live link that is picked for it
-pub record IsDueWaiting (rules : RuleSet) (due : DueWaiting) (past : List Event) : Type 0 where
+pub record IsDueWaiting (rules : RuleSet) (due : DueBegin) (past : List Event) : Type 0 where
   pub live : IsLiveLink (link_view due.link) past
   pub at : link_at (link_view due.link).number past ≡ Some (link_view due.link)
   pub found : incoming_at (incoming_view due.delivery).number past ≡ Some (incoming_view due.delivery)
@@ -38,14 +38,14 @@ abbrev pub NoneBegins : RuleSet → List Event → List ℕ → Type 0
 NoneBegins rules past address = (d : Incoming) (l : Link) → MayBegin rules past d l → address_of d past ≡ address → ⊥
 
 -- no delivery that may begin was completed before it
-abbrev pub IsEarliest : RuleSet → DueWaiting → List Event → Type 0
+abbrev pub IsEarliest : RuleSet → DueBegin → List Event → Type 0
 IsEarliest rules due past = (d : Incoming) (l : Link) → MayBegin rules past d l → completed_before d (incoming_view due.delivery) past ≡ false
 
 -- there is one, and the delivery was not completed before it
-abbrev pub is_ahead : List Event → Option DueWaiting → Incoming → Bool
+abbrev pub is_ahead : List Event → Option DueBegin → Incoming → Bool
 is_ahead past first d = is_some_and first (λ due. not (completed_before d (incoming_view due.delivery) past))
 
 -- of two the one whose delivery was completed first
-abbrev pub earlier_of : List Event → Option DueWaiting → DueWaiting → DueWaiting
+abbrev pub earlier_of : List Event → Option DueBegin → DueBegin → DueBegin
 earlier_of past None b = b
 earlier_of past (Some a) b = if completed_before (incoming_view b.delivery) (incoming_view a.delivery) past then b else a

@@ -10,17 +10,17 @@ ghost use Rattle.trace_events.specs.declared.session.Session.{Session};
 ghost use Rattle.trace_events.specs.Words.{is_some_and};
 ghost use Rattle.trace_values.specs.View.{Events, event_view};
 ghost use Rattle.state_addresses.specs.ConsumerLinks.{consumer_at, link_in};
-ghost use Rattle.due_flows.specs.Lent.{AreOf};
 ghost use Rattle.due_flows.specs.Standing.{goes_on, grants_window, has_window};
 ghost use Rattle.due_waiting.specs.BySession.{stands};
 ghost use Rattle.due_waiting.specs.Awake.{IsKept, address_at, count_of, is_among_first, is_awake};
 ghost use Rattle.due_waiting.specs.Waking.{IsGranted};
+ghost use Rattle.state_answers.specs.Tables.{TellsOf};
 
 use crate::by_session::BySession;
-use due_flows::Looked;
 use flow_counts::WindowEvent;
 use indexmap::IndexSet;
 use state_addresses::ConsumerLinks;
+use state_answers::Looked;
 use std::alloc::{AllocError, Global};
 use trace_judge::Counts;
 use trace_values::Event;
@@ -84,7 +84,7 @@ impl Awake {
             grants_window (event_view event.now) ≡ true → is_awake self.new l.address ≡ true) }
         ensures freed { OnOk result ((j : law.Outgoing) → (event_view event.now).outgoing ≡ Some j → goes_on (event_view event.now) ≡ false →
             is_awake self.new j.link.address ≡ true) }
-        ensures granted { OnOk result ((rules : RuleSet) (past : Events) → AreOf rules before.now past → (l : law.Link) →
+        ensures granted { OnOk result ((rules : RuleSet) (past : Events) → TellsOf rules before.now past → (l : law.Link) →
             IsGranted (event_view event.now) past l → stands links.now l.session.number l.number ≡ true → consumer_at l.number past ≡ Some l →
             is_awake self.new l.address ≡ true) }
         ensures kept { OnOk result (IsKept self.old self.new) }
@@ -204,7 +204,7 @@ fn freed<'a>(event: &Event<'a, '_>) -> Option<&'a [u8]>
 
 /// The session to which a flow of the client may give window, where it had none.
 fn granted(event: &Event, before: &Looked<'_>) -> Option<u64>
-    ensures { (rules : RuleSet) (past : Events) → AreOf rules before.now past → (s : Session) → (event_view event.now).session ≡ Some s →
+    ensures { (rules : RuleSet) (past : Events) → TellsOf rules before.now past → (s : Session) → (event_view event.now).session ≡ Some s →
         grants_window (event_view event.now) ≡ true → IsLiveOn s past → has_window s past ≡ false → result ≡ Some s.number }
 {
     let session = event.session?;

@@ -12,4 +12,4 @@ mod awake;
 mod by_session;
 mod waiting;
 
-pub use waiting::{DueWaiting, Waiting};
+pub use waiting::Waiting;

@@ -10,27 +10,20 @@ ghost use Rattle.trace_values.specs.View.{Events, event_view, incoming_view};
 ghost use Rattle.state_addresses.specs.Addressed.{IsAddressed};
 ghost use Rattle.state_tables.specs.Connections.{IsLawfulNext};
 ghost use Rattle.state_incoming.specs.EntryAnswers.{Knows};
-ghost use Rattle.due_flows.specs.Lent.{AreOf};
 ghost use Rattle.due_queues.specs.Picks.{ArePicks};
 ghost use Rattle.due_queues.specs.Queues.{HaveQueues};
 ghost use Rattle.due_waiting.specs.Awake.{count_of, is_among_first};
 ghost use Rattle.due_waiting.specs.Waiting.{HasWaiting, IsDueWaiting, IsEarliest, NoneBegins, earlier_of};
+ghost use Rattle.state_answers.specs.Tables.{TellsOf};
 
 use crate::awake::Awake;
 use crate::by_session::BySession;
 use capture_form::RuleSet;
-use due_flows::Looked;
+use due_flows::DueBegin;
 use due_queues::{Picks, Queues};
+use state_answers::Looked;
 use std::alloc::{AllocError, Global};
 use trace_values::{Event, Incoming, Link};
-
-/// A delivery that waits and may begin: on this link, with the delivery's payload.
-#[derive(Clone, Copy)]
-pub struct DueWaiting<'t> {
-    pub link: Link<'t>,
-    pub delivery: Incoming<'t>,
-    pub payload: &'t [u8],
-}
 
 /// The anycast deliveries that wait.
 #[derive(Drop)]
@@ -74,7 +67,7 @@ impl Waiting {
     ) -> Result<(), AllocError>
         ensures { OnOk result ((records : List Record) (r : Record) → IsLawfulNext rules.now records r (event_view event.now) →
             IsAddressed (event_view event.now) (history rules.now records) address.now →
-            AreOf rules.now before.now (history rules.now records) → HasWaiting rules.now self.old (history rules.now records) →
+            TellsOf rules.now before.now (history rules.now records) → HasWaiting rules.now self.old (history rules.now records) →
             HasWaiting rules.now self.new (event_view event.now ∷ history rules.now records)) }
     {
         let ended = before.links.ended(self.alloc, event)?;
@@ -88,14 +81,14 @@ impl Waiting {
 
     /// Of the deliveries that may begin the one that was completed first. It takes time linear in the addresses to look at,
     /// and in the links of each of them; those at which none may begin go.
-    pub fn first_due<'t>(&mut self, rules: &RuleSet, looked: &Looked<'t>) -> Option<DueWaiting<'t>>
-        ensures due { IfSome result (λ due. (records : List Record) → AreOf rules.now looked.now (history rules.now records) →
+    pub fn first_due<'t>(&mut self, rules: &RuleSet, looked: &Looked<'t>) -> Option<DueBegin<'t>>
+        ensures due { IfSome result (λ due. (records : List Record) → TellsOf rules.now looked.now (history rules.now records) →
             HasWaiting rules.now self.old (history rules.now records) → IsDueWaiting rules.now due (history rules.now records)) }
-        ensures earliest { IfSome result (λ due. (records : List Record) → AreOf rules.now looked.now (history rules.now records) →
+        ensures earliest { IfSome result (λ due. (records : List Record) → TellsOf rules.now looked.now (history rules.now records) →
             HasWaiting rules.now self.old (history rules.now records) → IsEarliest rules.now due (history rules.now records)) }
-        ensures kept { (records : List Record) → AreOf rules.now looked.now (history rules.now records) →
+        ensures kept { (records : List Record) → TellsOf rules.now looked.now (history rules.now records) →
             HasWaiting rules.now self.old (history rules.now records) → HasWaiting rules.now self.new (history rules.now records) }
-        ensures quiet { (records : List Record) → AreOf rules.now looked.now (history rules.now records) →
+        ensures quiet { (records : List Record) → TellsOf rules.now looked.now (history rules.now records) →
             HasWaiting rules.now self.old (history rules.now records) → result ≡ None → none_waits_in_vain rules.now (history rules.now records) ≡ true }
     {
         let mut first = None;
@@ -116,14 +109,14 @@ impl Waiting {
         index: usize,
         rules: &RuleSet,
         looked: &Looked<'t>,
-    ) -> Option<DueWaiting<'t>>
+    ) -> Option<DueBegin<'t>>
         requires within { index < count_of self.old.awake }
-        ensures due { IfSome result (λ due. (records : List Record) → AreOf rules.now looked.now (history rules.now records) →
+        ensures due { IfSome result (λ due. (records : List Record) → TellsOf rules.now looked.now (history rules.now records) →
             HasWaiting rules.now self.old (history rules.now records) → IsDueWaiting rules.now due (history rules.now records)) }
-        ensures kept { (records : List Record) → AreOf rules.now looked.now (history rules.now records) →
+        ensures kept { (records : List Record) → TellsOf rules.now looked.now (history rules.now records) →
             HasWaiting rules.now self.old (history rules.now records) → HasWaiting rules.now self.new (history rules.now records) }
         ensures before { (at : List ℕ) → is_among_first self.new.awake index at ≡ is_among_first self.old.awake index at }
-        ensures here { IfSome result (λ due. (records : List Record) → AreOf rules.now looked.now (history rules.now records) →
+        ensures here { IfSome result (λ due. (records : List Record) → TellsOf rules.now looked.now (history rules.now records) →
             HasWaiting rules.now self.old (history rules.now records) → (at : List ℕ) → is_among_first self.new.awake (index + 1) at
             ≡ (is_among_first self.old.awake index at || bytes_eq at (address_of (incoming_view due.delivery) (history rules.now records)))) }
         ensures count { count_of self.new.awake + (if is_none result then 1 else 0) ≡ count_of self.old.awake }
@@ -144,22 +137,22 @@ fn due_at<'t>(
     queues: &mut Queues,
     rules: &RuleSet,
     looked: &Looked<'t>,
-) -> Option<DueWaiting<'t>>
-    ensures due { IfSome result (λ due. (records : List Record) → AreOf rules.now looked.now (history rules.now records) →
+) -> Option<DueBegin<'t>>
+    ensures due { IfSome result (λ due. (records : List Record) → TellsOf rules.now looked.now (history rules.now records) →
         ArePicks picks.now (history rules.now records) → HaveQueues rules.now queues.old (history rules.now records) →
         IsDueWaiting rules.now due (history rules.now records)) }
-    ensures here { IfSome result (λ due. (records : List Record) → AreOf rules.now looked.now (history rules.now records) →
+    ensures here { IfSome result (λ due. (records : List Record) → TellsOf rules.now looked.now (history rules.now records) →
         HaveQueues rules.now queues.old (history rules.now records) → address_of (incoming_view due.delivery) (history rules.now records) ≡ address.now) }
-    ensures kept { (records : List Record) → AreOf rules.now looked.now (history rules.now records) →
+    ensures kept { (records : List Record) → TellsOf rules.now looked.now (history rules.now records) →
         HaveQueues rules.now queues.old (history rules.now records) → HaveQueues rules.now queues.new (history rules.now records) }
-    ensures none { (records : List Record) → AreOf rules.now looked.now (history rules.now records) →
+    ensures none { (records : List Record) → TellsOf rules.now looked.now (history rules.now records) →
         ArePicks picks.now (history rules.now records) → HaveQueues rules.now queues.old (history rules.now records) → result ≡ None →
         NoneBegins rules.now (history rules.now records) address.now }
 {
     let delivery = queues.first(address, looked)?;
     let link = picks.pick(address, rules, looked)?;
     let payload = looked.deliveries.payload(&delivery);
-    Some(DueWaiting {
+    Some(DueBegin {
         link,
         delivery,
         payload,
@@ -168,12 +161,12 @@ fn due_at<'t>(
 
 /// Of two that are due the one whose delivery was completed first.
 fn earlier<'t>(
-    first: Option<DueWaiting<'t>>,
-    other: DueWaiting<'t>,
+    first: Option<DueBegin<'t>>,
+    other: DueBegin<'t>,
     looked: &Looked<'t>,
-) -> DueWaiting<'t>
+) -> DueBegin<'t>
     ensures one { (first.entry ≡ Some result) ⊎ (other.entry ≡ result) }
-    ensures order { (rules : RuleSet) (past : Events) → AreOf rules looked.now past →
+    ensures order { (rules : RuleSet) (past : Events) → TellsOf rules looked.now past →
         IfSome first.entry (λ due. Knows looked.now.deliveries.now (incoming_view due.delivery)) →
         Knows looked.now.deliveries.now (incoming_view other.entry.delivery) → result ≡ earlier_of past first.entry other.entry }
 {

@@ -9,7 +9,7 @@ ghost use Rattle.route_records.specs.Replies.{IsReply, AreReplies, IsAnswerable,
 use capture_form::{Frame, Record, RuleSet, What};
 use pairing_cert::Note;
 use route_answers::{Answer, Reply, answer_to};
-use route_work::Looked;
+use state_answers::Looked;
 use state_ledger::HeldEvent;
 use std::alloc::{AllocError, Global};
 use trace_values::ReadRecord;

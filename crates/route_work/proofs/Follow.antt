@@ -33,14 +33,13 @@ use Rattle.route_dues.proofs.Turns.{outcome_in_turn, settling_in_turn, part_in_t
 use Rattle.due_outcomes.specs.DueOutcomes.{IsDueOutcome}
 use Rattle.due_outcomes.specs.Settlings.{IsDueSettling}
 use Rattle.due_outcomes.specs.declared.outcome.DueOutcome.{DueOutcome}
-use Rattle.due_copies.specs.Parts.{IsDuePart}
-use Rattle.due_copies.specs.Draining.{IsDrainable}
-use Rattle.due_copies.specs.Topping.{IsToppable}
-use Rattle.due_copies.specs.Lacking.{IsLacking}
-use Rattle.due_copies.specs.DuePart.{DuePart}
+use Rattle.due_flows.specs.Parts.{IsDuePart}
+use Rattle.due_flows.specs.Draining.{IsDrainable}
+use Rattle.due_flows.specs.Topping.{IsToppable}
+use Rattle.due_flows.specs.Lacking.{IsLacking}
+use Rattle.due_flows.specs.declared.parts.DuePart.{DuePart}
 use Rattle.due_copies.specs.Copies.{IsDueCopy}
-use Rattle.due_copies.specs.declared.copies.DueCopy.{DueCopy}
-use Rattle.route_work.specs.declared.due.DueBegin.{DueBegin}
+use Rattle.due_flows.specs.declared.begin.DueBegin.{DueBegin}
 use Rattle.route_work.specs.declared.due.Due.{Due}
 use Rattle.route_work.specs.declared.due.Due.TheVariants as dues
 use Rattle.route_work.specs.Dues.{IsDue, IsWaitingDue, IsFrameFor, IsNextFrame, is_in_turn, connection_of, note_of}
@@ -99,7 +98,7 @@ module _ (rules : RuleSet) (past : List Event) (order : IsInOrder rules past) wh
       (waiting_in_turn rules past l d is.live (and_first (is_all_told rules past) (none_stands_still past) before) (and_last (is_all_told rules past) (none_stands_still past) before) is.found
       (and_last (is_all_told rules past && none_stands_still past) (is_first_to_begin rules past d) turn)) again same
 
-  pub copy_frame_for : (due : DueCopy) (octets : List ℕ) → IsDueCopy rules due past → is_in_turn rules past (dues.Copy due) ≡ true
+  pub copy_frame_for : (due : DueBegin) (octets : List ℕ) → IsDueCopy rules due past → is_in_turn rules past (dues.Copy due) ≡ true
       → IsReadAgain (first_frame past (link_view due.link) (incoming_view due.delivery)) → octets ≡ spoken_octets (first_frame past (link_view due.link) (incoming_view due.delivery))
       → IsFrameFor rules past (connection_of (dues.Copy due)) (note_of (dues.Copy due)) octets
   copy_frame_for due octets is turn again same =

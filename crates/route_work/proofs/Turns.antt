@@ -9,7 +9,7 @@ use Rattle.trace_values.specs.View.{incoming_view}
 use Rattle.trace_duties.specs.Quiet.{none_stands_still, none_is_undrained, none_lacks_credit}
 use Rattle.trace_duties.specs.Turn.{is_all_told, is_all_sent, is_all_drained, is_all_credited, is_first_to_begin}
 use Rattle.due_waiting.specs.Waiting.{IsEarliest}
-use Rattle.due_waiting.specs.declared.waiting.DueWaiting.{DueWaiting}
+use Rattle.due_flows.specs.declared.begin.DueBegin.{DueBegin}
 use Rattle.due_waiting.proofs.InVain.{first-begins}
 use Rattle.route_work.specs.Work.{IsAllTold, IsAllSent}
 
@@ -34,7 +34,7 @@ module _ (rules : RuleSet) (past : List Event) (told : IsAllTold rules past) whe
     all_credited drains credits = both _ _ (all_drained drains) credits
 
 -- of the deliveries that wait the first is the earliest
-pub earliest_first : (rules : RuleSet) (records : List Record) (o : Option DueWaiting) → IfSome o (λ due. IsEarliest rules due (history rules records))
+pub earliest_first : (rules : RuleSet) (records : List Record) (o : Option DueBegin) → IfSome o (λ due. IsEarliest rules due (history rules records))
     → IfSome o (λ due. is_first_to_begin rules (history rules records) (incoming_view due.delivery) ≡ true)
 earliest_first rules records None is = tt
 earliest_first rules records (Some due) is = first-begins rules (history rules records) (history-judged rules records) (incoming_view due.delivery) is

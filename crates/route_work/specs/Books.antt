@@ -5,16 +5,9 @@ use Rattle.capture_form.specs.Rules.{RuleSet}
 use Rattle.trace_events.specs.Event.{Event}
 use Rattle.trace_events.specs.History.{judge, history}
 use Rattle.trace_clauses.specs.Clauses.{broken_clause}
-use Rattle.state_answers.specs.declared.looked.Looked.{Looked}
-use Rattle.state_answers.specs.Tables.{StandFor, AreTables, completed_by_all}
+use Rattle.state_answers.specs.Tables.{AreTables, completed_by_all}
 use Rattle.route_dues.specs.Writing.{IsInOrder}
 use Rattle.route_work.specs.declared.books.Books.{Books}
-
--- the tables that are lent tell of these events
-abbrev pub TellsOf : RuleSet → Looked → List Event → Type 0
-TellsOf rules looked past =
-    StandFor rules looked.connections.now looked.links.now looked.consumers.now looked.deliveries.now
-    looked.consumer_links.now looked.copies.now looked.sent.now looked.verdicts.now past
 
 -- a record breaks no clause behind others
 abbrev pub IsUnbroken : RuleSet → List Record → Record → Type 0

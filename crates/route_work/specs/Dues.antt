@@ -20,14 +20,14 @@ use Rattle.trace_values.specs.View.{link_view, incoming_view, outgoing_view}
 use Rattle.route_dues.specs.Writing.{frame_of, writing, IsReadAgain, IsInOrder, MayFollow}
 use Rattle.due_outcomes.specs.DueOutcomes.{IsDueOutcome}
 use Rattle.due_outcomes.specs.Settlings.{IsDueSettling}
-use Rattle.due_copies.specs.Parts.{IsDuePart}
-use Rattle.due_copies.specs.Draining.{IsDrainable}
-use Rattle.due_copies.specs.Topping.{IsToppable}
-use Rattle.due_copies.specs.Lacking.{IsLacking}
+use Rattle.due_flows.specs.Parts.{IsDuePart}
+use Rattle.due_flows.specs.Draining.{IsDrainable}
+use Rattle.due_flows.specs.Topping.{IsToppable}
+use Rattle.due_flows.specs.Lacking.{IsLacking}
 use Rattle.due_copies.specs.Copies.{IsDueCopy}
 use Rattle.route_work.specs.declared.due.Due.{Due}
 use Rattle.route_work.specs.declared.due.Due.TheVariants as dues
-use Rattle.route_work.specs.declared.due.DueBegin.{DueBegin}
+use Rattle.due_flows.specs.declared.begin.DueBegin.{DueBegin}
 
 -- ---- each kind, as the lists say it
 

@@ -4,13 +4,13 @@ ghost use Rattle.std.specs.Prelude.{◌≡◌, ◌∷◌, [], ◌++◌, List, No
 ghost use Rattle.capture_form.specs.Rules.{RuleSet};
 ghost use Rattle.capture_form.specs.declared.records.Record.{Record};
 ghost use Rattle.trace_events.specs.History.{history, judge, moment_of};
-ghost use Rattle.state_answers.specs.Tables.{completed_by_all, kept_in};
+ghost use Rattle.state_answers.specs.Tables.{completed_by_all, kept_in, TellsOf};
 ghost use Rattle.state_ledger.specs.HeldEvents.{held_event_view};
 ghost use Rattle.trace_duties.specs.Quiet.{is_quiet};
 ghost use Rattle.route_work.specs.Dues.{IsNextFrame};
 ghost use Rattle.route_dues.specs.Writing.{IsInOrder};
 ghost use Rattle.capture_form.specs.Text.{IsRecord};
-ghost use Rattle.route_work.specs.Books.{AreBooks, AreInOrder, IsUnbroken, TellsOf};
+ghost use Rattle.route_work.specs.Books.{AreBooks, AreInOrder, IsUnbroken};
 ghost use Rattle.state_tables.specs.Connections.{IsLawfulNext};
 ghost use Rattle.trace_values.specs.View.{Events, event_view};
 

@@ -1,17 +1,9 @@
 //! What may be due.
 
-use due_copies::{DueCopy, DuePart};
+use due_flows::{DueBegin, DuePart};
 use due_outcomes::DueOutcome;
 use trace_events::Session;
-use trace_values::{Incoming, Link, Outgoing};
-
-/// A delivery that waits and is due to begin on a consumer's link, with its payload.
-#[derive(Clone, Copy)]
-pub struct DueBegin<'t> {
-    pub link: Link<'t>,
-    pub delivery: Incoming<'t>,
-    pub payload: &'t [u8],
-}
+use trace_values::{Link, Outgoing};
 
 /// What is due to be written.
 #[derive(Clone, Copy)]
@@ -25,7 +17,7 @@ pub enum Due<'t> {
     /// The first part of a delivery that waits, on the link that is picked.
     Waiting(DueBegin<'t>),
     /// The first part of the earliest copy of a link.
-    Copy(DueCopy<'t>),
+    Copy(DueBegin<'t>),
     /// The answer to the drain of a consumer's link.
     Drain(Link<'t>),
     /// The credit that fills a producer's link up.

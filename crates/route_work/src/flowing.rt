@@ -8,11 +8,13 @@ ghost use Rattle.trace_events.specs.History.{history};
 ghost use Rattle.trace_values.specs.View.{event_view};
 ghost use Rattle.state_tables.specs.Connections.{IsLawfulNext};
 ghost use Rattle.route_work.specs.Dues.{IsDue, is_in_turn};
-ghost use Rattle.route_work.specs.Books.{TellsOf};
 ghost use Rattle.route_work.specs.Work.{HasFlowing, IsAllGiven, IsAllSent, IsAllTold};
+ghost use Rattle.state_answers.specs.Tables.{TellsOf};
 
-use crate::{Credits, Drains, Due, Looked, Windows};
+use crate::Due;
 use capture_form::RuleSet;
+use due_flows::{Credits, Drains, Windows};
+use state_answers::Looked;
 use std::alloc::{AllocError, Global};
 use trace_values::Event;
 

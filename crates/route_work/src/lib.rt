@@ -21,10 +21,7 @@ mod work;
 mod writing;
 
 pub use books::Books;
-pub use due::{Due, DueBegin};
-pub use due_copies::{Credits, Drains, DueCopy, Parts, UnsentCopies, Windows};
-pub use due_outcomes::{Unsettled, Untold};
+pub use due::Due;
 pub use dues::Dues;
-pub use state_answers::Looked;
 pub use work::Work;
 pub use writing::record_of;

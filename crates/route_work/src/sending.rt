@@ -10,15 +10,18 @@ ghost use Rattle.trace_duties.specs.Turn.{is_all_told, is_first_to_begin};
 ghost use Rattle.trace_values.specs.View.{Events, event_view, incoming_view};
 ghost use Rattle.state_tables.specs.Connections.{IsLawfulNext};
 ghost use Rattle.state_addresses.specs.Addressed.{IsAddressed};
-ghost use Rattle.route_work.specs.Copies.{IsDueCopy};
+ghost use Rattle.due_copies.specs.Copies.{IsDueCopy};
 ghost use Rattle.due_waiting.specs.Waiting.{IsDueWaiting};
 ghost use Rattle.route_work.specs.Dues.{IsDue, is_in_turn};
-ghost use Rattle.route_work.specs.Books.{TellsOf};
 ghost use Rattle.route_work.specs.Work.{HasSending, IsAllSent, IsAllTold};
+ghost use Rattle.state_answers.specs.Tables.{TellsOf};
 
-use crate::{Due, DueBegin, DueCopy, Looked, Parts, UnsentCopies};
+use crate::Due;
 use capture_form::RuleSet;
-use due_waiting::{DueWaiting, Waiting};
+use due_copies::UnsentCopies;
+use due_flows::{DueBegin, Parts};
+use due_waiting::Waiting;
+use state_answers::Looked;
 use std::alloc::{AllocError, Global};
 use trace_values::Event;
 
@@ -102,8 +105,8 @@ impl Sending {
 
 /// Of a delivery that waits and of a copy the one whose delivery was completed first.
 fn first_completed<'t>(
-    waiting: Option<DueWaiting<'t>>,
-    copy: Option<DueCopy<'t>>,
+    waiting: Option<DueBegin<'t>>,
+    copy: Option<DueBegin<'t>>,
     looked: &Looked<'t>,
 ) -> Option<Due<'t>>
     ensures due { (rules : RuleSet) (past : Events) → IfSome waiting.entry (λ due. IsDueWaiting rules due past) → IfSome copy.entry (λ due. IsDueCopy rules due past) →
@@ -130,14 +133,10 @@ fn first_completed<'t>(
 }
 
 /// A delivery that waits, as what is due.
-fn due_of<'t>(begin: DueWaiting<'t>) -> Due<'t>
+fn due_of<'t>(begin: DueBegin<'t>) -> Due<'t>
     ensures due { (rules : RuleSet) (past : Events) → IsDueWaiting rules begin.entry past → IsDue rules past result }
     ensures turn { (rules : RuleSet) (past : Events) → is_all_told rules past && none_stands_still past ≡ true →
         is_first_to_begin rules past (incoming_view begin.entry.delivery) ≡ true → is_in_turn rules past result ≡ true }
 {
-    Due::Waiting(DueBegin {
-        link: begin.link,
-        delivery: begin.delivery,
-        payload: begin.payload,
-    })
+    Due::Waiting(begin)
 }

@@ -9,11 +9,13 @@ ghost use Rattle.trace_values.specs.View.{event_view};
 ghost use Rattle.state_tables.specs.Connections.{IsLawfulNext};
 ghost use Rattle.state_addresses.specs.Addressed.{IsAddressed};
 ghost use Rattle.route_work.specs.Dues.{IsDue, is_in_turn};
-ghost use Rattle.route_work.specs.Books.{TellsOf};
 ghost use Rattle.route_work.specs.Work.{HasTelling, IsAllTold};
+ghost use Rattle.state_answers.specs.Tables.{TellsOf};
 
-use crate::{Due, Looked, Unsettled, Untold};
+use crate::Due;
 use capture_form::RuleSet;
+use due_outcomes::{Unsettled, Untold};
+use state_answers::Looked;
 use std::alloc::{AllocError, Global};
 use trace_values::Event;
 

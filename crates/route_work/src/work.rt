@@ -6,8 +6,9 @@ ghost use Rattle.route_work.specs.Work.{HasWork};
 use crate::flowing::Flowing;
 use crate::sending::Sending;
 use crate::telling::Telling;
-use crate::{Due, Dues, Looked};
+use crate::{Due, Dues};
 use capture_form::RuleSet;
+use state_answers::Looked;
 use std::alloc::{AllocError, Global};
 use trace_values::Event;
 

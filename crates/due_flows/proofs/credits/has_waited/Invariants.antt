@@ -5,9 +5,9 @@ use Rattle.trace_events.specs.Event.{Event}
 use Rattle.trace_events.specs.Link.{is_consumer}
 use Rattle.trace_events.specs.Waiting.{has_waiting}
 use Rattle.trace_values.specs.View.{link_view}
-use Rattle.due_flows.specs.Lent.{AreOf}
 use Rattle.due_flows.proofs.credits.has_waited.Given as goal
+use Rattle.state_answers.specs.Tables.{TellsOf}
 
 abbrev pub invariant-loop-link : goal.invariant-loop-link
-invariant-loop-link l = (rules : RuleSet) (past : List Event) → AreOf rules l.before past
+invariant-loop-link l = (rules : RuleSet) (past : List Event) → TellsOf rules l.before past
     → l.has ≡ false || list_any (λ link. is_consumer (link_view link) && has_waiting rules (link_view link).address past) (take l.link-index l.ended)

@@ -2,14 +2,14 @@ use Rattle.std.proofs.Common.{◌≡◌, List}
 use Rattle.trace_events.specs.Event.{Event}
 use Rattle.trace_events.specs.Link.{IsLiveLink}
 use Rattle.trace_values.specs.View.{link_view}
-use Rattle.due_flows.specs.Lent.{AreOf}
 use Rattle.due_copies.specs.ByLink.{count_of}
 use Rattle.due_copies.specs.Copies.{HasUnsent}
 use Rattle.due_copies.proofs.copies.UnsentCopies.earliest.Given as goal
+use Rattle.state_answers.specs.Tables.{TellsOf}
 
 abbrev pub invariant-loop-completion : goal.invariant-loop-completion
 invariant-loop-completion l =
-    ((past : List Event) → AreOf l.rules l.looked past → HasUnsent l.rules l.fn.self past → IsLiveLink (link_view l.link) past → HasUnsent l.rules l.self past)
+    ((past : List Event) → TellsOf l.rules l.looked past → HasUnsent l.rules l.fn.self past → IsLiveLink (link_view l.link) past → HasUnsent l.rules l.self past)
     × (l.self.lists.links ≡ l.fn.self.lists.links)
 
 abbrev pub decreases-loop-completion : goal.decreases-loop-completion

@@ -1,10 +1,10 @@
 use Rattle.std.proofs.Common.{◌≡◌, sym, ap, ◌∙◌, Option, None, refl, false, true, is_some}
 use Rattle.state_incoming.proofs.GroupAnswers.{judged-of}
-use Rattle.due_copies.specs.declared.copies.DueCopy.{DueCopy}
+use Rattle.due_flows.specs.declared.begin.DueBegin.{DueBegin}
 use Rattle.due_copies.proofs.CopiesDue.{have-dropped, none-due, have-of}
 use Rattle.due_copies.proofs.copies.UnsentCopies.first_due.Goals as goal
 
-no-copy : (o : Option DueCopy) → o ≡ None → is_some o ≡ true → ⊥
+no-copy : (o : Option DueBegin) → o ≡ None → is_some o ≡ true → ⊥
 no-copy o none some = let never : false ≡ true = ap is_some (sym none) ∙ some in absurd cc
 
 pub loop-completion-preserved : goal.loop-completion-preserved
