@@ -2,8 +2,7 @@
 //! those before it, and taken if it meets the clauses.
 //!
 //! The event of a record borrows the addresses of its links from the tables that were asked, and these are to be moved by it: so
-//! it is judged, kept, and made again of what was kept. Its frame is read twice: to judge it, by an event that borrows from
-//! the tables, and again for the event that moves them.
+//! it is judged, kept, and made again of what was kept. The record itself is read once (`ReadRecord`), and lent to both.
 //!
 //! - `judging`: a record's event, or the first clause that it breaks;
 //! - `held_event`: an event that is kept, but for its moment, with `held_parts`: its link and its deliveries;
