@@ -15,6 +15,7 @@ pub mod SettlingsFollow
 pub mod Behind
 pub mod Again
 pub mod PartsWritten
+pub mod ShortFrames
 pub mod DueExamples
 pub mod StatesWritable
 pub mod NoTransfers

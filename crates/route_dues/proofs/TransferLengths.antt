@@ -180,7 +180,7 @@ six_sized a b c d e f few =
     let list = short_list body (omega (arith, long, few)) in
     omega (arith, list, long)
 
-tag_sized : (id : ℕ) → length (text_octets texts.Binary (to_be_bytes w32 id)) ≡ 6
+pub tag_sized : (id : ℕ) → length (text_octets texts.Binary (to_be_bytes w32 id)) ≡ 6
 unfolding text_octets
 tag_sized id = refl
 

@@ -3,3 +3,4 @@ pub mod Transfers
 pub mod Outcomes
 pub mod Steps
 pub mod Work
+pub mod Short

@@ -1,6 +1,7 @@
 //! Dispositions that are due: outcomes and settlings (part 2 of the standard, section 2.7.6).
 
 ghost use Rattle.std.specs.Prelude.{◌≡◌, ◌≤◌, length, option_map, unwrap_or};
+ghost use Rattle.std.specs.Option.{option_copied};
 ghost use Rattle.flow_counts.specs.declared.profile.TheConstants.{MAX_FRAME_SIZE};
 ghost use Rattle.amqp_types.specs.Writing.{Puts};
 ghost use Rattle.amqp_perf.specs.NestedViews.{state_view};
@@ -12,9 +13,20 @@ ghost use Rattle.route_dues.specs.Outcomes.{octets_in, outcome_frame};
 ghost use Rattle.route_dues.specs.Writing.{IsReadAgain};
 
 use crate::frame::put_spoken;
-use amqp_perf::{Disposition, Performative, State};
+use crate::short::{SHORT_STATE, octets_if, put_decided};
+use amqp_perf::{Disposition, Performative, Role, State};
 use std::alloc::AllocError;
 use trace_values::{Incoming, Outgoing};
+
+/// The octets of a state, if there is one.
+fn raw_of<'a>(state: Option<State<'a>>) -> Option<&'a [u8]>
+    ensures { option_copied result ≡ octets_in (option_map state_view state.entry) }
+{
+    match state {
+        Some(state) => Some(state.raw()),
+        None => None,
+    }
+}
 
 /// Appends the outcome of a delivery, with this state; without one no outcome is told.
 ///
@@ -35,8 +47,13 @@ pub fn put_outcome(
         → IsReadAgain (outcome_frame (incoming_view delivery.now) (option_map state_view state.entry)) }
 {
     let id = delivery.id.unwrap_or(0);
+    let channel = delivery.link.session.channel;
+    let octets = raw_of(state);
+    if octets_if(octets).len() <= SHORT_STATE {
+        return put_decided(out, channel, Role::Receiver, id, octets);
+    }
     let outcome = Performative::Disposition(Disposition::outcome(id, state));
-    put_spoken(out, delivery.link.session.channel, &outcome, &[])
+    put_spoken(out, channel, &outcome, &[])
 }
 
 /// Appends the settling of a delivery.
@@ -49,6 +66,5 @@ pub fn put_settling(out: &mut Vec<u8>, delivery: &Outgoing) -> Result<(), AllocE
     ensures again { IsReadAgain (written_settling delivery.now.link.session.channel (unwrap_or delivery.now.id 0)) }
 {
     let id = delivery.id.unwrap_or(0);
-    let settling = Performative::Disposition(Disposition::settling(id));
-    put_spoken(out, delivery.link.session.channel, &settling, &[])
+    put_decided(out, delivery.link.session.channel, Role::Sender, id, None)
 }

@@ -3,7 +3,7 @@
 //!
 //! - `transfers`: the parts of deliveries; `dispositions`: outcomes and settlings; `flows`: windows, credit and drain
 //!   answers; each over the questions of `trace_judge` that it asks;
-//! - `frame`: one whole frame;
+//! - `frame`: one whole frame; `short`: the most usual ones, written straight behind what is there;
 //! - `laws`: such a frame breaks no clause and keeps the duties;
 //! - `step_laws`: what a router's records keep from step to step, whatever code writes them;
 //! - `measure_laws`: what is left to be written while a step goes on is a number (`work_left`) that each frame that is due
@@ -19,6 +19,7 @@ mod flows;
 mod frame;
 mod laws;
 mod measure_laws;
+mod short;
 mod step_laws;
 mod transfers;
 

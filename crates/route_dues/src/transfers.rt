@@ -14,6 +14,7 @@ ghost use Rattle.route_dues.specs.Writing.{IsReadAgain};
 ghost use Rattle.route_dues.specs.Transfers.{first_frame, next_frame};
 
 use crate::frame::put_spoken;
+use crate::short::put_first_part;
 use amqp_perf::{Performative, Transfer};
 use std::alloc::AllocError;
 use trace_judge::{Counts, Outcomes};
@@ -102,14 +103,6 @@ pub fn put_first<'a, P: Counts + Outcomes<'a>>(
     let limit = past.frame_limit(link.session.connection);
     let room = first_room(limit, link, id, delivery.format);
     let more = room < payload.len();
-    let tag = id.to_be_bytes();
-    let settled = link.is_pre_settled;
-    let first = Transfer::first(link.handle, id, &tag, delivery.format, settled, more);
     let part = &payload[..room.min(payload.len())];
-    put_spoken(
-        out,
-        link.session.channel,
-        &Performative::Transfer(first),
-        part,
-    )
+    put_first_part(out, link, id, delivery.format, more, part)
 }
