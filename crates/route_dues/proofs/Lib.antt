@@ -16,6 +16,7 @@ pub mod Behind
 pub mod Again
 pub mod PartsWritten
 pub mod ShortFrames
+mod ShortExamples
 pub mod DueExamples
 pub mod StatesWritable
 pub mod NoTransfers

@@ -1,6 +1,6 @@
 //! Frames whose performative is a short list, written straight behind what is there.
 
-ghost use Rattle.std.specs.Prelude.{◌≡◌, ◌≤◌, ◌<◌, ◌^◌, ◌∷◌, [], ℕ, suc, Option, Some, option_map, length, take, unwrap_or};
+ghost use Rattle.std.specs.Prelude.{◌≡◌, ◌≤◌, ◌<◌, ◌^◌, ◌∷◌, ◌++◌, ◌+◌, [], ℕ, suc, Option, Some, option_map, length, take, unwrap_or};
 ghost use Rattle.std.specs.Option.{option_copied};
 ghost use Rattle.flow_counts.specs.declared.profile.TheConstants.{MAX_FRAME_SIZE};
 ghost use Rattle.std.specs.Int.{w32, to_be_bytes};
@@ -45,21 +45,48 @@ fn uint_in(value: u32) -> ([u8; 5], usize)
     ([0x70, a, b, c, d], 5)
 }
 
+/// A uint and two octets behind it, in the same way.
+#[tactic(auto, unfolding(amqp_types::specs::Writing::uint_octets), using(amqp_perf::proofs::SlotValues::uint_can))]
+fn uint_before(value: u32, first: u8, second: u8) -> ([u8; 7], usize)
+    ensures octets { take result.1 result.0 ≡ uint_octets value ++ (first ∷ second ∷ []) }
+    ensures size { result.1 ≡ length (uint_octets value) + 2 }
+    ensures small { result.1 ≤ 7 }
+    ensures can { (levels : ℕ) → CanStand (suc levels) (Some (uint_value value)) }
+{
+    if value == 0 {
+        return ([0x43, first, second, 0, 0, 0, 0], 3);
+    }
+    if value < 256 {
+        return ([0x52, value as u8, first, second, 0, 0, 0], 4);
+    }
+    let [a, b, c, d] = value.to_be_bytes();
+    ([0x70, a, b, c, d, first, second], 7)
+}
+
+/// The id of a delivery and its tag, which is the id in four octets, in the same way.
+#[tactic(auto, unfolding(amqp_types::specs::Writing::uint_octets, amqp_types::specs::Writing::text_octets), using(amqp_perf::proofs::SlotValues::uint_can))]
+fn id_and_tag(id: u32) -> ([u8; 11], usize)
+    ensures octets { take result.1 result.0 ≡ uint_octets id ++ text_octets Text.Binary (to_be_bytes w32 id) }
+    ensures size { result.1 ≡ length (uint_octets id) + 6 }
+    ensures small { result.1 ≤ 11 }
+    ensures can { (levels : ℕ) → CanStand (suc levels) (Some (uint_value id)) }
+{
+    let [a, b, c, d] = id.to_be_bytes();
+    if id == 0 {
+        return ([0x43, 0xA0, 4, a, b, c, d, 0, 0, 0, 0], 7);
+    }
+    if id < 256 {
+        return ([0x52, id as u8, 0xA0, 4, a, b, c, d, 0, 0, 0], 8);
+    }
+    ([0x70, a, b, c, d, 0xA0, 4, a, b, c, d], 11)
+}
+
 /// A flag as it is written.
 #[tactic(auto, unfolding(amqp_types::specs::Writing::boolean_octets))]
 fn flag(value: bool) -> u8
     ensures { result ∷ [] ≡ boolean_octets value }
 {
     if value { 0x41 } else { 0x42 }
-}
-
-/// The tag of a delivery as it is written: its id in four octets.
-#[tactic(auto, unfolding(amqp_types::specs::Writing::text_octets))]
-fn tag_in(id: u32) -> [u8; 6]
-    ensures { result ≡ text_octets Text.Binary (to_be_bytes w32 id) }
-{
-    let [a, b, c, d] = id.to_be_bytes();
-    [0xA0, 4, a, b, c, d]
 }
 
 /// The octets in front of so many fields, which have so many octets together, in a frame of this size.
@@ -108,9 +135,10 @@ pub(crate) fn put_first_part(
         → IsReadAgain (written_transfer (link_view link.now) (first_part (link_view link.now) id format more) payload.now) }
 {
     let (handle, handle_len) = uint_in(link.handle);
-    let (number, number_len) = uint_in(id);
-    let (encoding, encoding_len) = uint_in(format);
-    let fields = handle_len + number_len + encoding_len + 8;
+    let (number, number_len) = id_and_tag(id);
+    let (settled, more) = (flag(link.is_pre_settled), flag(more));
+    let (encoding, encoding_len) = uint_before(format, settled, more);
+    let fields = handle_len + number_len + encoding_len;
     let size = FRONT_OCTETS + fields + payload.len();
     let front = front(size as u32, link.session.channel, 0x14, fields as u8, 6);
     out.reserve(size)?;
@@ -120,9 +148,7 @@ pub(crate) fn put_first_part(
             &front,
             &handle[..handle_len],
             &number[..number_len],
-            &tag_in(id),
             &encoding[..encoding_len],
-            &[flag(link.is_pre_settled), flag(more)],
             payload,
         ],
     )
@@ -179,19 +205,13 @@ pub(crate) fn put_decided(
         → IsReadAgain (says channel (ADisposition (decided role id state))) }
 {
     let octets = octets_if(state);
-    let (number, number_len) = uint_in(id);
-    let fields = number_len + 3 + octets.len();
+    let (number, number_len) = uint_before(id, 0x40, 0x41);
+    let fields = 1 + number_len + octets.len();
     let size = FRONT_OCTETS + fields;
     let front = front(size as u32, channel, 0x15, fields as u8, count_with(state));
     out.reserve(size)?;
     put_parts(
         out,
-        &[
-            &front,
-            &[role_octet(role)],
-            &number[..number_len],
-            &[0x40, 0x41],
-            octets,
-        ],
+        &[&front, &[role_octet(role)], &number[..number_len], octets],
     )
 }
