@@ -10,7 +10,7 @@
 //!   lessens: so the loop of `route_core` that writes what is due ends.
 //!
 //! In `specs/`, `Writing` is a frame as the next event, and what may follow a history; `Transfers` and `Outcomes` are
-//! the frames of these kinds, `Steps` the law of a step, and `Work` the number. All other frames are those of
+//! the frames of these kinds, `Short` what is in front of their fields, `Steps` the law of a step, and `Work` the number. All other frames are those of
 //! `trace_clauses/specs/Written`.
 #![tactic(auto)]
 

@@ -1,9 +1,11 @@
-//! Frames whose performative is a short list, written straight behind what is there.
+//! Frames whose performative is a short list, written straight behind what is there: the first part of a delivery, and that a
+//! delivery is settled. Each field is in its shortest form (part 1 of the standard, section 1.6), and the size and the count of
+//! the list take one octet each, as `amqp_frames` writes them too, but without memory of their own.
 
-ghost use Rattle.std.specs.Prelude.{◌≡◌, ◌≤◌, ◌<◌, ◌^◌, ◌∷◌, ◌++◌, ◌+◌, [], ℕ, suc, Option, Some, option_map, length, take, unwrap_or};
+ghost use Rattle.std.specs.Prelude.{◌≡◌, ◌≤◌, ◌<◌, ◌^◌, ◌∷◌, ◌++◌, ◌+◌, [], ℕ, suc, Option, Some, length, take, unwrap_or};
+ghost use Rattle.std.specs.Int.{w32, to_be_bytes};
 ghost use Rattle.std.specs.Option.{option_copied};
 ghost use Rattle.flow_counts.specs.declared.profile.TheConstants.{MAX_FRAME_SIZE};
-ghost use Rattle.std.specs.Int.{w32, to_be_bytes};
 ghost use Rattle.amqp_types.specs.declared.code.Text.TheVariants as Text;
 ghost use Rattle.amqp_types.specs.Writing.{Puts, boolean_octets, uint_octets, text_octets};
 ghost use Rattle.amqp_perf.specs.Slots.{uint_value, CanStand};
@@ -27,7 +29,7 @@ const FRONT_OCTETS: usize = 14;
 /// How many octets a state has at most that is written beside the other fields in a short list.
 pub(crate) const SHORT_STATE: usize = 200;
 
-/// A uint as it is written: the first of these octets, and how many they are.
+/// A uint as it is written (part 1, 1.6.5): the first of these octets, and how many they are.
 #[tactic(auto, unfolding(amqp_types::specs::Writing::uint_octets), using(amqp_perf::proofs::SlotValues::uint_can))]
 fn uint_in(value: u32) -> ([u8; 5], usize)
     ensures octets { take result.1 result.0 ≡ uint_octets value }
@@ -63,7 +65,7 @@ fn uint_before(value: u32, first: u8, second: u8) -> ([u8; 7], usize)
     ([0x70, a, b, c, d, first, second], 7)
 }
 
-/// The id of a delivery and its tag, which is the id in four octets, in the same way.
+/// The id of a delivery and its tag, a binary of the id in four octets (part 1, 1.6.19), in the same way.
 #[tactic(auto, unfolding(amqp_types::specs::Writing::uint_octets, amqp_types::specs::Writing::text_octets), using(amqp_perf::proofs::SlotValues::uint_can))]
 fn id_and_tag(id: u32) -> ([u8; 11], usize)
     ensures octets { take result.1 result.0 ≡ uint_octets id ++ text_octets Text.Binary (to_be_bytes w32 id) }
@@ -81,7 +83,7 @@ fn id_and_tag(id: u32) -> ([u8; 11], usize)
     ([0x70, a, b, c, d, 0xA0, 4, a, b, c, d], 11)
 }
 
-/// A flag as it is written.
+/// A flag as it is written (part 1, 1.6.2).
 #[tactic(auto, unfolding(amqp_types::specs::Writing::boolean_octets))]
 fn flag(value: bool) -> u8
     ensures { result ∷ [] ≡ boolean_octets value }
@@ -205,6 +207,7 @@ pub(crate) fn put_decided(
         → IsReadAgain (says channel (ADisposition (decided role id state))) }
 {
     let octets = octets_if(state);
+    // Behind the id, no last one is said, and that the delivery is settled.
     let (number, number_len) = uint_before(id, 0x40, 0x41);
     let fields = 1 + number_len + octets.len();
     let size = FRONT_OCTETS + fields;
