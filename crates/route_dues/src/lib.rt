@@ -10,8 +10,8 @@
 //!   lessens: so the loop of `route_core` that writes what is due ends.
 //!
 //! In `specs/`, `Writing` is a frame as the next event, and what may follow a history; `Transfers` and `Outcomes` are
-//! the frames of these kinds, `Short` what is in front of their fields, `Steps` the law of a step, and `Work` the number. All other frames are those of
-//! `trace_clauses/specs/Written`.
+//! the frames of these kinds, `Short` what is in front of their fields, `Steps` the law of a step, and `Work` the number.
+//! All other frames are those of `trace_clauses/specs/Written`.
 #![tactic(auto)]
 
 mod dispositions;
