@@ -7,7 +7,7 @@ use std::fmt;
 use std::fmt::{Display, Formatter};
 
 /// What is done with the octets.
-#[derive(Clone, Copy, Debug, PartialEq, Eq)]
+#[derive(Clone, Copy)]
 pub(crate) enum Task {
     /// Copying them.
     Copy,
@@ -24,7 +24,7 @@ pub(crate) enum Task {
 }
 
 /// How much was done.
-#[derive(Clone, Copy, Debug, PartialEq, Eq)]
+#[derive(Clone, Copy)]
 pub(crate) struct Done {
     /// How many frames or values were read, and performatives written.
     pub(crate) steps: u64,
