@@ -5,6 +5,12 @@
 //! and gives the octets that the device is to take (`Output`). It touches neither a device nor a clock, and waits for
 //! nothing: moments are handed to it, and where a client is to hear something before so much time has passed, it gives an empty
 //! frame.
+//!
+//! - `gate`, `port`: what is asked of a device, and of a router;
+//! - `engine`: the engine; `place` is where it is, `fault` why it does not go on;
+//! - `feeding`: what it does with the octets of its client; `taking`: what it takes from its port;
+//! - `output`: octets that wait to be given; `marks`: where the router's open and its close end among them;
+//! - `said`: what a frame says of the connection itself; `silence`: how long a client has heard nothing.
 #![tactic(auto)]
 
 mod engine;

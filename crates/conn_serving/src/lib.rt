@@ -5,6 +5,10 @@
 //!
 //! Which octets the gate took, a `Script` tells together with the frames of the engine's port, so that these are not kept once
 //! more.
+//!
+//! - `serving`: a turn;
+//! - `noting`: the engine's calls that put octets, and what the script notes of each;
+//! - `script`: what is kept of the octets that a gate took.
 #![tactic(auto)]
 
 mod noting;

@@ -5,6 +5,10 @@
 //! missing, or why the stream ends there. It looks at the octets themselves, and takes no memory. A `StreamReader` is
 //! fed the stream in whatever pieces it comes, and keeps what is of no step that was taken. `answer_to` and
 //! `answer_to_fault` are what the server says to it.
+//!
+//! - `step`: the steps of a stream, its phases and faults; `stream`: what stands at the front of octets;
+//! - `reader`: a stream that comes in pieces;
+//! - `answer`: what a server says before the frames begin.
 #![tactic(auto)]
 
 mod answer;
