@@ -45,6 +45,30 @@ pub data Moment : Type 0 where
   Lost : Moment
   Broken : Moment
 
+-- What an event has. number, connection, moment and note are the record's own; an Opened, Lost or Broken has nothing else:
+-- it isn't heard, and has none of the rest. A frame has:
+--
+-- | field    | if the client wrote it (In)                  | if the router wrote it (Out)                       |
+-- |----------|----------------------------------------------|----------------------------------------------------|
+-- | session  | of a performative the live one of its        | the same, but of a begin the one that it begins    |
+-- |          | channel                                      |                                                    |
+-- | link     | of a flow, transfer or detach the live one   | the same, and of an attach with source and target  |
+-- |          | of its handle on that session                | on a live session the one that it opens            |
+-- | incoming | of a heard transfer without fault the        | none                                               |
+-- |          | delivery in progress on the producer's link, |                                                    |
+-- |          | or the one that it begins                    |                                                    |
+-- | outgoing | none                                         | of a transfer the delivery in progress on the      |
+-- |          |                                              | consumer's link, or the one that it begins         |
+-- | told     | none                                         | of a receiver's disposition the number of the      |
+-- |          |                                              | delivery of its first id, whose outcome it tells   |
+-- | settled  | none                                         | of a sender's disposition the number of the        |
+-- |          |                                              | delivery of its first id, which it settles         |
+-- | is_heard | true, unless it is passed over or the        | false                                              |
+-- |          | connection is over                           |                                                    |
+-- | fault    | of a heard one its fault, if it has one      | none                                               |
+--
+-- `judge` (of `History`) fills these in five steps, `placed`, `heard`, `faulted`, `delivered` and `opened`, each of which
+-- reads only what the steps before it have filled.
 pub record Event : Type 0 where
   pub number : ℕ
   pub connection : ℕ
@@ -64,6 +88,11 @@ pub record Event : Type 0 where
   pub fault : Option Fault
 
 -- "Before a record" is the list of the events before it, the newest first.
+--
+-- Arguments stand in one order, in all that the law is made of: the rules; what is asked about, be it an event, a connection,
+-- a session, a link or a delivery; numbers and fields of it; last `past`, the events before. Behind `past` stands only what
+-- is asked of one after the other, by a filter, a find or where there is one (`is_live past l`), what is tried by its cases,
+-- and what a step of `judge` is given.
 
 -- ---- what happened
 
