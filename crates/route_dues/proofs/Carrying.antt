@@ -19,7 +19,7 @@ use Rattle.trace_events.specs.Waiting.{is_of_multicast, is_gone}
 use Rattle.trace_clauses.specs.declared.clause.Clause.{Clause}
 use Rattle.trace_clauses.specs.declared.clause.Clause.TheVariants.{L1, L2, L3, L4, L5, L6, L7, L8, L9, L10, L11, L12, L13, L14}
 use Rattle.trace_clauses.specs.Clauses.{transfer_meets}
-use Rattle.trace_clauses.specs.TransferClause.{has_window, may_be_sent, may_begin, goes_on_with, is_same_note, to_carry, has_form, is_alike, names_carried, carries, carries_noted, is_first_to, is_in_order, may_go_to, is_payload_so_far}
+use Rattle.trace_clauses.specs.TransferClause.{has_window, has_link_and_window, has_credit_and_next_id, goes_on_with, is_same_note, to_carry, has_form, has_address_and_form, names_what_may_go, carries, carries_its_octets, goes_to_one_or_is_due, is_in_order, goes_once_and_in_order, is_payload_so_far}
 use Rattle.trace_clauses.specs.Written.{first_part, next_part}
 use Rattle.trace_duties.specs.Quiet.{has_earlier_unsent}
 use Rattle.trace_duties.specs.Order.{is_earliest}
@@ -42,7 +42,7 @@ pub record MayBegin (rules : RuleSet) (past : List Event) (l : Link) (d : Incomi
   pub carries : MayCarry rules past l d
   pub none : outgoing.in_progress l past ≡ None
   pub credit : nat_lt 0 (link_credit l past) ≡ true
-  pub first : is_first_to rules l past d ≡ true
+  pub first : goes_to_one_or_is_due rules l past d ≡ true
   pub order : is_in_order l past d ≡ true
   pub earliest : has_earlier_unsent rules past l d ≡ false
   pub picked : is_of_multicast rules d past || is_next_waiting rules past d && is_picked_link rules past d l ≡ true
@@ -60,21 +60,21 @@ module _ (rules : RuleSet) (past : List Event) (l : Link) (d : Incoming) (may : 
       ap (where_passes (Passes rules past)) is_noted
       ∙ ap (λ b. if b then Some d else None) (both (is_complete d past) (not (is_gone rules d past)) may.complete (ap not may.stays))
 
-  four : (fields : TransferFields) → not (flag fields.resume) ≡ true → not (flag fields.aborted) ≡ true → may_be_sent e fields past ≡ true
+  four : (fields : TransferFields) → not (flag fields.resume) ≡ true → not (flag fields.aborted) ≡ true → has_link_and_window e fields past ≡ true
   four fields resume aborted =
       both (is_some_and e.link is_consumer && is_some_and e.session (has_window past) && not (flag fields.resume)) (not (flag fields.aborted))
       (both (is_some_and e.link is_consumer && is_some_and e.session (has_window past)) (not (flag fields.resume))
       (both (is_some_and e.link is_consumer) (is_some_and e.session (has_window past))
       (ap (λ o. is_some_and o is_consumer) at ∙ may.consumes) (ap (λ o. is_some_and o (has_window past)) on ∙ may.window)) resume) aborted
 
-  seven : (fields : TransferFields) → not (begins_outgoing e) || has_form d l fields ≡ true → is_some_and e.link (names_carried rules e fields past) ≡ true
+  seven : (fields : TransferFields) → not (begins_outgoing e) || has_form d l fields ≡ true → is_some_and e.link (names_what_may_go rules e fields past) ≡ true
   seven fields form =
-      ap (λ o. is_some_and o (names_carried rules e fields past)) at
-      ∙ (ap (λ o. is_some_and o (is_alike e l fields past)) is_carried
+      ap (λ o. is_some_and o (names_what_may_go rules e fields past)) at
+      ∙ (ap (λ o. is_some_and o (has_address_and_form e l fields past)) is_carried
       ∙ both (bytes_eq (address_of d past) l.address) (not (begins_outgoing e) || has_form d l fields) ((bytes_decides (address_of d past) l.address).1 may.address) form)
 
   eight : (j : Outgoing) → e.outgoing ≡ Some j → (fields : TransferFields) (octets : List ℕ) → is_payload_so_far (flag fields.more) (incoming.payload d past) (outgoing.payload j past ++ octets) ≡ true
-      → carries_noted rules e fields octets past ≡ true
+      → carries_its_octets rules e fields octets past ≡ true
   eight j goes fields octets carried =
       ap (λ o. is_some_and o (λ x. is_some_and e.outgoing (λ i. carries i fields octets past x))) is_carried
       ∙ (ap (λ o. is_some_and o (λ i. carries i fields octets past d)) goes ∙ carried)
@@ -102,7 +102,7 @@ module _ (rules : RuleSet) (past : List Event) (l : Link) (d : Incoming) (may : 
     first_meets L4 = four rules past l d may.carries e on at note fields refl refl
     first_meets L5 =
         or_right (not (begins_outgoing e)) _
-        (ap (λ o. is_some_and o (λ l. may_begin l fields past)) at
+        (ap (λ o. is_some_and o (λ l. has_credit_and_next_id l fields past)) at
         ∙ both (nat_lt 0 (link_credit l past)) (next_delivery_id l.session past == next_delivery_id l.session past) may.credit (eq-eqb (next_delivery_id l.session past) (next_delivery_id l.session past) refl))
     first_meets L6 = ap (λ b. b || is_some_and e.outgoing (λ i. goes_on_with i e.note fields)) begins
     first_meets L7 =
@@ -111,9 +111,9 @@ module _ (rules : RuleSet) (past : List Event) (l : Link) (d : Incoming) (may : 
     first_meets L8 = eight rules past l d may.carries e on at note j goes fields octets (ap (λ xs. is_payload_so_far more (incoming.payload d past) (xs ++ octets)) none ∙ carried)
     first_meets L9 =
         or_right (not (begins_outgoing e)) _
-        (ap (λ o. is_some_and o (may_go_to rules e past)) at
-        ∙ (ap (λ o. is_some_and o (λ x. is_first_to rules l past x && is_in_order l past x)) (is_carried rules past l d may.carries e on at note)
-        ∙ both (is_first_to rules l past d) (is_in_order l past d) may.first may.order))
+        (ap (λ o. is_some_and o (goes_once_and_in_order rules e past)) at
+        ∙ (ap (λ o. is_some_and o (λ x. goes_to_one_or_is_due rules l past x && is_in_order l past x)) (is_carried rules past l d may.carries e on at note)
+        ∙ both (goes_to_one_or_is_due rules l past d) (is_in_order l past d) may.first may.order))
     first_meets L1 = refl
     first_meets L2 = refl
     first_meets L3 = refl
@@ -143,14 +143,14 @@ module _ (rules : RuleSet) (past : List Event) (l : Link) (d : Incoming) (may : 
   module _ (named : j.note ≡ notes.Pair d.number) (more : Bool) (octets : List ℕ) (carried : is_payload_so_far more (incoming.payload d past) (outgoing.payload j past ++ octets) ≡ true) where
     pub next_meets : (clause : Clause) → transfer_meets rules e (next_part l more) octets past clause ≡ true
     next_meets L4 = four rules past l d may e on at note (next_part l more) refl refl
-    next_meets L5 = ap (λ b. not b || is_some_and e.link (λ l. may_begin l (next_part l more) past)) later
+    next_meets L5 = ap (λ b. not b || is_some_and e.link (λ l. has_credit_and_next_id l (next_part l more) past)) later
     next_meets L6 =
         or_right (begins_outgoing e) _
         (ap (λ o. is_some_and o (λ i. goes_on_with i e.note (next_part l more))) goes
         ∙ (ap (λ n. is_same_note n j.note) note ∙ (ap (is_same_note (notes.Pair d.number)) named ∙ eq-eqb d.number d.number refl)))
     next_meets L7 = seven rules past l d may e on at note (next_part l more) (ap (λ b. not b || has_form d l (next_part l more)) later)
     next_meets L8 = eight rules past l d may e on at note j goes (next_part l more) octets carried
-    next_meets L9 = ap (λ b. not b || is_some_and e.link (may_go_to rules e past)) later
+    next_meets L9 = ap (λ b. not b || is_some_and e.link (goes_once_and_in_order rules e past)) later
     next_meets L1 = refl
     next_meets L2 = refl
     next_meets L3 = refl

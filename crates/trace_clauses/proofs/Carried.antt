@@ -14,7 +14,7 @@ use Rattle.trace_events.specs.Incoming.{address_of, is_complete, part_payload}
 use Rattle.trace_events.specs.Incoming as incoming
 use Rattle.trace_events.specs.Outgoing.{noted}
 use Rattle.trace_events.specs.Outgoing as outgoing
-use Rattle.trace_clauses.specs.TransferClause.{carries, carries_noted, names_carried, to_carry, is_alike, is_payload_so_far}
+use Rattle.trace_clauses.specs.TransferClause.{carries, carries_its_octets, names_what_may_go, to_carry, has_address_and_form, is_payload_so_far}
 use Rattle.trace_clauses.specs.Clauses.{first_broken, meaning_meets}
 use Rattle.trace_events.specs.History.{history}
 use Rattle.trace_clauses.specs.Kept.{HasCarried, WentToAddress, AreFirst, AtEach}
@@ -32,17 +32,17 @@ so-far false whole so_far e =
 
 module _ (rules : RuleSet) (e : Event) (past : List Event) (lawful : first_broken rules (e ∷ past) ≡ None) (frame : Frame) (spoken : Spoken)
     (written : e.moment ≡ Out frame) (says : spoken_in frame.body ≡ Some spoken) (fields : TransferFields) (means : spoken.meaning ≡ ATransfer fields) where
-  seven : is_some_and e.link (names_carried rules e fields past) ≡ true
+  seven : is_some_and e.link (names_what_may_go rules e fields past) ≡ true
   seven = sym (ap (λ m. meaning_meets rules e spoken past m L7) means) ∙ met rules e past lawful frame written spoken says L7
 
-  eight : carries_noted rules e fields spoken.payload past ≡ true
+  eight : carries_its_octets rules e fields spoken.payload past ≡ true
   eight = sym (ap (λ m. meaning_meets rules e spoken past m L8) means) ∙ met rules e past lawful frame written spoken says L8
 
   -- the link that the transfer names has the address of the delivery
   addressed : IsSomeAnd (noted e.note past) (λ d. IsSomeAnd e.link (λ l. l.address ≡ address_of d past))
   addressed =
-      let l = some-and e.link (names_carried rules e fields past) seven in
-      let d = some-and (to_carry rules e.note past) (is_alike e l.0 fields past) l.2 in
+      let l = some-and e.link (names_what_may_go rules e fields past) seven in
+      let d = some-and (to_carry rules e.note past) (has_address_and_form e l.0 fields past) l.2 in
       let is = passes-some _ (noted e.note past) d.0 d.1 in
       let here : l.0.address ≡ address_of d.0 past = sym ((bytes_decides (address_of d.0 past) l.0.address).0 (and-left _ _ d.2)) in
       subst (λ o. IsSomeAnd o (λ (d : Incoming). IsSomeAnd e.link (λ l. l.address ≡ address_of d past))) (sym is.0)

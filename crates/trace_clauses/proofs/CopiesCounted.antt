@@ -31,7 +31,7 @@ use Rattle.trace_events.specs.Waiting.{is_of_multicast}
 use Rattle.trace_events.specs.Work.{unsent_copies, comes_due}
 use Rattle.trace_events.specs.History.{judge, judge_unopened, moment_of}
 use Rattle.trace_clauses.specs.Clauses.{first_broken, meaning_meets}
-use Rattle.trace_clauses.specs.TransferClause.{goes_on_with, is_same_note, may_go_to, to_carry, is_first_to, is_in_order}
+use Rattle.trace_clauses.specs.TransferClause.{goes_on_with, is_same_note, goes_once_and_in_order, to_carry, goes_to_one_or_is_due, is_in_order}
 use Rattle.trace_events.proofs.Along.{standing, and_first, and_last, and_then_some, some_passes}
 use Rattle.trace_events.proofs.CountSteps.{begun_count-same, begun_count-elsewhere, begun_count-begun, begun_count-their_flow, begun_count-our_flow}
 use Rattle.trace_events.proofs.EventKinds.{link_event-out, out_link_event-begun}
@@ -238,13 +238,13 @@ module _ (rules : RuleSet) (e : Event) (past : List Event) (are : AreJudged rule
         let own = passes-some (λ (x : Outgoing). x.number == e.number) e.outgoing j begun in
         let t : IsTransfer e.moment = subst (λ (o : Option Outgoing). IfSome o (λ k. IsTransfer e.moment)) own.0 (judged-transfer rules e past are) in
         let begins : begins_outgoing e ≡ true = ap (λ (o : Option Outgoing). is_some_and o (λ k. k.number == e.number)) own.0 ∙ own.1 in
-        let goes : is_some_and e.link (may_go_to rules e past) ≡ true =
-        or-right (begins_outgoing e) (is_some_and e.link (may_go_to rules e past)) begins (sym (ap (λ m. meaning_meets rules e t.spoken past m L9) t.means) ∙ met rules e past lawful t.frame t.written t.spoken t.says L9) in
-        let may : may_go_to rules e past l ≡ true = sym (ap (λ o. is_some_and o (may_go_to rules e past)) ((begun-own rules e past are lawful j begun).1 ∙ ap Some own_link_is)) ∙ goes in
-        let d = some-and (to_carry rules e.note past) (λ x. is_first_to rules l past x && is_in_order l past x) may in
+        let goes : is_some_and e.link (goes_once_and_in_order rules e past) ≡ true =
+        or-right (begins_outgoing e) (is_some_and e.link (goes_once_and_in_order rules e past)) begins (sym (ap (λ m. meaning_meets rules e t.spoken past m L9) t.means) ∙ met rules e past lawful t.frame t.written t.spoken t.says L9) in
+        let may : goes_once_and_in_order rules e past l ≡ true = sym (ap (λ o. is_some_and o (goes_once_and_in_order rules e past)) ((begun-own rules e past are lawful j begun).1 ∙ ap Some own_link_is)) ∙ goes in
+        let d = some-and (to_carry rules e.note past) (λ x. goes_to_one_or_is_due rules l past x && is_in_order l past x) may in
         let c = begun-carries rules e past are lawful j begun in
         let one : d.0 ≡ c.delivery = same_some d.0 c.delivery (sym (passes-some _ (noted e.note past) d.0 d.1).0 ∙ c.is) in
-        let first : is_first_to rules l past c.delivery ≡ true = subst (λ (x : Incoming). is_first_to rules l past x ≡ true) one (and_first (is_first_to rules l past d.0) (is_in_order l past d.0) d.2) in
+        let first : goes_to_one_or_is_due rules l past c.delivery ≡ true = subst (λ (x : Incoming). goes_to_one_or_is_due rules l past x ≡ true) one (and_first (goes_to_one_or_is_due rules l past d.0) (is_in_order l past d.0) d.2) in
         let multicast : is_of_multicast rules c.delivery past ≡ true = ap (has_multicast rules) (sym c.address ∙ ap (λ (m : Link). m.address) own_link_is) ∙ many in
         turned (is_of_multicast rules c.delivery past) (is_named_on c.delivery l past) (is_due rules c.delivery l past) (not (is_paired c.delivery past)) multicast first
       where

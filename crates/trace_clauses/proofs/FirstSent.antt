@@ -20,7 +20,7 @@ use Rattle.trace_events.proofs.Along.{and_first, and_last}
 use Rattle.trace_events.proofs.IncomingSteps.{address_of-same}
 use Rattle.trace_events.proofs.Judged.{AreJudged}
 use Rattle.trace_events.proofs.WaitingSteps.{is_of_multicast-same}
-use Rattle.trace_clauses.specs.TransferClause.{is_first_to, is_in_order, may_go_to}
+use Rattle.trace_clauses.specs.TransferClause.{goes_to_one_or_is_due, is_in_order, goes_once_and_in_order}
 use Rattle.trace_clauses.proofs.IncomingProgress.{judged-kept}
 use Rattle.trace_clauses.proofs.Incomings.{judged-sound}
 use Rattle.trace_clauses.proofs.OneConsumer.{some-and, found-at}
@@ -80,7 +80,7 @@ due_copy rules (e ∷ past) are l d found due = by (completes d e) refl due (due
 pub record GoesFirst (rules : RuleSet) (l : Link) (past : List Event) (d : Incoming) : Type 0 where
   pub complete : is_complete d past ≡ true
   pub whole : is_gone rules d past ≡ false
-  pub first : is_first_to rules l past d ≡ true
+  pub first : goes_to_one_or_is_due rules l past d ≡ true
 
 never_gone : (many complete paired had : Bool) → many ≡ true → not many && complete && not paired && not had ≡ false
 never_gone true complete paired had is = refl
@@ -133,8 +133,8 @@ passes-so : (b : Bool) (d : Incoming) (test : Incoming → Bool) → b ≡ true 
 passes-so true d test is passes = passes
 passes-so false d test is passes = absurd cc
 
-pub may_go : (rules : RuleSet) (e : Event) (past : List Event) (l : Link) (d : Incoming) → noted e.note past ≡ Some d → GoesFirst rules l past d → is_in_order l past d ≡ true → may_go_to rules e past l ≡ true
+pub may_go : (rules : RuleSet) (e : Event) (past : List Event) (l : Link) (d : Incoming) → noted e.note past ≡ Some d → GoesFirst rules l past d → is_in_order l past d ≡ true → goes_once_and_in_order rules e past l ≡ true
 may_go rules e past l d named goes order =
-    ap (λ o. is_some_and (where_passes (λ x. is_complete x past && not (is_gone rules x past)) o) (λ x. is_first_to rules l past x && is_in_order l past x)) named
-    ∙ passes-so (is_complete d past && not (is_gone rules d past)) d (λ x. is_first_to rules l past x && is_in_order l past x)
+    ap (λ o. is_some_and (where_passes (λ x. is_complete x past && not (is_gone rules x past)) o) (λ x. goes_to_one_or_is_due rules l past x && is_in_order l past x)) named
+    ∙ passes-so (is_complete d past && not (is_gone rules d past)) d (λ x. goes_to_one_or_is_due rules l past x && is_in_order l past x)
     (ap (λ b. b && not (is_gone rules d past)) goes.complete ∙ ap not goes.whole) (ap (λ b. b && is_in_order l past d) goes.first ∙ order)

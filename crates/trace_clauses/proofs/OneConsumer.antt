@@ -15,7 +15,7 @@ use Rattle.trace_events.specs.Outgoing.{outgoing_begun, outgoing_deliveries, nam
 use Rattle.trace_events.specs.Waiting.{is_of_multicast, is_gone}
 use Rattle.trace_events.specs.History.{history}
 use Rattle.trace_clauses.specs.Clauses.{first_broken, meaning_meets}
-use Rattle.trace_clauses.specs.TransferClause.{may_go_to, to_carry, is_first_to, is_in_order}
+use Rattle.trace_clauses.specs.TransferClause.{goes_once_and_in_order, to_carry, goes_to_one_or_is_due, is_in_order}
 use Rattle.trace_clauses.specs.Kept.{carriers}
 use Rattle.trace_clauses.proofs.ClausesMet.{met, lawful-past}
 use Rattle.trace_events.proofs.Judged.{AreJudged, IsTransfer, IsBorn, history-judged, judged-born, judged-number, judged-transfer}
@@ -142,18 +142,18 @@ module _ (rules : RuleSet) (e : Event) (past : List Event) (are : AreJudged rule
   begins : begins_outgoing e ≡ true
   begins = ap (λ (o : Option Outgoing). is_some_and o (λ k. k.number == e.number)) own.0 ∙ own.1
 
-  goes : is_some_and e.link (may_go_to rules e past) ≡ true
+  goes : is_some_and e.link (goes_once_and_in_order rules e past) ≡ true
   goes =
       let t = transfer in
-      let same : meaning_meets rules e t.spoken past t.spoken.meaning L9 ≡ (not (begins_outgoing e) || is_some_and e.link (may_go_to rules e past)) =
+      let same : meaning_meets rules e t.spoken past t.spoken.meaning L9 ≡ (not (begins_outgoing e) || is_some_and e.link (goes_once_and_in_order rules e past)) =
       ap (λ m. meaning_meets rules e t.spoken past m L9) t.means in
-      or-right (begins_outgoing e) (is_some_and e.link (may_go_to rules e past)) begins
+      or-right (begins_outgoing e) (is_some_and e.link (goes_once_and_in_order rules e past)) begins
       (sym same ∙ met rules e past lawful t.frame t.written t.spoken t.says L9)
 
   begun-facts : Begins rules e past j
   begun-facts =
-      let l = some-and e.link (may_go_to rules e past) goes in
-      let d = some-and (to_carry rules e.note past) (λ x. is_first_to rules l.0 past x && is_in_order l.0 past x) l.2 in
+      let l = some-and e.link (goes_once_and_in_order rules e past) goes in
+      let d = some-and (to_carry rules e.note past) (λ x. goes_to_one_or_is_due rules l.0 past x && is_in_order l.0 past x) l.2 in
       record {
         note = own-note;
         carried = d.0;

@@ -30,7 +30,7 @@ use Rattle.trace_clauses.specs.Clauses.{first_broken, meaning_meets}
 use Rattle.trace_clauses.specs.Outcome.{bare_octets, fits_producer, outcome_octets, bare_outcome, is_sent_settled, paired_row, anycast_row, may_be_told, is_to_tell}
 use Rattle.trace_clauses.specs.BestVerdict.{told_octets, best_verdict, has_all_verdicts}
 use Rattle.trace_clauses.specs.Telling.{outcomes_to_tell, is_answered, has_outcome, answers_now, gets_last_verdict, gets_outcome}
-use Rattle.trace_clauses.specs.TransferClause.{may_go_to, to_carry, is_first_to, is_in_order}
+use Rattle.trace_clauses.specs.TransferClause.{goes_once_and_in_order, to_carry, goes_to_one_or_is_due, is_in_order}
 use Rattle.trace_events.proofs.Along.{and_first, and_last}
 use Rattle.trace_events.proofs.Judged.{AreJudged, AreBorn, IsBorn, IsTransfer, judged-born, judged-number, judged-transfer}
 use Rattle.trace_events.proofs.Links.{passing}
@@ -229,17 +229,17 @@ module _ (rules : RuleSet) (e : Event) (past : List Event) (are : AreJudged rule
       let own = passing (λ (x : Outgoing). x.number == e.number) e.outgoing j begun in
       let t : IsTransfer e.moment = subst (λ (o : Option Outgoing). IfSome o (λ k. IsTransfer e.moment)) own.0 (judged-transfer rules e past are) in
       let begins : begins_outgoing e ≡ true = ap (λ (o : Option Outgoing). is_some_and o (λ k. k.number == e.number)) own.0 ∙ own.1 in
-      let goes : is_some_and e.link (may_go_to rules e past) ≡ true =
-      or-right (begins_outgoing e) (is_some_and e.link (may_go_to rules e past)) begins (sym (ap (λ m. meaning_meets rules e t.spoken past m L9) t.means) ∙ met rules e past lawful t.frame t.written t.spoken t.says L9) in
-      let l = some-and e.link (may_go_to rules e past) goes in
-      let d = some-and (to_carry rules e.note past) (λ x. is_first_to rules l.0 past x && is_in_order l.0 past x) l.2 in
+      let goes : is_some_and e.link (goes_once_and_in_order rules e past) ≡ true =
+      or-right (begins_outgoing e) (is_some_and e.link (goes_once_and_in_order rules e past)) begins (sym (ap (λ m. meaning_meets rules e t.spoken past m L9) t.means) ∙ met rules e past lawful t.frame t.written t.spoken t.says L9) in
+      let l = some-and e.link (goes_once_and_in_order rules e past) goes in
+      let d = some-and (to_carry rules e.note past) (λ x. goes_to_one_or_is_due rules l.0 past x && is_in_order l.0 past x) l.2 in
       let c = begun-carries rules e past are lawful j begun in
       let noted_is = passes-some (λ (x : Incoming). is_complete x past && not (is_gone rules x past)) (noted e.note past) d.0 d.1 in
       let one : d.0 ≡ c.delivery = same_some d.0 c.delivery (sym noted_is.0 ∙ c.is) in
       subst (IsFirst rules past) one
       (record {
         whole = off (is_gone rules d.0 past) (and_last (is_complete d.0 past) (not (is_gone rules d.0 past)) noted_is.1);
-        alone = λ anycast. alone_by (is_of_multicast rules d.0 past) (not (is_named_on d.0 l.0 past) && is_due rules d.0 l.0 past) (is_paired d.0 past) anycast (and_first (is_first_to rules l.0 past d.0) (is_in_order l.0 past d.0) d.2);
+        alone = λ anycast. alone_by (is_of_multicast rules d.0 past) (not (is_named_on d.0 l.0 past) && is_due rules d.0 l.0 past) (is_paired d.0 past) anycast (and_first (goes_to_one_or_is_due rules l.0 past d.0) (is_in_order l.0 past d.0) d.2);
       })
     where
       alone_by : (many due paired : Bool) → many ≡ false → (if many then due else not paired) ≡ true → paired ≡ false

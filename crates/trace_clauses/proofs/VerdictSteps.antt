@@ -24,7 +24,7 @@ use Rattle.trace_events.specs.Waiting.{is_of_multicast, is_gone}
 use Rattle.trace_events.specs.Due.{is_due}
 use Rattle.trace_clauses.specs.Clauses.{first_broken, meaning_meets}
 use Rattle.trace_clauses.specs.Outcome.{is_sent_settled}
-use Rattle.trace_clauses.specs.TransferClause.{may_go_to, to_carry, is_first_to, is_in_order}
+use Rattle.trace_clauses.specs.TransferClause.{goes_once_and_in_order, to_carry, goes_to_one_or_is_due, is_in_order}
 use Rattle.trace_clauses.specs.CopyVerdict.{copy_on, sent_verdict, begun_verdict, verdict_on, copy_verdict, ends_settled, deciding_now, begun_verdict_by, verdict_by}
 use Rattle.trace_events.proofs.Along.{standing, some_passes, and_first, and_last}
 use Rattle.trace_events.proofs.Judged.{AreJudged, AreBorn, IsBorn, IsTransfer, judged-born, judged-number, judged-transfer}
@@ -215,21 +215,21 @@ module _ (rules : RuleSet) (e : Event) (past : List Event) (are : AreJudged rule
   -- ---- one that begins is the first on its link that carries the delivery, and it is due there
 
   module _ (j : Outgoing) (begun : outgoing_begun e ≡ Some j) where
-    first_on : is_first_to rules j.link past (begun-carries rules e past are lawful j begun).delivery ≡ true
+    first_on : goes_to_one_or_is_due rules j.link past (begun-carries rules e past are lawful j begun).delivery ≡ true
     first_on =
         let own = passing (λ (x : Outgoing). x.number == e.number) e.outgoing j begun in
         let t : IsTransfer e.moment = known (λ (k : Outgoing). IsTransfer e.moment) e.outgoing j own.0 (judged-transfer rules e past are) in
         let begins : begins_outgoing e ≡ true = ap (λ (o : Option Outgoing). is_some_and o (λ k. k.number == e.number)) own.0 ∙ own.1 in
-        let goes : is_some_and e.link (may_go_to rules e past) ≡ true =
-        or-right (begins_outgoing e) (is_some_and e.link (may_go_to rules e past)) begins (sym (ap (λ m. meaning_meets rules e t.spoken past m L9) t.means) ∙ met rules e past lawful t.frame t.written t.spoken t.says L9) in
-        let l = some-and e.link (may_go_to rules e past) goes in
-        let d = some-and (to_carry rules e.note past) (λ x. is_first_to rules l.0 past x && is_in_order l.0 past x) l.2 in
+        let goes : is_some_and e.link (goes_once_and_in_order rules e past) ≡ true =
+        or-right (begins_outgoing e) (is_some_and e.link (goes_once_and_in_order rules e past)) begins (sym (ap (λ m. meaning_meets rules e t.spoken past m L9) t.means) ∙ met rules e past lawful t.frame t.written t.spoken t.says L9) in
+        let l = some-and e.link (goes_once_and_in_order rules e past) goes in
+        let d = some-and (to_carry rules e.note past) (λ x. goes_to_one_or_is_due rules l.0 past x && is_in_order l.0 past x) l.2 in
         let c = begun-carries rules e past are lawful j begun in
         let noted_is = passes-some (λ (x : Incoming). is_complete x past && not (is_gone rules x past)) (noted e.note past) d.0 d.1 in
         let carried : d.0 ≡ c.delivery = same_some d.0 c.delivery (sym noted_is.0 ∙ c.is) in
         let on : l.0 ≡ j.link = same_some l.0 j.link (sym l.1 ∙ (begun-own rules e past are lawful j begun).1) in
-        let first : is_first_to rules l.0 past d.0 ≡ true = and_first (is_first_to rules l.0 past d.0) (is_in_order l.0 past d.0) d.2 in
-        subst (λ (m : Link). is_first_to rules m past c.delivery ≡ true) on (subst (λ (x : Incoming). is_first_to rules l.0 past x ≡ true) carried first)
+        let first : goes_to_one_or_is_due rules l.0 past d.0 ≡ true = and_first (goes_to_one_or_is_due rules l.0 past d.0) (is_in_order l.0 past d.0) d.2 in
+        subst (λ (m : Link). goes_to_one_or_is_due rules m past c.delivery ≡ true) on (subst (λ (x : Incoming). goes_to_one_or_is_due rules l.0 past x ≡ true) carried first)
 
     module _ (d : Incoming) (kept : IsKept past d) (named : names d.number j.note ≡ true) where
       -- it carries d
@@ -243,7 +243,7 @@ module _ (rules : RuleSet) (e : Event) (past : List Event) (are : AreJudged rule
       multicast_first : is_of_multicast rules d past ≡ true → not (is_named_on d j.link past) && is_due rules d j.link past ≡ true
       multicast_first many =
           ap (λ b. if b then not (is_named_on d j.link past) && is_due rules d j.link past else not (is_paired d past)) (sym many)
-          ∙ subst (λ (x : Incoming). is_first_to rules j.link past x ≡ true) carries_it first_on
+          ∙ subst (λ (x : Incoming). goes_to_one_or_is_due rules j.link past x ≡ true) carries_it first_on
 
       pub not_named_before : is_of_multicast rules d past ≡ true → is_named_on d j.link past ≡ false
       not_named_before many = off (is_named_on d j.link past) (and_first (not (is_named_on d j.link past)) (is_due rules d j.link past) (multicast_first many))

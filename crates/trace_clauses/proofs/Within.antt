@@ -17,7 +17,7 @@ use Rattle.trace_events.specs.Window.{session_window}
 use Rattle.trace_events.specs.Credit.{link_credit, begins_outgoing}
 use Rattle.trace_events.specs.Incoming.{incoming_at}
 use Rattle.trace_clauses.specs.Outcome.{may_be_told, row}
-use Rattle.trace_clauses.specs.TransferClause.{has_window, may_be_sent, may_begin}
+use Rattle.trace_clauses.specs.TransferClause.{has_window, has_link_and_window, has_credit_and_next_id}
 use Rattle.trace_clauses.specs.Clauses.{first_broken, meaning_meets, disposition_meets}
 use Rattle.trace_clauses.specs.DispositionClause.{is_outcome, settles_one, is_outcome_of, tells_by}
 use Rattle.trace_events.specs.History.{history}
@@ -37,10 +37,10 @@ some-each (Some x) test P e each = each x refl
 
 module _ (rules : RuleSet) (e : Event) (past : List Event) (lawful : first_broken rules (e ∷ past) ≡ None) (frame : Frame) (spoken : Spoken)
     (written : e.moment ≡ Out frame) (says : spoken_in frame.body ≡ Some spoken) (fields : TransferFields) (means : spoken.meaning ≡ ATransfer fields) where
-  four : may_be_sent e fields past ≡ true
+  four : has_link_and_window e fields past ≡ true
   four = sym (ap (λ m. meaning_meets rules e spoken past m L4) means) ∙ met rules e past lawful frame written spoken says L4
 
-  five : not (begins_outgoing e) || is_some_and e.link (λ l. may_begin l fields past) ≡ true
+  five : not (begins_outgoing e) || is_some_and e.link (λ l. has_credit_and_next_id l fields past) ≡ true
   five = sym (ap (λ m. meaning_meets rules e spoken past m L5) means) ∙ met rules e past lawful frame written spoken says L5
 
   consumers : is_some_and e.link is_consumer && is_some_and e.session (has_window past) ≡ true
@@ -55,8 +55,8 @@ module _ (rules : RuleSet) (e : Event) (past : List Event) (lawful : first_broke
   in_credit =
       some-each e.link is_consumer (λ l. begins_outgoing e ≡ true → 1 ≤ link_credit l past) (and-left _ (is_some_and e.session (has_window past)) consumers)
       (λ l is begins.
-      let begun : is_some_and e.link (λ m. may_begin m fields past) ≡ true = or-right (begins_outgoing e) _ begins five in
-      let here : may_begin l fields past ≡ true = sym (ap (λ o. is_some_and o (λ m. may_begin m fields past)) is) ∙ begun in
+      let begun : is_some_and e.link (λ m. has_credit_and_next_id m fields past) ≡ true = or-right (begins_outgoing e) _ begins five in
+      let here : has_credit_and_next_id l fields past ≡ true = sym (ap (λ o. is_some_and o (λ m. has_credit_and_next_id m fields past)) is) ∙ begun in
       let lt = ltb-true 0 (link_credit l past) (and-left (nat_lt 0 (link_credit l past)) _ here) in omega (arith, lt))
 
 module _ (rules : RuleSet) (e : Event) (past : List Event) (lawful : first_broken rules (e ∷ past) ≡ None) where

@@ -17,7 +17,7 @@ use Rattle.trace_events.specs.History.{history}
 use Rattle.trace_clauses.specs.ConnectionClause.{may_be_written, fits_limit}
 use Rattle.trace_clauses.specs.SessionClause.{answers_begin, may_end}
 use Rattle.trace_clauses.specs.LinkClause.{answers_attach, may_detach}
-use Rattle.trace_clauses.specs.TransferClause.{may_be_sent, may_begin, goes_on_with, names_carried, carries_noted, may_go_to}
+use Rattle.trace_clauses.specs.TransferClause.{has_link_and_window, has_credit_and_next_id, goes_on_with, names_what_may_go, carries_its_octets, goes_once_and_in_order}
 use Rattle.trace_clauses.specs.FlowClause.{tells_counts}
 use Rattle.trace_clauses.specs.DispositionClause.{is_outcome, is_settling}
 
@@ -30,12 +30,12 @@ has_no_note (notes.Pair n) = false
 has_no_note (notes.Told why) = false
 
 abbrev pub transfer_meets : RuleSet → Event → TransferFields → List ℕ → List Event → Clause → Bool
-transfer_meets rules e fields octets past L4 = may_be_sent e fields past
-transfer_meets rules e fields octets past L5 = not (begins_outgoing e) || is_some_and e.link (λ l. may_begin l fields past)
+transfer_meets rules e fields octets past L4 = has_link_and_window e fields past
+transfer_meets rules e fields octets past L5 = not (begins_outgoing e) || is_some_and e.link (λ l. has_credit_and_next_id l fields past)
 transfer_meets rules e fields octets past L6 = begins_outgoing e || is_some_and e.outgoing (λ j. goes_on_with j e.note fields)
-transfer_meets rules e fields octets past L7 = is_some_and e.link (names_carried rules e fields past)
-transfer_meets rules e fields octets past L8 = carries_noted rules e fields octets past
-transfer_meets rules e fields octets past L9 = not (begins_outgoing e) || is_some_and e.link (may_go_to rules e past)
+transfer_meets rules e fields octets past L7 = is_some_and e.link (names_what_may_go rules e fields past)
+transfer_meets rules e fields octets past L8 = carries_its_octets rules e fields octets past
+transfer_meets rules e fields octets past L9 = not (begins_outgoing e) || is_some_and e.link (goes_once_and_in_order rules e past)
 transfer_meets rules e fields octets past _ = true
 
 abbrev pub outcome_meets : RuleSet → Event → DispositionFields → List Event → Clause → Bool

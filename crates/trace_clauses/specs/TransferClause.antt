@@ -20,20 +20,22 @@ use Rattle.trace_events.specs.Outgoing.{outgoing_deliveries, is_on, next_deliver
 use Rattle.trace_events.specs.Waiting.{is_of_multicast, is_gone}
 use Rattle.trace_events.specs.Due.{is_due}
 
--- ---- L4: on a consumer's live link, within the session's window (part 2 of the standard, section 2.5.6)
+-- ---- L4: on a consumer's live link, within the session's window (part 2 of the standard, section 2.5.6); it neither resumes
+-- nor aborts a delivery
 
 abbrev pub has_window : List Event → Session → Bool
 has_window past s = nat_lt 0 (session_window s past)
 
-abbrev pub may_be_sent : Event → TransferFields → List Event → Bool
-may_be_sent e fields past =
+abbrev pub has_link_and_window : Event → TransferFields → List Event → Bool
+has_link_and_window e fields past =
     is_some_and e.link is_consumer && is_some_and e.session (has_window past)
     && not (flag fields.resume) && not (flag fields.aborted)
 
 -- ---- L5: a delivery that begins has credit (2.6.7) and the next delivery-id
 
-abbrev pub may_begin : Link → TransferFields → List Event → Bool
-may_begin l fields past = nat_lt 0 (link_credit l past) && is_number fields.delivery_id (next_delivery_id l.session past)
+abbrev pub has_credit_and_next_id : Link → TransferFields → List Event → Bool
+has_credit_and_next_id l fields past =
+    nat_lt 0 (link_credit l past) && is_number fields.delivery_id (next_delivery_id l.session past)
 
 -- ---- L6: a later transfer has no id, no settled flag, or those of the first (2.7.5), and its note
 
@@ -59,11 +61,12 @@ abbrev pub has_form : Incoming → Link → TransferFields → Bool
 has_form d l fields = unwrap_or fields.message_format 0 == d.format && beq (flag fields.settled) l.is_pre_settled
 
 -- it has the link's address, and where it begins there its form
-abbrev pub is_alike : Event → Link → TransferFields → List Event → Incoming → Bool
-is_alike e l fields past d = bytes_eq (address_of d past) l.address && (not (begins_outgoing e) || has_form d l fields)
+abbrev pub has_address_and_form : Event → Link → TransferFields → List Event → Incoming → Bool
+has_address_and_form e l fields past d =
+    bytes_eq (address_of d past) l.address && (not (begins_outgoing e) || has_form d l fields)
 
-abbrev pub names_carried : RuleSet → Event → TransferFields → List Event → Link → Bool
-names_carried rules e fields past l = is_some_and (to_carry rules e.note past) (is_alike e l fields past)
+abbrev pub names_what_may_go : RuleSet → Event → TransferFields → List Event → Link → Bool
+names_what_may_go rules e fields past l = is_some_and (to_carry rules e.note past) (has_address_and_form e l fields past)
 
 -- ---- L8: the payloads so far are the first octets of that delivery's payload, and at the last transfer all of it
 
@@ -74,8 +77,8 @@ abbrev pub carries : Outgoing → TransferFields → List ℕ → List Event →
 carries j fields octets past d =
     is_payload_so_far (flag fields.more) (incoming.payload d past) (outgoing.payload j past ++ octets)
 
-abbrev pub carries_noted : RuleSet → Event → TransferFields → List ℕ → List Event → Bool
-carries_noted rules e fields octets past =
+abbrev pub carries_its_octets : RuleSet → Event → TransferFields → List ℕ → List Event → Bool
+carries_its_octets rules e fields octets past =
     is_some_and (to_carry rules e.note past) (λ d. is_some_and e.outgoing (λ j. carries j fields octets past d))
 
 -- ---- L9: to one consumer, or once to each that it is due to; on each link in the order of completion
@@ -84,12 +87,13 @@ carries_noted rules e fields octets past =
 abbrev pub carried_before : Link → List Event → Option Incoming
 carried_before l past = option_and_then (λ j. noted j.note past) (find (is_on l) (outgoing_deliveries past))
 
-abbrev pub is_first_to : RuleSet → Link → List Event → Incoming → Bool
-is_first_to rules l past d =
+abbrev pub goes_to_one_or_is_due : RuleSet → Link → List Event → Incoming → Bool
+goes_to_one_or_is_due rules l past d =
     if is_of_multicast rules d past then not (is_named_on d l past) && is_due rules d l past else not (is_paired d past)
 
 abbrev pub is_in_order : Link → List Event → Incoming → Bool
 is_in_order l past d = is_none_or (carried_before l past) (λ before. completed_before before d past)
 
-abbrev pub may_go_to : RuleSet → Event → List Event → Link → Bool
-may_go_to rules e past l = is_some_and (to_carry rules e.note past) (λ d. is_first_to rules l past d && is_in_order l past d)
+abbrev pub goes_once_and_in_order : RuleSet → Event → List Event → Link → Bool
+goes_once_and_in_order rules e past l =
+    is_some_and (to_carry rules e.note past) (λ d. goes_to_one_or_is_due rules l past d && is_in_order l past d)

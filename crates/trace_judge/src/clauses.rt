@@ -25,7 +25,10 @@ use self::disposition::{is_outcome, settles_one};
 use self::flow::tells_counts;
 use self::link::{answers_attach, may_detach};
 use self::session::{answers_begin, may_end};
-use self::transfer::{carries, goes_on_with, is_alike, may_be_sent, may_begin, may_go_to};
+use self::transfer::{
+    carries, goes_on_with, goes_once_and_in_order, has_address_and_form, has_credit_and_next_id,
+    has_link_and_window,
+};
 use crate::questions::{Carriage, Counts, Inputs, Openings, Outcomes, Questions};
 use amqp_perf::{Attach, Disposition, Performative, Role, Transfer};
 use capture_form::RuleSet;
@@ -74,13 +77,13 @@ fn broken_by_transfer<'a, P: Counts + Carriage<'a> + Outcomes<'a>>(
         (result ≡ find (λ clause. not (law.transfer_meets rules.now (event_view event.now) (transfer_fields transfer.now) payload.now history clause)) law.clauses) }
 {
     let begins = event.begins_outgoing();
-    if !may_be_sent(past, event, transfer) {
+    if !has_link_and_window(past, event, transfer) {
         return Some(Clause::L4);
     }
     let Some(link) = event.link else {
         return Some(Clause::L4);
     };
-    if begins && !may_begin(past, &link, transfer) {
+    if begins && !has_credit_and_next_id(past, &link, transfer) {
         return Some(Clause::L5);
     }
     if !begins && !goes_on_alike(event, transfer) {
@@ -89,13 +92,13 @@ fn broken_by_transfer<'a, P: Counts + Carriage<'a> + Outcomes<'a>>(
     let Some(delivery) = past.to_carry(rules, event.note) else {
         return Some(Clause::L7);
     };
-    if !is_alike(past, event, &link, transfer, &delivery) {
+    if !has_address_and_form(past, event, &link, transfer, &delivery) {
         return Some(Clause::L7);
     }
     if !carries(past, event, transfer, payload, &delivery) {
         return Some(Clause::L8);
     }
-    let is_met = !begins || may_go_to(past, rules, &link, &delivery);
+    let is_met = !begins || goes_once_and_in_order(past, rules, &link, &delivery);
     unless_met(Clause::L9, is_met)
 }
 

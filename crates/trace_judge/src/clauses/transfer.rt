@@ -53,7 +53,7 @@ fn has_form(delivery: &Incoming, link: &Link, fields: &Transfer) -> bool
 }
 
 /// It has the link's address, and its form where it begins.
-pub(crate) fn is_alike<'a, P: Carriage<'a>>(
+pub(crate) fn has_address_and_form<'a, P: Carriage<'a>>(
     past: &P,
     event: &Event,
     link: &Link,
@@ -61,16 +61,16 @@ pub(crate) fn is_alike<'a, P: Carriage<'a>>(
     delivery: &Incoming,
 ) -> bool
     ensures { (rules : RuleSet) (history : Events) → P.stands_for past.now rules history → P.knows_incoming past.now (incoming_view delivery.now) history →
-        (result ≡ law.is_alike (event_view event.now) (link_view link.now) (transfer_fields fields.now) history (incoming_view delivery.now)) }
+        (result ≡ law.has_address_and_form (event_view event.now) (link_view link.now) (transfer_fields fields.now) history (incoming_view delivery.now)) }
 {
     past.is_for(delivery, link.address)
         && (!event.begins_outgoing() || has_form(delivery, link, fields))
 }
 
-/// L4: on a consumer's live link, within the session's window (part 2, section 2.5.6).
-pub(crate) fn may_be_sent<P: Counts>(past: &P, event: &Event, fields: &Transfer) -> bool
+/// L4: on a consumer's live link, within the session's window (part 2, section 2.5.6); it neither resumes nor aborts.
+pub(crate) fn has_link_and_window<P: Counts>(past: &P, event: &Event, fields: &Transfer) -> bool
     ensures { (rules : RuleSet) (history : Events) → P.stands_for past.now rules history → StandsLive (event_view event.now) history →
-        (result ≡ law.may_be_sent (event_view event.now) (transfer_fields fields.now) history) }
+        (result ≡ law.has_link_and_window (event_view event.now) (transfer_fields fields.now) history) }
 {
     match (&event.link, event.session) {
         (Some(link), Some(session)) => {
@@ -84,9 +84,9 @@ pub(crate) fn may_be_sent<P: Counts>(past: &P, event: &Event, fields: &Transfer)
 }
 
 /// L5: a delivery that begins has credit (part 2, section 2.6.7) and the next delivery-id.
-pub(crate) fn may_begin<P: Counts>(past: &P, link: &Link, fields: &Transfer) -> bool
+pub(crate) fn has_credit_and_next_id<P: Counts>(past: &P, link: &Link, fields: &Transfer) -> bool
     ensures { (rules : RuleSet) (history : Events) → P.stands_for past.now rules history → IsLiveLink (link_view link.now) history →
-        (result ≡ law.may_begin (link_view link.now) (transfer_fields fields.now) history) }
+        (result ≡ law.has_credit_and_next_id (link_view link.now) (transfer_fields fields.now) history) }
 {
     fields.delivery_id.is_some()
         && past.link_credit(link) > 0
@@ -114,7 +114,7 @@ pub(crate) fn carries<'a, P: Carriage<'a>>(
     }
 }
 
-fn is_first_to<'a, P: Carriage<'a> + Outcomes<'a>>(
+fn goes_to_one_or_is_due<'a, P: Carriage<'a> + Outcomes<'a>>(
     past: &P,
     rules: &RuleSet,
     link: &Link,
@@ -122,7 +122,7 @@ fn is_first_to<'a, P: Carriage<'a> + Outcomes<'a>>(
 ) -> bool
     requires few { P.is_short past.now }
     ensures { (history : Events) → P.stands_for past.now rules.now history → IsLiveLink (link_view link.now) history → P.knows_incoming past.now (incoming_view delivery.now) history →
-        (result ≡ law.is_first_to rules.now (link_view link.now) history (incoming_view delivery.now)) }
+        (result ≡ law.goes_to_one_or_is_due rules.now (link_view link.now) history (incoming_view delivery.now)) }
 {
     if past.is_of_multicast(rules, delivery) {
         past.is_unsent(rules, delivery, link)
@@ -143,7 +143,7 @@ fn is_in_order<'a, P: Carriage<'a>>(past: &P, link: &Link, delivery: &Incoming) 
 
 /// L9: an anycast delivery goes to one consumer, a multicast one once to each that it is due to; on each link in the
 /// order of completion.
-pub(crate) fn may_go_to<'a, P: Carriage<'a> + Outcomes<'a>>(
+pub(crate) fn goes_once_and_in_order<'a, P: Carriage<'a> + Outcomes<'a>>(
     past: &P,
     rules: &RuleSet,
     link: &Link,
@@ -151,7 +151,7 @@ pub(crate) fn may_go_to<'a, P: Carriage<'a> + Outcomes<'a>>(
 ) -> bool
     requires few { P.is_short past.now }
     ensures { (history : Events) → P.stands_for past.now rules.now history → P.is_whole past.now → IsLiveLink (link_view link.now) history → P.knows_incoming past.now (incoming_view delivery.now) history →
-        (result ≡ (law.is_first_to rules.now (link_view link.now) history (incoming_view delivery.now) && law.is_in_order (link_view link.now) history (incoming_view delivery.now))) }
+        (result ≡ (law.goes_to_one_or_is_due rules.now (link_view link.now) history (incoming_view delivery.now) && law.is_in_order (link_view link.now) history (incoming_view delivery.now))) }
 {
-    is_first_to(past, rules, link, delivery) && is_in_order(past, link, delivery)
+    goes_to_one_or_is_due(past, rules, link, delivery) && is_in_order(past, link, delivery)
 }
