@@ -1,17 +1,18 @@
 -- The law: the clauses that each record which the router has written must meet.
-use Rattle.std.specs.Prelude.{ℕ, Bool, true, false, ◌&&◌, ◌||◌, not, List, [], ◌∷◌, Option, Some, None, is_none, option_map, find}
+use Rattle.std.specs.Prelude.{ℕ, Bool, true, false, ◌&&◌, ◌||◌, not, List, [], ◌∷◌, Option, Some, None, is_none, option_map, find, if◌then◌else◌}
 use Rattle.amqp_perf.specs.declared.attach.Role.{Role}
-use Rattle.amqp_perf.specs.declared.attach.Role.TheVariants.{Sender, Receiver}
-use Rattle.amqp_perf.specs.Meaning.{Meaning, ABegin, AnAttach, AFlow, ATransfer, ADisposition, ADetach, AnEnd, TransferFields, DispositionFields}
+use Rattle.amqp_perf.specs.Meaning.{Meaning, ATransfer, ADisposition, TransferFields, DispositionFields}
 use Rattle.pairing_cert.specs.declared.note.Note.{Note}
 use Rattle.pairing_cert.specs.declared.note.Note.TheVariants as notes
 use Rattle.capture_form.specs.declared.records.Record.{Record}
 use Rattle.capture_form.specs.Rules.{RuleSet}
 use Rattle.trace_clauses.specs.declared.clause.Clause.{Clause}
 use Rattle.trace_clauses.specs.declared.clause.Clause.TheVariants.{L1, L2, L3, L4, L5, L6, L7, L8, L9, L10, L11, L12, L13, L14}
-use Rattle.trace_events.specs.Words.{is_some_and, or_else}
+use Rattle.trace_events.specs.Words.{is_some_and, is_none_or, or_else}
 use Rattle.trace_events.specs.Frame.{Frame, Spoken, spoken_in}
 use Rattle.trace_events.specs.Event.{Event, Moment, Out}
+use Rattle.trace_events.specs.Said.{as_begin, as_attach, as_flow, as_detach, is_end}
+use Rattle.trace_events.specs.Link.{is_sender, is_receiver}
 use Rattle.trace_events.specs.Credit.{begins_outgoing}
 use Rattle.trace_events.specs.History.{history}
 use Rattle.trace_clauses.specs.ConnectionClause.{may_be_written, fits_limit}
@@ -21,7 +22,7 @@ use Rattle.trace_clauses.specs.TransferClause.{has_link_and_window, has_credit_a
 use Rattle.trace_clauses.specs.FlowClause.{tells_counts}
 use Rattle.trace_clauses.specs.DispositionClause.{is_outcome, is_settling}
 
--- ---- which clause speaks of which records
+-- ---- which clause speaks of which records: each table has a row for each clause, and what a clause doesn't speak of meets it
 
 -- L14
 abbrev pub has_no_note : Note → Bool
@@ -29,38 +30,57 @@ has_no_note notes.None = true
 has_no_note (notes.Pair n) = false
 has_no_note (notes.Told why) = false
 
+-- L1 is asked of the frame, by `spoken_meets`
 abbrev pub transfer_meets : RuleSet → Event → TransferFields → List ℕ → List Event → Clause → Bool
+transfer_meets rules e fields octets past L1 = true
+transfer_meets rules e fields octets past L2 = true
+transfer_meets rules e fields octets past L3 = true
 transfer_meets rules e fields octets past L4 = has_link_and_window e fields past
 transfer_meets rules e fields octets past L5 = not (begins_outgoing e) || is_some_and e.link (λ l. has_credit_and_next_id l fields past)
 transfer_meets rules e fields octets past L6 = begins_outgoing e || is_some_and e.outgoing (λ j. goes_on_with j e.note fields)
 transfer_meets rules e fields octets past L7 = is_some_and e.link (names_what_may_go rules e fields past)
 transfer_meets rules e fields octets past L8 = carries_its_octets rules e fields octets past
 transfer_meets rules e fields octets past L9 = not (begins_outgoing e) || is_some_and e.link (goes_once_and_in_order rules e past)
-transfer_meets rules e fields octets past _ = true
-
-abbrev pub outcome_meets : RuleSet → Event → DispositionFields → List Event → Clause → Bool
-outcome_meets rules e fields past L11 = is_outcome rules e fields past
-outcome_meets rules e fields past _ = true
-
-abbrev pub settling_meets : Event → DispositionFields → Clause → Bool
-settling_meets e fields L12 = is_settling e fields
-settling_meets e fields L14 = has_no_note e.note
-settling_meets e fields _ = true
+transfer_meets rules e fields octets past L10 = true
+transfer_meets rules e fields octets past L11 = true
+transfer_meets rules e fields octets past L12 = true
+transfer_meets rules e fields octets past L13 = true
+transfer_meets rules e fields octets past L14 = true
 
 -- an outcome is told by a receiver, a settling by a sender
 abbrev pub disposition_meets : RuleSet → Event → DispositionFields → List Event → Role → Clause → Bool
-disposition_meets rules e fields past Receiver clause = outcome_meets rules e fields past clause
-disposition_meets rules e fields past Sender clause = settling_meets e fields clause
+disposition_meets rules e fields past role L1 = true
+disposition_meets rules e fields past role L2 = true
+disposition_meets rules e fields past role L3 = true
+disposition_meets rules e fields past role L4 = true
+disposition_meets rules e fields past role L5 = true
+disposition_meets rules e fields past role L6 = true
+disposition_meets rules e fields past role L7 = true
+disposition_meets rules e fields past role L8 = true
+disposition_meets rules e fields past role L9 = true
+disposition_meets rules e fields past role L10 = true
+disposition_meets rules e fields past role L11 = is_sender role || is_outcome rules e fields past
+disposition_meets rules e fields past role L12 = is_receiver role || is_settling e fields
+disposition_meets rules e fields past role L13 = true
+disposition_meets rules e fields past role L14 = is_receiver role || has_no_note e.note
 
 -- all others
 abbrev pub other_meets : RuleSet → Event → ℕ → List Event → Meaning → Clause → Bool
-other_meets rules e channel past (ABegin begin) L2 = answers_begin e.connection channel begin past
-other_meets rules e channel past (AnAttach fields) L3 = is_some_and e.session (answers_attach fields past)
-other_meets rules e channel past (AFlow flow) L10 = tells_counts rules e flow past
-other_meets rules e channel past (ADetach fields) L13 = may_detach e fields past
-other_meets rules e channel past (AnEnd error) L13 = may_end e channel past
-other_meets rules e channel past _ L14 = has_no_note e.note
-other_meets rules e channel past _ _ = true
+other_meets rules e channel past meaning L1 = true
+other_meets rules e channel past meaning L2 = is_none_or (as_begin meaning) (λ begin. answers_begin e.connection channel begin past)
+other_meets rules e channel past meaning L3 = is_none_or (as_attach meaning) (λ fields. is_some_and e.session (answers_attach fields past))
+other_meets rules e channel past meaning L4 = true
+other_meets rules e channel past meaning L5 = true
+other_meets rules e channel past meaning L6 = true
+other_meets rules e channel past meaning L7 = true
+other_meets rules e channel past meaning L8 = true
+other_meets rules e channel past meaning L9 = true
+other_meets rules e channel past meaning L10 = is_none_or (as_flow meaning) (λ flow. tells_counts rules e flow past)
+other_meets rules e channel past meaning L11 = true
+other_meets rules e channel past meaning L12 = true
+other_meets rules e channel past meaning L13 =
+    if is_end meaning then may_end e channel past else is_none_or (as_detach meaning) (λ fields. may_detach e fields past)
+other_meets rules e channel past meaning L14 = has_no_note e.note
 
 abbrev pub meaning_meets : RuleSet → Event → Spoken → List Event → Meaning → Clause → Bool
 meaning_meets rules e spoken past (ATransfer fields) clause = transfer_meets rules e fields spoken.payload past clause
