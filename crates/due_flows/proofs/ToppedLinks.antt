@@ -18,7 +18,7 @@ use Rattle.trace_events.specs.Link.{IsLiveLink, is_anonymous, is_consumer, is_se
 use Rattle.trace_events.specs.Credit.{link_event, link_events, given_credit}
 use Rattle.flow_counts.specs.GivenCredit as given
 use Rattle.trace_events.specs.Incoming.{address_of, message_address, completes, is_aborted, is_complete, is_from, is_last_part, is_part, is_settled, is_told, incoming_at, incoming_deliveries, settles_id}
-use Rattle.trace_events.specs.Outgoing.{outgoing_begun, names, is_paired}
+use Rattle.trace_events.specs.Outgoing.{carried_number, outgoing_begun, names, noted_number, is_paired}
 use Rattle.trace_events.specs.Decided.{decides, decided_count, begins_undecided}
 use Rattle.trace_events.specs.Disposition.{covers_id}
 use Rattle.trace_events.specs.Ends.{ends_link}
@@ -36,7 +36,7 @@ use Rattle.trace_clauses.proofs.Parts.{IsKept, IsPart, record_part, each_deliver
 use Rattle.trace_clauses.proofs.Undecided.{part_link}
 use Rattle.trace_clauses.proofs.UndecidedCount.{undecided_count_moves}
 use Rattle.trace_clauses.proofs.WaitingQueue.{all_contained, contains_cases, contains_first, contains_later}
-use Rattle.due_flows.specs.Topping.{IsDecidedOn, IsServedFirst, EndsWaited, carried_number, named, settles}
+use Rattle.due_flows.specs.Topping.{IsDecidedOn, IsServedFirst, EndsWaited, settles}
 use Rattle.due_flows.proofs.LiveOnes.{all-contained, event-session, link-found, link-lives}
 use Rattle.due_flows.proofs.DrainingLinks.{on-link, waits-on}
 use Rattle.due_flows.proofs.Members.{contains-more, some-passes, none-passes}
@@ -122,7 +122,7 @@ decided-open true false unshut p q is = is
 decided-open true true unshut p q is = absurd cc
 decided-open false aborted unshut p q is = absurd cc
 
-names-named : (n : ℕ) (note : Note) → names n note ≡ true → named note ≡ Some n
+names-named : (n : ℕ) (note : Note) → names n note ≡ true → noted_number note ≡ Some n
 names-named n (notes.Pair m) is = ap Some (eqb-true m n is)
 names-named n notes.None is = absurd cc
 names-named n (notes.Told why) is = absurd cc
@@ -207,7 +207,7 @@ module _ (rules : RuleSet) (e : Event) (past : List Event) (are : AreJudged rule
             let begun = (passing (λ (x : Outgoing). x.number == e.number) e.outgoing j.0 j.1).0 in
             Carries (record {
               delivery = d;
-              is = ap (option_and_then (λ (x : Outgoing). named x.note)) begun ∙ names-named d.number j.0.note j.2;
+              is = ap (option_and_then (λ (x : Outgoing). noted_number x.note)) begun ∙ names-named d.number j.0.note j.2;
               at = kept.at;
               undecided = undecided;
               link = of-link;

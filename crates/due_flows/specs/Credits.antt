@@ -9,6 +9,7 @@ use Rattle.trace_events.specs.Words.{is_some_and, where_passes}
 use Rattle.trace_events.specs.Event.{Event, Link, Incoming}
 use Rattle.trace_events.specs.Address.{has_consumer}
 use Rattle.trace_events.specs.Link.{is_consumer, is_producer, own_link}
+use Rattle.trace_events.specs.Outgoing.{carried_number}
 use Rattle.trace_events.specs.Waiting.{has_waiting}
 use Rattle.trace_clauses.specs.FlowClause.{may_be_topped_up}
 use Rattle.state_incoming.specs.EntryAnswers.{Knows}
@@ -16,7 +17,7 @@ use Rattle.state_addresses.specs.ConsumerLinks.{has_number}
 use Rattle.state_answers.specs.declared.looked.Looked.{Looked}
 use Rattle.due_flows.specs.Candidates.{value_of}
 use Rattle.due_flows.specs.Numbers.{has}
-use Rattle.due_flows.specs.Topping.{IsProducing, carried_number, consumer_opened, settles}
+use Rattle.due_flows.specs.Topping.{IsProducing, consumer_opened, settles}
 use Rattle.due_flows.specs.declared.credits.Credits.{Credits}
 use Rattle.due_flows.specs.declared.credits.Place.{Place}
 use Rattle.state_answers.specs.Tables.{TellsOf}

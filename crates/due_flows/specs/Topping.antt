@@ -1,9 +1,7 @@
 -- The links of producers that may be given more credit (part 2 of the standard, section 2.6.7; when: own rule), and the events
 -- that may bring one there.
-use Rattle.std.specs.Prelude.{◌≡◌, ℕ, Bool, true, false, List, Option, Some, None, option_and_then}
+use Rattle.std.specs.Prelude.{◌≡◌, ℕ, Bool, true, false, List, Option, Some}
 use Rattle.capture_form.specs.Rules.{RuleSet}
-use Rattle.pairing_cert.specs.declared.note.Note.{Note}
-use Rattle.pairing_cert.specs.declared.note.Note.TheVariants as notes
 use Rattle.trace_events.specs.Words.{is_some_and, where_passes}
 use Rattle.trace_events.specs.Event.{Event, Link, Incoming}
 use Rattle.trace_events.specs.Said.{in_disposition}
@@ -24,15 +22,6 @@ pub record IsToppable (rules : RuleSet) (l : Link) (past : List Event) : Type 0 
   pub live : IsLiveLink l past
   pub producer : is_producer l ≡ true
   pub may : may_be_topped_up rules past l ≡ true
-
--- the number of the delivery that a note names, and of the one that what the event is a part of carries
-abbrev pub named : Note → Option ℕ
-named (notes.Pair n) = Some n
-named notes.None = None
-named (notes.Told why) = None
-
-abbrev pub carried_number : Event → Option ℕ
-carried_number e = option_and_then (λ j. named j.note) e.outgoing
 
 -- a producer's disposition stands on its session
 abbrev pub settles : Event → Bool

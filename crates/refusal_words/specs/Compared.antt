@@ -1,8 +1,8 @@
 -- The records that an explanation names, which the refused one is compared with (own format).
 use Rattle.std.specs.Prelude.{ℕ, nat_lt, List, [], ◌∷◌, ◌++◌, map, Option, Some, None, if◌then◌else◌, option_map}
 use Rattle.pairing_cert.specs.declared.note.Note.{Note}
-use Rattle.pairing_cert.specs.declared.note.Note.TheVariants as notes
 use Rattle.trace_events.specs.declared.session.Session.{Session}
+use Rattle.trace_events.specs.Outgoing.{noted_number}
 use Rattle.trace_values.specs.declared.event.Link.{Link}
 use Rattle.trace_values.specs.declared.event.Incoming.{Incoming}
 use Rattle.trace_values.specs.declared.event.Outgoing.{Outgoing}
@@ -51,12 +51,6 @@ flow_link (links.NotLive handle) = None
 flow_link (links.Producer numbers) = Some numbers.link.number
 flow_link (links.Consumer numbers) = Some numbers.link.number
 
--- the record that a note names
-abbrev pub noted : Note → Option ℕ
-noted notes.None = None
-noted (notes.Pair number) = Some number
-noted (notes.Told why) = None
-
 -- the first transfer of a delivery to a client
 abbrev pub sent_before : Option Outgoing → Option ℕ
 sent_before carrier = option_map (λ (o : Outgoing). o.number) carrier
@@ -85,7 +79,7 @@ six (one, two, three, four, five, last) = one ∷ two ∷ three ∷ four ∷ fiv
 
 abbrev pub going_on : Option Outgoing → Note → List (Option ℕ)
 going_on None said = two None None
-going_on (Some first) said = Some first.number ∷ noted said ∷ noted first.note ∷ None ∷ None ∷ None ∷ []
+going_on (Some first) said = Some first.number ∷ noted_number said ∷ noted_number first.note ∷ None ∷ None ∷ None ∷ []
 
 abbrev pub order : OrderFacts → List (Option ℕ)
 order facts =
@@ -112,5 +106,5 @@ named_in (kinds.Outcome facts) = told facts.told
 named_in (kinds.Settling facts) = two facts.to_settle None
 named_in (kinds.Detach facts) = two (session_number facts.session) (link_number facts.link)
 named_in (kinds.End facts) = two (session_number facts.session) None
-named_in (kinds.Noted note) = two (noted note) None
+named_in (kinds.Noted note) = two (noted_number note) None
 named_in kinds.Nothing = two None None

@@ -1,6 +1,7 @@
 //! The records that an explanation names, which the refused one is compared with.
 
 ghost use Rattle.std.specs.Prelude.{◌≡◌};
+ghost use Rattle.trace_events.specs.Outgoing.{noted_number};
 ghost use Rattle.refusal_words.specs.Compared as spec;
 ghost use Rattle.refusal_words.specs.declared.compared.Granting.{Granting};
 
@@ -196,7 +197,7 @@ fn flow_link(link: &FlowLink) -> Option<u64>
 
 /// The record that a note names.
 fn noted(note: Note) -> Option<u64>
-    ensures { result ≡ spec.noted note }
+    ensures { result ≡ noted_number note }
 {
     match note {
         Note::Pair(number) => Some(number),

@@ -7,9 +7,10 @@ use Rattle.number_groups.specs.OctetGroups as octets
 use Rattle.trace_events.specs.Words.{is_number, is_some_and}
 use Rattle.trace_events.specs.Event.{Event, Link, Incoming}
 use Rattle.trace_events.specs.Incoming.{incoming_begun}
+use Rattle.trace_events.specs.Outgoing.{carried_number}
 use Rattle.capture_form.specs.Rules.{RuleSet}
 use Rattle.state_incoming.specs.Held.{Held, held_begun, held_next, unbegun}
-use Rattle.state_incoming.specs.Touched.{part_number, carried_number, settled_session, is_left, may_touch}
+use Rattle.state_incoming.specs.Touched.{part_number, settled_session, is_left, may_touch}
 use Rattle.state_incoming.specs.declared.groups.HeldGroups.{HeldGroups}
 
 -- a group with a number at an index has one

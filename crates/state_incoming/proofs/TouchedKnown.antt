@@ -14,13 +14,13 @@ use Rattle.trace_events.specs.Said.{in_disposition}
 use Rattle.trace_events.specs.Link.{is_sender}
 use Rattle.trace_events.specs.Ends.{ends_link}
 use Rattle.trace_events.specs.Incoming.{is_part, settles_id}
-use Rattle.trace_events.specs.Outgoing.{names, outgoing_begun}
+use Rattle.trace_events.specs.Outgoing.{carried_number, names, noted_number, outgoing_begun}
 use Rattle.trace_events.specs.Queue.{pairs}
 use Rattle.trace_events.specs.declared.session.Session.{Session}
 use Rattle.state_incoming.specs.Held.{Held, address_behind, says_waiting}
 use Rattle.state_incoming.specs.HeldTouched.{is_touched}
 use Rattle.state_incoming.specs.Grouped.{AreGrouped, is_of_session, is_of_link, is_for}
-use Rattle.state_incoming.specs.Touched.{AreEnded, part_number, named, carried_number, settled_session, is_left, may_touch}
+use Rattle.state_incoming.specs.Touched.{AreEnded, part_number, settled_session, is_left, may_touch}
 use Rattle.state_incoming.proofs.HeldUntouched.{completes_none, address_same}
 use Rattle.state_incoming.specs.declared.groups.HeldGroups.{HeldGroups}
 
@@ -49,12 +49,12 @@ part-none : (o : Option Incoming) (n : ℕ) → is_number (option_map (λ (d : I
 part-none None n off = refl
 part-none (Some d) n off = off
 
-named-none : (note : Note) (n : ℕ) → is_number (named note) n ≡ false → names n note ≡ false
+named-none : (note : Note) (n : ℕ) → is_number (noted_number note) n ≡ false → names n note ≡ false
 named-none (notes.Pair m) n off = off
 named-none notes.None n off = refl
 named-none (notes.Told why) n off = refl
 
-pairs-none : (o : Option Outgoing) (number n : ℕ) → is_number (option_and_then (λ (j : Outgoing). named j.note) o) n ≡ false
+pairs-none : (o : Option Outgoing) (number n : ℕ) → is_number (option_and_then (λ (j : Outgoing). noted_number j.note) o) n ≡ false
     → is_some_and (where_passes (λ (j : Outgoing). j.number == number) o) (λ (j : Outgoing). names n j.note) ≡ false
 pairs-none None number n off = refl
 pairs-none (Some j) number n off = by (j.number == number)

@@ -1,31 +1,20 @@
 -- The deliveries that an event may touch, found by the groups.
-use Rattle.std.specs.Prelude.{◌≡◌, ℕ, Bool, true, ◌&&◌, ◌||◌, not, List, Option, Some, None, IfSome, option_and_then, option_map, bytes_eq, nat_eq, if◌then◌else◌, ◌==◌}
+use Rattle.std.specs.Prelude.{◌≡◌, ℕ, Bool, true, ◌&&◌, ◌||◌, not, List, Option, None, IfSome, option_map, bytes_eq, nat_eq, if◌then◌else◌, ◌==◌}
 use Rattle.std.specs.List.{list_any}
 use Rattle.number_groups.specs.Groups.{is_member}
 use Rattle.number_groups.specs.OctetGroups as octets
-use Rattle.pairing_cert.specs.declared.note.Note.{Note}
-use Rattle.pairing_cert.specs.declared.note.Note.TheVariants as notes
 use Rattle.trace_events.specs.Words.{is_number, is_some_and}
 use Rattle.trace_events.specs.Event.{Event, Link}
 use Rattle.trace_events.specs.Said.{in_disposition}
 use Rattle.trace_events.specs.Link.{is_sender}
 use Rattle.trace_events.specs.Ends.{ends_link}
+use Rattle.trace_events.specs.Outgoing.{carried_number}
 use Rattle.state_incoming.specs.Held.{Held, says_waiting}
 use Rattle.state_incoming.specs.declared.groups.HeldGroups.{HeldGroups}
 
 -- the delivery that the event is a part of
 abbrev pub part_number : Event → Option ℕ
 part_number e = option_map (λ d. d.number) e.incoming
-
--- the one that a note names
-abbrev pub named : Note → Option ℕ
-named (notes.Pair n) = Some n
-named notes.None = None
-named (notes.Told why) = None
-
--- the one that what the event is a part of carries
-abbrev pub carried_number : Event → Option ℕ
-carried_number e = option_and_then (λ j. named j.note) e.outgoing
 
 -- the session on which a disposition of a producer stands
 abbrev pub settled_session : Event → Option ℕ

@@ -6,6 +6,7 @@ ghost use Rattle.number_groups.specs.Numbers.{is_among};
 ghost use Rattle.number_groups.specs.Groups.{is_member};
 ghost use Rattle.number_groups.specs.OctetGroups as octets;
 ghost use Rattle.trace_events.specs.Words.{is_number, is_some_and};
+ghost use Rattle.trace_events.specs.Outgoing as outgoing;
 ghost use Rattle.state_incoming.specs.Touched as law;
 ghost use Rattle.trace_values.specs.View.{event_view, link_view};
 
@@ -66,7 +67,7 @@ fn part_number(event: &Event) -> Option<u64>
 
 /// The delivery that the one carries of which the event is a part.
 fn carried_number(event: &Event) -> Option<u64>
-    ensures { result ≡ law.carried_number (event_view event.now) }
+    ensures { result ≡ outgoing.carried_number (event_view event.now) }
 {
     match event.outgoing.as_ref()?.note {
         Note::Pair(number) => Some(number),

@@ -8,10 +8,10 @@ use Rattle.capture_form.specs.Rules.{RuleSet}
 use Rattle.number_groups.specs.Numbers.{is_among}
 use Rattle.trace_events.specs.Words.{is_some_and}
 use Rattle.trace_events.specs.Event.{Event, Outgoing}
-use Rattle.trace_events.specs.Outgoing.{answering, names, outgoing_deliveries}
+use Rattle.trace_events.specs.Outgoing.{answering, names, noted_number, outgoing_deliveries}
 use Rattle.trace_events.proofs.Judged.{AreJudged}
 use Rattle.state_outgoing.specs.Sent.{is_left_unsettled, sent}
-use Rattle.state_outgoing.specs.SentAnswers.{carried, number_of}
+use Rattle.state_outgoing.specs.SentAnswers.{carried}
 use Rattle.state_outgoing.specs.SentTables.{IsTable, sent_in}
 use Rattle.state_outgoing.specs.SentTouched.{answered_id, is_spoken_of}
 use Rattle.state_outgoing.specs.declared.deliveries.SentDeliveries.{SentDeliveries}
@@ -20,7 +20,7 @@ use Rattle.state_outgoing.proofs.SentFound.{speaks}
 use Rattle.state_outgoing.proofs.SentKept.{contained-at, unfinished-entry, unsettled-unfinished}
 use Rattle.state_outgoing.proofs.VerdictsGiven.{any-at}
 
-named-number : (note : Note) (n : ℕ) → names n note ≡ true → is_some_and (number_of note) (nat_eq n) ≡ true
+named-number : (note : Note) (n : ℕ) → names n note ≡ true → is_some_and (noted_number note) (nat_eq n) ≡ true
 named-number (notes.Pair m) n is = swapped n m ∙ is
 named-number notes.None n is = absurd cc
 named-number (notes.Told why) n is = absurd cc

@@ -5,6 +5,7 @@ use Rattle.pairing_cert.specs.declared.note.Note.{Note}
 use Rattle.pairing_cert.specs.declared.note.Note.TheVariants as notes
 use Rattle.trace_events.specs.Words.{is_some_and, where_passes}
 use Rattle.trace_events.specs.Event.{Event, Outgoing}
+use Rattle.trace_events.specs.Outgoing.{noted_number}
 use Rattle.trace_events.specs.Work.{carries_closed}
 use Rattle.state_outgoing.specs.Sent.{Sent, outgoing_at, to_settle}
 use Rattle.state_outgoing.specs.SentTables.{sent_in}
@@ -28,15 +29,9 @@ KnowsOrBegins table past j = Knows table j ⊎ (j.number ≡ length past)
 abbrev pub unsent : Option Sent → Option Outgoing
 unsent o = option_map (λ x. x.delivery) (where_passes (λ x. not x.is_sent) o)
 
--- the number that a note names
-abbrev pub number_of : Note → Option ℕ
-number_of (notes.Pair n) = Some n
-number_of notes.None = None
-number_of (notes.Told why) = None
-
--- that of the delivery which it carries
+-- the number of the delivery which it carries
 abbrev pub carried : Option Sent → Option ℕ
-carried o = option_and_then (λ x. number_of x.delivery.note) o
+carried o = option_and_then (λ x. noted_number x.delivery.note) o
 
 abbrev pub says_sent : Option Sent → Bool
 says_sent o = is_some_and o (λ x. x.is_sent)

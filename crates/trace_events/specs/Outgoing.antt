@@ -1,6 +1,6 @@
 -- Deliveries to clients: their parts, the incoming delivery that each carries, and what its consumer decides (part 2 of
 -- the standard, sections 2.6.12 and 2.6.14).
-use Rattle.std.specs.Prelude.{ℕ, ◌%◌, ◌^◌, Bool, false, ◌&&◌, ◌||◌, not, List, [], ◌∷◌, Option, None, is_some, filter_map, find, count_by, nat_lt, ◌==◌, if◌then◌else◌}
+use Rattle.std.specs.Prelude.{ℕ, ◌%◌, ◌^◌, Bool, false, ◌&&◌, ◌||◌, not, List, [], ◌∷◌, Option, Some, None, option_and_then, is_some, filter_map, find, count_by, nat_lt, ◌==◌, if◌then◌else◌}
 use Rattle.std.specs.List.{list_any}
 use Rattle.amqp_perf.specs.Meaning.{DispositionFields, flag}
 use Rattle.flow_counts.specs.Parts.{joined_payload}
@@ -59,6 +59,16 @@ abbrev pub names : ℕ → Note → Bool
 names n (notes.Pair m) = m == n
 names n notes.None = false
 names n (notes.Told why) = false
+
+-- the number of the incoming delivery that a note names
+abbrev pub noted_number : Note → Option ℕ
+noted_number (notes.Pair n) = Some n
+noted_number notes.None = None
+noted_number (notes.Told why) = None
+
+-- that of the one which the delivery carries that the event is a part of
+abbrev pub carried_number : Event → Option ℕ
+carried_number e = option_and_then (λ j. noted_number j.note) e.outgoing
 
 -- the incoming delivery that a note names
 abbrev pub noted : Note → List Event → Option Incoming
