@@ -7,6 +7,8 @@ use audit_core::{Refusal, Tally, audit};
 use capture_form::{Capture, Form, Reader, Reading, RuleSet, read_whole_records};
 use kit_clients::Chance;
 use std::alloc::{AllocError, Global};
+use std::fmt;
+use std::fmt::{Display, Formatter};
 use trace_law::{slow_check, tally_capture};
 
 /// Where the rules begin, in form One and in form Two.
@@ -19,60 +21,60 @@ const RECORD_HEAD: usize = 18;
 
 const LENGTH_AT: usize = 14;
 
-/// Damage that is made anew and anew, the same in each run.
+/// Damage that is made anew and anew, the same in each run, and how what came of it is judged.
 #[derive(Drop)]
 pub struct Damage {
     chance: Chance,
+    // How often each capture is damaged.
+    often: u32,
+    // How many of the captures that came of it are judged alike, and how many are not.
+    alike: u64,
+    otherwise: u64,
 }
 
 impl Damage {
-    /// The first damage of this number.
-    pub fn new(seed: u64) -> Damage {
+    /// The first damage of this number, so often to each capture. Nothing is damaged yet.
+    pub fn new(seed: u64, often: u32) -> Damage {
         Damage {
             chance: Chance::new(seed),
+            often,
+            alike: 0,
+            otherwise: 0,
         }
     }
 
-    /// Damages the text of a capture so many times, and answers how many of the captures that come of it are not judged alike.
-    pub fn judged_otherwise(
-        &mut self,
-        alloc: Global,
-        text: &[u8],
-        often: u32,
-    ) -> Result<u32, AllocError> {
+    /// Damages the text of a capture, and judges the captures that come of it. A text that has no head is left as it is.
+    pub fn judge_damaged(&mut self, alloc: Global, text: &[u8]) -> Result<(), AllocError> {
         match head_of(alloc, text) {
-            Some(head) => self.judged_otherwise_behind(alloc, text, head, often),
-            None => Ok(often),
+            Some(head) => self.judge_behind(alloc, text, head),
+            None => Ok(()),
         }
     }
 
     /// The same of a text whose records begin at this place.
-    fn judged_otherwise_behind(
-        &mut self,
-        alloc: Global,
-        text: &[u8],
-        head: usize,
-        often: u32,
-    ) -> Result<u32, AllocError> {
-        let mut otherwise: u32 = 0;
-        for _ in 0..often {
-            if !self.next_is_judged_alike(alloc, text, head)? {
-                otherwise = otherwise.saturating_add(1);
-            }
+    fn judge_behind(&mut self, alloc: Global, text: &[u8], head: usize) -> Result<(), AllocError> {
+        for _ in 0..self.often {
+            self.judge_next(alloc, text, head)?;
         }
-        Ok(otherwise)
+        Ok(())
     }
 
-    /// Damages the text of a capture whose records begin at this place, and answers whether what comes of it is judged alike.
-    fn next_is_judged_alike(
-        &mut self,
-        alloc: Global,
-        text: &[u8],
-        head: usize,
-    ) -> Result<bool, AllocError> {
+    /// Damages the text of a capture whose records begin at this place once, and counts whether what comes of it is judged
+    /// alike.
+    fn judge_next(&mut self, alloc: Global, text: &[u8], head: usize) -> Result<(), AllocError> {
         let mut damaged = Vec::new(alloc);
         self.put_damaged(&mut damaged, text, head)?;
-        Ok(is_judged_alike(alloc, damaged.as_slice()))
+        self.count(is_judged_alike(alloc, damaged.as_slice()));
+        Ok(())
+    }
+
+    /// Counts a capture that is judged alike, or one that is not.
+    fn count(&mut self, is_alike: bool) {
+        if is_alike {
+            self.alike = self.alike.saturating_add(1);
+        } else {
+            self.otherwise = self.otherwise.saturating_add(1);
+        }
     }
 
     /// Puts a text made of that of a capture whose records begin at this place: with one to three records left out, repeated or
@@ -134,6 +136,16 @@ impl Damage {
             let place = head + self.chance.below(count);
             text[place] = self.chance.below(256) as u8;
         }
+    }
+}
+
+impl Display for Damage {
+    fn fmt<W: fmt::Write>(&self, f: &mut Formatter<W>) -> fmt::Result {
+        write!(
+            f,
+            "damaged: {} judged alike, {} otherwise",
+            self.alike, self.otherwise
+        )
     }
 }
 

@@ -1,11 +1,13 @@
-//! Judges small captures, each of which tells a right reading of the law from a likely wrong one.
+//! Judges small captures, each of which tells a right reading of the law from a likely wrong one, and says why some of them
+//! are refused.
 //!
 //! The captures are the files `NAME.cap` of the folder that the program runs in, `data/` here. For each, in the order of
-//! their names, it prints the name and the line of its verdict. `stdout` holds the lines that are expected; they were
-//! worked out by hand. `README.md` says what each capture tells apart.
+//! their names, it prints the name and the line of its verdict. Of those that the file `told` there names, one on a line, it
+//! prints behind this what `amqp_show --why` says: the line of the verdict, and the reason in words. `stdout` holds the lines
+//! that are expected; they were worked out by hand. `README.md` says what each capture tells apart.
 //!
-//! Then it damages each of them, as often as its first word says, by the choices of the seed that its second word says, or
-//! of 42, and counts how many of these captures the auditor and the plain checker judge alike (`damaged`).
+//! Each is also damaged, as often as the program's first word says, by the choices of the seed that its second word says, or
+//! of 42, and at the end it is told how many of these captures the auditor and the plain checker judge alike (`damaged`).
 #![tactic(auto)]
 
 ghost use Rattle.std.specs.Prelude.{◌≡◌, ◌++◌, IfOk, IsSorted, codes, string_bytes, string_cmp};
@@ -17,6 +19,7 @@ mod damaged;
 
 use audit_core::audit_bytes;
 use damaged::Damage;
+use refusal_showing::explain_capture;
 use std::alloc::{AllocError, Global};
 use std::{env, fs, io};
 
@@ -28,20 +31,13 @@ fn main(rt: HostRuntime) -> io::Result<()> {
     tell_captures(&rt, names.as_slice())
 }
 
-/// Writes the verdicts of captures, and how those are judged that come of damage to them.
+/// Tells of captures what `tell_each` does, as the program's words and the file `told` ask for it.
 fn tell_captures(rt: &HostRuntime, names: &[String]) -> io::Result<()> {
-    for name in names {
-        tell_verdict(rt, name.as_str())?;
-    }
     let often = number_of(rt, 1)?.unwrap_or(0);
     let seed = number_of(rt, 2)?.unwrap_or(SEED);
-    tell_damaged(rt, names, often, seed)
-}
-
-/// Writes the name of a capture, and the line of its verdict.
-fn tell_verdict(rt: &HostRuntime, name: &str) -> io::Result<()> {
-    let octets = fs::read(rt, format!(in rt.alloc(); "{name}.cap")?)?;
-    rt.println(line_on(rt.alloc(), name, octets.as_slice())?)
+    let told = fs::read_to_string(rt, "told")?;
+    let mut damage = Damage::new(u64::from(seed), often);
+    tell_each(rt, names, told.as_str(), &mut damage)
 }
 
 /// The word in this place, if it is a number.
@@ -51,27 +47,47 @@ fn number_of(rt: &HostRuntime, place: usize) -> io::Result<Option<u32>> {
     Ok(number.and_then(Result::ok))
 }
 
-/// Damages each capture so often, and writes how many of what comes of it are judged alike, and how many are not.
-fn tell_damaged(rt: &HostRuntime, names: &[String], often: u32, seed: u32) -> io::Result<()> {
-    let mut damage = Damage::new(u64::from(seed));
-    let (mut alike, mut otherwise): (u64, u64) = (0, 0);
+/// Writes the verdicts of captures, the reasons of those of which they are told, and how those are judged that come of damage
+/// to them.
+fn tell_each(
+    rt: &HostRuntime,
+    names: &[String],
+    told: &str,
+    damage: &mut Damage,
+) -> io::Result<()> {
     for name in names {
-        let unlike = judged_otherwise(rt, name.as_str(), &mut damage, often)?;
-        alike = alike.wrapping_add(u64::from(often.wrapping_sub(unlike)));
-        otherwise = otherwise.wrapping_add(u64::from(unlike));
+        tell_capture(rt, name.as_str(), told, damage)?;
     }
-    println!(rt; "damaged: {alike} judged alike, {otherwise} otherwise")
+    println!(rt; "{damage}")
 }
 
-/// Damages a capture so often, and answers how many of what comes of it are not judged alike.
-fn judged_otherwise(
+/// Reads a capture, writes its verdict, and the reason where it is told, and damages it.
+fn tell_capture(rt: &HostRuntime, name: &str, told: &str, damage: &mut Damage) -> io::Result<()> {
+    let octets = fs::read(rt, format!(in rt.alloc(); "{name}.cap")?)?;
+    tell_octets(rt, name, octets.as_slice(), told, damage)
+}
+
+/// The same of a capture of these octets. The reason is told where one of the lines names the capture.
+fn tell_octets(
     rt: &HostRuntime,
     name: &str,
+    octets: &[u8],
+    told: &str,
     damage: &mut Damage,
-    often: u32,
-) -> io::Result<u32> {
-    let octets = fs::read(rt, format!(in rt.alloc(); "{name}.cap")?)?;
-    Ok(damage.judged_otherwise(rt.alloc(), octets.as_slice(), often)?)
+) -> io::Result<()> {
+    rt.println(line_on(rt.alloc(), name, octets)?)?;
+    if told.lines().any(|line| line == name) {
+        tell_reason(rt, octets)?;
+    }
+    Ok(damage.judge_damaged(rt.alloc(), octets)?)
+}
+
+/// Writes the line of the verdict of these octets, and why they are refused or are no capture.
+fn tell_reason(rt: &HostRuntime, octets: &[u8]) -> io::Result<()> {
+    match explain_capture(rt.alloc(), octets, &mut rt.stdout()) {
+        Ok(_) => Ok(()),
+        Err(_) => rt.println("not written"),
+    }
 }
 
 /// The name of a capture, and the line of the verdict of its octets.
