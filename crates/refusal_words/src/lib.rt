@@ -1,5 +1,5 @@
 //! Why a capture is refused, in words: one line that says what the clause asks, and a line for each thing that it compares.
-//! No clause says what is printed; the runs of `corpus_refusals` show it. Which records it names is a call of its own.
+//! No clause says what is printed; the runs of `corpus_captures` show it. Which records it names is a call of its own.
 //!
 //! - `explained`: a reason, with `opening`, `transfer`, `flow` and `outcome` for the clauses, and `clauses`, what each asks;
 //! - `compared`: the records that it names;
