@@ -51,7 +51,7 @@ module _ (l : Link) (id format : ℕ) (more : Bool) (payload : List ℕ) where
       (first_writable l.handle id (to_be_bytes w32 id) format l.is_pre_settled more (omega arith)).few)
 
   -- it has so many octets
-  pub first_counted : (h n e : ℕ) → h ≡ length (uint_octets l.handle) → n ≡ length (uint_octets id) + 6 → e ≡ length (uint_octets format) + 2 → length (spoken_octets First) ≡ 14 + (h + n + e) + length payload
+  pub first_counted : (h n e : ℕ) → h ≡ length (uint_octets l.handle) → n ≡ length (uint_octets id) → e ≡ length (uint_octets format) → length (spoken_octets First) ≡ 14 + (h + n + e + 8) + length payload
   first_counted h n e handle number encoding =
       omega (arith, handle, number, encoding, spoken_long First, spoken_long (written_transfer l (first_part l id format true) []), first_same l id format more, first_sized l id format)
 
@@ -75,27 +75,27 @@ short_spoken channel code count meaning fields payload size len means some few i
     ∙ (ap (λ n. frame_octets kinds.Amqp channel ((0x00 ∷ 0x53 ∷ code ∷ 0xC0 ∷ (n + 1) ∷ count ∷ fields) ++ payload)) is
     ∙ ap (λ octets. frame_octets kinds.Amqp channel (octets ++ payload)) (ap (λ octets. 0x00 ∷ 0x53 ∷ code ∷ octets) (sym list) ∙ sym means))
 
-six_joined : (a b t d s m payload : List ℕ) → a ++ ((b ++ t) ++ ((d ++ (s ++ m)) ++ (payload ++ []))) ≡ (a ++ (b ++ (t ++ (d ++ (s ++ (m ++ [])))))) ++ payload
-six_joined a b t d s m payload = rw (append-nil payload, append-nil m) (simp append_assoc)
+six_joined : (a b c d e f payload : List ℕ) → a ++ (b ++ (c ++ (d ++ (e ++ (f ++ (payload ++ [])))))) ≡ (a ++ (b ++ (c ++ (d ++ (e ++ (f ++ [])))))) ++ payload
+six_joined a b c d e f payload = rw (append-nil payload, append-nil f) (sym (simp append_assoc))
 
 -- the first part of a delivery
 module _ (l : Link) (id format : ℕ) (more : Bool) (payload : List ℕ) where
   abbrev Tag : List ℕ
   Tag = text_octets texts.Binary (to_be_bytes w32 id)
 
-  pub first_written : (front handle number encoding : List ℕ) (settled flag h n e : ℕ) → front ≡ front_octets (14 + (h + n + e) + length payload) l.session.channel 0x14 (h + n + e) 6
-      → handle ≡ uint_octets l.handle → number ≡ uint_octets id ++ Tag → encoding ≡ uint_octets format ++ (settled ∷ flag ∷ []) → settled ∷ [] ≡ boolean_octets l.is_pre_settled → flag ∷ [] ≡ boolean_octets more
-      → h ≡ length (uint_octets l.handle) → n ≡ length (uint_octets id) + 6 → e ≡ length (uint_octets format) + 2 → h ≤ 5 → n ≤ 11 → e ≤ 7
-      → front ++ (handle ++ (number ++ (encoding ++ (payload ++ [])))) ≡ spoken_octets (written_transfer l (first_part l id format more) payload)
-  first_written front handle number encoding settled flag h n e front_is handle_is number_is encoding_is settled_is flag_is h_is n_is e_is few-h few-n few-e =
-      let Front = front_octets (14 + (h + n + e) + length payload) l.session.channel 0x14 (h + n + e) 6 in
+  pub first_written : (front handle number tag encoding : List ℕ) (settled flag h n e : ℕ) → front ≡ front_octets (14 + (h + n + e + 8) + length payload) l.session.channel 0x14 (h + n + e + 8) 6
+      → handle ≡ uint_octets l.handle → number ≡ uint_octets id → tag ≡ Tag → encoding ≡ uint_octets format → settled ∷ [] ≡ boolean_octets l.is_pre_settled → flag ∷ [] ≡ boolean_octets more
+      → h ≡ length (uint_octets l.handle) → n ≡ length (uint_octets id) → e ≡ length (uint_octets format) → h ≤ 5 → n ≤ 5 → e ≤ 5
+      → front ++ (handle ++ (number ++ (tag ++ (encoding ++ (settled ∷ flag ∷ (payload ++ [])))))) ≡ spoken_octets (written_transfer l (first_part l id format more) payload)
+  first_written front handle number tag encoding settled flag h n e front_is handle_is number_is tag_is encoding_is settled_is flag_is h_is n_is e_is few-h few-n few-e =
+      let Front = front_octets (14 + (h + n + e + 8) + length payload) l.session.channel 0x14 (h + n + e + 8) 6 in
       let a = uint_octets l.handle in
       let b = uint_octets id in
       let d = uint_octets format in
       let s = boolean_octets l.is_pre_settled in
       let m = boolean_octets more in
       let fields = a ++ (b ++ (Tag ++ (d ++ (s ++ (m ++ []))))) in
-      let len : h + n + e ≡ length fields = omega (
+      let len : h + n + e + 8 ≡ length fields = omega (
         arith,
         h_is,
         n_is,
@@ -110,17 +110,15 @@ module _ (l : Link) (id format : ℕ) (more : Bool) (payload : List ℕ) where
         length-append s (m ++ []),
         length-append m [],
       ) in
-      ap (λ xs. xs ++ (handle ++ (number ++ (encoding ++ (payload ++ []))))) front_is
-      ∙ (ap (λ xs. Front ++ (xs ++ (number ++ (encoding ++ (payload ++ []))))) handle_is
-      ∙ (ap (λ xs. Front ++ (a ++ (xs ++ (encoding ++ (payload ++ []))))) number_is
-      ∙ (ap (λ xs. Front ++ (a ++ ((b ++ Tag) ++ (xs ++ (payload ++ []))))) encoding_is
-      ∙ (ap (λ xs. Front ++ (a ++ ((b ++ Tag) ++ ((d ++ (xs ++ (flag ∷ []))) ++ (payload ++ []))))) settled_is
-      ∙ (ap (λ xs. Front ++ (a ++ ((b ++ Tag) ++ ((d ++ (s ++ xs)) ++ (payload ++ []))))) flag_is
+      ap (λ xs. xs ++ (handle ++ (number ++ (tag ++ (encoding ++ (settled ∷ flag ∷ (payload ++ []))))))) front_is
+      ∙ (ap (λ xs. Front ++ (xs ++ (number ++ (tag ++ (encoding ++ (settled ∷ flag ∷ (payload ++ []))))))) handle_is
+      ∙ (ap (λ xs. Front ++ (a ++ (xs ++ (tag ++ (encoding ++ (settled ∷ flag ∷ (payload ++ []))))))) number_is
+      ∙ (ap (λ xs. Front ++ (a ++ (b ++ (xs ++ (encoding ++ (settled ∷ flag ∷ (payload ++ []))))))) tag_is
+      ∙ (ap (λ xs. Front ++ (a ++ (b ++ (Tag ++ (xs ++ (settled ∷ flag ∷ (payload ++ []))))))) encoding_is
+      ∙ (ap (λ xs. Front ++ (a ++ (b ++ (Tag ++ (d ++ (xs ++ (flag ∷ (payload ++ [])))))))) settled_is
+      ∙ (ap (λ xs. Front ++ (a ++ (b ++ (Tag ++ (d ++ (s ++ (xs ++ (payload ++ [])))))))) flag_is
       ∙ (ap (λ xs. Front ++ xs) (six_joined a b Tag d s m payload)
-      ∙ short_spoken l.session.channel 0x14 6 (ATransfer (first_part l id format more)) fields payload (14 + (h + n + e) + length payload) (h + n + e) refl refl refl len (omega (arith, few-h, few-n, few-e)) (omega arith)))))))
-
-joined : (a b c : List ℕ) → (a ++ b) ++ c ≡ a ++ (b ++ c)
-joined a b c = simp append_assoc
+      ∙ short_spoken l.session.channel 0x14 6 (ATransfer (first_part l id format more)) fields payload (14 + (h + n + e + 8) + length payload) (h + n + e + 8) refl refl refl len (omega (arith, few-h, few-n, few-e)) (omega arith))))))))
 
 -- that a delivery is settled
 module _ (channel : ℕ) (role : Role) (id : ℕ) where
@@ -146,12 +144,12 @@ module _ (channel : ℕ) (role : Role) (id : ℕ) where
   few_fields None = refl
   few_fields (Some octets) = refl
 
-  pub decided_written : (state : Option (List ℕ)) (front number octets : List ℕ) (flag n count : ℕ) → front ≡ front_octets (14 + (1 + n + length octets)) channel 0x15 (1 + n + length octets) count
-      → flag ∷ [] ≡ (role_value role).octets → number ≡ uint_octets id ++ (0x40 ∷ 0x41 ∷ []) → octets ≡ unwrap_or state [] → count ≡ count_with state → n ≡ length (uint_octets id) + 2 → n ≤ 7
-      → length (unwrap_or state []) ≤ 200 → front ++ (flag ∷ (number ++ (octets ++ []))) ≡ spoken_octets (says channel (ADisposition (decided role id (state_of state))))
+  pub decided_written : (state : Option (List ℕ)) (front number octets : List ℕ) (flag n count : ℕ) → front ≡ front_octets (14 + (n + 3 + length octets)) channel 0x15 (n + 3 + length octets) count
+      → flag ∷ [] ≡ (role_value role).octets → number ≡ uint_octets id → octets ≡ unwrap_or state [] → count ≡ count_with state → n ≡ length (uint_octets id) → n ≤ 5 → length (unwrap_or state []) ≤ 200
+      → front ++ (flag ∷ (number ++ (0x40 ∷ 0x41 ∷ (octets ++ [])))) ≡ spoken_octets (says channel (ADisposition (decided role id (state_of state))))
   decided_written state front number octets flag n count front_is flag_is number_is octets_is count_is n_is few-n short =
-      let len = 1 + n + length octets in
-      let Front = front_octets (14 + len) channel 0x15 len (count_with state) in
+      let size = 14 + (n + 3 + length octets) in
+      let len = n + 3 + length octets in
       let a = (role_value role).octets in
       let b = uint_octets id in
       let rest = unwrap_or state [] ++ [] in
@@ -164,14 +162,13 @@ module _ (channel : ℕ) (role : Role) (id : ℕ) where
         length-append b (0x40 ∷ 0x41 ∷ rest),
         length-append (unwrap_or state []) [],
       ) in
-      ap (λ xs. xs ++ (flag ∷ (number ++ (octets ++ [])))) (front_is ∙ ap (λ k. front_octets (14 + len) channel 0x15 len k) count_is)
-      ∙ (ap (λ xs. Front ++ (xs ++ (number ++ (octets ++ [])))) flag_is
-      ∙ (ap (λ xs. Front ++ (a ++ (xs ++ (octets ++ [])))) number_is
-      ∙ (ap (λ xs. Front ++ (a ++ ((b ++ (0x40 ∷ 0x41 ∷ [])) ++ (xs ++ [])))) octets_is
-      ∙ (ap (λ xs. Front ++ (a ++ xs)) (joined b (0x40 ∷ 0x41 ∷ []) rest)
-      ∙ (ap (λ xs. Front ++ xs) (sym (append-nil (Fields rest)))
-      ∙ short_spoken channel 0x15 (count_with state) (ADisposition (decided role id (state_of state))) (Fields rest) [] (14 + len) len (decided_fields state) (some_fields state) (few_fields state) longs
-      (omega (arith, few-n, short, ap length octets_is)) (omega arith))))))
+      ap (λ xs. xs ++ (flag ∷ (number ++ (0x40 ∷ 0x41 ∷ (octets ++ []))))) (front_is ∙ ap (λ k. front_octets size channel 0x15 len k) count_is)
+      ∙ (ap (λ xs. front_octets size channel 0x15 len (count_with state) ++ (xs ++ (number ++ (0x40 ∷ 0x41 ∷ (octets ++ []))))) flag_is
+      ∙ (ap (λ xs. front_octets size channel 0x15 len (count_with state) ++ (a ++ (xs ++ (0x40 ∷ 0x41 ∷ (octets ++ []))))) number_is
+      ∙ (ap (λ xs. front_octets size channel 0x15 len (count_with state) ++ (a ++ (b ++ (0x40 ∷ 0x41 ∷ (xs ++ []))))) octets_is
+      ∙ (ap (λ xs. front_octets size channel 0x15 len (count_with state) ++ xs) (sym (append-nil (Fields rest)))
+      ∙ short_spoken channel 0x15 (count_with state) (ADisposition (decided role id (state_of state))) (Fields rest) [] size len (decided_fields state) (some_fields state) (few_fields state) longs
+      (omega (arith, few-n, short, ap length octets_is)) (omega arith)))))
 
 -- ---- put behind what was there
 

@@ -2,7 +2,7 @@
 //! delivery is settled. Each field is in its shortest form (part 1 of the standard, section 1.6), and the size and the count of
 //! the list take one octet each, as `amqp_frames` writes them too, but without memory of their own.
 
-ghost use Rattle.std.specs.Prelude.{◌≡◌, ◌≤◌, ◌<◌, ◌^◌, ◌∷◌, ◌++◌, ◌+◌, [], ℕ, suc, Option, Some, length, take, unwrap_or};
+ghost use Rattle.std.specs.Prelude.{◌≡◌, ◌≤◌, ◌<◌, ◌^◌, ◌∷◌, [], ℕ, suc, Option, Some, length, take, unwrap_or};
 ghost use Rattle.std.specs.Int.{w32, to_be_bytes};
 ghost use Rattle.std.specs.Option.{option_copied};
 ghost use Rattle.flow_counts.specs.declared.profile.TheConstants.{MAX_FRAME_SIZE};
@@ -47,48 +47,21 @@ fn uint_in(value: u32) -> ([u8; 5], usize)
     ([0x70, a, b, c, d], 5)
 }
 
-/// A uint and two octets behind it, in the same way.
-#[tactic(auto, unfolding(amqp_types::specs::Writing::uint_octets), using(amqp_perf::proofs::SlotValues::uint_can))]
-fn uint_before(value: u32, first: u8, second: u8) -> ([u8; 7], usize)
-    ensures octets { take result.1 result.0 ≡ uint_octets value ++ (first ∷ second ∷ []) }
-    ensures size { result.1 ≡ length (uint_octets value) + 2 }
-    ensures small { result.1 ≤ 7 }
-    ensures can { (levels : ℕ) → CanStand (suc levels) (Some (uint_value value)) }
-{
-    if value == 0 {
-        return ([0x43, first, second, 0, 0, 0, 0], 3);
-    }
-    if value < 256 {
-        return ([0x52, value as u8, first, second, 0, 0, 0], 4);
-    }
-    let [a, b, c, d] = value.to_be_bytes();
-    ([0x70, a, b, c, d, first, second], 7)
-}
-
-/// The id of a delivery and its tag, a binary of the id in four octets (part 1, 1.6.19), in the same way.
-#[tactic(auto, unfolding(amqp_types::specs::Writing::uint_octets, amqp_types::specs::Writing::text_octets), using(amqp_perf::proofs::SlotValues::uint_can))]
-fn id_and_tag(id: u32) -> ([u8; 11], usize)
-    ensures octets { take result.1 result.0 ≡ uint_octets id ++ text_octets Text.Binary (to_be_bytes w32 id) }
-    ensures size { result.1 ≡ length (uint_octets id) + 6 }
-    ensures small { result.1 ≤ 11 }
-    ensures can { (levels : ℕ) → CanStand (suc levels) (Some (uint_value id)) }
-{
-    let [a, b, c, d] = id.to_be_bytes();
-    if id == 0 {
-        return ([0x43, 0xA0, 4, a, b, c, d, 0, 0, 0, 0], 7);
-    }
-    if id < 256 {
-        return ([0x52, id as u8, 0xA0, 4, a, b, c, d, 0, 0, 0], 8);
-    }
-    ([0x70, a, b, c, d, 0xA0, 4, a, b, c, d], 11)
-}
-
 /// A flag as it is written (part 1, 1.6.2).
 #[tactic(auto, unfolding(amqp_types::specs::Writing::boolean_octets))]
 fn flag(value: bool) -> u8
     ensures { result ∷ [] ≡ boolean_octets value }
 {
     if value { 0x41 } else { 0x42 }
+}
+
+/// The tag of a delivery as it is written: a binary of its id in four octets (part 1, 1.6.19).
+#[tactic(auto, unfolding(amqp_types::specs::Writing::text_octets))]
+fn tag_in(id: u32) -> [u8; 6]
+    ensures { result ≡ text_octets Text.Binary (to_be_bytes w32 id) }
+{
+    let [a, b, c, d] = id.to_be_bytes();
+    [0xA0, 4, a, b, c, d]
 }
 
 /// The octets in front of so many fields, which have so many octets together, in a frame of this size.
@@ -136,11 +109,11 @@ pub(crate) fn put_first_part(
     ensures again { length (spoken_octets (written_transfer (link_view link.now) (first_part (link_view link.now) id format more) payload.now)) ≤ MAX_FRAME_SIZE
         → IsReadAgain (written_transfer (link_view link.now) (first_part (link_view link.now) id format more) payload.now) }
 {
-    let (handle, handle_len) = uint_in(link.handle);
-    let (number, number_len) = id_and_tag(id);
-    let (settled, more) = (flag(link.is_pre_settled), flag(more));
-    let (encoding, encoding_len) = uint_before(format, settled, more);
-    let fields = handle_len + number_len + encoding_len;
+    let (handle_octets, handle_size) = uint_in(link.handle);
+    let (id_octets, id_size) = uint_in(id);
+    let (format_octets, format_size) = uint_in(format);
+    // With the tag, and two flags.
+    let fields = handle_size + id_size + format_size + 8;
     let size = FRONT_OCTETS + fields + payload.len();
     let front = front(size as u32, link.session.channel, 0x14, fields as u8, 6);
     out.reserve(size)?;
@@ -148,9 +121,11 @@ pub(crate) fn put_first_part(
         out,
         &[
             &front,
-            &handle[..handle_len],
-            &number[..number_len],
-            &encoding[..encoding_len],
+            &handle_octets[..handle_size],
+            &id_octets[..id_size],
+            &tag_in(id),
+            &format_octets[..format_size],
+            &[flag(link.is_pre_settled), flag(more)],
             payload,
         ],
     )
@@ -208,13 +183,19 @@ pub(crate) fn put_decided(
 {
     let octets = octets_if(state);
     // Behind the id, no last one is said, and that the delivery is settled.
-    let (number, number_len) = uint_before(id, 0x40, 0x41);
-    let fields = 1 + number_len + octets.len();
+    let (id_octets, id_size) = uint_in(id);
+    let fields = id_size + 3 + octets.len();
     let size = FRONT_OCTETS + fields;
     let front = front(size as u32, channel, 0x15, fields as u8, count_with(state));
     out.reserve(size)?;
     put_parts(
         out,
-        &[&front, &[role_octet(role)], &number[..number_len], octets],
+        &[
+            &front,
+            &[role_octet(role)],
+            &id_octets[..id_size],
+            &[0x40, 0x41],
+            octets,
+        ],
     )
 }
