@@ -39,10 +39,11 @@ use Rattle.due_flows.specs.Topping.{IsToppable}
 use Rattle.due_flows.specs.Lacking.{IsLacking}
 use Rattle.due_flows.specs.declared.parts.DuePart.{DuePart}
 use Rattle.due_copies.specs.Copies.{IsDueCopy}
+use Rattle.due_waiting.specs.Waiting.{IsDueWaiting}
 use Rattle.due_flows.specs.declared.begin.DueBegin.{DueBegin}
 use Rattle.route_work.specs.declared.due.Due.{Due}
 use Rattle.route_work.specs.declared.due.Due.TheVariants as dues
-use Rattle.route_work.specs.Dues.{IsDue, IsWaitingDue, IsFrameFor, IsNextFrame, is_in_turn, connection_of, note_of}
+use Rattle.route_work.specs.Dues.{IsDue, IsFrameFor, IsNextFrame, is_in_turn, connection_of, note_of}
 
 module _ (rules : RuleSet) (past : List Event) (order : IsInOrder rules past) where
   framed : (c : ℕ) (note : Note) (spoken : Spoken) (octets : List ℕ) → MayFollow rules past c note spoken
@@ -86,7 +87,7 @@ module _ (rules : RuleSet) (past : List Event) (order : IsInOrder rules past) wh
       (goes_on rules past l is.carried is.delivery order.lawful is.live is.still is.going is.named)
       (part_in_turn rules past l is.carried is.live turn is.delivery is.still) again same)
 
-  pub waiting_frame_for : (due : DueBegin) (octets : List ℕ) → IsWaitingDue rules past due → is_in_turn rules past (dues.Waiting due) ≡ true
+  pub waiting_frame_for : (due : DueBegin) (octets : List ℕ) → IsDueWaiting rules due past → is_in_turn rules past (dues.Waiting due) ≡ true
       → IsReadAgain (first_frame past (link_view due.link) (incoming_view due.delivery)) → octets ≡ spoken_octets (first_frame past (link_view due.link) (incoming_view due.delivery))
       → IsFrameFor rules past (connection_of (dues.Waiting due)) (note_of (dues.Waiting due)) octets
   waiting_frame_for due octets is turn again same =

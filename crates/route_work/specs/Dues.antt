@@ -9,10 +9,7 @@ use Rattle.capture_form.specs.declared.records.What.TheVariants as whats
 use Rattle.capture_form.specs.Rules.{RuleSet}
 use Rattle.trace_events.specs.Frame.{Spoken}
 use Rattle.trace_events.specs.Event.{Event, Out}
-use Rattle.trace_events.specs.Link.{IsLiveLink, link_at}
-use Rattle.trace_events.specs.Incoming.{incoming_at, payload}
 use Rattle.trace_clauses.specs.Written.{spoken_octets}
-use Rattle.trace_duties.specs.Diligent.{is_next_waiting, is_picked_link}
 use Rattle.trace_duties.specs.Quiet.{none_is_untold, none_stands_still}
 use Rattle.trace_duties.specs.Turn.{is_all_told, is_all_sent, is_all_drained, is_all_credited, is_first_to_begin, stands_in_turn}
 use Rattle.trace_judge.specs.Told.{told_view}
@@ -25,26 +22,16 @@ use Rattle.due_flows.specs.Draining.{IsDrainable}
 use Rattle.due_flows.specs.Topping.{IsToppable}
 use Rattle.due_flows.specs.Lacking.{IsLacking}
 use Rattle.due_copies.specs.Copies.{IsDueCopy}
+use Rattle.due_waiting.specs.Waiting.{IsDueWaiting}
 use Rattle.route_work.specs.declared.due.Due.{Due}
 use Rattle.route_work.specs.declared.due.Due.TheVariants as dues
-use Rattle.due_flows.specs.declared.begin.DueBegin.{DueBegin}
 
--- ---- each kind, as the lists say it
-
--- a delivery waits, none of its address before it, and the live link is picked; this is its payload
-pub record IsWaitingDue (rules : RuleSet) (past : List Event) (due : DueBegin) : Type 0 where
-  pub live : IsLiveLink (link_view due.link) past
-  pub at : link_at (link_view due.link).number past ≡ Some (link_view due.link)
-  pub found : incoming_at (incoming_view due.delivery).number past ≡ Some (incoming_view due.delivery)
-  pub next : is_next_waiting rules past (incoming_view due.delivery) ≡ true
-  pub picked : is_picked_link rules past (incoming_view due.delivery) (link_view due.link) ≡ true
-  pub payload : due.payload.now ≡ payload (incoming_view due.delivery) past
-
+-- it is due, as the list of its kind says it
 abbrev pub IsDue : RuleSet → List Event → Due → Type 0
 IsDue rules past (dues.Outcome due) = IsDueOutcome rules past (incoming_view due.delivery) due.why (told_view due.told)
 IsDue rules past (dues.Settling j) = IsDueSettling past (outgoing_view j)
 IsDue rules past (dues.Part due) = IsDuePart due past
-IsDue rules past (dues.Waiting due) = IsWaitingDue rules past due
+IsDue rules past (dues.Waiting due) = IsDueWaiting rules due past
 IsDue rules past (dues.Copy due) = IsDueCopy rules due past
 IsDue rules past (dues.Drain l) = IsDrainable rules (link_view l) past
 IsDue rules past (dues.Credit l) = IsToppable rules (link_view l) past

@@ -10,11 +10,11 @@ ghost use Rattle.trace_duties.specs.Turn.{is_all_told, is_first_to_begin};
 ghost use Rattle.trace_values.specs.View.{Events, event_view, incoming_view};
 ghost use Rattle.state_tables.specs.Connections.{IsLawfulNext};
 ghost use Rattle.state_addresses.specs.Addressed.{IsAddressed};
+ghost use Rattle.state_answers.specs.Tables.{TellsOf};
 ghost use Rattle.due_copies.specs.Copies.{IsDueCopy};
 ghost use Rattle.due_waiting.specs.Waiting.{IsDueWaiting};
 ghost use Rattle.route_work.specs.Dues.{IsDue, is_in_turn};
 ghost use Rattle.route_work.specs.Work.{HasSending, IsAllSent, IsAllTold};
-ghost use Rattle.state_answers.specs.Tables.{TellsOf};
 
 use crate::Due;
 use capture_form::RuleSet;
@@ -123,20 +123,11 @@ fn first_completed<'t>(
             {
                 Some(Due::Copy(copy))
             } else {
-                Some(due_of(begin))
+                Some(Due::Waiting(begin))
             }
         }
-        (Some(begin), None) => Some(due_of(begin)),
+        (Some(begin), None) => Some(Due::Waiting(begin)),
         (None, Some(copy)) => Some(Due::Copy(copy)),
         (None, None) => None,
     }
-}
-
-/// A delivery that waits, as what is due.
-fn due_of<'t>(begin: DueBegin<'t>) -> Due<'t>
-    ensures due { (rules : RuleSet) (past : Events) → IsDueWaiting rules begin.entry past → IsDue rules past result }
-    ensures turn { (rules : RuleSet) (past : Events) → is_all_told rules past && none_stands_still past ≡ true →
-        is_first_to_begin rules past (incoming_view begin.entry.delivery) ≡ true → is_in_turn rules past result ≡ true }
-{
-    Due::Waiting(begin)
 }
