@@ -12,8 +12,8 @@ ghost use Rattle.trace_duties.specs.Quiet.{copies_are_sent, has_earlier_unsent};
 ghost use Rattle.trace_values.specs.View.{Events, event_view, incoming_view, link_view};
 ghost use Rattle.state_tables.specs.Connections.{IsLawfulNext};
 ghost use Rattle.state_addresses.specs.Addressed.{IsAddressed};
-ghost use Rattle.due_copies.specs.Copies.{HasUnsent, IsDueCopy, IsKnownCopy, IsReady, IsUnsentOn};
 ghost use Rattle.state_answers.specs.Tables.{TellsOf};
+ghost use Rattle.due_copies.specs.Copies.{HasUnsent, IsDueCopy, IsKnownCopy, IsReady, IsUnsentOn};
 
 use crate::lists::Lists;
 use capture_form::RuleSet;

@@ -27,13 +27,13 @@ use Rattle.state_incoming.proofs.CarriedHeld.{knows-held}
 use Rattle.state_incoming.proofs.OverKnown.{undecided-kept}
 use Rattle.state_addresses.specs.ConsumerLinks.{has_number}
 use Rattle.state_answers.specs.declared.looked.Looked.{Looked}
+use Rattle.state_answers.specs.Tables.{TellsOf}
 use Rattle.due_flows.specs.Credits.{HasCredits, IsIn, AreEndedIn, AreFreedIn, AreOpenedIn, HasMore, AreTouchedIn, AreWokenIn, has_waited, place_in, on_session, at_address, waits}
 use Rattle.due_flows.specs.Topping.{IsProducing, IsToppable, IsDecidedOn, EndsWaited}
 use Rattle.due_flows.specs.declared.credits.Credits.{Credits}
 use Rattle.due_flows.proofs.LiveOnes.{link-before, live-known, live_links-live}
 use Rattle.due_flows.proofs.PartsFollowed.{not-ended}
 use Rattle.due_flows.proofs.ToppedLinks.{Touches, Names, Tells, Carries, Settles, Serves, Frees, lived-before, some-any}
-use Rattle.state_answers.specs.Tables.{TellsOf}
 
 -- ---- what is undecided is kept
 

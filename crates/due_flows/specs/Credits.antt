@@ -15,12 +15,12 @@ use Rattle.trace_clauses.specs.FlowClause.{may_be_topped_up}
 use Rattle.state_incoming.specs.EntryAnswers.{Knows}
 use Rattle.state_addresses.specs.ConsumerLinks.{has_number}
 use Rattle.state_answers.specs.declared.looked.Looked.{Looked}
+use Rattle.state_answers.specs.Tables.{TellsOf}
 use Rattle.due_flows.specs.Candidates.{value_of}
 use Rattle.due_flows.specs.Numbers.{has}
 use Rattle.due_flows.specs.Topping.{IsProducing, consumer_opened, settles}
 use Rattle.due_flows.specs.declared.credits.Credits.{Credits}
 use Rattle.due_flows.specs.declared.credits.Place.{Place}
-use Rattle.state_answers.specs.Tables.{TellsOf}
 
 abbrev pub place_of : Link → Place
 place_of l = record { connection = l.session.connection; channel = l.session.channel; handle = l.handle }

@@ -17,10 +17,10 @@ ghost use Rattle.state_incoming.specs.EntryAnswers.{Knows};
 ghost use Rattle.state_tables.specs.Connections.{IsLawfulNext};
 ghost use Rattle.state_tables.specs.EndedLinks.{views};
 ghost use Rattle.state_addresses.specs.ConsumerLinks.{has_number};
+ghost use Rattle.state_answers.specs.Tables.{TellsOf};
 ghost use Rattle.due_flows.specs.Topping.{IsToppable, consumer_opened, settles};
 ghost use Rattle.due_flows.specs.Credits.{HasCredits, AreEndedIn, AreFreedIn, AreOpenedIn, AreTouchedIn, AreWokenIn, has_waited, place_of};
 ghost use Rattle.trace_values.specs.View.{Events, event_view, link_view};
-ghost use Rattle.state_answers.specs.Tables.{TellsOf};
 
 use crate::candidates::Candidates;
 use crate::numbers::Numbers;

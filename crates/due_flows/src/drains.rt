@@ -10,11 +10,11 @@ ghost use Rattle.trace_duties.specs.Quiet.{none_is_undrained};
 ghost use Rattle.state_tables.specs.Connections.{IsLawfulNext};
 ghost use Rattle.state_tables.specs.EndedLinks.{views};
 ghost use Rattle.state_addresses.specs.ConsumerLinks.{has_number};
+ghost use Rattle.state_answers.specs.Tables.{TellsOf};
 ghost use Rattle.due_flows.specs.Draining.{IsDrainable, asks_drain, writes_part};
 ghost use Rattle.due_flows.specs.Drains.{HasDrains, stands, waits};
 ghost use Rattle.trace_events.specs.Link.{IsLiveLink};
 ghost use Rattle.trace_values.specs.View.{Events, event_view, link_view};
-ghost use Rattle.state_answers.specs.Tables.{TellsOf};
 
 use crate::numbers::Numbers;
 use amqp_perf::Performative;

@@ -13,10 +13,10 @@ ghost use Rattle.trace_duties.specs.Quiet.{none_stands_still};
 ghost use Rattle.state_tables.specs.Connections.{IsLawfulNext};
 ghost use Rattle.state_tables.specs.EndedLinks.{views};
 ghost use Rattle.state_addresses.specs.ConsumerLinks.{has_number};
+ghost use Rattle.state_answers.specs.Tables.{TellsOf};
 ghost use Rattle.due_flows.specs.Standing.{IsStill, goes_on, grants_window};
 ghost use Rattle.due_flows.specs.Parts.{HasParts, IsDuePart, stands, waits};
 ghost use Rattle.trace_values.specs.View.{Events, event_view};
-ghost use Rattle.state_answers.specs.Tables.{TellsOf};
 
 use crate::numbers::Numbers;
 use flow_counts::WindowEvent;

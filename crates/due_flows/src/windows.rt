@@ -7,10 +7,10 @@ ghost use Rattle.trace_events.specs.declared.session.Session.{Session};
 ghost use Rattle.trace_events.specs.History.{history};
 ghost use Rattle.trace_duties.specs.Quiet.{none_lacks_window};
 ghost use Rattle.state_tables.specs.Connections.{IsLawfulNext};
+ghost use Rattle.state_answers.specs.Tables.{TellsOf};
 ghost use Rattle.due_flows.specs.Lacking.{HasLowered, IsLacking};
 ghost use Rattle.due_flows.specs.Windows.{HasLacking};
 ghost use Rattle.trace_values.specs.View.{Events, event_view};
-ghost use Rattle.state_answers.specs.Tables.{TellsOf};
 
 use crate::candidates::Candidates;
 use flow_counts::RENEWAL_MARK;

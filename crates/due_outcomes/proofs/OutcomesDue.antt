@@ -26,10 +26,10 @@ use Rattle.state_incoming.proofs.OverKnown.{waiting-kept}
 use Rattle.state_outgoing.proofs.SentKept.{contained-at}
 use Rattle.state_answers.specs.declared.looked.Looked.{Looked}
 use Rattle.number_groups.specs.Ascending.{has}
+use Rattle.state_answers.specs.Tables.{TellsOf}
 use Rattle.due_outcomes.specs.Untold.{HasUntold, IsOn, waits_in}
 use Rattle.number_groups.specs.declared.groups.Groups.{Groups}
 use Rattle.due_outcomes.specs.declared.untold.Untold.{Untold}
-use Rattle.state_answers.specs.Tables.{TellsOf}
 
 same_some : {A : Type 0} (a b : A) → Some a ≡ Some b → a ≡ b
 same_some a b is = cc

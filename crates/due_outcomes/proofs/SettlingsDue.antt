@@ -24,12 +24,12 @@ use Rattle.state_outgoing.specs.SentTables.{sent_in}
 use Rattle.state_outgoing.proofs.SentKept.{contained-at, entry-law, unfinished-entry, unsettled-unfinished}
 use Rattle.state_answers.specs.declared.looked.Looked.{Looked}
 use Rattle.number_groups.specs.Ascending.{has}
+use Rattle.state_answers.specs.Tables.{TellsOf}
 use Rattle.due_outcomes.specs.Parked.{is_parked}
 use Rattle.due_outcomes.specs.Settlings.{IsDueSettling, due_in, waits_in}
 use Rattle.due_outcomes.specs.Unsettled.{HasUnsettled, IsParked, is_decided}
 use Rattle.due_outcomes.specs.declared.unsettled.Unsettled.{Unsettled}
 use Rattle.due_outcomes.proofs.UnderKeys.{or-first, or-last}
-use Rattle.state_answers.specs.Tables.{TellsOf}
 
 same_some : {A : Type 0} (a b : A) → Some a ≡ Some b → a ≡ b
 same_some a b is = cc

@@ -8,8 +8,8 @@ ghost use Rattle.trace_events.specs.History.{history};
 ghost use Rattle.trace_events.specs.Incoming.{incoming_deliveries};
 ghost use Rattle.trace_judge.specs.Told.{told_view};
 ghost use Rattle.trace_values.specs.View.{incoming_view};
-ghost use Rattle.due_outcomes.specs.DueOutcomes.{IsDueOutcome};
 ghost use Rattle.state_answers.specs.Tables.{TellsOf};
+ghost use Rattle.due_outcomes.specs.DueOutcomes.{IsDueOutcome};
 
 use capture_form::RuleSet;
 use pairing_cert::Why;

@@ -19,12 +19,12 @@ ghost use Rattle.state_incoming.specs.HeldTables.{held_in};
 ghost use Rattle.state_tables.specs.Connections.{IsLawfulNext};
 ghost use Rattle.state_tables.specs.EndedLinks.{views};
 ghost use Rattle.number_groups.specs.Ascending.{has};
+ghost use Rattle.state_answers.specs.Tables.{TellsOf};
 ghost use Rattle.due_outcomes.specs.Candidates.{Grows};
 ghost use Rattle.due_outcomes.specs.Closings as law;
 ghost use Rattle.due_outcomes.specs.Parked.{IsLeft, is_parked};
 ghost use Rattle.due_outcomes.specs.Settlings.{IsDueSettling, due_in, waits_in};
 ghost use Rattle.due_outcomes.specs.Unsettled.{HasUnsettled, IsParked};
-ghost use Rattle.state_answers.specs.Tables.{TellsOf};
 
 use crate::candidates::add_set;
 use crate::parked::Parked;

@@ -21,9 +21,9 @@ ghost use Rattle.state_incoming.specs.HeldTables.{held_in};
 ghost use Rattle.state_addresses.specs.Addressed.{IsAddressed};
 ghost use Rattle.state_tables.specs.Connections.{IsLawfulNext};
 ghost use Rattle.number_groups.specs.Ascending.{count_of, has};
+ghost use Rattle.state_answers.specs.Tables.{TellsOf};
 ghost use Rattle.due_outcomes.specs.DueOutcomes.{IsDueOutcome};
 ghost use Rattle.due_outcomes.specs.Untold.{HasUntold, IsOn, KeepsOn, waits_in};
-ghost use Rattle.state_answers.specs.Tables.{TellsOf};
 
 use crate::candidates::{add, add_all, add_of_links};
 use crate::outcome::{DueOutcome, outcome_of};

@@ -19,9 +19,9 @@ ghost use Rattle.state_tables.specs.LinkTables.{AreLinked};
 ghost use Rattle.state_addresses.specs.ConsumerLinks.{consumer_at};
 ghost use Rattle.state_outgoing.specs.SentTables.{sent_in};
 ghost use Rattle.state_outgoing.specs.SentViews.{sent_view};
+ghost use Rattle.state_answers.specs.Tables.{TellsOf};
 ghost use Rattle.due_queues.specs.AddressCounts.{AreFew, CountsMore, HasNamedSource, decided_on, detached_all, named_source};
 ghost use Rattle.due_queues.specs.Picks.{ArePicks, DecidesAll, decided_link, decides};
-ghost use Rattle.state_answers.specs.Tables.{TellsOf};
 
 use address_table::Table;
 use amqp_perf::{Address, Role};

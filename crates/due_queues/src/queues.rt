@@ -14,8 +14,8 @@ ghost use Rattle.trace_duties.specs.Diligent.{is_next_waiting};
 ghost use Rattle.trace_values.specs.View.{event_view, incoming_view};
 ghost use Rattle.state_addresses.specs.Addressed.{IsAddressed};
 ghost use Rattle.state_tables.specs.Connections.{IsLawfulNext};
-ghost use Rattle.due_queues.specs.Queues.{HaveQueues, IsPushed, IsShorter, queued, waits_in};
 ghost use Rattle.state_answers.specs.Tables.{TellsOf};
+ghost use Rattle.due_queues.specs.Queues.{HaveQueues, IsPushed, IsShorter, queued, waits_in};
 
 use capture_form::RuleSet;
 use indexmap::IndexMap;

@@ -10,11 +10,11 @@ ghost use Rattle.trace_events.specs.declared.session.Session.{Session};
 ghost use Rattle.trace_events.specs.Words.{is_some_and};
 ghost use Rattle.trace_values.specs.View.{Events, event_view};
 ghost use Rattle.state_addresses.specs.ConsumerLinks.{consumer_at, link_in};
+ghost use Rattle.state_answers.specs.Tables.{TellsOf};
 ghost use Rattle.due_flows.specs.Standing.{goes_on, grants_window, has_window};
 ghost use Rattle.due_waiting.specs.BySession.{stands};
 ghost use Rattle.due_waiting.specs.Awake.{IsKept, address_at, count_of, is_among_first, is_awake};
 ghost use Rattle.due_waiting.specs.Waking.{IsGranted};
-ghost use Rattle.state_answers.specs.Tables.{TellsOf};
 
 use crate::by_session::BySession;
 use flow_counts::WindowEvent;

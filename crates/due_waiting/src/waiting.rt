@@ -10,11 +10,11 @@ ghost use Rattle.trace_values.specs.View.{Events, event_view, incoming_view};
 ghost use Rattle.state_addresses.specs.Addressed.{IsAddressed};
 ghost use Rattle.state_tables.specs.Connections.{IsLawfulNext};
 ghost use Rattle.state_incoming.specs.EntryAnswers.{Knows};
+ghost use Rattle.state_answers.specs.Tables.{TellsOf};
 ghost use Rattle.due_queues.specs.Picks.{ArePicks};
 ghost use Rattle.due_queues.specs.Queues.{HaveQueues};
 ghost use Rattle.due_waiting.specs.Awake.{count_of, is_among_first};
 ghost use Rattle.due_waiting.specs.Waiting.{HasWaiting, IsDueWaiting, IsEarliest, NoneBegins, earlier_of};
-ghost use Rattle.state_answers.specs.Tables.{TellsOf};
 
 use crate::awake::Awake;
 use crate::by_session::BySession;

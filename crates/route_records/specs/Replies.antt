@@ -9,13 +9,13 @@ use Rattle.trace_events.specs.Frame.{Spoken}
 use Rattle.trace_events.specs.Event.{Event, Moment}
 use Rattle.trace_events.specs.History.{judge_moment}
 use Rattle.trace_clauses.specs.Written.{spoken_octets}
+use Rattle.state_answers.specs.Tables.{TellsOf}
 use Rattle.route_answers.specs.Answering.{IsReady, may_happen}
 use Rattle.trace_duties.specs.Answer.{answer}
 use Rattle.state_answers.specs.declared.looked.Looked.{Looked}
 use Rattle.route_dues.specs.Writing.{IsReadAgain}
 use Rattle.route_records.specs.declared.replies.Replies.{Replies}
 use Rattle.route_records.specs.declared.replies.Replies.TheVariants.{Nothing, One, Two}
-use Rattle.state_answers.specs.Tables.{TellsOf}
 
 -- the record writes this frame on the connection, without a note, and it is read again
 pub record IsReply (c : ℕ) (spoken : Spoken) (r : Record) : Type 0 where

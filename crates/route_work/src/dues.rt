@@ -8,8 +8,8 @@ ghost use Rattle.state_tables.specs.Connections.{IsLawfulNext};
 ghost use Rattle.state_addresses.specs.Addressed.{IsAddressed};
 ghost use Rattle.trace_duties.specs.Quiet.{is_quiet};
 ghost use Rattle.trace_values.specs.View.{Events, event_view};
-ghost use Rattle.route_work.specs.Dues.{IsDue, is_in_turn};
 ghost use Rattle.state_answers.specs.Tables.{TellsOf};
+ghost use Rattle.route_work.specs.Dues.{IsDue, is_in_turn};
 
 use crate::Due;
 use capture_form::RuleSet;

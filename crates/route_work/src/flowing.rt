@@ -7,9 +7,9 @@ ghost use Rattle.capture_form.specs.declared.records.Record.{Record};
 ghost use Rattle.trace_events.specs.History.{history};
 ghost use Rattle.trace_values.specs.View.{event_view};
 ghost use Rattle.state_tables.specs.Connections.{IsLawfulNext};
+ghost use Rattle.state_answers.specs.Tables.{TellsOf};
 ghost use Rattle.route_work.specs.Dues.{IsDue, is_in_turn};
 ghost use Rattle.route_work.specs.Work.{HasFlowing, IsAllGiven, IsAllSent, IsAllTold};
-ghost use Rattle.state_answers.specs.Tables.{TellsOf};
 
 use crate::Due;
 use capture_form::RuleSet;

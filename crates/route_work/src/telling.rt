@@ -8,9 +8,9 @@ ghost use Rattle.trace_events.specs.History.{history};
 ghost use Rattle.trace_values.specs.View.{event_view};
 ghost use Rattle.state_tables.specs.Connections.{IsLawfulNext};
 ghost use Rattle.state_addresses.specs.Addressed.{IsAddressed};
+ghost use Rattle.state_answers.specs.Tables.{TellsOf};
 ghost use Rattle.route_work.specs.Dues.{IsDue, is_in_turn};
 ghost use Rattle.route_work.specs.Work.{HasTelling, IsAllTold};
-ghost use Rattle.state_answers.specs.Tables.{TellsOf};
 
 use crate::Due;
 use capture_form::RuleSet;

@@ -5,8 +5,8 @@ use Rattle.trace_events.specs.Event.{Event}
 use Rattle.trace_events.specs.Link.{is_consumer}
 use Rattle.trace_events.specs.Waiting.{has_waiting}
 use Rattle.trace_values.specs.View.{link_view}
-use Rattle.due_flows.proofs.credits.has_waited.Given as goal
 use Rattle.state_answers.specs.Tables.{TellsOf}
+use Rattle.due_flows.proofs.credits.has_waited.Given as goal
 
 abbrev pub invariant-loop-link : goal.invariant-loop-link
 invariant-loop-link l = (rules : RuleSet) (past : List Event) → TellsOf rules l.before past

@@ -1,7 +1,7 @@
 use Rattle.std.proofs.Common.{subst, sym, ap, ◌∙◌, ◌∷◌}
 use Rattle.trace_duties.specs.Answer as duties
-use Rattle.route_records.proofs.replies.answer_by.Goals as goal
 use Rattle.state_answers.specs.Tables.{TellsOf}
+use Rattle.route_records.proofs.replies.answer_by.Goals as goal
 
 pub returns-clause-says : goal.returns-clause-says
 returns-clause-says c =

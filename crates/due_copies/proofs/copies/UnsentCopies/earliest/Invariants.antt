@@ -2,10 +2,10 @@ use Rattle.std.proofs.Common.{◌≡◌, List}
 use Rattle.trace_events.specs.Event.{Event}
 use Rattle.trace_events.specs.Link.{IsLiveLink}
 use Rattle.trace_values.specs.View.{link_view}
+use Rattle.state_answers.specs.Tables.{TellsOf}
 use Rattle.due_copies.specs.ByLink.{count_of}
 use Rattle.due_copies.specs.Copies.{HasUnsent}
 use Rattle.due_copies.proofs.copies.UnsentCopies.earliest.Given as goal
-use Rattle.state_answers.specs.Tables.{TellsOf}
 
 abbrev pub invariant-loop-completion : goal.invariant-loop-completion
 invariant-loop-completion l =

@@ -1,9 +1,9 @@
 use Rattle.std.proofs.Common.{List}
 use Rattle.trace_events.specs.Event.{Event}
+use Rattle.state_answers.specs.Tables.{TellsOf}
 use Rattle.due_copies.specs.Candidates.{count_of}
 use Rattle.due_copies.specs.Copies.{HasUnsent}
 use Rattle.due_copies.proofs.copies.UnsentCopies.first_due.Given as goal
-use Rattle.state_answers.specs.Tables.{TellsOf}
 
 abbrev pub invariant-loop-completion : goal.invariant-loop-completion
 invariant-loop-completion l = (past : List Event) → TellsOf l.rules l.looked past → HasUnsent l.rules l.fn.self past → HasUnsent l.rules l.self past

@@ -1,9 +1,9 @@
 use Rattle.std.proofs.Common.{List}
 use Rattle.trace_events.specs.Event.{Event}
+use Rattle.state_answers.specs.Tables.{TellsOf}
 use Rattle.due_flows.specs.Numbers.{count_of}
 use Rattle.due_flows.specs.Credits.{HasCredits}
 use Rattle.due_flows.proofs.credits.Credits.first_due.Given as goal
-use Rattle.state_answers.specs.Tables.{TellsOf}
 
 abbrev pub invariant-loop-number : goal.invariant-loop-number
 invariant-loop-number l = (past : List Event) → TellsOf l.rules l.looked past → HasCredits l.rules l.fn.self past → HasCredits l.rules l.self past

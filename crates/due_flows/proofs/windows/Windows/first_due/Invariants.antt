@@ -1,10 +1,10 @@
 use Rattle.std.proofs.Common.{List}
 use Rattle.capture_form.specs.Rules.{RuleSet}
 use Rattle.trace_events.specs.Event.{Event}
+use Rattle.state_answers.specs.Tables.{TellsOf}
 use Rattle.due_flows.specs.Candidates.{count_of}
 use Rattle.due_flows.specs.Windows.{HasLacking}
 use Rattle.due_flows.proofs.windows.Windows.first_due.Given as goal
-use Rattle.state_answers.specs.Tables.{TellsOf}
 
 abbrev pub invariant-loop-number : goal.invariant-loop-number
 invariant-loop-number l = (rules : RuleSet) (past : List Event) → TellsOf rules l.looked past → HasLacking l.fn.self past → HasLacking l.self past

@@ -3,9 +3,9 @@ use Rattle.capture_form.specs.Rules.{RuleSet}
 use Rattle.capture_form.specs.declared.records.Record.{Record}
 use Rattle.trace_events.specs.History.{history}
 use Rattle.number_groups.specs.Ascending.{count_of}
+use Rattle.state_answers.specs.Tables.{TellsOf}
 use Rattle.due_outcomes.specs.Unsettled.{HasUnsettled}
 use Rattle.due_outcomes.proofs.unsettled.Unsettled.sort_lowest.Given as goal
-use Rattle.state_answers.specs.Tables.{TellsOf}
 
 abbrev pub invariant-loop-number : goal.invariant-loop-number
 invariant-loop-number l = (rules : RuleSet) (records : List Record) → TellsOf rules l.looked (history rules records) → HasUnsettled l.fn.self (history rules records)

@@ -9,6 +9,7 @@ use Rattle.trace_values.specs.View.{incoming_view}
 use Rattle.state_incoming.specs.EntryAnswers.{Knows}
 use Rattle.state_incoming.specs.HeldTables.{IsTable}
 use Rattle.state_incoming.specs.declared.deliveries.Deliveries.{Deliveries}
+use Rattle.state_answers.specs.Tables.{TellsOf}
 use Rattle.due_waiting.specs.Awake.{is_among_first}
 use Rattle.due_waiting.specs.Waiting.{HasWaiting, IsDueWaiting, IsEarliest, is_ahead}
 use Rattle.due_waiting.specs.Waking.{MayBegin}
@@ -18,7 +19,6 @@ use Rattle.due_waiting.proofs.Chosen.{next-waits, waiting-known}
 use Rattle.due_waiting.proofs.EarliestDue.{ahead-more}
 use Rattle.due_waiting.proofs.InVain.{none-in-vain}
 use Rattle.due_waiting.proofs.waiting.Waiting.first_due.Goals as goal
-use Rattle.state_answers.specs.Tables.{TellsOf}
 
 found : {A : Type 0} (P : A → Type 0) (o : Option A) (x : A) → o ≡ Some x → IfSome o P → P x
 found P o x is h = subst (λ (p : Option _). IfSome p P) is h

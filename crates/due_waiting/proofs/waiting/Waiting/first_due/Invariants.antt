@@ -3,11 +3,11 @@ use Rattle.capture_form.specs.declared.records.Record.{Record}
 use Rattle.trace_events.specs.Event as law
 use Rattle.trace_events.specs.History.{history}
 use Rattle.trace_events.specs.Incoming.{address_of}
+use Rattle.state_answers.specs.Tables.{TellsOf}
 use Rattle.due_waiting.specs.Awake.{count_of, is_among_first}
 use Rattle.due_waiting.specs.Waiting.{HasWaiting, IsDueWaiting, is_ahead}
 use Rattle.due_waiting.specs.Waking.{MayBegin}
 use Rattle.due_waiting.proofs.waiting.Waiting.first_due.Given as goal
-use Rattle.state_answers.specs.Tables.{TellsOf}
 
 abbrev pub invariant-loop-index : goal.invariant-loop-index
 invariant-loop-index l =
