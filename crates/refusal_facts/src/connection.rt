@@ -45,7 +45,7 @@ fn out_frame<'a>(event: &Event<'_, 'a>) -> Option<Frame<'a>>
     ensures { option_map frame_view result ≡ said.out_frame (event_view event.now).moment }
 {
     match event.moment {
-        Moment::Out(frame) => Some(frame),
+        Moment::Out(frame) => Some(*frame),
         _ => None,
     }
 }

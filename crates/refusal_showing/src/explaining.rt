@@ -7,6 +7,7 @@ use capture_view::{Names, view_of};
 use capture_words::Page;
 use refusal_words::{Compared, Explained, Origins, compared_with};
 use std::alloc::{AllocError, Global};
+use trace_values::ReadRecord;
 
 /// At how many characters the texts and octets of the refused record's line are cut.
 const WIDTH: usize = 32;
@@ -102,7 +103,8 @@ fn write_reason<'x>(
     origins: &Origins,
     text: &mut String,
 ) -> Result<Option<Compared>, AllocError> {
-    let Some(reason) = explain_refused(ledger, rules, entry) else {
+    let entry = ReadRecord::of(entry);
+    let Some(reason) = explain_refused(ledger, rules, &entry) else {
         return Ok(None);
     };
     let explained = Explained {

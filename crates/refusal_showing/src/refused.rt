@@ -6,16 +6,17 @@ ghost use Rattle.state_ledger.specs.Ledger.{Stands, broken_behind};
 ghost use Rattle.refusal_showing.specs.Refused.{IsReasonBehind};
 
 use crate::contents::Contents;
-use capture_form::{Record, RuleSet};
+use capture_form::RuleSet;
 use refusal_facts::{Reason, explain};
 use state_ledger::Ledger;
 use trace_judge::judge_unopened;
+use trace_values::ReadRecord;
 
 /// The reason why the ledger does not take the record, judged by these rules, if it breaks a clause.
 pub fn explain_refused<'a>(
     ledger: &'a Ledger,
     rules: &RuleSet,
-    entry: &'a Record,
+    entry: &'a ReadRecord<'a>,
 ) -> Option<Reason<'a>>
     // There is a reason just where the record breaks a clause behind those of the ledger, and it names the first one.
     ensures clause { (records : List Record) → Stands rules.now ledger.now records → option_map (λ reason. reason.clause) result ≡ broken_behind rules.now records entry.now }

@@ -251,7 +251,7 @@ fn moment_answer<'p, 'a, P: Inputs<'p> + Openings<'p> + Counts>(
         answer_view result ≡ duties.answer rules.now (event_view event.now) history }
     ensures short { (history : Events) → IsAnswerable rules.now (event_view event.now) history → CanBeWritten result }
 {
-    match &event.moment {
+    match event.moment {
         Moment::In(frame) => body_answer(past, rules, event, &frame.body),
         Moment::Broken if !past.was_finished(event.connection) => {
             closing(past, event.connection, Some(ErrorCondition::FramingError))

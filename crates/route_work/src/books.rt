@@ -20,7 +20,7 @@ use capture_form::{Record, RuleSet};
 use state_answers::{Looked, Tables};
 use state_ledger::HeldEvent;
 use std::alloc::{AllocError, Global};
-use trace_judge::{judge_unopened_read, open};
+use trace_judge::{judge_unopened, open};
 use trace_values::{Event, ReadRecord};
 
 /// The tables of the records so far, and what is due behind them.
@@ -93,7 +93,7 @@ impl<D: Dues> Books<D> {
             IsUnbroken rules.now records entry.now → IsLawfulNext rules.now records entry.now (held_event_view held.new (moment_of entry.now.what))) }
     {
         let looked = self.tables.looked();
-        let mut event = judge_unopened_read(&looked, rules, number, entry);
+        let mut event = judge_unopened(&looked, rules, number, entry);
         open(&looked, &mut event);
         held.keep(self.alloc, &event)
     }

@@ -87,14 +87,14 @@ impl HeldEvent {
     }
 
     /// The event, with the moment of this record, and with the addresses lent.
-    pub fn event<'e, 'm>(&'e self, entry: &ReadRecord<'m>) -> Event<'e, 'm>
+    pub fn event<'e, 'm>(&'e self, entry: &'m ReadRecord<'m>) -> Event<'e, 'm>
         ensures { event_view result ≡ held_event_view self.now (moment_of entry.now.what) }
     {
         let facts = &self.facts;
         Event {
             number: facts.number,
             connection: facts.connection,
-            moment: *entry.moment(),
+            moment: entry.moment(),
             note: facts.note,
             session: facts.session,
             link: self.parts.link(),

@@ -12,7 +12,7 @@ ghost use Rattle.trace_values.specs.View.{Events};
 use crate::{HeldEvent, NotEntered};
 use capture_form::RuleSet;
 use std::alloc::Global;
-use trace_judge::{Questions, broken_clause, judge_unopened_read, open};
+use trace_judge::{Questions, broken_clause, judge_unopened, open};
 use trace_values::ReadRecord;
 
 /// The event of the next record, which has this number, is held, but for its moment. The past must be able to tell of what the
@@ -27,7 +27,7 @@ pub fn hold_next<'a, 'm: 'a, P: Questions<'a>>(
     past: &P,
     rules: &RuleSet,
     number: u64,
-    entry: &ReadRecord<'m>,
+    entry: &'m ReadRecord<'m>,
 ) -> Result<(), NotEntered>
     requires few { P.is_short past.now }
     ensures answer { (history : Events) → P.stands_for past.now rules.now history → P.is_whole past.now → number ≡ length history →
@@ -37,7 +37,7 @@ pub fn hold_next<'a, 'm: 'a, P: Questions<'a>>(
         IsHeldAnswer rules.now history entry.now (held_event_view held.new (moment_of entry.now.what)) result }
     ensures same { IfErr result (λ why. why ≢ Memory → held.new ≡ held.old) }
 {
-    let mut event = judge_unopened_read(past, rules, number, entry);
+    let mut event = judge_unopened(past, rules, number, entry);
     match broken_clause(past, rules, &event) {
         Some(clause) => Err(NotEntered::Broken(clause)),
         None => {

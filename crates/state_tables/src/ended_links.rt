@@ -40,7 +40,7 @@ fn ends_named(event: &Event) -> bool
 fn ends_nothing(event: &Event) -> bool
     ensures { result ≡ true → may_end (event_view event.now) ≡ false }
 {
-    let (Moment::In(frame) | Moment::Out(frame)) = &event.moment else {
+    let (Moment::In(frame) | Moment::Out(frame)) = event.moment else {
         return false;
     };
     match &frame.body {

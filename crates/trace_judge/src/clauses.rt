@@ -214,7 +214,7 @@ pub fn broken_clause<'a, 'm: 'a, P: Questions<'a>>(
         CarriesKnown (λ n. P.knows_number past.now n history) (λ j. P.knows_outgoing past.now j history) (event_view event.now) →
         (result ≡ law.broken_clause rules.now (event_view event.now) history) }
 {
-    let Moment::Out(frame) = &event.moment else {
+    let Moment::Out(frame) = event.moment else {
         return None;
     };
     match frame.spoken() {

@@ -17,7 +17,7 @@ use self::fault::body_fault;
 use self::heard::is_heard_body;
 use crate::questions::{Carriage, Inputs, Openings, Outcomes};
 use amqp_perf::{Disposition, Performative, Role};
-use capture_form::{Record, RuleSet};
+use capture_form::RuleSet;
 use pairing_cert::Note;
 use trace_events::{Fault, Session};
 use trace_values::{
@@ -81,7 +81,7 @@ fn incoming_by<'a, P: Inputs<'a>>(past: &P, event: &Event<'a, '_>) -> Option<Inc
     ensures { (rules : RuleSet) (history : Events) → P.stands_for past.now rules history → NamesLive (event_view event.now) history →
         (option_map incoming_view result ≡ law.incoming_by (event_view event.now) (event_view event.now).moment history) }
 {
-    match &event.moment {
+    match event.moment {
         Moment::In(frame) if event.is_heard && event.fault.is_none() => {
             incoming_part(past, event, frame.spoken()?)
         }
@@ -115,7 +115,7 @@ fn outgoing_by<'a, P: Carriage<'a>>(past: &P, event: &Event<'a, '_>) -> Option<O
     ensures { (rules : RuleSet) (history : Events) → P.stands_for past.now rules history → NamesLive (event_view event.now) history →
         (option_map outgoing_view result ≡ law.outgoing_by (event_view event.now) (event_view event.now).moment history) }
 {
-    match &event.moment {
+    match event.moment {
         Moment::Out(frame) => outgoing_part(past, event, frame.spoken()?),
         _ => None,
     }
@@ -224,7 +224,7 @@ fn placed<'a, 'm, P: Inputs<'a>>(
     past: &P,
     number: u64,
     connection: u32,
-    moment: &Moment<'m>,
+    moment: &'m Moment<'m>,
     note: Note,
 ) -> Event<'a, 'm>
     ensures { (rules : RuleSet) (history : Events) → P.stands_for past.now rules history → number ≡ length history →
@@ -234,7 +234,7 @@ fn placed<'a, 'm, P: Inputs<'a>>(
     Event {
         number,
         connection,
-        moment: *moment,
+        moment,
         note,
         session,
         link: link_of(past, moment, session),
@@ -251,7 +251,7 @@ fn heard_by<'a, P: Inputs<'a>>(past: &P, event: &Event) -> bool
     ensures { (rules : RuleSet) (history : Events) → P.stands_for past.now rules history → StandsLive (event_view event.now) history →
         (result ≡ law.heard_by (event_view event.now) (event_view event.now).moment history) }
 {
-    match &event.moment {
+    match event.moment {
         Moment::In(frame) => is_heard_body(past, event, &frame.body),
         _ => false,
     }
@@ -268,7 +268,7 @@ fn fault_by<'a, P: Inputs<'a>>(past: &P, rules: &RuleSet, event: &Event) -> Opti
     ensures { (history : Events) → P.stands_for past.now rules.now history → StandsLive (event_view event.now) history → NamesLive (event_view event.now) history →
         (result ≡ law.fault_by rules.now (event_view event.now) (event_view event.now).moment history) }
 {
-    match &event.moment {
+    match event.moment {
         Moment::In(frame) if event.is_heard => body_fault(past, rules, event, &frame.body),
         _ => None,
     }
@@ -323,44 +323,18 @@ pub fn judge_unopened<'a, 'm, P: Inputs<'a> + Outcomes<'a> + Carriage<'a>>(
     past: &P,
     rules: &RuleSet,
     number: u64,
-    entry: &'m Record,
+    entry: &'m ReadRecord<'m>,
 ) -> Event<'a, 'm>
     ensures { (history : Events) → P.stands_for past.now rules.now history → number ≡ length history →
         (event_view result ≡ law.judge_unopened rules.now history entry.now.connection (law.moment_of entry.now.what) entry.now.note) }
 {
-    let moment = Moment::of(&entry.what);
-    judge_unopened_moment(past, rules, number, entry.connection, &moment, entry.note)
-}
-
-/// The same where the octets of the frame are read already.
-pub fn judge_unopened_read<'a, 'm, P: Inputs<'a> + Outcomes<'a> + Carriage<'a>>(
-    past: &P,
-    rules: &RuleSet,
-    number: u64,
-    entry: &ReadRecord<'m>,
-) -> Event<'a, 'm>
-    ensures { (history : Events) → P.stands_for past.now rules.now history → number ≡ length history →
-        (event_view result ≡ law.judge_unopened rules.now history entry.now.connection (law.moment_of entry.now.what) entry.now.note) }
-{
-    let moment = entry.moment();
-    let connection = entry.connection();
-    let note = entry.note();
-    judge_unopened_moment(past, rules, number, connection, moment, note)
-}
-
-/// What happened on a connection, with its note, as the event of this number, but for what it opens.
-fn judge_unopened_moment<'a, 'm, P: Inputs<'a> + Outcomes<'a> + Carriage<'a>>(
-    past: &P,
-    rules: &RuleSet,
-    number: u64,
-    connection: u32,
-    moment: &Moment<'m>,
-    note: Note,
-) -> Event<'a, 'm>
-    ensures { (history : Events) → P.stands_for past.now rules.now history → number ≡ length history →
-        (event_view result ≡ law.judge_unopened rules.now history connection (moment_view moment.now) note) }
-{
-    let mut event = placed(past, number, connection, moment, note);
+    let mut event = placed(
+        past,
+        number,
+        entry.connection(),
+        entry.moment(),
+        entry.note(),
+    );
     hear(past, &mut event);
     find_fault(past, rules, &mut event);
     find_deliveries(past, rules, &mut event);
@@ -372,16 +346,14 @@ pub fn judge<'a, 'm: 'a, P: Inputs<'a> + Outcomes<'a> + Openings<'a> + Carriage<
     past: &P,
     rules: &RuleSet,
     number: u64,
-    entry: &'m Record,
+    entry: &'m ReadRecord<'m>,
 ) -> Event<'a, 'm>
     ensures { (history : Events) → P.stands_for past.now rules.now history → number ≡ length history →
         OpensKnown (λ c channel. P.knows_begin past.now c channel history) (λ s handle. P.knows_attach past.now s handle history)
         (law.judge_unopened rules.now history entry.now.connection (law.moment_of entry.now.what) entry.now.note) →
         (event_view result ≡ law.judge rules.now history entry.now) }
 {
-    let moment = Moment::of(&entry.what);
-    let (connection, note) = (entry.connection, entry.note);
-    let mut event = judge_unopened_moment(past, rules, number, connection, &moment, note);
+    let mut event = judge_unopened(past, rules, number, entry);
     open(past, &mut event);
     event
 }

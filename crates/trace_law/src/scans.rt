@@ -10,7 +10,9 @@ use trace_judge::{
     Carriage, Counts, History, Inputs, Openings, Outcomes, Questions, broken_clause, judge,
     judge_unopened,
 };
-use trace_values::{Asking, Decision, Event, Incoming, Link, Outgoing, their_first_count};
+use trace_values::{
+    Asking, Decision, Event, Incoming, Link, Outgoing, ReadRecord, their_first_count,
+};
 
 impl<'p, 'a> History for Past<'p, 'a> {
     ghost use Rattle.std.specs.Prelude.{◌≡◌, ◌<◌, ◌^◌, length};
@@ -277,7 +279,12 @@ impl<'p, 'a> Past<'p, 'a> {
 
     /// The record of this number in its place.
     #[tactic(auto, using(crate::proofs::KnownAll::opens_all))]
-    pub(crate) fn judge(&self, rules: &RuleSet, number: u64, entry: &'a Record) -> Event<'a, 'a>
+    pub(crate) fn judge(
+        &self,
+        rules: &RuleSet,
+        number: u64,
+        entry: &'a ReadRecord<'a>,
+    ) -> Event<'a, 'a>
         requires numbered { number ≡ length (events self.now) }
         ensures { event_view result ≡ judge rules.now (events self.now) entry.now }
     {
@@ -294,7 +301,8 @@ impl<'p, 'a> Past<'p, 'a> {
         requires numbered { number ≡ length (events self.now) }
         ensures { result ≡ broken_clause rules.now (judge rules.now (events self.now) entry.now) (events self.now) }
     {
-        let event = judge_unopened(self, rules, number, entry);
+        let entry = ReadRecord::of(entry);
+        let event = judge_unopened(self, rules, number, &entry);
         broken_clause(self, rules, &event)
     }
 }

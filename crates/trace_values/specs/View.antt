@@ -66,7 +66,7 @@ abbrev pub event_view : Event → law.Event
 event_view e = record {
   number = e.number;
   connection = e.connection;
-  moment = moment_view e.moment;
+  moment = moment_view e.moment.now;
   note = e.note;
   session = e.session;
   link = option_map link_view e.link;

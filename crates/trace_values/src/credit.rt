@@ -45,7 +45,7 @@ impl<'a, 'm> Event<'a, 'm> {
     pub fn link_event(&self) -> Option<LinkEvent>
         ensures { option_map link_event_view result ≡ law.link_event (event_view self.now) (event_view self.now).moment }
     {
-        match &self.moment {
+        match self.moment {
             Moment::In(frame) => match frame.spoken()?.performative {
                 Performative::Flow(flow) => Some(LinkEvent::TheirFlow(flow)),
                 Performative::Transfer(_) if self.begins_incoming() => Some(LinkEvent::Begun),

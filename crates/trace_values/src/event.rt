@@ -63,7 +63,7 @@ pub struct Event<'a, 'm> {
     /// Its place in the capture, from 0.
     pub number: u64,
     /// What happened.
-    pub moment: Moment<'m>,
+    pub moment: &'m Moment<'m>,
     /// The live session on which a frame stands; an Out begin's own.
     pub session: Option<Session>,
     /// The live link whose handle a flow, transfer or detach names; an Out attach's own.

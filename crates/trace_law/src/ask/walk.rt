@@ -8,6 +8,7 @@ ghost use Rattle.trace_law.specs.OnStack.{events};
 
 use crate::past::Past;
 use capture_form::{Record, RuleSet};
+use trace_values::ReadRecord;
 
 /// What is asked of the events of a capture's first records.
 pub(crate) trait Asked {
@@ -52,7 +53,8 @@ pub(crate) fn walk<'p, 'a, Q: Asked>(
         let (_, rest) = records.split_at(end);
         return asked.answer(rules, past, from as u64, rest);
     }
-    let event = past.judge(rules, from as u64, &records[from]);
+    let entry = ReadRecord::of(&records[from]);
+    let event = past.judge(rules, from as u64, &entry);
     let here = Past::After(event, &*past);
     walk(asked, rules, &*records, from + 1, end, &here)
 }

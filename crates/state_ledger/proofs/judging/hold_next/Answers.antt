@@ -13,8 +13,8 @@ pub returns-in-Some-clause-answer : goal.returns-in-Some-clause-answer
 returns-in-Some-clause-answer g c = λ past stands whole numbered carries opens.
     let rules = c.args.rules.now in
     let r = c.args.entry.now in
-    let e = event_view c.judge_unopened_read-event.result in
-    let is = c.judge_unopened_read-event.ensures past stands numbered in
+    let e = event_view c.judge_unopened-event.result in
+    let is = c.judge_unopened-event.ensures past stands numbered in
     let Carries : Event → Type 0 = λ x. CarriesKnown (λ n. g.P.History.knows_number c.args.past.now n past) (λ j. g.P.History.knows_outgoing c.args.past.now j past) x in
     let broken = c.in-Some.ensures past stands whole (stands-live rules past r e is) (names-live rules past r e is) (number-is rules past r e is) (subst Carries (sym is) carries) in
     sym (broken ∙ broken-is rules past r e is)
@@ -23,8 +23,8 @@ pub returns-in_ok-keep-in-None-clause-answer : goal.returns-in_ok-keep-in-None-c
 returns-in_ok-keep-in-None-clause-answer g c = λ past stands whole numbered carries opens.
     let rules = c.args.rules.now in
     let r = c.args.entry.now in
-    let e = event_view c.judge_unopened_read-event.result in
-    let is = c.judge_unopened_read-event.ensures past stands numbered in
+    let e = event_view c.judge_unopened-event.result in
+    let is = c.judge_unopened-event.ensures past stands numbered in
     let Carries : Event → Type 0 = λ x. CarriesKnown (λ n. g.P.History.knows_number c.args.past.now n past) (λ j. g.P.History.knows_outgoing c.args.past.now j past) x in
     let Opens : Event → Type 0 = λ x. OpensKnown (λ n channel. g.P.History.knows_begin c.args.past.now n channel past) (λ s handle. g.P.History.knows_attach c.args.past.now s handle past) x in
     let unbroken = c.in-None.ensures past stands whole (stands-live rules past r e is) (names-live rules past r e is) (number-is rules past r e is) (subst Carries (sym is) carries) in
@@ -36,8 +36,8 @@ pub returns-in_err-keep-in-None-clause-answer : goal.returns-in_err-keep-in-None
 returns-in_err-keep-in-None-clause-answer g c = λ past stands whole numbered carries opens.
     let rules = c.args.rules.now in
     let r = c.args.entry.now in
-    let e = event_view c.judge_unopened_read-event.result in
-    let is = c.judge_unopened_read-event.ensures past stands numbered in
+    let e = event_view c.judge_unopened-event.result in
+    let is = c.judge_unopened-event.ensures past stands numbered in
     let Carries : Event → Type 0 = λ x. CarriesKnown (λ n. g.P.History.knows_number c.args.past.now n past) (λ j. g.P.History.knows_outgoing c.args.past.now j past) x in
     let Opens : Event → Type 0 = λ x. OpensKnown (λ n channel. g.P.History.knows_begin c.args.past.now n channel past) (λ s handle. g.P.History.knows_attach c.args.past.now s handle past) x in
     let unbroken = c.in-None.ensures past stands whole (stands-live rules past r e is) (names-live rules past r e is) (number-is rules past r e is) (subst Carries (sym is) carries) in

@@ -9,7 +9,7 @@ use Rattle.trace_judge.proofs.judging.judge.Goals as goal
 pub returns : goal.returns
 returns g c = λ past stands numbered known.
     let entry = c.args.entry.now in
-    let judged = c.judge_unopened_moment-event.ensures past stands numbered ∙ ap (λ m. law.judge_unopened c.args.rules.now past entry.connection m entry.note) c.of-moment.ensures in
+    let judged = c.judge_unopened-event.ensures past stands numbered in
     let live = placed-stands past entry.connection (law.moment_of entry.what) entry.note in
     let Stands : Event → Type 0 = λ e. StandsLive e past in
     let Opens : Event → Type 0 = λ e. OpensKnown (λ n channel. g.P.History.knows_begin c.args.past.now n channel past) (λ s handle. g.P.History.knows_attach c.args.past.now s handle past) e in
