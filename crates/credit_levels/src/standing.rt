@@ -1,7 +1,7 @@
 //! What is asked of the past for a picture alone.
 
 use capture_form::RuleSet;
-use state_answers::Looked;
+use state_answers::LentTables;
 use trace_judge::History;
 use trace_values::Link;
 
@@ -22,7 +22,7 @@ pub trait Standing: History {
         ensures { (history : Events) → Self.stands_for self.now rules.now history → (result ≡ unsettled.unsettled_count (link_view link.now) history) };
 }
 
-impl Standing for Looked<'_> {
+impl Standing for LentTables<'_> {
     fn waiting_count(&self, _rules: &RuleSet, address: &[u8]) -> usize {
         self.deliveries.waiting_count(address)
     }

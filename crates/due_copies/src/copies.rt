@@ -20,7 +20,7 @@ use capture_form::RuleSet;
 use due_flows::DueBegin;
 use pairing_cert::Note;
 use state_addresses::{Copies, receivers_of};
-use state_answers::Looked;
+use state_answers::LentTables;
 use std::alloc::{AllocError, Global};
 use trace_judge::{Carriage, Counts};
 use trace_values::{Event, Incoming, Link};
@@ -59,7 +59,7 @@ impl UnsentCopies {
         rules: &RuleSet,
         event: &Event,
         address: &[u8],
-        before: &Looked<'_>,
+        before: &LentTables<'_>,
     ) -> Result<(), AllocError>
         ensures { OnOk result ((records : List Record) (r : Record) → IsLawfulNext rules.now records r (event_view event.now) →
             IsAddressed (event_view event.now) (history rules.now records) address.now →
@@ -88,7 +88,11 @@ impl UnsentCopies {
 
     /// Of the copies that may be sent the one whose delivery was completed first, and of one delivery that to the link with
     /// the lowest number. Links before it are candidates no more.
-    pub fn first_due<'t>(&mut self, rules: &RuleSet, looked: &Looked<'t>) -> Option<DueBegin<'t>>
+    pub fn first_due<'t>(
+        &mut self,
+        rules: &RuleSet,
+        looked: &LentTables<'t>,
+    ) -> Option<DueBegin<'t>>
         ensures due { IfSome result (λ copy. (past : Events) → TellsOf rules.now looked.now past → HasUnsent rules.now self.old past →
             IsDueCopy rules.now copy past) }
         ensures kept { (past : Events) → TellsOf rules.now looked.now past → HasUnsent rules.now self.old past → HasUnsent rules.now self.new past }
@@ -110,7 +114,7 @@ impl UnsentCopies {
         &mut self,
         number: u64,
         rules: &RuleSet,
-        looked: &Looked<'t>,
+        looked: &LentTables<'t>,
     ) -> Option<DueBegin<'t>>
         ensures due { IfSome result (λ copy. (past : Events) → TellsOf rules.now looked.now past → HasUnsent rules.now self.old past →
             IsDueCopy rules.now copy past) }
@@ -137,7 +141,7 @@ impl UnsentCopies {
         &mut self,
         link: &Link,
         rules: &RuleSet,
-        looked: &Looked<'t>,
+        looked: &LentTables<'t>,
     ) -> Option<Incoming<'t>>
         ensures copy { (past : Events) → TellsOf rules.now looked.now past → IsLiveLink (link_view link.now) past →
             IfSome (option_map incoming_view result) (IsKnownCopy rules.now looked.now.deliveries.now (link_view link.now) past) }
@@ -160,7 +164,7 @@ impl UnsentCopies {
 }
 
 /// A live link may be sent a delivery: it has credit, its session has window, and nothing is in progress.
-fn may_take(link: &Link, looked: &Looked<'_>) -> bool
+fn may_take(link: &Link, looked: &LentTables<'_>) -> bool
     ensures { (rules : RuleSet) (past : Events) → TellsOf rules looked.now past → IsLiveLink (link_view link.now) past →
         result ≡ may_take past (link_view link.now) }
 {
@@ -174,7 +178,7 @@ fn unsent_copy<'t>(
     number: u64,
     link: &Link,
     rules: &RuleSet,
-    looked: &Looked<'t>,
+    looked: &LentTables<'t>,
 ) -> Option<Incoming<'t>>
     ensures copy { (past : Events) → TellsOf rules.now looked.now past → IsLiveLink (link_view link.now) past →
         IfSome (option_map incoming_view result) (λ d. IsKnownCopy rules.now looked.now.deliveries.now (link_view link.now) past d × (d.number ≡ number)) }

@@ -26,7 +26,7 @@ use Rattle.state_incoming.specs.declared.deliveries.Deliveries.{Deliveries}
 use Rattle.state_incoming.proofs.CarriedHeld.{knows-held}
 use Rattle.state_incoming.proofs.OverKnown.{undecided-kept}
 use Rattle.state_addresses.specs.ConsumerLinks.{has_number}
-use Rattle.state_answers.specs.declared.looked.Looked.{Looked}
+use Rattle.state_answers.specs.declared.lent_tables.LentTables.{LentTables}
 use Rattle.state_answers.specs.Tables.{TellsOf}
 use Rattle.due_flows.specs.Credits.{HasCredits, IsIn, AreEndedIn, AreFreedIn, AreOpenedIn, HasMore, AreTouchedIn, AreWokenIn, has_waited, place_in, on_session, at_address, waits}
 use Rattle.due_flows.specs.Topping.{IsProducing, IsToppable, IsDecidedOn, EndsWaited}
@@ -75,7 +75,7 @@ in-more c c' l more is = record {
 }
 
 module _ (rules : RuleSet) (e : Event) (past : List Event) (are : AreJudged rules (e ∷ past)) (lawful : first_broken rules (e ∷ past) ≡ None)
-    (before : Looked) (tables : TellsOf rules before past) (ended : List Link) (all : (l : Link) → Contains ended l ↔ IsLiveLink l past × (ends_link l e ≡ true))
+    (before : LentTables) (tables : TellsOf rules before past) (ended : List Link) (all : (l : Link) → Contains ended l ↔ IsLiveLink l past × (ends_link l e ≡ true))
     (old without with_opened touched waked now : Credits) (ends : AreEndedIn ended old without) (opens : AreOpenedIn e without with_opened) (touches : AreTouchedIn e before with_opened touched)
     (wakes : AreWokenIn e before touched waked) (frees : AreFreedIn ended before waked now) (has : HasCredits rules old past) where
   woken : (n : ℕ) → waits touched n ≡ true → waits now n ≡ true

@@ -14,7 +14,7 @@ use Rattle.trace_events.specs.Waiting.{has_waiting}
 use Rattle.trace_clauses.specs.FlowClause.{may_be_topped_up}
 use Rattle.state_incoming.specs.EntryAnswers.{Knows}
 use Rattle.state_addresses.specs.ConsumerLinks.{has_number}
-use Rattle.state_answers.specs.declared.looked.Looked.{Looked}
+use Rattle.state_answers.specs.declared.lent_tables.LentTables.{LentTables}
 use Rattle.state_answers.specs.Tables.{TellsOf}
 use Rattle.due_flows.specs.Candidates.{value_of}
 use Rattle.due_flows.specs.Numbers.{has}
@@ -75,14 +75,14 @@ pub record HasMore (earlier later : Credits) : Type 0 where
   pub waiting : (n : ℕ) → waits earlier n ≡ true → waits later n ≡ true
 
 -- the producer's link that the event names is a candidate, and so are those of the deliveries that it tells and carries
-pub record AreTouchedIn (e : Event) (before : Looked) (earlier later : Credits) : Type 0 where
+pub record AreTouchedIn (e : Event) (before : LentTables) (earlier later : Credits) : Type 0 where
   pub more : HasMore earlier later
   pub names : (l : Link) → e.link ≡ Some l → is_producer l ≡ true → waits later l.number ≡ true
   pub tells : (rules : RuleSet) (past : List Event) → TellsOf rules before past → (d : Incoming) → e.told ≡ Some d.number → Knows before.deliveries.now d → waits later d.link.number ≡ true
   pub carries : (rules : RuleSet) (past : List Event) → TellsOf rules before past → (d : Incoming) → carried_number e ≡ Some d.number → Knows before.deliveries.now d → waits later d.link.number ≡ true
 
 -- so are those of the session on which a producer's disposition stands, and of the address that has its first consumer
-pub record AreWokenIn (e : Event) (before : Looked) (earlier later : Credits) : Type 0 where
+pub record AreWokenIn (e : Event) (before : LentTables) (earlier later : Credits) : Type 0 where
   pub more : HasMore earlier later
   pub settled : (session : ℕ) → settles e ≡ true → option_map (λ (s : Session). s.number) e.session ≡ Some session → (n : ℕ) → on_session earlier session n ≡ true → waits later n ≡ true
   pub served : (rules : RuleSet) (past : List Event) → TellsOf rules before past → (l : Link) → consumer_opened e ≡ Some l → has_consumer l.address past ≡ false
@@ -93,6 +93,6 @@ abbrev pub has_waited : RuleSet → List Event → List Link → Bool
 has_waited rules past ended = list_any (λ l. is_consumer l && has_waiting rules l.address past) ended
 
 -- where such a link ends, all links without address are candidates
-pub record AreFreedIn (ended : List Link) (before : Looked) (earlier later : Credits) : Type 0 where
+pub record AreFreedIn (ended : List Link) (before : LentTables) (earlier later : Credits) : Type 0 where
   pub more : HasMore earlier later
   pub freed : (rules : RuleSet) (past : List Event) → TellsOf rules before past → has_waited rules past ended ≡ true → (n : ℕ) → at_address earlier [] n ≡ true → waits later n ≡ true

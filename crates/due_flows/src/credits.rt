@@ -28,7 +28,7 @@ use amqp_perf::Role;
 use capture_form::RuleSet;
 use number_groups::{Groups, OctetGroups};
 use pairing_cert::Note;
-use state_answers::Looked;
+use state_answers::LentTables;
 use std::alloc::{AllocError, Global};
 use trace_judge::{Counts, Inputs, may_be_topped_up};
 use trace_values::{Event, Link};
@@ -73,7 +73,7 @@ impl Credits {
     /// # Errors
     ///
     /// Memory was refused; then a link that may be given more credit may not be found.
-    pub fn follow(&mut self, event: &Event, before: &Looked<'_>) -> Result<(), AllocError>
+    pub fn follow(&mut self, event: &Event, before: &LentTables<'_>) -> Result<(), AllocError>
         ensures { OnOk result ((rules : RuleSet) (records : List Record) (r : Record) → IsLawfulNext rules records r (event_view event.now) →
             TellsOf rules before.now (history rules records) → HasCredits rules self.old (history rules records) →
             HasCredits rules self.new (event_view event.now ∷ history rules records)) }
@@ -112,7 +112,7 @@ impl Credits {
     }
 
     /// The link that the event names, and those of the deliveries that it tells and carries, may be given more credit.
-    fn touch(&mut self, event: &Event, before: &Looked<'_>) -> Result<(), AllocError>
+    fn touch(&mut self, event: &Event, before: &LentTables<'_>) -> Result<(), AllocError>
         ensures { OnOk result (AreTouchedIn (event_view event.now) before.now self.old self.new) }
     {
         self.links.add(producer_named(event))?;
@@ -123,7 +123,7 @@ impl Credits {
 
     /// So may those of the session on which a producer's disposition stands, and those of the address that has its first
     /// consumer.
-    fn wake(&mut self, event: &Event, before: &Looked<'_>) -> Result<(), AllocError>
+    fn wake(&mut self, event: &Event, before: &LentTables<'_>) -> Result<(), AllocError>
         ensures { OnOk result (AreWokenIn (event_view event.now) before.now self.old self.new) }
     {
         if let Some(session) = settled_session(event) {
@@ -137,7 +137,7 @@ impl Credits {
 
     /// So may those without address where a consumer's link ends at whose address deliveries wait: these may be of such a link,
     /// wait no more without a consumer, and are decided by that where their producer has settled them.
-    fn free(&mut self, ended: &[Link], before: &Looked<'_>) -> Result<(), AllocError>
+    fn free(&mut self, ended: &[Link], before: &LentTables<'_>) -> Result<(), AllocError>
         ensures { OnOk result (AreFreedIn (views ended.now) before.now self.old self.new) }
     {
         if has_waited(ended, before) {
@@ -147,7 +147,7 @@ impl Credits {
     }
 
     /// The live link with the lowest number that may be given more credit. Links below it are candidates no more.
-    pub fn first_due<'t>(&mut self, rules: &RuleSet, looked: &Looked<'t>) -> Option<Link<'t>>
+    pub fn first_due<'t>(&mut self, rules: &RuleSet, looked: &LentTables<'t>) -> Option<Link<'t>>
         ensures due { IfSome result (λ link. (past : Events) → TellsOf rules.now looked.now past → IsToppable rules.now (link_view link) past) }
         ensures kept { (past : Events) → TellsOf rules.now looked.now past → HasCredits rules.now self.old past → HasCredits rules.now self.new past }
         ensures quiet { (past : Events) → TellsOf rules.now looked.now past → HasCredits rules.now self.old past → result ≡ None →
@@ -204,7 +204,7 @@ fn carried(event: &Event) -> Option<u64>
 }
 
 /// The number of the link of the delivery of this number, where the tables have it.
-fn producer_of(number: Option<u64>, before: &Looked<'_>) -> Option<u64>
+fn producer_of(number: Option<u64>, before: &LentTables<'_>) -> Option<u64>
     ensures { (rules : RuleSet) (past : Events) → TellsOf rules before.now past → (d : law.Incoming) → number ≡ Some d.number →
         Knows before.now.deliveries.now d → result ≡ Some d.link.number }
 {
@@ -222,7 +222,7 @@ fn settled_session(event: &Event) -> Option<u64>
 }
 
 /// The address of the consumer's link that the event opens, where it has none yet.
-fn served<'a>(event: &Event<'a, '_>, before: &Looked<'_>) -> Option<&'a [u8]>
+fn served<'a>(event: &Event<'a, '_>, before: &LentTables<'_>) -> Option<&'a [u8]>
     ensures { (rules : RuleSet) (past : Events) → TellsOf rules before.now past → (l : law.Link) → consumer_opened (event_view event.now) ≡ Some l →
         addresses.has_consumer l.address past ≡ false → option_map (λ octets. octets.now) result ≡ Some l.address }
 {
@@ -239,7 +239,7 @@ fn served<'a>(event: &Event<'a, '_>, before: &Looked<'_>) -> Option<&'a [u8]>
 }
 
 /// The link is a consumer's at whose address deliveries wait.
-fn is_waited(link: &Link, before: &Looked<'_>) -> bool
+fn is_waited(link: &Link, before: &LentTables<'_>) -> bool
     ensures { (rules : RuleSet) (past : Events) → TellsOf rules before.now past →
         result ≡ (is_consumer (link_view link.now) && has_waiting rules (link_view link.now).address past) }
 {
@@ -247,7 +247,7 @@ fn is_waited(link: &Link, before: &Looked<'_>) -> bool
 }
 
 /// One of these links is such a one.
-fn has_waited(ended: &[Link], before: &Looked<'_>) -> bool
+fn has_waited(ended: &[Link], before: &LentTables<'_>) -> bool
     ensures { (rules : RuleSet) (past : Events) → TellsOf rules before.now past → result ≡ has_waited rules past (views ended.now) }
 {
     let mut has = false;
@@ -263,7 +263,7 @@ fn credit_due<'t>(
     number: u64,
     place: Option<Place>,
     rules: &RuleSet,
-    looked: &Looked<'t>,
+    looked: &LentTables<'t>,
 ) -> Option<Link<'t>>
     ensures due { IfSome result (λ link. (past : Events) → TellsOf rules.now looked.now past → IsToppable rules.now (link_view link) past) }
     ensures found { (past : Events) → TellsOf rules.now looked.now past → (l : law.Link) → l.number ≡ number → place ≡ Some (place_of l) →

@@ -20,7 +20,7 @@ use crate::numbers::Numbers;
 use amqp_perf::Performative;
 use capture_form::RuleSet;
 use number_groups::OctetGroups;
-use state_answers::Looked;
+use state_answers::LentTables;
 use std::alloc::{AllocError, Global};
 use trace_judge::Counts;
 use trace_values::{Event, Link};
@@ -52,7 +52,7 @@ impl Drains {
     /// # Errors
     ///
     /// Memory was refused; then a drain that may be answered may not be found.
-    pub fn follow(&mut self, event: &Event, before: &Looked<'_>) -> Result<(), AllocError>
+    pub fn follow(&mut self, event: &Event, before: &LentTables<'_>) -> Result<(), AllocError>
         ensures { OnOk result ((rules : RuleSet) (records : List Record) (r : Record) → IsLawfulNext rules records r (event_view event.now) →
             TellsOf rules before.now (history rules records) → HasDrains rules self.old (history rules records) →
             HasDrains rules self.new (event_view event.now ∷ history rules records)) }
@@ -107,7 +107,7 @@ impl Drains {
     }
 
     /// The live link with the lowest number whose drain may be answered. Links below it are candidates no more.
-    pub fn first_due<'t>(&mut self, rules: &RuleSet, looked: &Looked<'t>) -> Option<Link<'t>>
+    pub fn first_due<'t>(&mut self, rules: &RuleSet, looked: &LentTables<'t>) -> Option<Link<'t>>
         ensures due { IfSome result (λ link. (past : Events) → TellsOf rules.now looked.now past → IsDrainable rules.now (link_view link) past) }
         ensures kept { (past : Events) → TellsOf rules.now looked.now past → HasDrains rules.now self.old past → HasDrains rules.now self.new past }
         ensures quiet { (past : Events) → TellsOf rules.now looked.now past → HasDrains rules.now self.old past → result ≡ None →
@@ -138,7 +138,7 @@ fn asks_drain(event: &Event) -> bool
 
 /// The link of this number, where its drain may be answered.
 #[inline(never)]
-fn drain_due<'t>(number: u64, rules: &RuleSet, looked: &Looked<'t>) -> Option<Link<'t>>
+fn drain_due<'t>(number: u64, rules: &RuleSet, looked: &LentTables<'t>) -> Option<Link<'t>>
     ensures due { IfSome result (λ link. (past : Events) → TellsOf rules.now looked.now past → IsDrainable rules.now (link_view link) past) }
     ensures found { (past : Events) → TellsOf rules.now looked.now past → (l : law.Link) → l.number ≡ number → IsDrainable rules.now l past →
         is_some result ≡ true }
@@ -152,7 +152,7 @@ fn drain_due<'t>(number: u64, rules: &RuleSet, looked: &Looked<'t>) -> Option<Li
 }
 
 /// The credit of a live link may be used up: its client asks for it, and nothing waits.
-fn may_be_drained(rules: &RuleSet, link: &Link, looked: &Looked<'_>) -> bool
+fn may_be_drained(rules: &RuleSet, link: &Link, looked: &LentTables<'_>) -> bool
     ensures { (past : Events) → TellsOf rules.now looked.now past → IsLiveLink (link_view link.now) past →
         result ≡ may_be_drained rules.now past (link_view link.now) }
 {

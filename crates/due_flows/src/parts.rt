@@ -22,7 +22,7 @@ use crate::numbers::Numbers;
 use flow_counts::WindowEvent;
 use number_groups::Groups;
 use pairing_cert::Note;
-use state_answers::Looked;
+use state_answers::LentTables;
 use std::alloc::{AllocError, Global};
 use trace_judge::{Carriage, Counts};
 use trace_values::{Event, Link};
@@ -62,7 +62,7 @@ impl Parts {
     /// # Errors
     ///
     /// Memory was refused; then a delivery that may go on may not be found.
-    pub fn follow(&mut self, event: &Event, before: &Looked<'_>) -> Result<(), AllocError>
+    pub fn follow(&mut self, event: &Event, before: &LentTables<'_>) -> Result<(), AllocError>
         ensures { OnOk result ((rules : RuleSet) (records : List Record) (r : Record) → IsLawfulNext rules records r (event_view event.now) →
             TellsOf rules before.now (history rules records) → HasParts self.old (history rules records) →
             HasParts self.new (event_view event.now ∷ history rules records)) }
@@ -119,7 +119,7 @@ impl Parts {
     }
 
     /// The part that is due on the live link with the lowest number. Links below it are candidates no more.
-    pub fn first_due<'t>(&mut self, looked: &Looked<'t>) -> Option<DuePart<'t>>
+    pub fn first_due<'t>(&mut self, looked: &LentTables<'t>) -> Option<DuePart<'t>>
         ensures due { IfSome result (λ part. (rules : RuleSet) (past : Events) → TellsOf rules looked.now past → IsDuePart part past) }
         ensures kept { (rules : RuleSet) (past : Events) → TellsOf rules looked.now past → HasParts self.old past → HasParts self.new past }
         ensures quiet { (rules : RuleSet) (past : Events) → TellsOf rules looked.now past → HasParts self.old past → result ≡ None →
@@ -157,7 +157,7 @@ fn granted(event: &Event) -> Option<u64>
 
 /// The part that is due on the link of this number.
 #[inline(never)]
-fn part_due<'t>(number: u64, looked: &Looked<'t>) -> Option<DuePart<'t>>
+fn part_due<'t>(number: u64, looked: &LentTables<'t>) -> Option<DuePart<'t>>
     ensures due { IfSome result (λ part. (rules : RuleSet) (past : Events) → TellsOf rules looked.now past → IsDuePart part past) }
     ensures found { (rules : RuleSet) (past : Events) → TellsOf rules looked.now past → (l : law.Link) → l.number ≡ number → IsStill l past →
         is_some result ≡ true }

@@ -14,7 +14,7 @@ ghost use Rattle.trace_values.specs.View.{Events, event_view};
 
 use crate::candidates::Candidates;
 use flow_counts::RENEWAL_MARK;
-use state_answers::Looked;
+use state_answers::LentTables;
 use std::alloc::{AllocError, Global};
 use trace_events::Session;
 use trace_judge::Inputs;
@@ -41,7 +41,7 @@ impl Windows {
     /// # Errors
     ///
     /// Memory was refused; then a session that lacks window may not be found.
-    pub fn follow(&mut self, event: &Event, before: &Looked<'_>) -> Result<(), AllocError>
+    pub fn follow(&mut self, event: &Event, before: &LentTables<'_>) -> Result<(), AllocError>
         ensures { OnOk result ((rules : RuleSet) (records : List Record) (r : Record) → IsLawfulNext rules records r (event_view event.now) →
             TellsOf rules before.now (history rules records) → HasLacking self.old (history rules records) →
             HasLacking self.new (event_view event.now ∷ history rules records)) }
@@ -53,7 +53,7 @@ impl Windows {
     }
 
     /// The live session with the lowest number whose window is to be given anew. Those below it are candidates no more.
-    pub fn first_due(&mut self, looked: &Looked<'_>) -> Option<Session>
+    pub fn first_due(&mut self, looked: &LentTables<'_>) -> Option<Session>
         ensures due { IfSome result (λ s. (rules : RuleSet) (past : Events) → TellsOf rules looked.now past → IsLacking s past) }
         ensures kept { (rules : RuleSet) (past : Events) → TellsOf rules looked.now past → HasLacking self.old past → HasLacking self.new past }
         ensures quiet { (rules : RuleSet) (past : Events) → TellsOf rules looked.now past → HasLacking self.old past → result ≡ None →
@@ -70,7 +70,7 @@ impl Windows {
 }
 
 /// The session on which the event stands, where it may lack window behind it.
-fn lowered(event: &Event, before: &Looked<'_>) -> Option<Session>
+fn lowered(event: &Event, before: &LentTables<'_>) -> Option<Session>
     ensures known { (rules : RuleSet) (records : List Record) (r : Record) → IsLawfulNext rules records r (event_view event.now) →
         TellsOf rules before.now (history rules records) → HasLowered result (event_view event.now) (history rules records) }
     ensures stands { (s : Session) → result ≡ Some s → (event_view event.now).session ≡ Some s }
@@ -85,7 +85,7 @@ fn lowered(event: &Event, before: &Looked<'_>) -> Option<Session>
 
 /// The live session of the candidate's channel, where it is the candidate and lacks window.
 #[inline(never)]
-fn lacking(candidate: Session, looked: &Looked<'_>) -> Option<Session>
+fn lacking(candidate: Session, looked: &LentTables<'_>) -> Option<Session>
     ensures due { IfSome result (λ s. (rules : RuleSet) (past : Events) → TellsOf rules looked.now past → IsLacking s past) }
     ensures found { (rules : RuleSet) (past : Events) → TellsOf rules looked.now past → IsLacking candidate past → result ≡ Some candidate }
 {

@@ -20,7 +20,7 @@ use Rattle.state_incoming.specs.declared.deliveries.Deliveries.{Deliveries}
 use Rattle.state_incoming.proofs.CarriedHeld.{knows-held}
 use Rattle.state_incoming.proofs.GroupAnswers.{judged-of}
 use Rattle.state_incoming.proofs.OverKnown.{open-kept}
-use Rattle.state_answers.specs.declared.looked.Looked.{Looked}
+use Rattle.state_answers.specs.declared.lent_tables.LentTables.{LentTables}
 use Rattle.state_answers.specs.Tables.{TellsOf}
 
 -- one that may be told is kept
@@ -47,7 +47,7 @@ knows-has table d knows = by (held_in table d.number) knows
     by None is = absurd cc
     by (Some x) is = refl
 
-module _ (rules : RuleSet) (past : List Event) (looked : Looked) (stands : TellsOf rules looked past) where
+module _ (rules : RuleSet) (past : List Event) (looked : LentTables) (stands : TellsOf rules looked past) where
   are : AreJudged rules past
   are = judged-of rules past stands.0
 

@@ -24,7 +24,7 @@ use Rattle.state_incoming.proofs.CarriedHeld.{carried-of, carried-shut, entry-at
 use Rattle.state_incoming.proofs.GroupAnswers.{judged-of}
 use Rattle.state_incoming.proofs.OverKnown.{waiting-kept}
 use Rattle.state_outgoing.proofs.SentKept.{contained-at}
-use Rattle.state_answers.specs.declared.looked.Looked.{Looked}
+use Rattle.state_answers.specs.declared.lent_tables.LentTables.{LentTables}
 use Rattle.number_groups.specs.Ascending.{has}
 use Rattle.state_answers.specs.Tables.{TellsOf}
 use Rattle.due_outcomes.specs.Untold.{HasUntold, IsOn, waits_in}
@@ -50,7 +50,7 @@ fate-bits false true true had is = absurd cc
 fate-bits false true false true is = refl
 fate-bits false true false false is = absurd cc
 
-module _ (rules : RuleSet) (past : List Event) (looked : Looked) (stands : TellsOf rules looked past) where
+module _ (rules : RuleSet) (past : List Event) (looked : LentTables) (stands : TellsOf rules looked past) where
   are : AreJudged rules past
   are = judged-of rules past stands.0
 

@@ -22,7 +22,7 @@ use Rattle.state_outgoing.specs.Sent.{Sent, sent, outgoing_at, is_left_unsettled
 use Rattle.state_outgoing.specs.SentAnswers.{carried, closes}
 use Rattle.state_outgoing.specs.SentTables.{sent_in}
 use Rattle.state_outgoing.proofs.SentKept.{contained-at, entry-law, unfinished-entry, unsettled-unfinished}
-use Rattle.state_answers.specs.declared.looked.Looked.{Looked}
+use Rattle.state_answers.specs.declared.lent_tables.LentTables.{LentTables}
 use Rattle.number_groups.specs.Ascending.{has}
 use Rattle.state_answers.specs.Tables.{TellsOf}
 use Rattle.due_outcomes.specs.Parked.{is_parked}
@@ -80,7 +80,7 @@ settled-of past j opens decides closed = sym (settles-as past j) ∙ all (is_lef
     all : (a b c : Bool) → a ≡ true → b ≡ true → c ≡ true → a && b && c ≡ true
     all a b c is so too = rw (is, so, too) refl
 
-module _ (rules : RuleSet) (past : List Event) (looked : Looked) (stands : TellsOf rules looked past) where
+module _ (rules : RuleSet) (past : List Event) (looked : LentTables) (stands : TellsOf rules looked past) where
   are : AreJudged rules past
   are = judged-of rules past stands.0
 

@@ -13,7 +13,7 @@ ghost use Rattle.due_outcomes.specs.DueOutcomes.{IsDueOutcome};
 
 use capture_form::RuleSet;
 use pairing_cert::Why;
-use state_answers::Looked;
+use state_answers::LentTables;
 use trace_judge::{Told, first_row, may_be_told};
 use trace_values::Incoming;
 
@@ -30,7 +30,7 @@ pub struct DueOutcome<'t> {
 #[inline(never)]
 pub(crate) fn outcome_of<'t>(
     rules: &RuleSet,
-    looked: &Looked<'t>,
+    looked: &LentTables<'t>,
     number: u64,
 ) -> Option<DueOutcome<'t>>
     ensures due { IfSome result (λ due. (records : List Record) → TellsOf rules.now looked.now (history rules.now records) →

@@ -31,7 +31,7 @@ use crate::parked::Parked;
 use amqp_perf::{Disposition, Role};
 use number_groups::{Ascending, NumberTest};
 use pairing_cert::Note;
-use state_answers::Looked;
+use state_answers::LentTables;
 use state_outgoing::SentDelivery;
 use std::alloc::{AllocError, Global};
 use trace_values::{Event, Link, Outgoing};
@@ -64,7 +64,7 @@ impl Unsettled {
     /// # Errors
     ///
     /// Memory was refused; then the list may agree with no records any more.
-    pub fn follow(&mut self, event: &Event, before: &Looked<'_>) -> Result<(), AllocError>
+    pub fn follow(&mut self, event: &Event, before: &LentTables<'_>) -> Result<(), AllocError>
         ensures { OnOk result ((rules : RuleSet) (records : List Record) (r : Record) → IsLawfulNext rules records r (event_view event.now) →
             TellsOf rules before.now (history rules records) →
             HasUnsettled self.old (history rules records) → HasUnsettled self.new (event_view event.now ∷ history rules records)) }
@@ -79,7 +79,7 @@ impl Unsettled {
     /// The delivery that is to be settled next, the lowest number first; those that are settled are forgotten. The one that is
     /// answered stays a candidate. Decided deliveries that carry one of which more is to be told are parked, each once; where
     /// memory is refused for that, it passes over them.
-    pub fn first_due<'t>(&mut self, looked: &Looked<'t>) -> Option<Outgoing<'t>>
+    pub fn first_due<'t>(&mut self, looked: &LentTables<'t>) -> Option<Outgoing<'t>>
         ensures due { IfSome result (λ j. (rules : RuleSet) (records : List Record) → TellsOf rules looked.now (history rules records) →
             IsDueSettling (history rules records) (outgoing_view j)) }
         ensures kept { (rules : RuleSet) (records : List Record) → TellsOf rules looked.now (history rules records) →
@@ -119,7 +119,7 @@ impl Unsettled {
     }
 
     /// The lowest are forgotten or parked, up to one that is to be settled.
-    fn sort_lowest(&mut self, looked: &Looked<'_>)
+    fn sort_lowest(&mut self, looked: &LentTables<'_>)
         ensures { (rules : RuleSet) (records : List Record) → TellsOf rules looked.now (history rules records) →
             HasUnsettled self.old (history rules records) → HasUnsettled self.new (history rules records) }
     {
@@ -132,7 +132,7 @@ impl Unsettled {
     }
 
     /// The delivery of the number stays a candidate: it is decided and unsettled, and cannot be parked.
-    fn stays(&mut self, looked: &Looked<'_>, number: u64, entry: Option<&SentDelivery>) -> bool
+    fn stays(&mut self, looked: &LentTables<'_>, number: u64, entry: Option<&SentDelivery>) -> bool
         ensures goes { result ≡ false → (waits_in (option_map sent_view (option_copied entry.entry)) ≡ false)
             ⊎ IsParked self.new.parked looked.now.deliveries.now number (option_map sent_view (option_copied entry.entry)) }
         ensures kept { (n m : ℕ) → is_parked self.old.parked n m ≡ true → is_parked self.new.parked n m ≡ true }
@@ -143,7 +143,7 @@ impl Unsettled {
 
     /// The delivery of the number is parked, and this is said, if more is to be told of what it carries and memory is not
     /// refused.
-    fn park(&mut self, looked: &Looked<'_>, number: u64, entry: Option<&SentDelivery>) -> bool
+    fn park(&mut self, looked: &LentTables<'_>, number: u64, entry: Option<&SentDelivery>) -> bool
         ensures parked { result ≡ true → IsParked self.new.parked looked.now.deliveries.now number (option_map sent_view (option_copied entry.entry)) }
         ensures kept { (n m : ℕ) → is_parked self.old.parked n m ≡ true → is_parked self.new.parked n m ≡ true }
         ensures candidates { self.new.candidates ≡ self.old.candidates }
@@ -166,7 +166,7 @@ fn waits(entry: Option<&SentDelivery>) -> bool
 }
 
 /// The number of what it carries, if more is to be told of that.
-fn carried_open(looked: &Looked<'_>, entry: Option<&SentDelivery>) -> Option<u64>
+fn carried_open(looked: &LentTables<'_>, entry: Option<&SentDelivery>) -> Option<u64>
     ensures { IfSome result (λ n. (sent.carried (option_map sent_view (option_copied entry.entry)) ≡ Some n)
         × (is_shut (held_in looked.now.deliveries.now n) ≡ false)) }
 {
@@ -218,7 +218,7 @@ fn has_producer(links: &[Link]) -> bool
 }
 
 /// Nothing more is to be told of the delivery that the note names.
-fn closes(looked: &Looked<'_>, note: Note) -> bool
+fn closes(looked: &LentTables<'_>, note: Note) -> bool
     ensures { result ≡ sent.closes (λ n. is_shut (held_in looked.now.deliveries.now n)) note }
 {
     match note {
@@ -228,7 +228,7 @@ fn closes(looked: &Looked<'_>, note: Note) -> bool
 }
 
 /// The delivery of the number, if it is to be settled.
-fn settling_of<'t>(looked: &Looked<'t>, number: u64) -> Option<Outgoing<'t>>
+fn settling_of<'t>(looked: &LentTables<'t>, number: u64) -> Option<Outgoing<'t>>
     ensures { option_map outgoing_view result ≡ due_in looked.now.sent.now looked.now.deliveries.now number }
 {
     let own = looked.sent.get(number)?;
@@ -243,7 +243,7 @@ fn settling_of<'t>(looked: &Looked<'t>, number: u64) -> Option<Outgoing<'t>>
 /// The deliveries that are to be settled.
 #[derive(Drop)]
 struct IsToSettle<'l, 't> {
-    looked: &'l Looked<'t>,
+    looked: &'l LentTables<'t>,
 }
 
 impl<'l, 't> NumberTest for IsToSettle<'l, 't> {

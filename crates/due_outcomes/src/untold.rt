@@ -30,7 +30,7 @@ use crate::outcome::{DueOutcome, outcome_of};
 use capture_form::RuleSet;
 use number_groups::{Ascending, Groups, OctetGroups};
 use pairing_cert::Note;
-use state_answers::Looked;
+use state_answers::LentTables;
 use state_incoming::HeldDelivery;
 use std::alloc::{AllocError, Global};
 use trace_judge::Outcomes;
@@ -123,7 +123,7 @@ impl Untold {
         rules: &RuleSet,
         event: &Event,
         address: &[u8],
-        before: &Looked<'_>,
+        before: &LentTables<'_>,
     ) -> Result<(), AllocError>
         ensures { OnOk result ((records : List Record) (r : Record) → IsLawfulNext rules.now records r (event_view event.now) →
             IsAddressed (event_view event.now) (history rules.now records) address.now →
@@ -144,7 +144,11 @@ impl Untold {
 
     /// The outcome that is to be told next: of the delivery with the lowest number, by the first reason that applies. Those of
     /// which none is to be told are forgotten; the one that is answered stays a candidate.
-    pub fn first_due<'t>(&mut self, rules: &RuleSet, looked: &Looked<'t>) -> Option<DueOutcome<'t>>
+    pub fn first_due<'t>(
+        &mut self,
+        rules: &RuleSet,
+        looked: &LentTables<'t>,
+    ) -> Option<DueOutcome<'t>>
         ensures due { IfSome result (λ due. (records : List Record) → TellsOf rules.now looked.now (history rules.now records) →
             IsDueOutcome rules.now (history rules.now records) (incoming_view due.delivery) due.why (told_view due.told)) }
         ensures kept { (records : List Record) → TellsOf rules.now looked.now (history rules.now records) →
@@ -217,7 +221,7 @@ impl Untold {
 
     /// The delivery is no candidate, and not found any more by what is over of it.
     #[inline(never)]
-    fn forget(&mut self, looked: &Looked<'_>, number: u64)
+    fn forget(&mut self, looked: &LentTables<'_>, number: u64)
         ensures left { (n : ℕ) → has self.new.candidates n ≡ (has self.old.candidates n && not (number == n)) }
         ensures shorter { has self.old.candidates number ≡ true → count_of self.new.candidates < count_of self.old.candidates }
         ensures waiting { (address : List ℕ) (n : ℕ) → (number == n) ≡ false → waits_in self.old address n ≡ true → waits_in self.new address n ≡ true }
@@ -245,7 +249,7 @@ impl Untold {
     }
 
     /// It is not found by what carries it, if nothing more is to be told of it.
-    fn stop_carrying(&mut self, looked: &Looked<'_>, held: &HeldDelivery, number: u64)
+    fn stop_carrying(&mut self, looked: &LentTables<'_>, held: &HeldDelivery, number: u64)
         ensures carried { (j : events.Outgoing) (n : ℕ) → (number == n) ≡ false → IsOn self.old.carried j n → IsOn self.new.carried j n }
         ensures opens { held.now.is_closed ≡ false → self.new.carried ≡ self.old.carried }
         ensures candidates { self.new.candidates ≡ self.old.candidates }

@@ -26,7 +26,7 @@ ghost use Rattle.due_queues.specs.Picks.{ArePicks, DecidesAll, decided_link, dec
 use address_table::Table;
 use amqp_perf::{Address, Role};
 use capture_form::{RuleSet, distribution_of};
-use state_answers::Looked;
+use state_answers::LentTables;
 use state_outgoing::SentDelivery;
 use state_tables::Links;
 use std::alloc::{AllocError, Global};
@@ -90,7 +90,7 @@ fn text_of(octets: &[u8]) -> Option<&str>
 
 /// The consumer's live link of this number may be sent a delivery: it has credit, its session has window, and nothing is in
 /// progress.
-fn may_take(looked: &Looked<'_>, number: u64) -> bool
+fn may_take(looked: &LentTables<'_>, number: u64) -> bool
     ensures { (rules : RuleSet) (records : List Record) → TellsOf rules looked.now (history rules records) →
         result ≡ is_some_and (consumer_at number (history rules records)) (may_take (history rules records)) }
 {
@@ -101,7 +101,7 @@ fn may_take(looked: &Looked<'_>, number: u64) -> bool
 }
 
 /// The same of a live link.
-fn takes(looked: &Looked<'_>, link: &Link) -> bool
+fn takes(looked: &LentTables<'_>, link: &Link) -> bool
     ensures { (rules : RuleSet) (records : List Record) → TellsOf rules looked.now (history rules records) →
         IsLiveLink (link_view link.now) (history rules records) → result ≡ may_take (history rules records) (link_view link.now) }
 {
@@ -136,7 +136,7 @@ impl Picks {
         &mut self,
         rules: &RuleSet,
         event: &Event,
-        before: &Looked<'_>,
+        before: &LentTables<'_>,
     ) -> Result<(), AllocError>
         ensures { OnOk result ((rules : RuleSet) (records : List Record) (r : Record) → IsLawfulNext rules records r (event_view event.now) →
             TellsOf rules before.now (history rules records) →
@@ -154,7 +154,12 @@ impl Picks {
     /// one whose last delivery began first, where one without a delivery comes before all; for a balanced address the one
     /// with the fewest deliveries that are not decided; of equal ones the one that was attached first. `None` where none
     /// may be sent one, and for a multicast address. It takes time linear in the links of the address, and no memory.
-    pub fn pick<'t>(&self, address: &[u8], rules: &RuleSet, looked: &Looked<'t>) -> Option<Link<'t>>
+    pub fn pick<'t>(
+        &self,
+        address: &[u8],
+        rules: &RuleSet,
+        looked: &LentTables<'t>,
+    ) -> Option<Link<'t>>
         ensures picked { (records : List Record) → TellsOf rules.now looked.now (history rules.now records) → ArePicks self.now (history rules.now records) →
             option_map (λ l. (link_view l).number) result ≡ pick rules.now address.now (history rules.now records) }
         ensures known { (records : List Record) → TellsOf rules.now looked.now (history rules.now records) → ArePicks self.now (history rules.now records) →
@@ -203,7 +208,7 @@ impl Picks {
     }
 
     /// The deliveries that the event decides are decided.
-    fn decide(&mut self, event: &Event, before: &Looked<'_>) -> Result<(), AllocError>
+    fn decide(&mut self, event: &Event, before: &LentTables<'_>) -> Result<(), AllocError>
         ensures { OnOk result ((rules : RuleSet) (records : List Record) → TellsOf rules before.now (history rules records) →
             DecidesAll (event_view event.now) (history rules records) (sent_in before.now.sent.now) self.old.table self.new.table) }
     {
@@ -215,7 +220,7 @@ impl Picks {
     }
 
     /// The delivery of this number is decided, if the event decides it.
-    fn decide_one(&mut self, number: u64, event: &Event, before: &Looked<'_>)
+    fn decide_one(&mut self, number: u64, event: &Event, before: &LentTables<'_>)
         ensures { (history : Events) → AreLinked before.now.links.now history →
             CountsMore (decided_on (decided_link (event_view event.now) history (sent_in before.now.sent.now number))) self.old.table self.new.table }
     {

@@ -19,7 +19,7 @@ ghost use Rattle.due_queues.specs.Queues.{HaveQueues, IsPushed, IsShorter, queue
 
 use capture_form::RuleSet;
 use indexmap::IndexMap;
-use state_answers::Looked;
+use state_answers::LentTables;
 use state_incoming::Deliveries;
 use std::alloc::{AllocError, Global};
 use std::collections::VecDeque;
@@ -126,7 +126,7 @@ impl Queues {
     }
 
     /// The delivery that was completed first of those that wait at the address. Those in front of it, which wait no more, go.
-    pub fn first<'t>(&mut self, address: &[u8], looked: &Looked<'t>) -> Option<Incoming<'t>>
+    pub fn first<'t>(&mut self, address: &[u8], looked: &LentTables<'t>) -> Option<Incoming<'t>>
         ensures kept { (rules : RuleSet) (records : List Record) → TellsOf rules looked.now (history rules records) →
             HaveQueues rules self.old (history rules records) → HaveQueues rules self.new (history rules records) }
         ensures first { (rules : RuleSet) (records : List Record) → TellsOf rules looked.now (history rules records) →

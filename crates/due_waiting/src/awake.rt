@@ -20,7 +20,7 @@ use crate::by_session::BySession;
 use flow_counts::WindowEvent;
 use indexmap::IndexSet;
 use state_addresses::ConsumerLinks;
-use state_answers::Looked;
+use state_answers::LentTables;
 use std::alloc::{AllocError, Global};
 use trace_judge::Counts;
 use trace_values::Event;
@@ -77,7 +77,7 @@ impl Awake {
         event: &Event,
         address: &[u8],
         links: &BySession,
-        before: &Looked<'_>,
+        before: &LentTables<'_>,
     ) -> Result<(), AllocError>
         ensures completed { OnOk result ((d : law.Incoming) → completed_by (event_view event.now) ≡ Some d → is_awake self.new address.now ≡ true) }
         ensures credited { OnOk result ((l : law.Link) → (event_view event.now).link ≡ Some l → is_consumer l ≡ true →
@@ -203,7 +203,7 @@ fn freed<'a>(event: &Event<'a, '_>) -> Option<&'a [u8]>
 }
 
 /// The session to which a flow of the client may give window, where it had none.
-fn granted(event: &Event, before: &Looked<'_>) -> Option<u64>
+fn granted(event: &Event, before: &LentTables<'_>) -> Option<u64>
     ensures { (rules : RuleSet) (past : Events) → TellsOf rules before.now past → (s : Session) → (event_view event.now).session ≡ Some s →
         grants_window (event_view event.now) ≡ true → IsLiveOn s past → has_window s past ≡ false → result ≡ Some s.number }
 {

@@ -21,7 +21,7 @@ use crate::by_session::BySession;
 use capture_form::RuleSet;
 use due_flows::DueBegin;
 use due_queues::{Picks, Queues};
-use state_answers::Looked;
+use state_answers::LentTables;
 use std::alloc::{AllocError, Global};
 use trace_values::{Event, Incoming, Link};
 
@@ -63,7 +63,7 @@ impl Waiting {
         rules: &RuleSet,
         event: &Event,
         address: &[u8],
-        before: &Looked<'_>,
+        before: &LentTables<'_>,
     ) -> Result<(), AllocError>
         ensures { OnOk result ((records : List Record) (r : Record) → IsLawfulNext rules.now records r (event_view event.now) →
             IsAddressed (event_view event.now) (history rules.now records) address.now →
@@ -81,7 +81,11 @@ impl Waiting {
 
     /// Of the deliveries that may begin the one that was completed first. It takes time linear in the addresses to look at,
     /// and in the links of each of them; those at which none may begin go.
-    pub fn first_due<'t>(&mut self, rules: &RuleSet, looked: &Looked<'t>) -> Option<DueBegin<'t>>
+    pub fn first_due<'t>(
+        &mut self,
+        rules: &RuleSet,
+        looked: &LentTables<'t>,
+    ) -> Option<DueBegin<'t>>
         ensures due { IfSome result (λ due. (records : List Record) → TellsOf rules.now looked.now (history rules.now records) →
             HasWaiting rules.now self.old (history rules.now records) → IsDueWaiting rules.now due (history rules.now records)) }
         ensures earliest { IfSome result (λ due. (records : List Record) → TellsOf rules.now looked.now (history rules.now records) →
@@ -108,7 +112,7 @@ impl Waiting {
         &mut self,
         index: usize,
         rules: &RuleSet,
-        looked: &Looked<'t>,
+        looked: &LentTables<'t>,
     ) -> Option<DueBegin<'t>>
         requires within { index < count_of self.old.awake }
         ensures due { IfSome result (λ due. (records : List Record) → TellsOf rules.now looked.now (history rules.now records) →
@@ -136,7 +140,7 @@ fn due_at<'t>(
     picks: &Picks,
     queues: &mut Queues,
     rules: &RuleSet,
-    looked: &Looked<'t>,
+    looked: &LentTables<'t>,
 ) -> Option<DueBegin<'t>>
     ensures due { IfSome result (λ due. (records : List Record) → TellsOf rules.now looked.now (history rules.now records) →
         ArePicks picks.now (history rules.now records) → HaveQueues rules.now queues.old (history rules.now records) →
@@ -163,7 +167,7 @@ fn due_at<'t>(
 fn earlier<'t>(
     first: Option<DueBegin<'t>>,
     other: DueBegin<'t>,
-    looked: &Looked<'t>,
+    looked: &LentTables<'t>,
 ) -> DueBegin<'t>
     ensures one { (first.entry ≡ Some result) ⊎ (other.entry ≡ result) }
     ensures order { (rules : RuleSet) (past : Events) → TellsOf rules looked.now past →

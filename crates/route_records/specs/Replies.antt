@@ -12,7 +12,7 @@ use Rattle.trace_clauses.specs.Written.{spoken_octets}
 use Rattle.state_answers.specs.Tables.{TellsOf}
 use Rattle.route_answers.specs.Answering.{IsReady, may_happen}
 use Rattle.trace_duties.specs.Answer.{answer}
-use Rattle.state_answers.specs.declared.looked.Looked.{Looked}
+use Rattle.state_answers.specs.declared.lent_tables.LentTables.{LentTables}
 use Rattle.route_dues.specs.Writing.{IsReadAgain}
 use Rattle.route_records.specs.declared.replies.Replies.{Replies}
 use Rattle.route_records.specs.declared.replies.Replies.TheVariants.{Nothing, One, Two}
@@ -46,12 +46,12 @@ pub record IsAnswerable (rules : RuleSet) (e : Event) : Type 0 where
   pub judged : e ≡ judge_moment rules past connection moment notes.None
 
 -- these frames are the answer to an event, behind whatever history of a router it is
-pub record IsAnswerOf (rules : RuleSet) (looked : Looked) (e : Event) (frames : List Spoken) : Type 0 where
+pub record IsAnswerOf (rules : RuleSet) (looked : LentTables) (e : Event) (frames : List Spoken) : Type 0 where
   pub says : (past : List Event) (c : ℕ) (m : Moment) → IsReady rules past → IsTrue (may_happen c m past)
       → e ≡ judge_moment rules past c m notes.None → TellsOf rules looked (e ∷ past) → frames ≡ answer rules e (e ∷ past)
 
 -- these records write such frames
-pub record AreAnswers (rules : RuleSet) (looked : Looked) (e : Event) (records : List Record) : Type 0 where
+pub record AreAnswers (rules : RuleSet) (looked : LentTables) (e : Event) (records : List Record) : Type 0 where
   pub frames : List Spoken
   pub answers : IsAnswerOf rules looked e frames
   pub written : AreReplies e.connection frames records

@@ -9,7 +9,7 @@ ghost use Rattle.route_records.specs.Replies.{IsReply, AreReplies, IsAnswerable,
 use capture_form::{Frame, Record, RuleSet, What};
 use pairing_cert::Note;
 use route_answers::{Answer, Reply, answer_to};
-use state_answers::Looked;
+use state_answers::LentTables;
 use state_ledger::HeldEvent;
 use std::alloc::{AllocError, Global};
 use trace_values::ReadRecord;
@@ -66,7 +66,7 @@ fn records_of(alloc: Global, connection: u32, answer: &Answer<'_>) -> Result<Rep
 
 /// The direct answer to what a client did, by the tables of what was recorded up to it.
 fn answer_by<'m>(
-    looked: &Looked<'_>,
+    looked: &LentTables<'_>,
     rules: &RuleSet,
     held: &HeldEvent,
     entry: &'m ReadRecord<'m>,
@@ -86,7 +86,7 @@ fn answer_by<'m>(
 /// Where memory is refused.
 pub(crate) fn replies_to(
     alloc: Global,
-    looked: &Looked<'_>,
+    looked: &LentTables<'_>,
     rules: &RuleSet,
     held: &HeldEvent,
     entry: &ReadRecord<'_>,

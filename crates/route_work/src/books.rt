@@ -17,7 +17,7 @@ ghost use Rattle.trace_values.specs.View.{Events, event_view};
 use crate::dues::Dues;
 use crate::record_of;
 use capture_form::{Record, RuleSet};
-use state_answers::{Looked, Tables};
+use state_answers::{LentTables, Tables};
 use state_ledger::HeldEvent;
 use std::alloc::{AllocError, Global};
 use trace_judge::{judge_unopened, open};
@@ -56,7 +56,7 @@ impl<D: Dues> Books<D> {
     }
 
     /// The tables, lent.
-    pub fn looked(&self) -> Looked<'_>
+    pub fn looked(&self) -> LentTables<'_>
         ensures { (rules : RuleSet) (records : List Record) → AreBooks D.has_all rules self.now records → TellsOf rules result (history rules records) }
     {
         self.tables.looked()

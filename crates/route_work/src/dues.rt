@@ -13,7 +13,7 @@ ghost use Rattle.route_work.specs.Dues.{IsDue, is_in_turn};
 
 use crate::Due;
 use capture_form::RuleSet;
-use state_answers::Looked;
+use state_answers::LentTables;
 use std::alloc::{AllocError, Global};
 use trace_values::Event;
 
@@ -37,7 +37,7 @@ pub trait Dues {
         rules: &RuleSet,
         event: &Event,
         address: &[u8],
-        before: &Looked<'_>,
+        before: &LentTables<'_>,
     ) -> Result<(), AllocError>
         ensures { OnOk result ((records : List Record) (r : Record) → IsLawfulNext rules.now records r (event_view event.now) →
             IsAddressed (event_view event.now) (history rules.now records) address.now →
@@ -45,7 +45,7 @@ pub trait Dues {
             has_all self.new rules.now (event_view event.now ∷ history rules.now records)) };
 
     /// What is due next, by the tables of the events so far; `None` where nothing is.
-    fn next_due<'t>(&mut self, rules: &RuleSet, looked: &Looked<'t>) -> Option<Due<'t>>
+    fn next_due<'t>(&mut self, rules: &RuleSet, looked: &LentTables<'t>) -> Option<Due<'t>>
         // What is answered is due.
         ensures due { (records : List Record) → TellsOf rules.now looked.now (history rules.now records) →
             has_all self.old rules.now (history rules.now records) → IfSome result (IsDue rules.now (history rules.now records)) }

@@ -14,7 +14,7 @@ ghost use Rattle.route_work.specs.Work.{HasFlowing, IsAllGiven, IsAllSent, IsAll
 use crate::Due;
 use capture_form::RuleSet;
 use due_flows::{Credits, Drains, Windows};
-use state_answers::Looked;
+use state_answers::LentTables;
 use std::alloc::{AllocError, Global};
 use trace_values::Event;
 
@@ -56,7 +56,11 @@ impl Flowing {
     /// # Errors
     ///
     /// Memory was refused; then something that is due may not be found any more.
-    pub(crate) fn follow(&mut self, event: &Event, before: &Looked<'_>) -> Result<(), AllocError>
+    pub(crate) fn follow(
+        &mut self,
+        event: &Event,
+        before: &LentTables<'_>,
+    ) -> Result<(), AllocError>
         ensures { OnOk result ((rules : RuleSet) (records : List Record) (r : Record) → IsLawfulNext rules records r (event_view event.now) →
             TellsOf rules before.now (history rules records) → HasFlowing rules self.old (history rules records) →
             HasFlowing rules self.new (event_view event.now ∷ history rules records)) }
@@ -69,7 +73,11 @@ impl Flowing {
 
     /// The first drain answer; where no drain may be answered, the first credit; where none may be given, the first window.
     #[tactic(auto, using(crate::proofs::Turns::all_sent, crate::proofs::Turns::all_drained, crate::proofs::Turns::all_credited))]
-    pub(crate) fn next_due<'t>(&mut self, rules: &RuleSet, looked: &Looked<'t>) -> Option<Due<'t>>
+    pub(crate) fn next_due<'t>(
+        &mut self,
+        rules: &RuleSet,
+        looked: &LentTables<'t>,
+    ) -> Option<Due<'t>>
         ensures due { (records : List Record) → TellsOf rules.now looked.now (history rules.now records) →
             HasFlowing rules.now self.old (history rules.now records) → IfSome result (IsDue rules.now (history rules.now records)) }
         ensures turn { (records : List Record) → TellsOf rules.now looked.now (history rules.now records) →

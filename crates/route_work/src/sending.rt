@@ -21,7 +21,7 @@ use capture_form::RuleSet;
 use due_copies::UnsentCopies;
 use due_flows::{DueBegin, Parts};
 use due_waiting::Waiting;
-use state_answers::Looked;
+use state_answers::LentTables;
 use std::alloc::{AllocError, Global};
 use trace_values::Event;
 
@@ -68,7 +68,7 @@ impl Sending {
         rules: &RuleSet,
         event: &Event,
         address: &[u8],
-        before: &Looked<'_>,
+        before: &LentTables<'_>,
     ) -> Result<(), AllocError>
         ensures { OnOk result ((records : List Record) (r : Record) → IsLawfulNext rules.now records r (event_view event.now) →
             IsAddressed (event_view event.now) (history rules.now records) address.now →
@@ -83,7 +83,11 @@ impl Sending {
 
     /// The first part of a delivery in progress; where none goes on, of the deliveries that wait and may begin and of the copies
     /// that may be sent the one that was completed first.
-    pub(crate) fn next_due<'t>(&mut self, rules: &RuleSet, looked: &Looked<'t>) -> Option<Due<'t>>
+    pub(crate) fn next_due<'t>(
+        &mut self,
+        rules: &RuleSet,
+        looked: &LentTables<'t>,
+    ) -> Option<Due<'t>>
         ensures due { (records : List Record) → TellsOf rules.now looked.now (history rules.now records) →
             HasSending rules.now self.old (history rules.now records) → IfSome result (IsDue rules.now (history rules.now records)) }
         ensures turn { (records : List Record) → TellsOf rules.now looked.now (history rules.now records) →
@@ -107,7 +111,7 @@ impl Sending {
 fn first_completed<'t>(
     waiting: Option<DueBegin<'t>>,
     copy: Option<DueBegin<'t>>,
-    looked: &Looked<'t>,
+    looked: &LentTables<'t>,
 ) -> Option<Due<'t>>
     ensures due { (rules : RuleSet) (past : Events) → IfSome waiting.entry (λ due. IsDueWaiting rules due past) → IfSome copy.entry (λ due. IsDueCopy rules due past) →
         IfSome result (IsDue rules past) }

@@ -15,7 +15,7 @@ ghost use Rattle.route_work.specs.Work.{HasTelling, IsAllTold};
 use crate::Due;
 use capture_form::RuleSet;
 use due_outcomes::{Unsettled, Untold};
-use state_answers::Looked;
+use state_answers::LentTables;
 use std::alloc::{AllocError, Global};
 use trace_values::Event;
 
@@ -55,7 +55,7 @@ impl Telling {
         rules: &RuleSet,
         event: &Event,
         address: &[u8],
-        before: &Looked<'_>,
+        before: &LentTables<'_>,
     ) -> Result<(), AllocError>
         ensures { OnOk result ((records : List Record) (r : Record) → IsLawfulNext rules.now records r (event_view event.now) →
             IsAddressed (event_view event.now) (history rules.now records) address.now →
@@ -68,7 +68,11 @@ impl Telling {
     }
 
     /// The first outcome; where none is to be told, the first settling.
-    pub(crate) fn next_due<'t>(&mut self, rules: &RuleSet, looked: &Looked<'t>) -> Option<Due<'t>>
+    pub(crate) fn next_due<'t>(
+        &mut self,
+        rules: &RuleSet,
+        looked: &LentTables<'t>,
+    ) -> Option<Due<'t>>
         ensures due { (records : List Record) → TellsOf rules.now looked.now (history rules.now records) →
             HasTelling rules.now self.old (history rules.now records) → IfSome result (IsDue rules.now (history rules.now records)) }
         ensures turn { (records : List Record) → TellsOf rules.now looked.now (history rules.now records) →

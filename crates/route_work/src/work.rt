@@ -8,7 +8,7 @@ use crate::sending::Sending;
 use crate::telling::Telling;
 use crate::{Due, Dues};
 use capture_form::RuleSet;
-use state_answers::Looked;
+use state_answers::LentTables;
 use std::alloc::{AllocError, Global};
 use trace_values::Event;
 
@@ -50,7 +50,7 @@ impl Dues for Work {
         rules: &RuleSet,
         event: &Event,
         address: &[u8],
-        before: &Looked<'_>,
+        before: &LentTables<'_>,
     ) -> Result<(), AllocError> {
         self.telling.follow(rules, event, address, before)?;
         self.sending.follow(rules, event, address, before)?;
@@ -58,7 +58,7 @@ impl Dues for Work {
         Ok(())
     }
 
-    fn next_due<'t>(&mut self, rules: &RuleSet, looked: &Looked<'t>) -> Option<Due<'t>> {
+    fn next_due<'t>(&mut self, rules: &RuleSet, looked: &LentTables<'t>) -> Option<Due<'t>> {
         if let Some(due) = self.telling.next_due(rules, looked) {
             return Some(due);
         }

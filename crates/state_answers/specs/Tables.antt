@@ -27,7 +27,7 @@ use Rattle.state_outgoing.specs.SentTables.{is_done_in}
 use Rattle.state_outgoing.specs.declared.deliveries.SentDeliveries.{SentDeliveries}
 use Rattle.state_verdicts.specs.Verdicts.{AreVerdicts}
 use Rattle.state_verdicts.specs.declared.verdicts.Verdicts.{Verdicts}
-use Rattle.state_answers.specs.declared.looked.Looked.{Looked}
+use Rattle.state_answers.specs.declared.lent_tables.LentTables.{LentTables}
 use Rattle.state_answers.specs.declared.tables.Tables.{Tables}
 
 -- both tables of deliveries, and that of verdicts, let the same deliveries from clients go
@@ -53,7 +53,7 @@ AreTables rules tables past =
     StandFor rules tables.connections tables.links tables.consumers tables.deliveries tables.consumer_links tables.copies tables.sent tables.verdicts past
 
 -- the tables that are lent tell of these events
-abbrev pub TellsOf : RuleSet → Looked → List Event → Type 0
+abbrev pub TellsOf : RuleSet → LentTables → List Event → Type 0
 TellsOf rules looked past =
     StandFor rules looked.connections.now looked.links.now looked.consumers.now looked.deliveries.now looked.consumer_links.now looked.copies.now looked.sent.now looked.verdicts.now past
 

@@ -6,8 +6,8 @@
 #![tactic(auto)]
 
 mod closings;
-mod looked;
+mod lent_tables;
 mod tables;
 
-pub use looked::Looked;
+pub use lent_tables::LentTables;
 pub use tables::Tables;

@@ -10,7 +10,7 @@ ghost use Rattle.state_answers.specs.Tables.{AreTables, AreWhole, IsWhole, IsRea
 ghost use Rattle.state_incoming.specs.HeldTables.{number_at};
 ghost use Rattle.trace_values.specs.View.{Events, event_view};
 
-use crate::looked::Looked;
+use crate::lent_tables::LentTables;
 use capture_form::RuleSet;
 use state_addresses::{ConsumerLinks, Consumers, Copies, receivers_of};
 use state_incoming::Deliveries;
@@ -89,13 +89,13 @@ impl Tables {
     }
 
     /// The tables, lent to be asked.
-    pub fn looked(&self) -> Looked<'_>
+    pub fn looked(&self) -> LentTables<'_>
         ensures stand { (rules : RuleSet) (history : Events) → AreTables rules self.now history →
             StandFor rules result.connections.now result.links.now result.consumers.now result.deliveries.now
             result.consumer_links.now result.copies.now result.sent.now result.verdicts.now history }
         ensures whole { AreWhole self.now → IsWhole result.deliveries.now }
     {
-        Looked {
+        LentTables {
             connections: &self.connections,
             links: &self.links,
             consumers: &self.consumers,

@@ -13,7 +13,7 @@ ghost use Rattle.state_ledger.specs.Ledger.{IsReason, Stands, broken_behind};
 use crate::not_entered::NotEntered;
 use crate::{HeldEvent, counted, hold_next};
 use capture_form::{Record, RuleSet};
-use state_answers::{Looked, Tables};
+use state_answers::{LentTables, Tables};
 use std::alloc::{AllocError, Global};
 use trace_clauses::Tally;
 use trace_values::ReadRecord;
@@ -64,7 +64,7 @@ impl Ledger {
     }
 
     /// What can be asked of the records so far, lent.
-    pub fn looked(&self) -> Looked<'_>
+    pub fn looked(&self) -> LentTables<'_>
         ensures stand { (rules : RuleSet) (records : List Record) → Stands rules self.now records →
             StandFor rules result.connections.now result.links.now result.consumers.now result.deliveries.now
             result.consumer_links.now result.copies.now result.sent.now result.verdicts.now (history rules records) }

@@ -1,6 +1,6 @@
 //! Questions about the past. What judges a record, finds its fault, the row of an outcome or the clause that it breaks asks
 //! them of what stands for the records so far, and is written once over the traits here: the plain checker answers by
-//! scans of the events on the stack (`trace_law`), the auditor's tables by look-ups (`state_answers::Looked`).
+//! scans of the events on the stack (`trace_law`), the auditor's tables by look-ups (`state_answers::LentTables`).
 //!
 //! - `Inputs`: what a client's frame asks;
 //! - `Outcomes`: what outcomes and settlings ask;

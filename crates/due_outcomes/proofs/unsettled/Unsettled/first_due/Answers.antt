@@ -4,13 +4,13 @@ use Rattle.capture_form.specs.declared.records.Record.{Record}
 use Rattle.trace_events.specs.History.{history}
 use Rattle.trace_values.specs.View.{outgoing_view}
 use Rattle.trace_values.specs.declared.event.Outgoing.{Outgoing}
-use Rattle.state_answers.specs.declared.looked.Looked.{Looked}
+use Rattle.state_answers.specs.declared.lent_tables.LentTables.{LentTables}
 use Rattle.state_answers.specs.Tables.{TellsOf}
 use Rattle.due_outcomes.specs.Settlings.{IsDueSettling, due_in}
 use Rattle.due_outcomes.proofs.SettlingsDue.{due-is, none-left}
 use Rattle.due_outcomes.proofs.unsettled.Unsettled.first_due.Goals as goal
 
-due-by : (looked : Looked) (n : ℕ) (o : Option Outgoing) → option_map outgoing_view o ≡ due_in looked.sent.now looked.deliveries.now n
+due-by : (looked : LentTables) (n : ℕ) (o : Option Outgoing) → option_map outgoing_view o ≡ due_in looked.sent.now looked.deliveries.now n
     → IfSome o (λ j. (rules : RuleSet) (records : List Record) → TellsOf rules looked (history rules records) → IsDueSettling (history rules records) (outgoing_view j))
 due-by looked n None is = tt
 due-by looked n (Some j) is = λ rules records stands. due-is rules (history rules records) looked stands n (outgoing_view j) (sym is)

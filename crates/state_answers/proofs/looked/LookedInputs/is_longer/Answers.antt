@@ -1,4 +1,0 @@
-use Rattle.state_answers.proofs.looked.LookedInputs.is_longer.Goals as goal
-
-pub returns : goal.returns
-returns c = λ rules past stands knows. c.is_longer.ensures rules past stands.1.1.1.1.0.0 knows
