@@ -10,9 +10,9 @@ use Rattle.trace_events.specs.Connection.{has_event, is_final, bounded_limit, fi
 use Rattle.trace_events.proofs.FirstOpens.{has_in_open-first}
 use Rattle.trace_events.proofs.OverConnections.{has_event-own, has_event-other}
 use Rattle.state_tables.specs.Connections.{connection_at, seen_next}
-use Rattle.state_tables.specs.declared.connection.Seen.{Seen}
+use Rattle.state_tables.specs.declared.connection.ConnectionSummary.{ConnectionSummary}
 
-abbrev made : Bool → Bool → Bool → Bool → Bool → Bool → ℕ → Seen
+abbrev made : Bool → Bool → Bool → Bool → Bool → Bool → ℕ → ConnectionSummary
 made a b c d e f n = record { is_over = a; was_opened = b; was_finished = c; was_stopped = d; has_out_frame = e; has_in_open = f; frame_limit = n }
 
 pub made-same : (a a' b b' c c' d d' e e' f f' : Bool) (n n' : ℕ) → a ≡ a' → b ≡ b' → c ≡ c' → d ≡ d' → e ≡ e' → f ≡ f' → n ≡ n'
@@ -68,7 +68,7 @@ connection-other c e past other =
 -- ---- all of them
 
 -- an event's connection has come to its next value, and the others are as they were
-pub next_connection : (e : Event) (past : List Event) (before : ℕ → Seen) → ((c : ℕ) → before c ≡ connection_at c past)
+pub next_connection : (e : Event) (past : List Event) (before : ℕ → ConnectionSummary) → ((c : ℕ) → before c ≡ connection_at c past)
     → (c : ℕ) → (if e.connection == c then seen_next e (before e.connection) else before c) ≡ connection_at c (e ∷ past)
 next_connection e past before known c = by (e.connection == c) refl
   where

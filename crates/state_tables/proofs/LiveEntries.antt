@@ -5,14 +5,14 @@ use Rattle.trace_events.specs.declared.session.Session.{Session}
 use Rattle.trace_events.specs.Session.{live_session, last_in_begin, has_unanswered_begin}
 use Rattle.state_tables.specs.Sessions.{counted, session_at}
 use Rattle.state_tables.specs.Unanswered.{begin_to_answer}
-use Rattle.state_tables.specs.declared.sessions.Counted.{Counted}
+use Rattle.state_tables.specs.declared.sessions.CountedSession.{CountedSession}
 use Rattle.state_tables.proofs.UnansweredSteps.{asked-some}
 
-pub live_is : (past : List Event) (o : Option Session) (found : Option Counted) → found ≡ option_map (λ s. counted s past) o → option_map (λ (x : Counted). x.session) found ≡ o
-live_is past None found is = ap (option_map (λ (x : Counted). x.session)) is
-live_is past (Some s) found is = ap (option_map (λ (x : Counted). x.session)) is
+pub live_is : (past : List Event) (o : Option Session) (found : Option CountedSession) → found ≡ option_map (λ s. counted s past) o → option_map (λ (x : CountedSession). x.session) found ≡ o
+live_is past None found is = ap (option_map (λ (x : CountedSession). x.session)) is
+live_is past (Some s) found is = ap (option_map (λ (x : CountedSession). x.session)) is
 
-pub counts_live : (past : List Event) (s : Session) (found : Option Counted) → found ≡ session_at s.connection s.channel past → live_session s.connection s.channel past ≡ Some s → found ≡ Some (counted s past)
+pub counts_live : (past : List Event) (s : Session) (found : Option CountedSession) → found ≡ session_at s.connection s.channel past → live_session s.connection s.channel past ≡ Some s → found ≡ Some (counted s past)
 counts_live past s found is live = is ∙ ap (option_map (λ s. counted s past)) live
 
 -- a begin stands there just where one is to be answered

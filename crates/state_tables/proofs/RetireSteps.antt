@@ -6,14 +6,14 @@ use Rattle.number_runs.specs.Runs.{value_in}
 use Rattle.state_tables.specs.Connections.{AreSame, IsDone, fresh, session_on, unanswered_on}
 use Rattle.state_tables.specs.Unanswered.{nothing}
 use Rattle.state_tables.specs.declared.connection.Connection.{Connection}
-use Rattle.state_tables.specs.declared.connection.Seen.{Seen}
+use Rattle.state_tables.specs.declared.connection.ConnectionSummary.{ConnectionSummary}
 use Rattle.state_tables.specs.declared.connections.Connections.{Connections}
 
 -- what is said of a connection by its entry, and its run
-abbrev said : Option Connection → Option Seen → Seen
+abbrev said : Option Connection → Option ConnectionSummary → ConnectionSummary
 said entry run = unwrap_or (option_map (λ (x : Connection). x.seen) entry) (unwrap_or run fresh)
 
-module _ (old new : Connections) (c : ℕ) (seen : Seen) (is_put : Bool)
+module _ (old new : Connections) (c : ℕ) (seen : ConnectionSummary) (is_put : Bool)
     (put : (n : ℕ) → value_in new.over n ≡ (if is_put && (c == n) then Some seen else value_in old.over n)) where
   elsewhere : (n : ℕ) → (c == n) ≡ false → value_in new.over n ≡ value_in old.over n
   elsewhere n other = put n ∙ by is_put

@@ -34,11 +34,11 @@ use Rattle.trace_clauses.proofs.BegunDeliveries.{begun-on_link, begun-linked}
 use Rattle.trace_clauses.proofs.ClausesMet.{lawful-past}
 use Rattle.trace_clauses.proofs.OpenedConnections.{begun-not_over}
 use Rattle.state_tables.specs.Sessions.{counted, session_at, begins_delivery, begun, moved, moved_by, opens_or_ends, session_next, session_behind}
-use Rattle.state_tables.specs.declared.sessions.Counted.{Counted}
+use Rattle.state_tables.specs.declared.sessions.CountedSession.{CountedSession}
 use Rattle.state_tables.proofs.LinkSteps.{off-session}
 use Rattle.trace_events.proofs.EventSessions.{spoken-channel, session-begun, session-live, said-live}
 
-abbrev made : Session → ℕ → ℕ → ℕ → ℕ → ℕ → Counted
+abbrev made : Session → ℕ → ℕ → ℕ → ℕ → ℕ → CountedSession
 made s a b c d n = record { session = s; window = a; given_window = b; next_outgoing_id = c; next_incoming_id = d; next_delivery_id = n }
 
 made-same : (s : Session) (a a' b b' c c' d d' n n' : ℕ) → a ≡ a' → b ≡ b' → c ≡ c' → d ≡ d' → n ≡ n' → made s a b c d n ≡ made s a' b' c' d' n'
@@ -55,7 +55,7 @@ module _ (e : Event) (past : List Event) (s : Session) where
   counted-elsewhere off still =
       made-same s _ _ _ _ _ _ _ _ _ _ (session_window-elsewhere s e past off) (given_window-elsewhere s e past off) (next_outgoing_id-elsewhere s e past off) (next_incoming_id-elsewhere s e past off) still
 
-  abbrev with_id : Counted → ℕ → Counted
+  abbrev with_id : CountedSession → ℕ → CountedSession
   with_id x n = record x { next_delivery_id = n }
 
   abbrev id_now : ℕ
@@ -91,7 +91,7 @@ module _ (e : Event) (past : List Event) (s : Session) where
       by None none = next_delivery_id-same e past s none
       by (Some j) begun = at j begun (j.link.session.number == s.number) refl
 
-  with_id-by : (x : Counted) (o : Option WindowEvent) (b : Bool) → with_id (moved x o) (if b then serial_add x.next_delivery_id 1 else x.next_delivery_id)
+  with_id-by : (x : CountedSession) (o : Option WindowEvent) (b : Bool) → with_id (moved x o) (if b then serial_add x.next_delivery_id 1 else x.next_delivery_id)
       ≡ (if b then record (moved x o) { next_delivery_id = serial_add (moved x o).next_delivery_id 1 } else moved x o)
   with_id-by x None true = refl
   with_id-by x None false = refl
@@ -118,7 +118,7 @@ module _ (e : Event) (past : List Event) (s : Session) where
       ∙ ap (λ o. if begins_delivery e s then record (moved (counted s past) o) { next_delivery_id = serial_add (moved (counted s past) o).next_delivery_id 1 } else moved (counted s past) o) (sym none)
 
 -- where an entry has the counts so far, it has them with this event
-pub counted_next : (e : Event) (past : List Event) (x : Counted) → x ≡ counted x.session past → is_on_session x.session e ≡ true → moved_by e x ≡ counted x.session (e ∷ past)
+pub counted_next : (e : Event) (past : List Event) (x : CountedSession) → x ≡ counted x.session past → is_on_session x.session e ≡ true → moved_by e x ≡ counted x.session (e ∷ past)
 counted_next e past x is on = ap (moved_by e) is ∙ sym (counted-next e past x.session on)
 
 -- ---- nothing stands on a session before its record
@@ -169,7 +169,7 @@ unused-begun s past none zero = made-same s _ _ _ _ _ _ _ _ _ _ (ap (window s.ou
 
 -- ---- an event of another connection
 
-map-same : (f g : Session → Counted) (o : Option Session) → ((s : Session) → o ≡ Some s → f s ≡ g s) → option_map f o ≡ option_map g o
+map-same : (f g : Session → CountedSession) (o : Option Session) → ((s : Session) → o ≡ Some s → f s ≡ g s) → option_map f o ≡ option_map g o
 map-same f g None same = refl
 map-same f g (Some s) same = ap Some (same s refl)
 
@@ -346,7 +346,7 @@ module _ (rules : RuleSet) (e : Event) (past : List Event) (are : AreJudged rule
     counted-going s none live None said = counted-still e past s (silent e.moment said)
     counted-going s none live (Some spoken) said = counted-next e past s (on_session s none live spoken said)
 
-    map-map : (f : Session → Counted) (g : Counted → Counted) (o : Option Session) → option_map g (option_map f o) ≡ option_map (λ s. g (f s)) o
+    map-map : (f : Session → CountedSession) (g : CountedSession → CountedSession) (o : Option Session) → option_map g (option_map f o) ≡ option_map (λ s. g (f s)) o
     map-map f g None = refl
     map-map f g (Some s) = refl
 
@@ -379,7 +379,7 @@ module _ (rules : RuleSet) (e : Event) (past : List Event) (are : AreJudged rule
 
 -- ---- events that neither begin nor end anything
 
-pub session-moves : (e : Event) (o : Option Counted) → opens_or_ends e ≡ false → session_next e o ≡ option_map (moved_by e) o
+pub session-moves : (e : Event) (o : Option CountedSession) → opens_or_ends e ≡ false → session_next e o ≡ option_map (moved_by e) o
 session-moves e o none = by (is_some (in_begin e)) (is_some (out_begin e)) (is_in_end e) (is_out_end e) none
   where
     by : (a b c d : Bool) → a || b || c || d ≡ false

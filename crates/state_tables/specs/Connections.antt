@@ -14,17 +14,17 @@ use Rattle.trace_events.specs.Connection as law
 use Rattle.trace_events.specs.Connection.{is_final, bounded_limit}
 use Rattle.state_tables.specs.Sessions.{session_at, opens_or_ends, session_next, session_behind}
 use Rattle.state_tables.specs.Unanswered.{nothing, unanswered_at, unanswered_next}
-use Rattle.state_tables.specs.declared.connection.Seen.{Seen}
+use Rattle.state_tables.specs.declared.connection.ConnectionSummary.{ConnectionSummary}
 use Rattle.state_tables.specs.declared.connection.Connection.{Connection}
 use Rattle.state_tables.specs.declared.on_channels.OnChannels.{OnChannels}
-use Rattle.state_tables.specs.declared.sessions.Counted.{Counted}
+use Rattle.state_tables.specs.declared.sessions.CountedSession.{CountedSession}
 use Rattle.state_tables.specs.declared.unanswered.Unanswered.{Unanswered}
 use Rattle.state_tables.specs.declared.connections.Connections.{Connections}
 
 -- ---- what stands on the channels of a connection
 
 -- the live session of a channel, and what of it is still to be answered
-abbrev pub session_among : OnChannels → ℕ → Option Counted
+abbrev pub session_among : OnChannels → ℕ → Option CountedSession
 session_among x channel = get nat_eq x.sessions channel
 
 abbrev pub unanswered_among : OnChannels → ℕ → Unanswered
@@ -52,7 +52,7 @@ AreFull x = (spare x.sessions ≡ 0) ⊎ (spare x.unanswered ≡ 0)
 -- ---- one connection
 
 -- before its first record
-abbrev pub fresh : Seen
+abbrev pub fresh : ConnectionSummary
 fresh = record {
   is_over = false;
   was_opened = false;
@@ -64,7 +64,7 @@ fresh = record {
 }
 
 -- what the law says of a connection
-abbrev pub connection_at : ℕ → List Event → Seen
+abbrev pub connection_at : ℕ → List Event → ConnectionSummary
 connection_at c past = record {
   is_over = law.is_over c past;
   was_opened = law.was_opened c past;
@@ -76,7 +76,7 @@ connection_at c past = record {
 }
 
 -- with one event more of it; of its opens the first gives the limit
-abbrev pub seen_next : Event → Seen → Seen
+abbrev pub seen_next : Event → ConnectionSummary → ConnectionSummary
 seen_next e seen = record {
   is_over = is_final e.moment || seen.is_over;
   was_opened = is_opened e.moment || seen.was_opened;
@@ -88,14 +88,14 @@ seen_next e seen = record {
 }
 
 -- what an entry has of a channel
-abbrev pub session_on : Connection → ℕ → Option Counted
+abbrev pub session_on : Connection → ℕ → Option CountedSession
 session_on x channel = option_and_then (λ b. session_among b.value channel) x.channels
 
 abbrev pub unanswered_on : Connection → ℕ → Unanswered
 unanswered_on x channel = unwrap_or (option_map (λ b. unanswered_among b.value channel) x.channels) nothing
 
 -- it has come to this, and nothing stands on its channels
-pub record IsBare (seen : Seen) (x : Connection) : Type 0 where
+pub record IsBare (seen : ConnectionSummary) (x : Connection) : Type 0 where
   pub seen-is : x.seen ≡ seen
   pub sessions : (channel : ℕ) → session_on x channel ≡ None
   pub unanswered : (channel : ℕ) → unanswered_on x channel ≡ nothing
@@ -125,21 +125,21 @@ IsFull x = IfSome x.channels (λ b. AreFull b.value)
 -- ---- all of them
 
 -- what the table has of a connection without an entry: what its run says
-abbrev pub seen_over : Connections → ℕ → Seen
+abbrev pub seen_over : Connections → ℕ → ConnectionSummary
 seen_over table c = unwrap_or (value_in table.over c) fresh
 
 -- what it has of a connection, and of a channel
-abbrev pub seen_in : Connections → ℕ → Seen
+abbrev pub seen_in : Connections → ℕ → ConnectionSummary
 seen_in table c = unwrap_or (option_map (λ x. x.seen) (get nat_eq table.entries c)) (seen_over table c)
 
-abbrev pub session_in : Connections → ℕ → ℕ → Option Counted
+abbrev pub session_in : Connections → ℕ → ℕ → Option CountedSession
 session_in table c channel = option_and_then (λ x. session_on x channel) (get nat_eq table.entries c)
 
 abbrev pub unanswered_in : Connections → ℕ → ℕ → Unanswered
 unanswered_in table c channel = unwrap_or (option_map (λ x. unanswered_on x channel) (get nat_eq table.entries c)) nothing
 
 -- an entry has come to this, and nothing stands on its channels
-abbrev pub IsDone : Seen → Option Connection → Type 0
+abbrev pub IsDone : ConnectionSummary → Option Connection → Type 0
 IsDone seen entry = IsSomeAnd entry (λ x. (x.seen ≡ seen) × (x.channels ≡ None))
 
 -- the table is what these events left, as far as connections go

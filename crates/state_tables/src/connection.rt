@@ -8,7 +8,7 @@ ghost use Rattle.state_tables.specs.Sessions.{opens_or_ends};
 ghost use Rattle.trace_values.specs.View.{event_view};
 
 use crate::on_channels::OnChannels;
-use crate::sessions::{Counted, opens_or_ends};
+use crate::sessions::{CountedSession, opens_or_ends};
 use crate::unanswered::Unanswered;
 use flow_counts::{MAX_FRAME_SIZE, MIN_MAX_FRAME_SIZE};
 use number_runs::RunValue;
@@ -17,7 +17,7 @@ use trace_values::Event;
 
 /// What a connection has come to.
 #[derive(Clone, Copy, Debug, PartialEq, Eq)]
-pub struct Seen {
+pub struct ConnectionSummary {
     /// A close in either direction, a lost or a broken stands. A client's record whose octets are no frame is a fault, and
     /// ends nothing by itself.
     pub is_over: bool,
@@ -35,12 +35,12 @@ pub struct Seen {
     pub frame_limit: u32,
 }
 
-impl Seen {
+impl ConnectionSummary {
     /// Before its first record.
-    pub(crate) fn new() -> Seen
+    pub(crate) fn new() -> ConnectionSummary
         ensures { result ≡ fresh }
     {
-        Seen {
+        ConnectionSummary {
             is_over: false,
             was_opened: false,
             was_finished: false,
@@ -52,10 +52,10 @@ impl Seen {
     }
 
     /// With one event more of the connection.
-    pub fn after(self, event: &Event) -> Seen
+    pub fn after(self, event: &Event) -> ConnectionSummary
         ensures { result ≡ seen_next (event_view event.now) self }
     {
-        Seen {
+        ConnectionSummary {
             is_over: event.moment.is_final() | self.is_over,
             was_opened: event.moment.is_opened() | self.was_opened,
             was_finished: event.moment.is_lost() | event.is_out_close() | self.was_finished,
@@ -80,8 +80,8 @@ impl Seen {
     }
 }
 
-impl RunValue for Seen {
-    fn is_same(self, other: Seen) -> bool {
+impl RunValue for ConnectionSummary {
+    fn is_same(self, other: ConnectionSummary) -> bool {
         self == other
     }
 }
@@ -91,7 +91,7 @@ impl RunValue for Seen {
 #[derive(Drop)]
 pub struct Connection {
     alloc: Global,
-    seen: Seen,
+    seen: ConnectionSummary,
     /// None, so that the entry is small, before the first begin or end, and behind the connection's end unless something is
     /// still to be answered.
     channels: Option<Box<OnChannels>>,
@@ -99,7 +99,7 @@ pub struct Connection {
 
 impl Connection {
     /// It has come to this, and nothing stands on its channels.
-    pub(crate) fn of(alloc: Global, seen: Seen) -> Connection
+    pub(crate) fn of(alloc: Global, seen: ConnectionSummary) -> Connection
         ensures { IsBare seen result }
     {
         Connection {
@@ -110,7 +110,7 @@ impl Connection {
     }
 
     /// What it has come to.
-    pub(crate) fn seen(&self) -> Seen
+    pub(crate) fn seen(&self) -> ConnectionSummary
         ensures { result ≡ self.now.seen }
     {
         self.seen
@@ -124,7 +124,7 @@ impl Connection {
     }
 
     /// The live session of the channel.
-    pub(crate) fn session(&self, channel: u16) -> Option<Counted>
+    pub(crate) fn session(&self, channel: u16) -> Option<CountedSession>
         ensures { result ≡ session_on self.now channel }
     {
         match &self.channels {

@@ -14,8 +14,8 @@ ghost use Rattle.state_tables.specs.Sessions.{session_at};
 ghost use Rattle.state_tables.specs.Unanswered.{unanswered_at};
 ghost use Rattle.trace_values.specs.View.{Events, event_view};
 
-use crate::connection::{Connection, Seen};
-use crate::sessions::Counted;
+use crate::connection::{Connection, ConnectionSummary};
+use crate::sessions::CountedSession;
 use crate::unanswered::Unanswered;
 use number_map::NumberMap;
 use number_runs::{NumberRuns, RunValue};
@@ -28,7 +28,7 @@ pub struct Connections {
     /// Those of which more may come, or of which something is still to be answered. They are asked first.
     entries: NumberMap<u32, Connection>,
     /// What those have come to of which nothing more is to come.
-    over: NumberRuns<Seen>,
+    over: NumberRuns<ConnectionSummary>,
 }
 
 // Written out, and not derived, so that where one is let go the prover need not go through all that it owns.
@@ -56,7 +56,7 @@ impl Connections {
     }
 
     /// What the connection has come to.
-    pub fn seen(&self, connection: u32) -> Seen
+    pub fn seen(&self, connection: u32) -> ConnectionSummary
         ensures stored { result ≡ seen_in self.now connection }
         ensures known { (history : Events) → AreSeen self.now history → result ≡ connection_at connection history }
     {
@@ -67,17 +67,17 @@ impl Connections {
     }
 
     /// What the connection has come to, where it has no entry.
-    fn seen_over(&self, connection: u32) -> Seen
+    fn seen_over(&self, connection: u32) -> ConnectionSummary
         ensures { result ≡ seen_over self.now connection }
     {
         match self.over.get(connection) {
             Some(seen) => seen,
-            None => Seen::new(),
+            None => ConnectionSummary::new(),
         }
     }
 
     /// The live session of the channel, with its counts.
-    pub fn session(&self, connection: u32, channel: u16) -> Option<Counted>
+    pub fn session(&self, connection: u32, channel: u16) -> Option<CountedSession>
         ensures stored { result ≡ session_in self.now connection channel }
         ensures known { (history : Events) → AreKept self.now history → result ≡ session_at connection channel history }
     {
@@ -180,7 +180,7 @@ impl Connections {
 
     /// What the connection has come to, if nothing more of it is to come behind the event: it is lost, or closed from both
     /// ends; and nothing is to be answered.
-    fn done(&self, event: &Event) -> Option<Seen>
+    fn done(&self, event: &Event) -> Option<ConnectionSummary>
         ensures { IfSome result (λ seen. IsDone seen (get nat_eq self.now.entries event.now.connection)) }
     {
         if !event.moment.is_final() {
@@ -196,7 +196,7 @@ impl Connections {
     }
 
     /// The connection stands in a run, with what it has come to.
-    fn is_over_with(&self, connection: u32, seen: Seen) -> bool
+    fn is_over_with(&self, connection: u32, seen: ConnectionSummary) -> bool
         ensures { IsTrue result → value_in self.now.over connection ≡ Some seen }
     {
         match self.over.get(connection) {

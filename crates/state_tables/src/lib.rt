@@ -30,7 +30,7 @@ mod sessions;
 mod unanswered;
 
 pub use channels::Channels;
-pub use connection::{Connection, Seen};
+pub use connection::{Connection, ConnectionSummary};
 pub use connections::Connections;
 pub use counted_link::CountedLink;
 pub use handle::Handle;
@@ -40,5 +40,5 @@ pub use held_link::HeldLink;
 pub use link_counts::LinkCounts;
 pub use links::Links;
 pub use on_channels::OnChannels;
-pub use sessions::Counted;
+pub use sessions::CountedSession;
 pub use unanswered::Unanswered;

@@ -9,7 +9,7 @@ ghost use Rattle.state_tables.specs.Sessions.{opens_or_ends};
 ghost use Rattle.state_tables.specs.Unanswered.{nothing};
 ghost use Rattle.trace_values.specs.View.{event_view};
 
-use crate::sessions::{Counted, opens_or_ends, session_after};
+use crate::sessions::{CountedSession, opens_or_ends, session_after};
 use crate::unanswered::Unanswered;
 use number_map::NumberMap;
 use std::alloc::{AllocError, Global};
@@ -20,7 +20,7 @@ use trace_values::Event;
 #[doc(hidden)]
 #[derive(Drop)]
 pub struct OnChannels {
-    sessions: NumberMap<u16, Counted>,
+    sessions: NumberMap<u16, CountedSession>,
     unanswered: NumberMap<u16, Unanswered>,
 }
 
@@ -36,7 +36,7 @@ impl OnChannels {
     }
 
     /// The live session of the channel.
-    pub(crate) fn session(&self, channel: u16) -> Option<Counted>
+    pub(crate) fn session(&self, channel: u16) -> Option<CountedSession>
         ensures { result ≡ session_among self.now channel }
     {
         self.sessions.get(&channel).copied()
@@ -113,7 +113,7 @@ impl OnChannels {
     }
 
     /// The session of the channel is this one.
-    fn put_session(&mut self, channel: u16, session: Option<Counted>)
+    fn put_session(&mut self, channel: u16, session: Option<CountedSession>)
         requires room { 0 < spare self.old.sessions }
         ensures put { (n : ℕ) → session_among self.new n ≡ (if channel == n then session else session_among self.old n) }
         ensures unanswered { self.new.unanswered ≡ self.old.unanswered }

@@ -14,7 +14,7 @@ use trace_values::Event;
 
 /// A session with its counts.
 #[derive(Clone, Copy, Debug)]
-pub struct Counted {
+pub struct CountedSession {
     pub session: Session,
     /// How many transfers may still be sent.
     pub window: u32,
@@ -39,14 +39,14 @@ fn begins_delivery(event: &Event, session: Session) -> bool
     }
 }
 
-impl Counted {
+impl CountedSession {
     /// A session of which no event stands yet.
-    pub fn new(session: Session) -> Counted
+    pub fn new(session: Session) -> CountedSession
         ensures begun { result ≡ begun session }
         ensures known { (history : Events) → window_events session history ≡ [] → next_delivery_id session history ≡ 0 →
             result ≡ counted session history }
     {
-        Counted {
+        CountedSession {
             session,
             window: session.their_window,
             given_window: INCOMING_WINDOW,
@@ -58,14 +58,14 @@ impl Counted {
 
     /// With one more of its events.
     #[tactic(auto, using(crate::proofs::SessionSteps::counted_next))]
-    pub fn after(self, event: &Event) -> Counted
+    pub fn after(self, event: &Event) -> CountedSession
         ensures moved { result ≡ moved_by (event_view event.now) self }
         ensures known { (history : Events) → self ≡ counted self.session history → is_on_session self.session (event_view event.now) ≡ true →
             result ≡ counted self.session (event_view event.now ∷ history) }
     {
         let later = self.with_windows(event);
         if begins_delivery(event, self.session) {
-            Counted {
+            CountedSession {
                 next_delivery_id: later.next_delivery_id.wrapping_add(1),
                 ..later
             }
@@ -75,22 +75,22 @@ impl Counted {
     }
 
     /// With what the event does to its windows.
-    fn with_windows(self, event: &Event) -> Counted
+    fn with_windows(self, event: &Event) -> CountedSession
         ensures { result ≡ moved self (window_event (event_view event.now).moment) }
     {
         match event.moment.window_event() {
             None => self,
-            Some(WindowEvent::Sent) => Counted {
+            Some(WindowEvent::Sent) => CountedSession {
                 window: self.window.saturating_sub(1),
                 next_outgoing_id: self.next_outgoing_id.wrapping_add(1),
                 ..self
             },
-            Some(WindowEvent::Received) => Counted {
+            Some(WindowEvent::Received) => CountedSession {
                 given_window: self.given_window.saturating_sub(1),
                 next_incoming_id: self.next_incoming_id.wrapping_add(1),
                 ..self
             },
-            Some(WindowEvent::OurFlow) => Counted {
+            Some(WindowEvent::OurFlow) => CountedSession {
                 given_window: INCOMING_WINDOW,
                 ..self
             },
@@ -99,7 +99,7 @@ impl Counted {
                     next_incoming,
                     incoming_window,
                 },
-            ) => Counted {
+            ) => CountedSession {
                 window: incoming_window.saturating_sub(self.unseen(next_incoming)),
                 ..self
             },
@@ -126,13 +126,16 @@ pub(crate) fn opens_or_ends(event: &Event) -> bool
 }
 
 /// What an event of the channel makes of its session.
-pub(crate) fn session_after(earlier: Option<Counted>, event: &Event) -> Option<Counted>
+pub(crate) fn session_after(
+    earlier: Option<CountedSession>,
+    event: &Event,
+) -> Option<CountedSession>
     ensures { result ≡ session_next (event_view event.now) earlier }
 {
     if event.is_in_end() || event.is_out_end() {
         None
     } else if event.out_begin().is_some() {
-        Some(Counted::new(event.session?))
+        Some(CountedSession::new(event.session?))
     } else {
         Some(earlier?.after(event))
     }

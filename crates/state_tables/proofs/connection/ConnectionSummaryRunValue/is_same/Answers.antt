@@ -1,6 +1,6 @@
 use Rattle.std.proofs.Common.{sym, ◌∙◌}
 use Rattle.state_tables.proofs.SeenSame.{alike-same, same}
-use Rattle.state_tables.proofs.connection.SeenRunValue.is_same.Goals as goal
+use Rattle.state_tables.proofs.connection.ConnectionSummaryRunValue.is_same.Goals as goal
 
 pub returns : goal.returns
 returns c = (λ is. same c.args.self c.args.other (sym c.eq.ensures ∙ is), λ is. c.eq.ensures ∙ alike-same c.args.self c.args.other is)
