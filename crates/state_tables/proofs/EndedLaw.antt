@@ -22,7 +22,7 @@ use Rattle.trace_events.proofs.Standing.{live-on}
 use Rattle.trace_clauses.proofs.LiveLinks.{live-link}
 use Rattle.trace_clauses.proofs.Undecided.{link_of_session}
 use Rattle.state_tables.specs.EndedLinks.{AreEnded, IsEndedOf, ends_at, ends_channel, ends_handle, ends_named, may_end}
-use Rattle.state_tables.specs.Links.{Counted, Standing, attaches_out, begun, counted_next, detaches_in, detaches_out, link_of, named_handle, nothing, standing, standing_at, standing_behind, standing_next}
+use Rattle.state_tables.specs.Links.{Counted, HandleState, attaches_out, begun, counted_next, detaches_in, detaches_out, link_of, named_handle, nothing, standing, standing_at, standing_behind, standing_next}
 use Rattle.state_tables.specs.LinkTables.{AreLinked, standing_in, standing_of}
 use Rattle.state_tables.specs.declared.channels.Channels.{Channels}
 use Rattle.state_tables.specs.declared.links.Links.{Links}
@@ -81,7 +81,7 @@ module _ (rules : RuleSet) (e : Event) (past : List Event) (are : AreJudged rule
   live-stands l live =
       ap (λ o. link_of (unwrap_or (option_map (λ s. standing s l.handle past) o) nothing)) live.0 ∙ (linked past l.session l.handle ∙ live.1)
 
-  behind-link : (channel handle : ℕ) (l : Link) → IsKnown past l → (x : Standing) → link_of x ≡ Some l → is_it l (link_of (standing_behind channel handle e x)) ≡ not (ends_at channel handle e)
+  behind-link : (channel handle : ℕ) (l : Link) → IsKnown past l → (x : HandleState) → link_of x ≡ Some l → is_it l (link_of (standing_behind channel handle e x)) ≡ not (ends_at channel handle e)
   behind-link channel handle l is_known x stands = by (is_final e.moment) (is_number (channel_of e.moment) channel) (ends_channel e) (is_some e.session)
     where
       by : (final on ended session : Bool)

@@ -8,7 +8,7 @@ use Rattle.trace_events.specs.Words.{is_number}
 use Rattle.trace_events.specs.Event.{Event, Link, channel_of}
 use Rattle.trace_events.specs.Connection.{is_final}
 use Rattle.state_tables.specs.EndedLinks.{IsEndedOf, IsEndedOn, ends_at, ends_channel, ends_handle, ends_named, ends_on, link_named, links_of, links_on}
-use Rattle.state_tables.specs.Links.{Standing, handle_of, link_of, nothing}
+use Rattle.state_tables.specs.Links.{HandleState, handle_of, link_of, nothing}
 use Rattle.state_tables.specs.LinkTables.{standing_of, standing_on}
 use Rattle.state_tables.specs.declared.channels.Channels.{Channels}
 use Rattle.state_tables.specs.declared.handles.Handles.{Handles}
@@ -16,7 +16,7 @@ use Rattle.state_tables.proofs.EndedMembers.{filter_map-from, filter_map-gives, 
 use Rattle.state_tables.proofs.EndedSteps.{ends-handle}
 
 -- a link stands only where something does
-standing-link : (o : Option Standing) (l : Link) → link_of (unwrap_or o nothing) ≡ Some l → (x : Standing) × ((o ≡ Some x) × (link_of x ≡ Some l))
+standing-link : (o : Option HandleState) (l : Link) → link_of (unwrap_or o nothing) ≡ Some l → (x : HandleState) × ((o ≡ Some x) × (link_of x ≡ Some l))
 standing-link None l is = absurd cc
 standing-link (Some x) l is = (x, (refl, is))
 

@@ -19,11 +19,11 @@ use Rattle.trace_events.proofs.LinkSteps as steps
 use Rattle.trace_events.proofs.SessionNumbers.{judged-event_session, own_session-number}
 use Rattle.trace_events.proofs.Sessions as sessions
 use Rattle.trace_clauses.proofs.Undecided.{link_of_session}
-use Rattle.state_tables.specs.Links.{named_handle, Counted, Asked, Standing, nothing, counted, begun, asked_in, standing, attaches_in, attaches_out, detaches_in, detaches_out, counted_next, link_next, asked_next, standing_next}
+use Rattle.state_tables.specs.Links.{named_handle, Counted, Asked, HandleState, nothing, counted, begun, asked_in, standing, attaches_in, attaches_out, detaches_in, detaches_out, counted_next, link_next, asked_next, standing_next}
 use Rattle.state_tables.specs.declared.link_counts.LinkCounts.{LinkCounts}
 use Rattle.state_tables.proofs.LinkSteps.{link-named, attach-apart, attach-unnamed, counts-elsewhere, counts-next, counts-begun, off-session, opened-here}
 
-abbrev made : Option Counted → Option Asked → Bool → Bool → Bool → Standing
+abbrev made : Option Counted → Option Asked → Bool → Bool → Bool → HandleState
 made a b c d e = record { link = a; asked = b; owes_detach = c; awaits_detach = d; is_undetached = e }
 
 made-same : (a a' : Option Counted) (b b' : Option Asked) (c c' d d' e e' : Bool) → a ≡ a' → b ≡ b' → c ≡ c' → d ≡ d' → e ≡ e' → made a b c d e ≡ made a' b' c' d' e'
@@ -210,10 +210,10 @@ nothing-before rules (e ∷ past) s handle are after =
     let before = nothing-before rules past s handle are.1 (omega (arith, after)) in
     made-same _ _ _ _ _ _ _ _ _ _
     (ap (option_map (λ l. counted l (e ∷ past))) ((judged-stands rules (e ∷ past) are).no_link s handle after))
-    (ap (option_and_then asked_in) (steps.unanswered_attach-elsewhere s handle e past off) ∙ ap (λ (x : Standing). x.asked) before)
-    (steps.owes_detach-elsewhere s handle e past off ∙ ap (λ (x : Standing). x.owes_detach) before)
-    (steps.awaits_detach-elsewhere s handle e past off ∙ ap (λ (x : Standing). x.awaits_detach) before)
-    (steps.is_undetached-elsewhere s handle e past off ∙ ap (λ (x : Standing). x.is_undetached) before)
+    (ap (option_and_then asked_in) (steps.unanswered_attach-elsewhere s handle e past off) ∙ ap (λ (x : HandleState). x.asked) before)
+    (steps.owes_detach-elsewhere s handle e past off ∙ ap (λ (x : HandleState). x.owes_detach) before)
+    (steps.awaits_detach-elsewhere s handle e past off ∙ ap (λ (x : HandleState). x.awaits_detach) before)
+    (steps.is_undetached-elsewhere s handle e past off ∙ ap (λ (x : HandleState). x.is_undetached) before)
 
 -- a begin of the router says nothing of a handle
 says_begin : (m : Option Meaning) → is_some (option_and_then as_begin m) ≡ true → (begin : Begin) × (m ≡ Some (ABegin begin))
@@ -237,10 +237,10 @@ module _ (s : Session) (handle : ℕ) (e : Event) (past : List Event) (begin : B
   begun-still none before =
       made-same _ _ _ _ _ _ _ _ _ _
       (ap (option_map (λ l. counted l (e ∷ past))) (steps.session_link-same s handle e past no_din no_dout no_aout ∙ none))
-      (ap (option_and_then asked_in) (steps.unanswered_attach-same s handle e past no_aout no_ain) ∙ ap (λ (x : Standing). x.asked) before)
-      (steps.owes_detach-same s handle e past no_dout no_din no_aout ∙ ap (λ (x : Standing). x.owes_detach) before)
-      (steps.awaits_detach-same s handle e past no_aout no_din no_dout ∙ ap (λ (x : Standing). x.awaits_detach) before)
-      (steps.is_undetached-same s handle e past no_aout no_din ∙ ap (λ (x : Standing). x.is_undetached) before)
+      (ap (option_and_then asked_in) (steps.unanswered_attach-same s handle e past no_aout no_ain) ∙ ap (λ (x : HandleState). x.asked) before)
+      (steps.owes_detach-same s handle e past no_dout no_din no_aout ∙ ap (λ (x : HandleState). x.owes_detach) before)
+      (steps.awaits_detach-same s handle e past no_aout no_din no_dout ∙ ap (λ (x : HandleState). x.awaits_detach) before)
+      (steps.is_undetached-same s handle e past no_aout no_din ∙ ap (λ (x : HandleState). x.is_undetached) before)
 
 module _ (rules : RuleSet) (e : Event) (past : List Event) (are : AreJudged rules (e ∷ past)) where
   pub nothing-begun : (s : Session) (handle : ℕ) → is_some (out_begin e) ≡ true → e.session ≡ Some s → standing s handle (e ∷ past) ≡ nothing

@@ -8,9 +8,9 @@ use Rattle.trace_events.specs.declared.session.Session.{Session}
 use Rattle.trace_events.specs.Connection.{is_final}
 use Rattle.trace_events.specs.Said.{as_attach, as_detach, handle_in, out_begin, is_in_end, is_out_end}
 use Rattle.trace_events.proofs.EventKinds.{in_said, out_said}
-use Rattle.state_tables.specs.Links.{Counted, Asked, Standing, attaches_in, attaches_out, detaches_in, detaches_out, handle_about, handle_of, named_handle, nothing, says_of_handle, standing_behind, standing_next}
+use Rattle.state_tables.specs.Links.{Counted, Asked, HandleState, attaches_in, attaches_out, detaches_in, detaches_out, handle_about, handle_of, named_handle, nothing, says_of_handle, standing_behind, standing_next}
 
-abbrev made : Option Counted → Option Asked → Bool → Bool → Bool → Standing
+abbrev made : Option Counted → Option Asked → Bool → Bool → Bool → HandleState
 made a b c d e = record { link = a; asked = b; owes_detach = c; awaits_detach = d; is_undetached = e }
 
 made-same : (a a' : Option Counted) (b b' : Option Asked) (c c' d d' e e' : Bool) → a ≡ a' → b ≡ b' → c ≡ c' → d ≡ d' → e ≡ e' → made a b c d e ≡ made a' b' c' d' e'
@@ -118,7 +118,7 @@ module _ (handle : ℕ) where
   undetached-same : (aout din undetached : Bool) → aout ≡ false → din ≡ false → (if aout then true else if din then false else undetached) ≡ undetached
   undetached-same aout din undetached p q = rw (p, q) refl
 
-  pub next-other : (e : Event) (x : Standing) → is_number (handle_of e) handle ≡ false → standing_next handle e x ≡ x
+  pub next-other : (e : Event) (x : HandleState) → is_number (handle_of e) handle ≡ false → standing_next handle e x ≡ x
   next-other e x off =
       let ain : attaches_in handle e ≡ false = in-attach e.moment off in
       let aout : attaches_out handle e ≡ false = out-attach e.moment off in
@@ -129,7 +129,7 @@ module _ (handle : ℕ) where
       (owes-same _ _ _ _ _ _ dout din aout) (awaits-same _ _ _ _ _ aout din dout) (undetached-same _ _ _ aout din)
 
 -- where an event says nothing of a handle, the handles of its session stay as they were
-pub next-unsaid : (handle : ℕ) (e : Event) (x : Standing) → handle_of e ≡ None → standing_next handle e x ≡ x
+pub next-unsaid : (handle : ℕ) (e : Event) (x : HandleState) → handle_of e ≡ None → standing_next handle e x ≡ x
 next-unsaid handle e x none = next-other handle e x (ap (λ o. is_number o handle) none)
 
 -- and where nothing stood, nothing stands

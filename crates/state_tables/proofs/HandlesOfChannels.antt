@@ -15,7 +15,7 @@ use Rattle.trace_events.proofs.EventSessions.{spoken-channel, session-begun, ses
 use Rattle.trace_events.proofs.Judged.{AreJudged}
 use Rattle.trace_events.proofs.LinkLives.{judged-stands, live_session-at}
 use Rattle.trace_events.proofs.SessionSteps.{live_session-same, live_session-over, live_session-was_over, live_session-ended, live_session-begun}
-use Rattle.state_tables.specs.Links.{Standing, nothing, standing, standing_at, standing_next, standing_here, standing_behind}
+use Rattle.state_tables.specs.Links.{HandleState, nothing, standing, standing_at, standing_next, standing_here, standing_behind}
 use Rattle.state_tables.proofs.HandleSteps.{standing-elsewhere, standing-here, nothing-begun}
 use Rattle.state_tables.proofs.SessionSteps.{live-known, live-same, off_session}
 
@@ -31,11 +31,11 @@ module _ (rules : RuleSet) (e : Event) (past : List Event) (are : AreJudged rule
   abbrev c : ℕ
   c = e.connection
 
-  at-same : (f g : Session → Standing) (o : Option Session) → ((s : Session) → o ≡ Some s → f s ≡ g s) → unwrap_or (option_map f o) nothing ≡ unwrap_or (option_map g o) nothing
+  at-same : (f g : Session → HandleState) (o : Option Session) → ((s : Session) → o ≡ Some s → f s ≡ g s) → unwrap_or (option_map f o) nothing ≡ unwrap_or (option_map g o) nothing
   at-same f g None same = refl
   at-same f g (Some s) same = same s refl
 
-  none-at : (f : Session → Standing) (o : Option Session) → ((s : Session) → o ≡ Some s → f s ≡ nothing) → unwrap_or (option_map f o) nothing ≡ nothing
+  none-at : (f : Session → HandleState) (o : Option Session) → ((s : Session) → o ≡ Some s → f s ≡ nothing) → unwrap_or (option_map f o) nothing ≡ nothing
   none-at f None same = refl
   none-at f (Some s) same = same s refl
 
@@ -64,7 +64,7 @@ module _ (rules : RuleSet) (e : Event) (past : List Event) (are : AreJudged rule
     begins : begins_out c channel e ≡ is_some (out_begin e)
     begins = and_all (is_some (out_begin e)) (is_on_channel c channel e) on_it
 
-    abbrev now : Option Session → Standing
+    abbrev now : Option Session → HandleState
     now o = unwrap_or (option_map (λ s. standing s handle (e ∷ past)) o) nothing
 
     -- an end
@@ -102,7 +102,7 @@ module _ (rules : RuleSet) (e : Event) (past : List Event) (are : AreJudged rule
           let there : spoken.channel ≡ channel = eqb-true spoken.channel channel (sym (ap (λ o. is_number o channel) (spoken-channel e.moment spoken said)) ∙ at) in
           session-live rules e past are none ∙ (said-live c e.moment past spoken said ∙ ap (λ n. live_session c n past) there)
 
-      abbrev next : Option Session → Standing → Standing
+      abbrev next : Option Session → HandleState → HandleState
       next o x = if is_some o then standing_next handle e x else x
 
       by_live : (o : Option Session) → live_session c channel past ≡ o → e.session ≡ o → now o ≡ next o (unwrap_or (option_map (λ s. standing s handle past) o) nothing)

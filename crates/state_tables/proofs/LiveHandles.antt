@@ -9,10 +9,10 @@ use Rattle.trace_events.specs.Session.{live_session}
 use Rattle.trace_events.specs.Link.{session_link, is_live, unanswered_attach, last_in_attach, attaches_in, attaches_out, first_count}
 use Rattle.trace_clauses.specs.LinkClause.{asked_by, asking}
 use Rattle.trace_values.specs.Answering.{their_first_count}
-use Rattle.state_tables.specs.Links.{Standing, nothing, link_of, counts_of, asking_of, first_count_of, link_counts, counted, asks, asked_in, standing, standing_at}
+use Rattle.state_tables.specs.Links.{HandleState, nothing, link_of, counts_of, asking_of, first_count_of, link_counts, counted, asks, asked_in, standing, standing_at}
 
 -- of a live session
-pub standing_live : (past : List Event) (s : Session) (handle : ℕ) (found : Standing) → found ≡ standing_at s.connection s.channel handle past → live_session s.connection s.channel past ≡ Some s
+pub standing_live : (past : List Event) (s : Session) (handle : ℕ) (found : HandleState) → found ≡ standing_at s.connection s.channel handle past → live_session s.connection s.channel past ≡ Some s
     → found ≡ standing s handle past
 standing_live past s handle found is live = is ∙ ap (λ o. unwrap_or (option_map (λ s. standing s handle past) o) nothing) live
 
@@ -28,14 +28,14 @@ at_live : (past : List Event) (handle : ℕ) (o : Option Session) → link_of (u
 at_live past handle None = refl
 at_live past handle (Some s) = linked past s handle
 
-pub live_linked : (past : List Event) (l : Link) (found : Standing) → found ≡ standing_at l.session.connection l.session.channel l.handle past
+pub live_linked : (past : List Event) (l : Link) (found : HandleState) → found ≡ standing_at l.session.connection l.session.channel l.handle past
     → is_some_and (link_of found) (λ m. m.number == l.number) ≡ is_live past l
 live_linked past l found is =
     ap (λ x. is_some_and (link_of x) (λ m. m.number == l.number)) is
     ∙ ap (λ o. is_some_and o (λ (m : Link). m.number == l.number)) (at_live past l.handle (live_session l.session.connection l.session.channel past))
 
 -- its counts
-pub counted_live : (past : List Event) (l : Link) (found : Standing) → found ≡ standing l.session l.handle past → session_link l.session l.handle past ≡ Some l → counts_of found ≡ Some (link_counts l past)
+pub counted_live : (past : List Event) (l : Link) (found : HandleState) → found ≡ standing l.session l.handle past → session_link l.session l.handle past ≡ Some l → counts_of found ≡ Some (link_counts l past)
 counted_live past l found is live =
     ap counts_of is ∙ ap (λ o. option_map (λ x. x.counts) (option_map (λ l. counted l past) o)) live
 

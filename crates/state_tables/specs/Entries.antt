@@ -4,7 +4,7 @@
 use Rattle.std.specs.Prelude.{ℕ, ◌+◌, ◌-◌, ◌^◌, min, Bool, length, is_some, option_map, unwrap_or, if◌then◌else◌}
 use Rattle.std.specs.List.{sum_by}
 use Rattle.indexmap.specs.IndexMap.{values}
-use Rattle.state_tables.specs.Links.{Standing}
+use Rattle.state_tables.specs.Links.{HandleState}
 use Rattle.state_tables.specs.declared.unanswered.Unanswered.{Unanswered}
 use Rattle.state_tables.specs.declared.on_channels.OnChannels.{OnChannels}
 use Rattle.state_tables.specs.declared.connection.Connection.{Connection}
@@ -36,7 +36,7 @@ abbrev pub entries_of_connections : Connections → ℕ
 entries_of_connections table = length table.over + sum_by entries_of_connection (values table.entries)
 
 -- of a handle: its link, an attach and a detach that are to be answered, and a detach that is awaited
-abbrev pub entries_of_handle : Standing → ℕ
+abbrev pub entries_of_handle : HandleState → ℕ
 entries_of_handle x = one_if (is_some x.link) + one_if (is_some x.asked) + one_if x.owes_detach + one_if x.awaits_detach
 
 abbrev pub entries_of_session : Handles → ℕ

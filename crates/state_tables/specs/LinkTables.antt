@@ -2,21 +2,21 @@
 use Rattle.std.specs.Prelude.{◌≡◌, ℕ, List, option_map, unwrap_or, nat_eq, ◌==◌, if◌then◌else◌}
 use Rattle.indexmap.specs.IndexMap.{get}
 use Rattle.trace_events.specs.Event.{Event}
-use Rattle.state_tables.specs.Links.{Standing, nothing, standing_at, standing_behind, standing_here, standing_next}
+use Rattle.state_tables.specs.Links.{HandleState, nothing, standing_at, standing_behind, standing_here, standing_next}
 use Rattle.state_tables.specs.declared.handles.Handles.{Handles}
 use Rattle.state_tables.specs.declared.channels.Channels.{Channels}
 use Rattle.state_tables.specs.declared.links.Links.{Links}
 
 -- what the entry of a session has of a handle
-abbrev pub standing_on : Handles → ℕ → Standing
+abbrev pub standing_on : Handles → ℕ → HandleState
 standing_on x handle = unwrap_or (get nat_eq x.entries handle) nothing
 
 -- what the entry of a connection has of it
-abbrev pub standing_of : Channels → ℕ → ℕ → Standing
+abbrev pub standing_of : Channels → ℕ → ℕ → HandleState
 standing_of x channel handle = unwrap_or (option_map (λ (y : Handles). standing_on y handle) (get nat_eq x.entries channel)) nothing
 
 -- what the table has of it
-abbrev pub standing_in : Links → ℕ → ℕ → ℕ → Standing
+abbrev pub standing_in : Links → ℕ → ℕ → ℕ → HandleState
 standing_in table c channel handle = unwrap_or (option_map (λ (x : Channels). standing_of x channel handle) (get nat_eq table.entries c)) nothing
 
 -- no link stands there, nor anything to be answered

@@ -67,33 +67,33 @@ pub record Asked : Type 0 where
 
 -- what stands of a handle: its link; the client's attach, a detach that the router owes, and one that it awaits; and
 -- whether the client has detached the handle since the router's last attach of it
-pub record Standing : Type 0 where
+pub record HandleState : Type 0 where
   pub link : Option Counted
   pub asked : Option Asked
   pub owes_detach : Bool
   pub awaits_detach : Bool
   pub is_undetached : Bool
 
-abbrev pub nothing : Standing
+abbrev pub nothing : HandleState
 nothing = record { link = None; asked = None; owes_detach = false; awaits_detach = false; is_undetached = false }
 
-abbrev pub is_nothing : Standing → Bool
+abbrev pub is_nothing : HandleState → Bool
 is_nothing x = is_none x.link && is_none x.asked && not x.owes_detach && not x.awaits_detach && not x.is_undetached
 
 abbrev pub counted : Link → List Event → Counted
 counted l past = record { link = l; counts = link_counts l past }
 
 -- the parts of what stands
-abbrev pub link_of : Standing → Option Link
+abbrev pub link_of : HandleState → Option Link
 link_of x = option_map (λ l. l.link) x.link
 
-abbrev pub counts_of : Standing → Option LinkCounts
+abbrev pub counts_of : HandleState → Option LinkCounts
 counts_of x = option_map (λ l. l.counts) x.link
 
-abbrev pub asking_of : Standing → Option Asking
+abbrev pub asking_of : HandleState → Option Asking
 asking_of x = option_map (λ a. a.asking) x.asked
 
-abbrev pub first_count_of : Standing → ℕ
+abbrev pub first_count_of : HandleState → ℕ
 first_count_of x = unwrap_or (option_map (λ a. a.first_count) x.asked) 0
 
 abbrev pub asks : Event → AttachFields → Asked
@@ -104,7 +104,7 @@ abbrev pub asked_in : Event → Option Asked
 asked_in e = option_map (asks e) (in_attach e)
 
 -- what the law says of a handle of a session
-abbrev pub standing : Session → ℕ → List Event → Standing
+abbrev pub standing : Session → ℕ → List Event → HandleState
 standing s handle past = record {
   link = option_map (λ l. counted l past) (session_link s handle past);
   asked = option_and_then asked_in (unanswered_attach s handle past);
@@ -114,7 +114,7 @@ standing s handle past = record {
 }
 
 -- of a handle of a channel: where no session lives, nothing stands
-abbrev pub standing_at : ℕ → ℕ → ℕ → List Event → Standing
+abbrev pub standing_at : ℕ → ℕ → ℕ → List Event → HandleState
 standing_at c channel handle past = unwrap_or (option_map (λ s. standing s handle past) (live_session c channel past)) nothing
 
 -- ---- with one more event
@@ -167,7 +167,7 @@ abbrev pub undetached_next : ℕ → Event → Bool → Bool
 undetached_next handle e earlier = if attaches_out handle e then true else if detaches_in handle e then false else earlier
 
 -- of an event on the session
-abbrev pub standing_next : ℕ → Event → Standing → Standing
+abbrev pub standing_next : ℕ → Event → HandleState → HandleState
 standing_next handle e x = record {
   link = link_next handle e x.link;
   asked = asked_next handle e x.asked;
@@ -177,13 +177,13 @@ standing_next handle e x = record {
 }
 
 -- of an event of the channel: nothing outlives the session
-abbrev pub standing_here : ℕ → Event → Standing → Standing
+abbrev pub standing_here : ℕ → Event → HandleState → HandleState
 standing_here handle e earlier =
     if is_in_end e || is_out_end e || is_some (out_begin e) then nothing
     else if is_some e.session then standing_next handle e earlier else earlier
 
 -- of an event of the connection, for a channel: nor does anything outlive the connection
-abbrev pub standing_behind : ℕ → ℕ → Event → Standing → Standing
+abbrev pub standing_behind : ℕ → ℕ → Event → HandleState → HandleState
 standing_behind channel handle e earlier =
     if is_final e.moment then nothing else if is_number (channel_of e.moment) channel then standing_here handle e earlier else earlier
 

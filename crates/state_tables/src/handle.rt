@@ -25,9 +25,9 @@ pub struct Handle {
 }
 
 impl Model for Handle {
-    ghost use Rattle.state_tables.specs.Links.{Standing};
+    ghost use Rattle.state_tables.specs.Links.{HandleState};
 
-    ghost Value = { Standing };
+    ghost Value = { HandleState };
 
     ghost view = { λ x. record {
       link = x.link;
