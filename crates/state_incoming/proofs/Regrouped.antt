@@ -8,14 +8,14 @@ use Rattle.state_incoming.specs.Held.{Held, says_arriving, says_waiting}
 use Rattle.number_groups.specs.Ids.{same_id}
 use Rattle.state_incoming.specs.Grouped.{AreGrouped, IsMarked, IsPut, marks_of, unmarked, is_of_link, is_of_session, has_id, is_for}
 use Rattle.state_incoming.specs.declared.groups.HeldGroups.{HeldGroups}
-use Rattle.state_incoming.specs.declared.groups.Marks.{Marks}
+use Rattle.state_incoming.specs.declared.groups.GroupMarks.{GroupMarks}
 
 -- what is kept of a number is this delivery
 abbrev pub IsOf : Incoming → Option Held → Type 0
 IsOf d o = IfSome o (λ (x : Held). x.delivery ≡ d)
 
 -- what it is found by
-abbrev pub marks : Option Held → Marks
+abbrev pub marks : Option Held → GroupMarks
 marks None = unmarked
 marks (Some x) = marks_of x
 
@@ -95,7 +95,7 @@ module _ (d : Incoming) (groups later : HeldGroups) (kept behind : ℕ → Optio
   here : (n : ℕ) → (d.number == n) ≡ true → kept n ≡ old
   here n same = sym (ap kept (eqb-true d.number n same)) ∙ at
 
-  marked : (f : Marks → Bool) (mark : Held → Bool) → f unmarked ≡ false → ((x : Held) → f (marks_of x) ≡ mark x) → (o : Option Held) → f (marks o) ≡ is_some_and o mark
+  marked : (f : GroupMarks → Bool) (mark : Held → Bool) → f unmarked ≡ false → ((x : Held) → f (marks_of x) ≡ mark x) → (o : Option Held) → f (marks o) ≡ is_some_and o mark
   marked f mark none some None = none
   marked f mark none some (Some x) = some x
 
@@ -137,7 +137,7 @@ module _ (d : Incoming) (groups later : HeldGroups) (kept behind : ℕ → Optio
 
 -- what is kept of a delivery stands where its marks say
 module _ (d : Incoming) (groups : HeldGroups) (kept : ℕ → Option Held) (old : Option Held) (was : IsOf d old) (own : List ℕ) (stood : StandsAt own old) (at : kept d.number ≡ old) where
-  of-mark : (key : Incoming → Bool) (mark : Held → Bool) (f : Marks → Bool) → f unmarked ≡ false → ((x : Held) → f (marks_of x) ≡ mark x) → key d ≡ true
+  of-mark : (key : Incoming → Bool) (mark : Held → Bool) (f : GroupMarks → Bool) → f unmarked ≡ false → ((x : Held) → f (marks_of x) ≡ mark x) → key d ≡ true
       → (g : Bool) → g ≡ is_some_and (kept d.number) (λ x. key x.delivery && mark x) → g ≡ f (marks old)
   of-mark key mark f none some on g is = is ∙ (ap (λ o. is_some_and o (λ x. key x.delivery && mark x)) at ∙ by old was)
     where

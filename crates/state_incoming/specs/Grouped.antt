@@ -8,13 +8,13 @@ use Rattle.state_incoming.specs.Held.{Held, says_arriving, says_waiting}
 use Rattle.number_groups.specs.Ids.{same_id}
 use Rattle.state_incoming.specs.declared.groups.HeldGroups.{HeldGroups}
 use Rattle.number_groups.specs.declared.id_on.IdOn.{IdOn}
-use Rattle.state_incoming.specs.declared.groups.Marks.{Marks}
+use Rattle.state_incoming.specs.declared.groups.GroupMarks.{GroupMarks}
 
 -- what a delivery is found by: none where it is not kept
-abbrev pub unmarked : Marks
+abbrev pub unmarked : GroupMarks
 unmarked = record { is_arriving = false; is_undecided = false; is_waiting = false }
 
-abbrev pub marks_of : Held → Marks
+abbrev pub marks_of : Held → GroupMarks
 marks_of x = record { is_arriving = says_arriving x.fate; is_undecided = x.is_undecided; is_waiting = says_waiting x.fate }
 
 -- the keys of a delivery: its link, its session, its id there; and the address that it is for
@@ -40,7 +40,7 @@ pub record AreGrouped (groups : HeldGroups) (kept : ℕ → Option Held) : Type 
   pub numbered : (n : ℕ) → IfSome (kept n) (λ x. x.delivery.number ≡ n)
 
 -- the delivery, which is for this address, stands where the marks say
-pub record IsMarked (d : Incoming) (own : List ℕ) (marks : Marks) (groups : HeldGroups) : Type 0 where
+pub record IsMarked (d : Incoming) (own : List ℕ) (marks : GroupMarks) (groups : HeldGroups) : Type 0 where
   pub arriving : (link : ℕ) → is_of_link link d ≡ true → is_member nat_eq groups.arriving link d.number ≡ marks.is_arriving
   pub undecided : (link : ℕ) → is_of_link link d ≡ true → is_member nat_eq groups.undecided link d.number ≡ marks.is_undecided
   pub of_session : (session : ℕ) → is_of_session session d ≡ true → is_member nat_eq groups.of_session session d.number ≡ marks.is_undecided
@@ -48,7 +48,7 @@ pub record IsMarked (d : Incoming) (own : List ℕ) (marks : Marks) (groups : He
   pub waiting : (address : List ℕ) → bytes_eq own address ≡ true → octets.is_member groups.waiting address d.number ≡ marks.is_waiting
 
 -- the delivery, which is for this address, is put where the marks say, and no other moves
-pub record IsPut (d : Incoming) (own : List ℕ) (marks : Marks) (earlier later : HeldGroups) : Type 0 where
+pub record IsPut (d : Incoming) (own : List ℕ) (marks : GroupMarks) (earlier later : HeldGroups) : Type 0 where
   pub arriving : (link n : ℕ) → is_member nat_eq later.arriving link n ≡ (if is_of_link link d && (d.number == n) then marks.is_arriving else is_member nat_eq earlier.arriving link n)
   pub undecided : (link n : ℕ) → is_member nat_eq later.undecided link n ≡ (if is_of_link link d && (d.number == n) then marks.is_undecided else is_member nat_eq earlier.undecided link n)
   pub of_session : (session n : ℕ) → is_member nat_eq later.of_session session n ≡ (if is_of_session session d && (d.number == n) then marks.is_undecided else is_member nat_eq earlier.of_session session n)

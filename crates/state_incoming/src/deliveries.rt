@@ -20,7 +20,7 @@ ghost use Rattle.state_incoming.specs.HeldViews.{held_view};
 ghost use Rattle.state_incoming.specs.LetGo.{IsOver, is_spent};
 ghost use Rattle.trace_values.specs.View.{event_view, link_view};
 
-use crate::groups::{HeldGroups, Marks};
+use crate::groups::{GroupMarks, HeldGroups};
 use crate::held::{HeldDelivery, first_address};
 use capture_form::RuleSet;
 use http_server::Log;
@@ -167,9 +167,8 @@ impl Deliveries {
         ensures gone { self.new.let_go.items ≡ self.old.let_go.items }
     {
         if let Some(held) = HeldDelivery::begin(self.alloc, rules, event, address, has_consumer)? {
-            let marks = Marks::of(&held, true);
-            self.groups
-                .put(&held.delivery(), held.address(), Marks::none(), marks)?;
+            let marks = GroupMarks::of(&held, true);
+            self.groups.put(&held.delivery(), held.address(), GroupMarks::none(), marks)?;
             self.entries.insert(event.number, held)?;
         }
         Ok(())
@@ -197,9 +196,9 @@ impl Deliveries {
         let Some(held) = self.entries.get_mut(&number) else {
             return Ok(());
         };
-        let before = Marks::of(held, true);
+        let before = GroupMarks::of(held, true);
         let stays = held.take(rules, event, address, has_consumer)?;
-        let marks = Marks::of(held, stays);
+        let marks = GroupMarks::of(held, stays);
         self.groups
             .put(&held.delivery(), held.address(), before, marks)?;
         if !stays {

@@ -16,18 +16,18 @@ use trace_values::Incoming;
 
 /// What a delivery is found by.
 #[derive(Clone, Copy)]
-pub(crate) struct Marks {
+pub(crate) struct GroupMarks {
     is_arriving: bool,
     is_undecided: bool,
     is_waiting: bool,
 }
 
-impl Marks {
+impl GroupMarks {
     /// Of one that is not kept.
-    pub(crate) fn none() -> Marks
+    pub(crate) fn none() -> GroupMarks
         ensures { result ≡ unmarked }
     {
-        Marks {
+        GroupMarks {
             is_arriving: false,
             is_undecided: false,
             is_waiting: false,
@@ -35,10 +35,10 @@ impl Marks {
     }
 
     /// Of one that is kept, or of one of which nothing is left.
-    pub(crate) fn of(held: &HeldDelivery, is_kept: bool) -> Marks
+    pub(crate) fn of(held: &HeldDelivery, is_kept: bool) -> GroupMarks
         ensures { result ≡ (if is_kept then marks_of (held_view held.now) else unmarked) }
     {
-        Marks {
+        GroupMarks {
             is_arriving: is_kept && !held.is_complete(),
             is_undecided: is_kept && held.is_undecided(),
             is_waiting: is_kept && held.is_waiting(),
@@ -148,8 +148,8 @@ impl HeldGroups {
         &mut self,
         delivery: &Incoming,
         address: &[u8],
-        before: Marks,
-        marks: Marks,
+        before: GroupMarks,
+        marks: GroupMarks,
     ) -> Result<(), AllocError>
         ensures { OnOk result (IsMarked (incoming_view delivery.now) address.now before self.old →
             IsPut (incoming_view delivery.now) address.now marks self.old self.new) }

@@ -1,7 +1,7 @@
 use Rattle.std.proofs.Common.{◌≡◌, ap, sym, ◌∙◌, ℕ, true, List, None, Some, IfSome, refl, subst, if◌then◌else◌, ◌==◌, rules}
 use Rattle.trace_events.specs.Event.{Incoming}
 use Rattle.trace_values.specs.View.{incoming_view}
-use Rattle.state_incoming.specs.declared.groups.Marks.{Marks}
+use Rattle.state_incoming.specs.declared.groups.GroupMarks.{GroupMarks}
 use Rattle.state_incoming.specs.Grouped.{IsMarked, IsPut, marks_of, unmarked}
 use Rattle.state_incoming.specs.Held.{Held, says_waiting}
 use Rattle.state_incoming.specs.HeldViews.{held_view}
@@ -22,12 +22,12 @@ returns-then-not-stays-clause-grouped c = λ grouped.
     let stood : IsMarked (incoming_view c.delivery.result) c.address.result.now c.of-before.result c.args.self.now.groups =
     subst (λ (d : Incoming). IsMarked d c.address.result.now c.of-before.result c.args.self.now.groups) (sym (c.delivery.ensures ∙ same))
     (subst (λ (a : List ℕ). IsMarked x.delivery a c.of-before.result c.args.self.now.groups) (sym c.address.ensures.stored)
-    (subst (λ (m : Marks). IsMarked x.delivery own m c.args.self.now.groups) (sym c.of-before.ensures) (grouped-marked x.delivery c.args.self.now.groups (held_in c.args.self.now) (Some x) refl own stands kept grouped))) in
+    (subst (λ (m : GroupMarks). IsMarked x.delivery own m c.args.self.now.groups) (sym c.of-before.ensures) (grouped-marked x.delivery c.args.self.now.groups (held_in c.args.self.now) (Some x) refl own stands kept grouped))) in
     let off : c.of-marks.result ≡ unmarked = search rules in
     let put : IsPut x.delivery own unmarked c.args.self.now.groups c.put.new.self =
     subst (λ (d : Incoming). IsPut d own unmarked c.args.self.now.groups c.put.new.self) (c.delivery.ensures ∙ same)
     (subst (λ (a : List ℕ). IsPut (incoming_view c.delivery.result) a unmarked c.args.self.now.groups c.put.new.self) c.address.ensures.stored
-    (subst (λ (m : Marks). IsPut (incoming_view c.delivery.result) c.address.result.now m c.args.self.now.groups c.put.new.self) off (c.in_ok-put.ensures stood))) in
+    (subst (λ (m : GroupMarks). IsPut (incoming_view c.delivery.result) c.address.result.now m c.args.self.now.groups c.put.new.self) off (c.in_ok-put.ensures stood))) in
     put-grouped x.delivery c.args.self.now.groups c.put.new.self (held_in c.args.self.now) _ (Some x) None refl tt own stands tt kept
     (λ n. moved n ∙ ap (λ (m : ℕ). if m == n then None else held_in c.args.self.now n) (sym number)) grouped put
 
@@ -45,11 +45,11 @@ returns-else-not-stays-clause-grouped c = λ grouped.
     let stood : IsMarked (incoming_view c.delivery.result) c.address.result.now c.of-before.result c.args.self.now.groups =
     subst (λ (d : Incoming). IsMarked d c.address.result.now c.of-before.result c.args.self.now.groups) (sym (c.delivery.ensures ∙ same))
     (subst (λ (a : List ℕ). IsMarked x.delivery a c.of-before.result c.args.self.now.groups) (sym c.address.ensures.stored)
-    (subst (λ (m : Marks). IsMarked x.delivery own m c.args.self.now.groups) (sym c.of-before.ensures) (grouped-marked x.delivery c.args.self.now.groups (held_in c.args.self.now) (Some x) refl own stands kept grouped))) in
+    (subst (λ (m : GroupMarks). IsMarked x.delivery own m c.args.self.now.groups) (sym c.of-before.ensures) (grouped-marked x.delivery c.args.self.now.groups (held_in c.args.self.now) (Some x) refl own stands kept grouped))) in
     let on : c.of-marks.result ≡ marks_of later = search rules in
     let put : IsPut x.delivery own (marks_of later) c.args.self.now.groups c.put.new.self =
     subst (λ (d : Incoming). IsPut d own (marks_of later) c.args.self.now.groups c.put.new.self) (c.delivery.ensures ∙ same)
     (subst (λ (a : List ℕ). IsPut (incoming_view c.delivery.result) a (marks_of later) c.args.self.now.groups c.put.new.self) c.address.ensures.stored
-    (subst (λ (m : Marks). IsPut (incoming_view c.delivery.result) c.address.result.now m c.args.self.now.groups c.put.new.self) on (c.in_ok-put.ensures stood))) in
+    (subst (λ (m : GroupMarks). IsPut (incoming_view c.delivery.result) c.address.result.now m c.args.self.now.groups c.put.new.self) on (c.in_ok-put.ensures stood))) in
     put-grouped x.delivery c.args.self.now.groups c.put.new.self (held_in c.args.self.now) _ (Some x) (Some later) refl same own stands (λ waits. refl) kept
     (λ n. moved n ∙ ap (λ (m : ℕ). if m == n then Some later else held_in c.args.self.now n) (sym number)) grouped put
