@@ -11,16 +11,16 @@ use Rattle.state_ledger.specs.declared.held_event.HeldEvent.{HeldEvent}
 -- ---- its parts
 
 -- its link, and the deliveries that its transfer begins or goes on with
-pub record Parts : Type 0 where
+pub record EventParts : Type 0 where
   pub link : Option Link
   pub incoming : Option Incoming
   pub outgoing : Option Outgoing
 
 -- there is any of them
-abbrev pub has_parts : Parts → Bool
+abbrev pub has_parts : EventParts → Bool
 has_parts parts = is_some parts.link || is_some parts.incoming || is_some parts.outgoing
 
-abbrev pub parts_of : Event → Parts
+abbrev pub parts_of : Event → EventParts
 parts_of e = record { link = e.link; incoming = e.incoming; outgoing = e.outgoing }
 
 abbrev pub held_incoming_view : HeldIncoming → Incoming
@@ -29,7 +29,7 @@ held_incoming_view d = record { number = d.number; link = held_link_view d.link;
 abbrev pub held_outgoing_view : HeldOutgoing → Outgoing
 held_outgoing_view j = record { number = j.number; link = held_link_view j.link; id = j.id; is_settled = j.is_settled; note = j.note }
 
-abbrev pub held_parts_view : HeldParts → Parts
+abbrev pub held_parts_view : HeldParts → EventParts
 held_parts_view parts = record {
   link = option_map held_link_view parts.link;
   incoming = option_map held_incoming_view parts.incoming;
@@ -50,7 +50,7 @@ facts_of e = record {
   fault = e.fault;
 }
 
-abbrev pub event_of : HeldFacts → Parts → Moment → Event
+abbrev pub event_of : HeldFacts → EventParts → Moment → Event
 event_of facts parts moment = record {
   number = facts.number;
   connection = facts.connection;
