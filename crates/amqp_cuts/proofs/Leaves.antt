@@ -12,7 +12,7 @@ use Rattle.amqp_types.specs.declared.code.Text.{Text}
 use Rattle.amqp_types.specs.Codes.{takes_any, width_of}
 use Rattle.amqp_types.specs.Part.{Part, Sized}
 use Rattle.amqp_types.specs.Reading.{◌>>=◌ as ◌>>>◌, Read, fault, octets_at, sized_at, placed, scalar_of, is_text, fixed_at, text_at}
-use Rattle.amqp_cuts.specs.declared.layout.Form.{Form}
+use Rattle.amqp_cuts.specs.declared.layout.ElementForm.{ElementForm}
 use Rattle.amqp_cuts.specs.Layout.{layout_of_scalar}
 use Rattle.amqp_cuts.specs.Offsets.{◌>>=◌, window, octet_in, past, sized_in}
 use Rattle.amqp_cuts.specs.Passing.{Passes, past_boolean, past_text, past_data_by}
@@ -118,7 +118,7 @@ boolean_leaves octets k at to order room = elim (nat_cases at to) [
       rw absent (boolean_absent octets k at to (octets_at 1 k (window octets at to)) (subst (λ (r : Option ℕ). Cut octets 1 at to r (octets_at 1 k (window octets at to))) (past_none at to le) (cut octets 1 k at to order room)))
 ]
 
-pub fixed_leaves : (octets : List ℕ) (value : Passes) (constructor : ℕ → ℕ → Option (Form × ℕ)) (element : Form → Passes) (scalar : Scalar) (k at to : ℕ) → at ≤ to → to ≤ length octets
+pub fixed_leaves : (octets : List ℕ) (value : Passes) (constructor : ℕ → ℕ → Option (ElementForm × ℕ)) (element : ElementForm → Passes) (scalar : Scalar) (k at to : ℕ) → at ≤ to → to ≤ length octets
     → Leaves octets at to (past_data_by value constructor element octets (layout_of_scalar scalar) at to) (fixed_at scalar k (window octets at to))
 unfolding past_data_by fixed_at
 fixed_leaves octets value constructor element scalars.Boolean k at to order room = boolean_leaves octets k at to order room

@@ -11,7 +11,7 @@ use Rattle.amqp_types.specs.Codes.{code_of}
 use Rattle.amqp_types.specs.Part.{Part, Nested, Seen, Tag, Constructor, code_behind}
 use Rattle.amqp_types.specs.Reading.{◌>>=◌ as ◌>>>◌, Read, with_octets, with_tag, coded_at, value_by, seen_by, data_by, element_by, tagged_at, constructor_by, data_at, constructor_at, value_at, seen_at}
 use Rattle.amqp_cuts.specs.declared.layout.Layout.{Layout}
-use Rattle.amqp_cuts.specs.declared.layout.Form.{Form}
+use Rattle.amqp_cuts.specs.declared.layout.ElementForm.{ElementForm}
 use Rattle.amqp_cuts.specs.Layout.{layout_of_scalar, layout_of_code, layout_of}
 use Rattle.amqp_cuts.specs.Offsets.{◌>>=◌, window, octet_in, past}
 use Rattle.amqp_cuts.specs.Passing.{Passes, past_boolean, past_text, past_items, all_past, past_nested, past_elements, past_array, past_described, past_laid, past_value_by, past_data_by, one_tag_more, tagged_in, past_data, constructor_in, past_value}
@@ -76,7 +76,7 @@ value_leaves_by octets inner reader each levels end room k at order = elim (nat_
 
 -- ---- constructors
 
-tagged_last : (octets : List ℕ) (at mid to first : ℕ) (descriptor : List ℕ) (r : Option (Form × ℕ)) (s : Read Constructor) → at ≤ mid → ConstructorCut octets mid to r s
+tagged_last : (octets : List ℕ) (at mid to first : ℕ) (descriptor : List ℕ) (r : Option (ElementForm × ℕ)) (s : Read Constructor) → at ≤ mid → ConstructorCut octets mid to r s
     → ConstructorCut octets at to (r >>= λ behind. Some (one_tag_more behind)) (s >>> λ behind. Ok (code_behind first descriptor behind.0, behind.1))
 tagged_last octets at mid to first descriptor None (Err d) order is = tt
 tagged_last octets at mid to first descriptor None (Ok x) order is = absurd is
@@ -84,7 +84,7 @@ tagged_last octets at mid to first descriptor (Some f) (Err d) order is = absurd
 tagged_last octets at mid to first descriptor (Some f) (Ok x) order is =
     (omega (arith, is.0), is.1, is.2, omega (arith, is.3, order), is.4)
 
-tagged_by : (octets : List ℕ) (inner : ℕ → ℕ → Option (Form × ℕ)) (inner_reader : ℕ → List ℕ → Read Constructor) → ConstructorLeaves octets inner inner_reader
+tagged_by : (octets : List ℕ) (inner : ℕ → ℕ → Option (ElementForm × ℕ)) (inner_reader : ℕ → List ℕ → Read Constructor) → ConstructorLeaves octets inner inner_reader
     → (k at to first : ℕ) (r : Option ℕ) (s : Read Seen) → to ≤ length octets → Leaves octets at to r s
     → ConstructorCut octets at to (r >>= λ described. inner described to >>= λ behind. Some (one_tag_more behind))
     (s >>> λ descriptor. inner_reader k descriptor.1 >>> λ behind. Ok (code_behind first descriptor.0.octets behind.0, behind.1))
@@ -94,13 +94,13 @@ tagged_by octets inner inner_reader forms k at to first (Some next) (Err d) room
 tagged_by octets inner inner_reader forms k at to first (Some next) (Ok x) room is =
     rw is.0 (tagged_last octets at next to first x.0.octets (inner next to) (inner_reader k (window octets next to)) is.1 (forms k next to is.2 room))
 
-fixed_form : (octets : List ℕ) (value : Passes) (reader : ℕ → List ℕ → Read Seen) (inner : ℕ → ℕ → Option (Form × ℕ)) (inner_reader : ℕ → List ℕ → Read Constructor) (k at to first : ℕ) (scalar : Scalar) → at ≤ to
+fixed_form : (octets : List ℕ) (value : Passes) (reader : ℕ → List ℕ → Read Seen) (inner : ℕ → ℕ → Option (ElementForm × ℕ)) (inner_reader : ℕ → List ℕ → Read Constructor) (k at to first : ℕ) (scalar : Scalar) → at ≤ to
     → ConstructorCut octets at to (passing.constructor_by value inner (Some (layout_of_scalar scalar)) at to) (constructor_by reader inner_reader k first (window octets at to) (Some (codes.Fixed scalar)))
 unfolding passing.constructor_by constructor_by
 fixed_form octets value reader inner inner_reader k at to first scalars.Boolean order = (refl, refl, refl, omega arith, order)
 fixed_form octets value reader inner inner_reader k at to first other order = (refl, refl, refl, omega arith, order)
 
-constructor_cut_by : (octets : List ℕ) (value : Passes) (reader : ℕ → List ℕ → Read Seen) (inner : ℕ → ℕ → Option (Form × ℕ)) (inner_reader : ℕ → List ℕ → Read Constructor)
+constructor_cut_by : (octets : List ℕ) (value : Passes) (reader : ℕ → List ℕ → Read Seen) (inner : ℕ → ℕ → Option (ElementForm × ℕ)) (inner_reader : ℕ → List ℕ → Read Constructor)
     → ((end : ℕ) → end ≤ length octets → ItemLeaves octets end value reader) → ConstructorLeaves octets inner inner_reader → (k at to first : ℕ) (code : Option Code) → at ≤ to → to ≤ length octets
     → ConstructorCut octets at to (passing.constructor_by value inner (option_map layout_of_code code) at to) (constructor_by reader inner_reader k first (window octets at to) code)
 unfolding passing.constructor_by constructor_by tagged_in tagged_at

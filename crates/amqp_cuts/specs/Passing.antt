@@ -6,7 +6,7 @@ use Rattle.amqp_types.specs.declared.code.SizeWidth.{SizeWidth}
 use Rattle.amqp_types.specs.Reading.{is_text, is_odd}
 use Rattle.amqp_cuts.specs.declared.layout.Layout.{Layout}
 use Rattle.amqp_cuts.specs.declared.layout.Layout.TheVariants.{Fixed, Boolean, UlongOctet, Ulong, Sized, Nested, Array, Described}
-use Rattle.amqp_cuts.specs.declared.layout.Form.{Form}
+use Rattle.amqp_cuts.specs.declared.layout.ElementForm.{ElementForm}
 use Rattle.amqp_cuts.specs.Layout.{layout_of}
 use Rattle.amqp_cuts.specs.Offsets.{◌>>=◌, window, octet_in, past, sized_in, counted_in}
 
@@ -45,14 +45,14 @@ past_nested item kind width octets at to = do
   if is_odd kind counted.0 then None else all_past (past_items item counted.0 counted.1 counted.2) counted.2
 
 -- elements and nothing behind them, from their constructor on (part 1, 1.2.4)
-unfoldable pub past_elements : (ℕ → ℕ → Option (Form × ℕ)) → (Form → Passes) → ℕ → Passes
+unfoldable pub past_elements : (ℕ → ℕ → Option (ElementForm × ℕ)) → (ElementForm → Passes) → ℕ → Passes
 past_elements constructor element n at to =
     if n == 0 && at == to then Some to else (do
       first ← constructor at to
       all_past (past_items (element first.0) n first.1 to) to)
 
 -- an array (part 1, 1.2.4)
-unfoldable pub past_array : (ℕ → ℕ → Option (Form × ℕ)) → (Form → Passes) → SizeWidth → List ℕ → Passes
+unfoldable pub past_array : (ℕ → ℕ → Option (ElementForm × ℕ)) → (ElementForm → Passes) → SizeWidth → List ℕ → Passes
 past_array constructor element width octets at to = do
   counted ← counted_in width octets at to
   past_elements constructor element counted.0 counted.1 counted.2
@@ -77,7 +77,7 @@ past_value_by inner (suc levels) octets at to = do
 
 -- what is behind the first octet, where value passes over the values nested in it, and constructor and
 -- element over what is nested in an array
-unfoldable pub past_data_by : Passes → (ℕ → ℕ → Option (Form × ℕ)) → (Form → Passes) → List ℕ → Layout → Passes
+unfoldable pub past_data_by : Passes → (ℕ → ℕ → Option (ElementForm × ℕ)) → (ElementForm → Passes) → List ℕ → Layout → Passes
 past_data_by value constructor element octets (Fixed width) at to = past width at to
 past_data_by value constructor element octets Boolean at to = past_boolean octets at to
 past_data_by value constructor element octets UlongOctet at to = past 1 at to
@@ -88,18 +88,18 @@ past_data_by value constructor element octets (Array width) at to = past_array c
 past_data_by value constructor element octets Described at to = past_described value at to
 
 -- how elements lie that have one descriptor more
-abbrev pub one_tag_more : Form × ℕ → Form × ℕ
+abbrev pub one_tag_more : ElementForm × ℕ → ElementForm × ℕ
 one_tag_more x = (record { tags = x.0.tags + 1; layout = x.0.layout }, x.1)
 
 -- a descriptor and the constructor behind it (part 1, 1.2)
-unfoldable pub tagged_in : Passes → (ℕ → ℕ → Option (Form × ℕ)) → ℕ → ℕ → Option (Form × ℕ)
+unfoldable pub tagged_in : Passes → (ℕ → ℕ → Option (ElementForm × ℕ)) → ℕ → ℕ → Option (ElementForm × ℕ)
 tagged_in value inner at to = do
   described ← value at to
   behind ← inner described to
   Some (one_tag_more behind)
 
 -- a constructor by what its first octet says: value passes over a descriptor, and inner reads the constructor behind it
-unfoldable pub constructor_by : Passes → (ℕ → ℕ → Option (Form × ℕ)) → Option Layout → ℕ → ℕ → Option (Form × ℕ)
+unfoldable pub constructor_by : Passes → (ℕ → ℕ → Option (ElementForm × ℕ)) → Option Layout → ℕ → ℕ → Option (ElementForm × ℕ)
 constructor_by value inner None at to = None
 constructor_by value inner (Some Described) at to = tagged_in value inner at to
 constructor_by value inner (Some layout) at to = Some (record { tags = 0; layout = layout }, at)
@@ -113,7 +113,7 @@ unfoldable mutual
   past_data octets (suc levels) (suc tags) layout at to = past_data octets levels tags layout at to
 
   -- how the elements lie that a constructor describes, and the offset behind it, where so many levels are left (part 1, 1.2)
-  pub constructor_in : List ℕ → ℕ → ℕ → ℕ → Option (Form × ℕ)
+  pub constructor_in : List ℕ → ℕ → ℕ → ℕ → Option (ElementForm × ℕ)
   constructor_in octets zero at to = None
   constructor_in octets (suc levels) at to = do
     first ← octet_in octets at to
@@ -124,6 +124,6 @@ unfoldable pub past_value : List ℕ → ℕ → Passes
 past_value octets levels at to = past_value_by (past_data octets levels zero) levels octets at to
 
 -- an element where it is known how it lies, else a value of its own
-unfoldable pub past_item : List ℕ → ℕ → Option Form → Passes
+unfoldable pub past_item : List ℕ → ℕ → Option ElementForm → Passes
 past_item octets levels None at to = past_value octets levels at to
 past_item octets levels (Some form) at to = past_data octets levels form.tags form.layout at to

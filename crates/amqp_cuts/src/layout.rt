@@ -30,7 +30,7 @@ pub(crate) enum Layout {
 
 /// How the elements of an array lie, each behind its descriptors (part 1, 1.2.4).
 #[derive(Clone, Copy, Debug)]
-pub(crate) struct Form {
+pub(crate) struct ElementForm {
     /// How many descriptors the constructor has.
     pub(crate) tags: usize,
     /// What is behind them.

@@ -7,7 +7,7 @@ ghost use Rattle.std.specs.Prelude.{◌≡◌, ◌<◌, ◌≤◌, IfSome, None,
 ghost use Rattle.amqp_cuts.specs.Passing.{past_boolean, past_text, past_items, past_nested, past_array, past_elements, past_described, past_data, constructor_in, tagged_in, past_value, past_item};
 
 use crate::cuts::Cuts;
-use crate::layout::{Form, Layout, is_odd};
+use crate::layout::{ElementForm, Layout, is_odd};
 use crate::octets::{counted, octet, pass, sized};
 use crate::text::is_text;
 use amqp_types::{Kind, SizeWidth, Text};
@@ -70,7 +70,7 @@ pub(crate) fn pass_value<C: Cuts>(payload: &C, levels: usize, at: usize, to: usi
 fn pass_element<C: Cuts>(
     payload: &C,
     levels: usize,
-    form: Form,
+    form: ElementForm,
     at: usize,
     to: usize,
 ) -> Option<usize>
@@ -90,7 +90,7 @@ fn pass_element<C: Cuts>(
 fn pass_item<C: Cuts>(
     payload: &C,
     levels: usize,
-    form: Option<Form>,
+    form: Option<ElementForm>,
     at: usize,
     to: usize,
 ) -> Option<usize>
@@ -112,7 +112,7 @@ fn pass_item<C: Cuts>(
 fn pass_items<C: Cuts>(
     payload: &C,
     levels: usize,
-    form: Option<Form>,
+    form: Option<ElementForm>,
     count: u32,
     at: usize,
     to: usize,
@@ -167,7 +167,7 @@ fn read_constructor<C: Cuts>(
     levels: usize,
     at: usize,
     to: usize,
-) -> Option<(Form, usize)>
+) -> Option<(ElementForm, usize)>
     requires levels { levels ≤ MAX_DEPTH }
     requires order { at ≤ to }
     requires room { to ≤ length (C.octets payload.now) }
@@ -180,14 +180,19 @@ fn read_constructor<C: Cuts>(
     let layout = Layout::of(octet(payload, at, to)?)?;
     match layout {
         Layout::Described => read_tagged(payload, levels - 1, at + 1, to),
-        _ => Some((Form { tags: 0, layout }, at + 1)),
+        _ => Some((ElementForm { tags: 0, layout }, at + 1)),
     }
 }
 
 /// The same behind the octet that says that a descriptor follows.
 #[cycle(passing)]
 #[tactic(auto, unfolding(crate::specs::Passing::tagged_in))]
-fn read_tagged<C: Cuts>(payload: &C, levels: usize, at: usize, to: usize) -> Option<(Form, usize)>
+fn read_tagged<C: Cuts>(
+    payload: &C,
+    levels: usize,
+    at: usize,
+    to: usize,
+) -> Option<(ElementForm, usize)>
     requires levels { levels < MAX_DEPTH }
     requires order { at ≤ to }
     requires room { to ≤ length (C.octets payload.now) }
@@ -196,7 +201,7 @@ fn read_tagged<C: Cuts>(payload: &C, levels: usize, at: usize, to: usize) -> Opt
 {
     let described = pass_value(payload, levels, at, to)?;
     let (inner, first) = read_constructor(payload, levels, described, to)?;
-    let form = Form {
+    let form = ElementForm {
         tags: inner.tags + 1,
         layout: inner.layout,
     };
