@@ -4,8 +4,8 @@ use Rattle.std.specs.Prelude.{nat_lt}
 use Rattle.std.specs.List.{list_any, list_all}
 use Rattle.std.proofs.lemmas.Bool.{eqb-true}
 use Rattle.std.proofs.lemmas.Bool.Decides.{nat_tests}
-use Rattle.address_table.specs.declared.lineup.Standing.{Standing}
-use Rattle.address_table.specs.Lineups.{comes_before, put, in_order, standings, order_of, are_distinct, is_of, without, moved_up, closed_up, put_back}
+use Rattle.address_table.specs.declared.address_links.LinkRank.{LinkRank}
+use Rattle.address_table.specs.AddressLinks.{comes_before, put, in_order, standings, order_of, are_distinct, is_of, without, moved_up, closed_up, put_back}
 use Rattle.address_table.proofs.Ordered.{before, put-put, in_order-last}
 
 -- ---- tests of all that stand in order
@@ -20,7 +20,7 @@ swapped_and true b c = refl
 swapped_and false true c = refl
 swapped_and false false c = refl
 
-any_put : (test : Standing → Bool) (x : Standing) (rest : List Standing) → list_any test (put x rest) ≡ (test x || list_any test rest)
+any_put : (test : LinkRank → Bool) (x : LinkRank) (rest : List LinkRank) → list_any test (put x rest) ≡ (test x || list_any test rest)
 any_put test x [] = refl
 any_put test x (z ∷ rest) = by (comes_before x z) (any_put test x rest)
   where
@@ -29,11 +29,11 @@ any_put test x (z ∷ rest) = by (comes_before x z) (any_put test x rest)
     by true later = refl
     by false later = ap (λ b. test z || b) later ∙ swapped_or (test z) (test x) (list_any test rest)
 
-any_in_order : (test : Standing → Bool) (xs : List Standing) → list_any test (in_order xs) ≡ list_any test xs
+any_in_order : (test : LinkRank → Bool) (xs : List LinkRank) → list_any test (in_order xs) ≡ list_any test xs
 any_in_order test [] = refl
 any_in_order test (x ∷ xs) = any_put test x (in_order xs) ∙ ap (λ b. test x || b) (any_in_order test xs)
 
-pub all_put : (test : Standing → Bool) (x : Standing) (rest : List Standing) → list_all test (put x rest) ≡ (test x && list_all test rest)
+pub all_put : (test : LinkRank → Bool) (x : LinkRank) (rest : List LinkRank) → list_all test (put x rest) ≡ (test x && list_all test rest)
 all_put test x [] = refl
 all_put test x (z ∷ rest) = by (comes_before x z) (all_put test x rest)
   where
@@ -42,7 +42,7 @@ all_put test x (z ∷ rest) = by (comes_before x z) (all_put test x rest)
     by true later = refl
     by false later = ap (λ b. test z && b) later ∙ swapped_and (test z) (test x) (list_all test rest)
 
-pub all_in_order : (test : Standing → Bool) (xs : List Standing) → list_all test (in_order xs) ≡ list_all test xs
+pub all_in_order : (test : LinkRank → Bool) (xs : List LinkRank) → list_all test (in_order xs) ≡ list_all test xs
 all_in_order test [] = refl
 all_in_order test (x ∷ xs) = all_put test x (in_order xs) ∙ ap (λ b. test x && b) (all_in_order test xs)
 
@@ -56,19 +56,19 @@ both : (a b : Bool) → a && b ≡ true → (a ≡ true) × (b ≡ true)
 both true b e = (refl, e)
 both false b e = absurd cc
 
-pub find_none : (link : ℕ) (xs : List Standing) → list_any (is_of link) xs ≡ false → find (is_of link) xs ≡ None
+pub find_none : (link : ℕ) (xs : List LinkRank) → list_any (is_of link) xs ≡ false → find (is_of link) xs ≡ None
 find_none link [] none = refl
 find_none link (x ∷ xs) none =
     let apart = neither (is_of link x) (list_any (is_of link) xs) none in
     rw apart.0 (find_none link xs apart.1)
 
-pub without_none : (link : ℕ) (xs : List Standing) → list_any (is_of link) xs ≡ false → without link xs ≡ xs
+pub without_none : (link : ℕ) (xs : List LinkRank) → list_any (is_of link) xs ≡ false → without link xs ≡ xs
 without_none link [] none = refl
 without_none link (x ∷ xs) none =
     let apart = neither (is_of link x) (list_any (is_of link) xs) none in
     ap (λ b. if b then xs else x ∷ without link xs) apart.0 ∙ ap (λ rest. x ∷ rest) (without_none link xs apart.1)
 
-find_put : (link : ℕ) (x : Standing) (rest : List Standing) → is_of link x ≡ true → list_any (is_of link) rest ≡ false → find (is_of link) (put x rest) ≡ Some x
+find_put : (link : ℕ) (x : LinkRank) (rest : List LinkRank) → is_of link x ≡ true → list_any (is_of link) rest ≡ false → find (is_of link) (put x rest) ≡ Some x
 find_put link x [] is none = ap (λ b. if b then Some x else None) is
 find_put link x (z ∷ rest) is none =
     let apart = neither (is_of link z) (list_any (is_of link) rest) none in
@@ -78,7 +78,7 @@ find_put link x (z ∷ rest) is none =
     by true off later = ap (λ b. if b then Some x else (find (is_of link) (z ∷ rest))) is
     by false off later = ap (λ b. if b then Some z else (find (is_of link) (put x rest))) off ∙ later
 
-without_put : (link : ℕ) (x : Standing) (rest : List Standing) → is_of link x ≡ true → list_any (is_of link) rest ≡ false → without link (put x rest) ≡ rest
+without_put : (link : ℕ) (x : LinkRank) (rest : List LinkRank) → is_of link x ≡ true → list_any (is_of link) rest ≡ false → without link (put x rest) ≡ rest
 without_put link x [] is none = ap (λ b. if b then [] else x ∷ []) is
 without_put link x (z ∷ rest) is none =
     let apart = neither (is_of link z) (list_any (is_of link) rest) none in
@@ -94,7 +94,7 @@ before_moved : (u p l v q m gone : ℕ) → (p == gone) ≡ false → (q == gone
     → before u (if nat_lt gone p then p - 1 else p) l v (if nat_lt gone q then q - 1 else q) m ≡ before u p l v q m
 before_moved u p l v q m gone e f = grind (arith, nat_tests)
 
-put_moved : (gone : ℕ) (x : Standing) (rest : List Standing) → (x.place == gone) ≡ false → list_all (λ s. not (s.place == gone)) rest ≡ true
+put_moved : (gone : ℕ) (x : LinkRank) (rest : List LinkRank) → (x.place == gone) ≡ false → list_all (λ s. not (s.place == gone)) rest ≡ true
     → put (moved_up gone x) (map (moved_up gone) rest) ≡ map (moved_up gone) (put x rest)
 put_moved gone x [] off all = refl
 put_moved gone x (z ∷ rest) off all =
@@ -112,7 +112,7 @@ put_moved gone x (z ∷ rest) off all =
         ap (λ b. if b then moved_up gone x ∷ moved_up gone z ∷ map (moved_up gone) rest else moved_up gone z ∷ put (moved_up gone x) (map (moved_up gone) rest)) is
         ∙ ap (λ more. moved_up gone z ∷ more) later
 
-in_order_moved : (gone : ℕ) (xs : List Standing) → list_all (λ s. not (s.place == gone)) xs ≡ true → in_order (map (moved_up gone) xs) ≡ map (moved_up gone) (in_order xs)
+in_order_moved : (gone : ℕ) (xs : List LinkRank) → list_all (λ s. not (s.place == gone)) xs ≡ true → in_order (map (moved_up gone) xs) ≡ map (moved_up gone) (in_order xs)
 in_order_moved gone [] all = refl
 in_order_moved gone (x ∷ xs) all =
     let parts = both (not (x.place == gone)) (list_all (λ s. not (s.place == gone)) xs) all in
@@ -185,7 +185,7 @@ module _ (undecided later : ℕ → ℕ) (link : ℕ) (off : (x : ℕ) → (x ==
 
 record Apart (undecided : ℕ → ℕ) (link : ℕ) (links : List ℕ) (k : ℕ) : Type 0 where
   place : ℕ
-  others : List Standing
+  others : List LinkRank
   behind : k ≤ place
   together : (later : ℕ → ℕ) → ((x : ℕ) → (x == link) ≡ false → later x ≡ undecided x)
       → in_order (standings later k links) ≡ put (record { undecided = later link; place = place; link = link }) (in_order others)
@@ -279,7 +279,7 @@ module _ (undecided later : ℕ → ℕ) (link : ℕ) (off : (x : ℕ) → (x ==
           ∙ order_same links none
       by true there =
           let a = apart undecided link links 0 distinct there in
-          let x : Standing = record { undecided = undecided link; place = a.place; link = link } in
+          let x : LinkRank = record { undecided = undecided link; place = a.place; link = link } in
           let none : list_any (is_of link) (in_order a.others) ≡ false = any_in_order (is_of link) a.others ∙ a.none in
           let was = a.together undecided off_same in
           (λ i. put_back (later link) (find (is_of link) (was i)) (without link (was i)))
@@ -297,7 +297,7 @@ module _ (undecided later : ℕ → ℕ) (link : ℕ) (off : (x : ℕ) → (x ==
           ∙ (order_same links none ∙ sym (ap (order_of later) (filter_none link links none)))
       by true there =
           let a = apart undecided link links 0 distinct there in
-          let x : Standing = record { undecided = undecided link; place = a.place; link = link } in
+          let x : LinkRank = record { undecided = undecided link; place = a.place; link = link } in
           let none : list_any (is_of link) (in_order a.others) ≡ false = any_in_order (is_of link) a.others ∙ a.none in
           let was = a.together undecided off_same in
           (λ i. closed_up (find (is_of link) (was i)) (without link (was i)))

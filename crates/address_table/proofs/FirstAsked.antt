@@ -5,8 +5,8 @@ use Rattle.std.specs.Prelude.{nat_lt, nat_le}
 use Rattle.std.specs.List.{list_all, best_of}
 use Rattle.std.proofs.lemmas.Bool.Decides.{nat_tests}
 use Rattle.flow_counts.specs.Picks.{best}
-use Rattle.address_table.specs.declared.lineup.Standing.{Standing}
-use Rattle.address_table.specs.Lineups.{MayAsk, comes_before, put, in_order, standings, order_of}
+use Rattle.address_table.specs.declared.address_links.LinkRank.{LinkRank}
+use Rattle.address_table.specs.AddressLinks.{MayAsk, comes_before, put, in_order, standings, order_of}
 use Rattle.address_table.proofs.Ordered.{before, total, trans}
 use Rattle.address_table.proofs.Apart.{all_put, all_in_order}
 
@@ -16,17 +16,17 @@ both false b e = absurd cc
 
 -- ---- sorted
 
-abbrev is_sorted : List Standing → Bool
+abbrev is_sorted : List LinkRank → Bool
 is_sorted [] = true
 is_sorted (x ∷ xs) = list_all (comes_before x) xs && is_sorted xs
 
-all_behind : (x z : Standing) (rest : List Standing) → comes_before x z ≡ true → list_all (comes_before z) rest ≡ true → list_all (comes_before x) rest ≡ true
+all_behind : (x z : LinkRank) (rest : List LinkRank) → comes_before x z ≡ true → list_all (comes_before z) rest ≡ true → list_all (comes_before x) rest ≡ true
 all_behind x z [] first all = refl
 all_behind x z (y ∷ rest) first all =
     let parts = both (comes_before z y) (list_all (comes_before z) rest) all in
     ap (λ b. b && list_all (comes_before x) rest) (trans x z y first parts.0) ∙ all_behind x z rest first parts.1
 
-sorted_put : (x : Standing) (rest : List Standing) → is_sorted rest ≡ true → is_sorted (put x rest) ≡ true
+sorted_put : (x : LinkRank) (rest : List LinkRank) → is_sorted rest ≡ true → is_sorted (put x rest) ≡ true
 sorted_put x [] sorted = refl
 sorted_put x (z ∷ rest) sorted =
     let parts = both (list_all (comes_before z) rest) (is_sorted rest) sorted in
@@ -36,13 +36,13 @@ sorted_put x (z ∷ rest) sorted =
     by true is all later = (λ i. (is i && all_behind x z rest is all i) && is_sorted (z ∷ rest)) ∙ sorted
     by false is all later = (λ i. (all_put (comes_before z) x rest ∙ (λ j. total x z is j && all j)) i && is_sorted (put x rest)) ∙ later
 
-sorted_in_order : (xs : List Standing) → is_sorted (in_order xs) ≡ true
+sorted_in_order : (xs : List LinkRank) → is_sorted (in_order xs) ≡ true
 sorted_in_order [] = refl
 sorted_in_order (x ∷ xs) = sorted_put x (in_order xs) (sorted_in_order xs)
 
 -- ---- the first that passes
 
-find_passes : (test passed : Standing → Bool) (xs : List Standing) (y : Standing) → list_all passed xs ≡ true → find test xs ≡ Some y → passed y ≡ true
+find_passes : (test passed : LinkRank → Bool) (xs : List LinkRank) (y : LinkRank) → list_all passed xs ≡ true → find test xs ≡ Some y → passed y ≡ true
 find_passes test passed [] y all found = absurd cc
 find_passes test passed (x ∷ xs) y all found =
     let parts = both (passed x) (list_all passed xs) all in
@@ -52,18 +52,18 @@ find_passes test passed (x ∷ xs) y all found =
     by true is rest found = let same : x ≡ y = cc in subst (λ s. passed s ≡ true) same is
     by false is rest found = rest found
 
-abbrev first_of : Standing → Option Standing → Standing
+abbrev first_of : LinkRank → Option LinkRank → LinkRank
 first_of x None = x
 first_of x (Some y) = if comes_before x y then x else y
 
-stays_first : (test : Standing → Bool) (x : Standing) (xs : List Standing) → list_all (comes_before x) xs ≡ true → first_of x (find test xs) ≡ x
+stays_first : (test : LinkRank → Bool) (x : LinkRank) (xs : List LinkRank) → list_all (comes_before x) xs ≡ true → first_of x (find test xs) ≡ x
 stays_first test x xs all = by (find test xs) refl
   where
-    by : (o : Option Standing) → find test xs ≡ o → first_of x o ≡ x
+    by : (o : Option LinkRank) → find test xs ≡ o → first_of x o ≡ x
     by None found = refl
     by (Some y) found = ap (λ b. if b then x else y) (find_passes test (comes_before x) xs y all found)
 
-found_in_put : (test : Standing → Bool) (x : Standing) (rest : List Standing) → is_sorted rest ≡ true
+found_in_put : (test : LinkRank → Bool) (x : LinkRank) (rest : List LinkRank) → is_sorted rest ≡ true
     → find test (put x rest) ≡ (if test x then Some (first_of x (find test rest)) else find test rest)
 found_in_put test x [] sorted = refl
 found_in_put test x (z ∷ rest) sorted =
@@ -122,14 +122,14 @@ module _ (rank : ℕ → ℕ) where
 
 module _ (undecided : ℕ → ℕ) (test : ℕ → Bool) where
   -- how many are undecided, and how many came before at least
-  abbrev kept : ℕ → Standing → Bool
+  abbrev kept : ℕ → LinkRank → Bool
   kept k s = (s.undecided == undecided s.link) && nat_le k s.place
 
   weaker : (k p : ℕ) (a : Bool) → a && nat_le (k + 1) p ≡ true → a && nat_le k p ≡ true
   weaker k p true e = grind (arith, nat_tests)
   weaker k p false e = absurd cc
 
-  all_weaker : (k : ℕ) (xs : List Standing) → list_all (kept (k + 1)) xs ≡ true → list_all (kept k) xs ≡ true
+  all_weaker : (k : ℕ) (xs : List LinkRank) → list_all (kept (k + 1)) xs ≡ true → list_all (kept k) xs ≡ true
   all_weaker k [] all = refl
   all_weaker k (x ∷ xs) all =
       let parts = both (kept (k + 1) x) (list_all (kept (k + 1)) xs) all in
@@ -147,23 +147,23 @@ module _ (undecided : ℕ → ℕ) (test : ℕ → Bool) where
   before_later : (u k c v p l w : ℕ) → (v == w) && nat_le (k + 1) p ≡ true → before u k c v p l ≡ not (nat_lt w u)
   before_later u k c v p l w e = grind (arith, nat_tests)
 
-  passes : Standing → Bool
+  passes : LinkRank → Bool
   passes s = test s.link
 
   first_from : (k : ℕ) (links : List ℕ)
-      → option_map (λ (s : Standing). s.link) (find (λ s. test s.link) (in_order (standings undecided k links))) ≡ best (λ one other. nat_lt (undecided one) (undecided other)) (filter test links)
+      → option_map (λ (s : LinkRank). s.link) (find (λ s. test s.link) (in_order (standings undecided k links))) ≡ best (λ one other. nat_lt (undecided one) (undecided other)) (filter test links)
   first_from k [] = refl
   first_from k (c ∷ links) =
-      ap (option_map (λ (s : Standing). s.link)) (found_in_put (λ s. test s.link) x others (sorted_in_order (standings undecided (k + 1) links)))
+      ap (option_map (λ (s : LinkRank). s.link)) (found_in_put (λ s. test s.link) x others (sorted_in_order (standings undecided (k + 1) links)))
       ∙ by (test c) (find (λ s. test s.link) others) refl (first_from (k + 1) links)
     where
-      x : Standing
+      x : LinkRank
       x = record { undecided = undecided c; place = k; link = c }
 
-      others : List Standing
+      others : List LinkRank
       others = in_order (standings undecided (k + 1) links)
 
-      one_of : (y : Standing) → find (λ s. test s.link) others ≡ Some y → (first_of x (Some y)).link ≡ (if nat_lt (undecided y.link) (undecided c) then y.link else c)
+      one_of : (y : LinkRank) → find (λ s. test s.link) others ≡ Some y → (first_of x (Some y)).link ≡ (if nat_lt (undecided y.link) (undecided c) then y.link else c)
       one_of y found =
           let is = find_passes (λ s. test s.link) (kept (k + 1)) others y (all_in_order (kept (k + 1)) (standings undecided (k + 1) links) ∙ all_kept (k + 1) links) found in
           ap (λ (b : Bool). (if b then x else y).link) (before_later (undecided c) k c y.undecided y.place y.link (undecided y.link) is) ∙ turned (nat_lt (undecided y.link) (undecided c))
@@ -172,35 +172,35 @@ module _ (undecided : ℕ → ℕ) (test : ℕ → Bool) where
           turned true = refl
           turned false = refl
 
-      by : (b : Bool) (o : Option Standing) → find (λ s. test s.link) others ≡ o
-          → option_map (λ (s : Standing). s.link) (find (λ s. test s.link) others) ≡ best (λ one other. nat_lt (undecided one) (undecided other)) (filter test links)
-          → option_map (λ (s : Standing). s.link) (if b then Some (first_of x (find (λ s. test s.link) others)) else find (λ s. test s.link) others)
+      by : (b : Bool) (o : Option LinkRank) → find (λ s. test s.link) others ≡ o
+          → option_map (λ (s : LinkRank). s.link) (find (λ s. test s.link) others) ≡ best (λ one other. nat_lt (undecided one) (undecided other)) (filter test links)
+          → option_map (λ (s : LinkRank). s.link) (if b then Some (first_of x (find (λ s. test s.link) others)) else find (λ s. test s.link) others)
           ≡ best (λ one other. nat_lt (undecided one) (undecided other)) (if b then c ∷ filter test links else filter test links)
       by false o found rest = rest
       by true None found rest =
           ap (λ o. Some (first_of x o).link) found
-          ∙ sym (ap (λ n. Some n) (best_first undecided c (filter test links)) ∙ ap (λ o. Some (better undecided c o)) (sym rest ∙ ap (option_map (λ (s : Standing). s.link)) found))
+          ∙ sym (ap (λ n. Some n) (best_first undecided c (filter test links)) ∙ ap (λ o. Some (better undecided c o)) (sym rest ∙ ap (option_map (λ (s : LinkRank). s.link)) found))
       by true (Some y) found rest =
           ap (λ o. Some (first_of x o).link) found
           ∙ (ap (λ n. Some n) (one_of y found)
-          ∙ sym (ap (λ n. Some n) (best_first undecided c (filter test links)) ∙ ap (λ o. Some (better undecided c o)) (sym rest ∙ ap (option_map (λ (s : Standing). s.link)) found)))
+          ∙ sym (ap (λ n. Some n) (best_first undecided c (filter test links)) ∙ ap (λ o. Some (better undecided c o)) (sym rest ∙ ap (option_map (λ (s : LinkRank). s.link)) found)))
 
   pub first_asked : (links : List ℕ)
-      → option_map (λ (s : Standing). s.link) (find (λ s. test s.link) (order_of undecided links)) ≡ best (λ one other. nat_lt (undecided one) (undecided other)) (filter test links)
+      → option_map (λ (s : LinkRank). s.link) (find (λ s. test s.link) (order_of undecided links)) ≡ best (λ one other. nat_lt (undecided one) (undecided other)) (filter test links)
   first_asked links = first_from 0 links
 
   -- the same of an order that is kept, if it is the right one
-  pub first_kept : (links : List ℕ) (kept : Option (List Standing)) (order : List Standing) → Some order ≡ kept → kept ≡ option_map (λ other. order_of undecided links) kept
-      → option_map (λ (s : Standing). s.link) (find (λ s. test s.link) order) ≡ best (λ one other. nat_lt (undecided one) (undecided other)) (filter test links)
+  pub first_kept : (links : List ℕ) (kept : Option (List LinkRank)) (order : List LinkRank) → Some order ≡ kept → kept ≡ option_map (λ other. order_of undecided links) kept
+      → option_map (λ (s : LinkRank). s.link) (find (λ s. test s.link) order) ≡ best (λ one other. nat_lt (undecided one) (undecided other)) (filter test links)
   first_kept links kept order is right =
       ap asked (is ∙ right ∙ ap (option_map (λ other. order_of undecided links)) (sym is)) ∙ first_asked links
     where
-      asked : Option (List Standing) → Option ℕ
+      asked : Option (List LinkRank) → Option ℕ
       asked None = None
-      asked (Some xs) = option_map (λ (s : Standing). s.link) (find (λ s. test s.link) xs)
+      asked (Some xs) = option_map (λ (s : LinkRank). s.link) (find (λ s. test s.link) xs)
 
 -- ---- tests that may be asked of any link
 
-pub may_ask : (may : ℕ → Type 0) (answers : ℕ → Bool → Type 0) → ((link : ℕ) → may link) → (order : List Standing) → MayAsk may answers order
+pub may_ask : (may : ℕ → Type 0) (answers : ℕ → Bool → Type 0) → ((link : ℕ) → may link) → (order : List LinkRank) → MayAsk may answers order
 may_ask may answers any [] = tt
 may_ask may answers any (one ∷ rest) = (any one.link, λ no. may_ask may answers any rest)

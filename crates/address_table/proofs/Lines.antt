@@ -5,8 +5,8 @@ use Rattle.std.proofs.lemmas.Bool.{eqb-true}
 use Rattle.std.proofs.lemmas.Bool.Decides.{nat_tests}
 use Rattle.std.proofs.lemmas.Slice.Eq.{bytes_eq-Decides}
 use Rattle.flow_counts.specs.Picks.{Consumer, attached, balanced_rank, is_at}
-use Rattle.address_table.specs.declared.lineup.Standing.{Standing}
-use Rattle.address_table.specs.Lineups.{are_distinct, Line, IsLine, at_first, emptied, joined, left, order_of, stood, put, put_back, closed_up, is_of, without}
+use Rattle.address_table.specs.declared.address_links.LinkRank.{LinkRank}
+use Rattle.address_table.specs.AddressLinks.{are_distinct, Line, IsLine, at_first, emptied, joined, left, order_of, stood, put, put_back, closed_up, is_of, without}
 use Rattle.address_table.proofs.Apart.{none_without, order_same, order_joined, order_stood, order_left}
 
 same_address : (xs ys : List ℕ) → bytes_eq xs ys ≡ true → xs ≡ ys
@@ -103,19 +103,19 @@ distinct_filter keep (c ∷ links) distinct =
 -- ---- orders that are kept or not
 
 -- if an order is kept, it is this one
-abbrev Keeps : Option (List Standing) → List Standing → Type 0
+abbrev Keeps : Option (List LinkRank) → List LinkRank → Type 0
 Keeps kept right = kept ≡ option_map (λ order. right) kept
 
-moved : (change : List Standing → List Standing) (kept : Option (List Standing)) (before behind : List Standing) → change before ≡ behind
+moved : (change : List LinkRank → List LinkRank) (kept : Option (List LinkRank)) (before behind : List LinkRank) → change before ≡ behind
     → Keeps kept before → Keeps (option_map change kept) behind
 moved change None before behind step is = refl
 moved change (Some order) before behind step is = ap (option_map change) is ∙ ap (λ xs. Some xs) step
 
-kept_if : (b : Bool) (kept : Option (List Standing)) (right : List Standing) → Keeps kept right → Keeps (if b then kept else None) right
+kept_if : (b : Bool) (kept : Option (List LinkRank)) (right : List LinkRank) → Keeps kept right → Keeps (if b then kept else None) right
 kept_if true kept right is = is
 kept_if false kept right is = refl
 
-same_order : (kept : Option (List Standing)) (before behind : List Standing) → before ≡ behind → Keeps kept before → Keeps kept behind
+same_order : (kept : Option (List LinkRank)) (before behind : List LinkRank) → before ≡ behind → Keeps kept before → Keeps kept behind
 same_order None before behind same is = refl
 same_order (Some order) before behind same is = is ∙ ap (λ xs. Some xs) same
 

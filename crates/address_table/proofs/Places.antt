@@ -3,14 +3,14 @@ use Rattle.std.proofs.Common.{◌≡◌, ◌∙◌, refl, sym, ap, ℕ, suc, ◌
 use Rattle.std.specs.Prelude.{nat_lt}
 use Rattle.std.specs.List.{list_any, insert, remove, position, position_or_len}
 use Rattle.std.proofs.lemmas.Bool.Decides.{nat_tests}
-use Rattle.address_table.specs.declared.lineup.Standing.{Standing}
-use Rattle.address_table.specs.Lineups.{comes_before, put, is_of, without, closed_up}
+use Rattle.address_table.specs.declared.address_links.LinkRank.{LinkRank}
+use Rattle.address_table.specs.AddressLinks.{comes_before, put, is_of, without, closed_up}
 use Rattle.address_table.proofs.Apart.{find_none, without_none}
 
 one_more : (n : ℕ) → 1 + n ≡ suc n
 one_more n = omega arith
 
-at_most : (test : Standing → Bool) (xs : List Standing) → position_or_len test xs ≤ length xs
+at_most : (test : LinkRank → Bool) (xs : List LinkRank) → position_or_len test xs ≤ length xs
 at_most test [] = omega arith
 at_most test (z ∷ xs) = by (test z) (at_most test xs)
   where
@@ -20,7 +20,7 @@ at_most test (z ∷ xs) = by (test z) (at_most test xs)
 
 -- ---- the place among those in order
 
-put_at : (x : Standing) (xs : List Standing) → insert xs (position_or_len (comes_before x) xs) x ≡ put x xs
+put_at : (x : LinkRank) (xs : List LinkRank) → insert xs (position_or_len (comes_before x) xs) x ≡ put x xs
 put_at x [] = refl
 put_at x (z ∷ xs) = by (comes_before x z) (put_at x xs)
   where
@@ -33,14 +33,14 @@ place_or_last : (n m : ℕ) (b : Bool) → nat_lt n m ≡ b → n ≤ m → unwr
 place_or_last n m true e le = refl
 place_or_last n m false e le = grind (arith, nat_tests)
 
-pub put_there : (x : Standing) (xs : List Standing) → insert xs (unwrap_or (position (comes_before x) xs) (length xs)) x ≡ put x xs
+pub put_there : (x : LinkRank) (xs : List LinkRank) → insert xs (unwrap_or (position (comes_before x) xs) (length xs)) x ≡ put x xs
 put_there x xs =
     ap (λ m. insert xs m x) (place_or_last (position_or_len (comes_before x) xs) (length xs) (nat_lt (position_or_len (comes_before x) xs) (length xs)) refl (at_most (comes_before x) xs))
     ∙ put_at x xs
 
 -- ---- the place of a link
 
-find_at : (link : ℕ) (xs : List Standing) (d : Standing) → position_or_len (is_of link) xs < length xs → find (is_of link) xs ≡ Some (get_or xs (position_or_len (is_of link) xs) d)
+find_at : (link : ℕ) (xs : List LinkRank) (d : LinkRank) → position_or_len (is_of link) xs < length xs → find (is_of link) xs ≡ Some (get_or xs (position_or_len (is_of link) xs) d)
 find_at link [] d lt = absurd (omega (arith, lt))
 find_at link (z ∷ xs) d lt = by (is_of link z) lt (find_at link xs d)
   where
@@ -50,7 +50,7 @@ find_at link (z ∷ xs) d lt = by (is_of link z) lt (find_at link xs d)
     by true lt later = refl
     by false lt later = later (omega (arith, lt)) ∙ sym (ap (λ m. Some (get_or (z ∷ xs) m d)) (one_more (position_or_len (is_of link) xs)))
 
-without_at : (link : ℕ) (xs : List Standing) → position_or_len (is_of link) xs < length xs → remove xs (position_or_len (is_of link) xs) ≡ without link xs
+without_at : (link : ℕ) (xs : List LinkRank) → position_or_len (is_of link) xs < length xs → remove xs (position_or_len (is_of link) xs) ≡ without link xs
 without_at link [] lt = absurd (omega (arith, lt))
 without_at link (z ∷ xs) lt = by (is_of link z) lt (without_at link xs)
   where
@@ -60,7 +60,7 @@ without_at link (z ∷ xs) lt = by (is_of link z) lt (without_at link xs)
     by true lt later = refl
     by false lt later = ap (remove (z ∷ xs)) (one_more (position_or_len (is_of link) xs)) ∙ ap (λ rest. z ∷ rest) (later (omega (arith, lt)))
 
-none_at : (link : ℕ) (xs : List Standing) → length xs ≤ position_or_len (is_of link) xs → list_any (is_of link) xs ≡ false
+none_at : (link : ℕ) (xs : List LinkRank) → length xs ≤ position_or_len (is_of link) xs → list_any (is_of link) xs ≡ false
 none_at link [] le = refl
 none_at link (z ∷ xs) le = by (is_of link z) le (none_at link xs)
   where
@@ -77,11 +77,11 @@ no_place : (n m : ℕ) (b : Bool) → nat_lt n m ≡ b → cond b (Some n) None 
 no_place n m true e is = absurd cc
 no_place n m false e is = grind (arith, nat_tests)
 
-module _ (link : ℕ) (xs : List Standing) where
+module _ (link : ℕ) (xs : List LinkRank) where
   abbrev place : ℕ
   place = position_or_len (is_of link) xs
 
-  pub found_there : (i : ℕ) (d : Standing) → position (is_of link) xs ≡ Some i → find (is_of link) xs ≡ Some (get_or xs i d)
+  pub found_there : (i : ℕ) (d : LinkRank) → position (is_of link) xs ≡ Some i → find (is_of link) xs ≡ Some (get_or xs i d)
   found_there i d is =
       let at = is_place place (length xs) i (nat_lt place (length xs)) refl is in
       find_at link xs d at.0 ∙ ap (λ m. Some (get_or xs m d)) at.1
@@ -98,6 +98,6 @@ module _ (link : ℕ) (xs : List Standing) where
   without_nowhere is = sym (without_none link xs (none_at link xs (no_place place (length xs) (nat_lt place (length xs)) refl is)))
 
 -- where no standing was taken out, none moves up
-pub nothing_closed : (o : Option Standing) (xs : List Standing) → ((x : Standing) → o ≡ Some x → ⊥) → xs ≡ closed_up o xs
+pub nothing_closed : (o : Option LinkRank) (xs : List LinkRank) → ((x : LinkRank) → o ≡ Some x → ⊥) → xs ≡ closed_up o xs
 nothing_closed None xs none = refl
 nothing_closed (Some x) xs none = absurd (none x refl)

@@ -1,6 +1,6 @@
 pub mod Refusals
 pub mod Served
 pub mod Picking
-pub mod Lineups
+pub mod AddressLinks
 pub mod Links
 pub mod History

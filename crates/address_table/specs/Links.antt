@@ -3,8 +3,8 @@ use Rattle.std.specs.Prelude.{ℕ, ◌≡◌, List, ◌∷◌, Option, nat_eq}
 use Rattle.std.specs.HashMap.{get_by_text}
 use Rattle.indexmap.specs.IndexMap.{get}
 use Rattle.flow_counts.specs.Picks.{AddressEvent, Consumer, balanced_rank, consumer, consumers}
-use Rattle.address_table.specs.Lineups.{line_of}
-use Rattle.address_table.specs.declared.lineup.Lineup.{Lineup}
+use Rattle.address_table.specs.AddressLinks.{line_of}
+use Rattle.address_table.specs.declared.address_links.AddressLinks.{AddressLinks}
 use Rattle.address_table.specs.declared.table.Table.{Table}
 
 -- the link, while it is attached
@@ -16,7 +16,7 @@ abbrev pub undecided_on : Table → ℕ → ℕ
 undecided_on table link = balanced_rank (consumer_of table link)
 
 -- its links, in the order of their attaches
-abbrev pub listed : Option Lineup → List ℕ
+abbrev pub listed : Option AddressLinks → List ℕ
 listed lineup = (line_of lineup).0
 
 -- the links of an address

@@ -22,9 +22,9 @@ pub struct Consumer {
 
 impl Model for Consumer {
     ghost use Rattle.std.specs.String.{string_bytes};
-    ghost use Rattle.flow_counts.specs.Picks.{Consumer as Standing};
+    ghost use Rattle.flow_counts.specs.Picks.{Consumer as ConsumerValue};
 
-    ghost Value = { Standing };
+    ghost Value = { ConsumerValue };
 
     ghost view = { λ c. record {
       address = string_bytes c.address;

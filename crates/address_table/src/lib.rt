@@ -5,16 +5,16 @@
 //! their addresses, and picks one. Whatever happened on the links, it has come to what the definitions of `flow_counts`
 //! say of it, and each call counts one event more.
 //!
-//! In reading order: `fault` is why rules are refused; `rules`; `consumer` is one link; `lineup` has the links of one
+//! In reading order: `fault` is why rules are refused; `rules`; `consumer` is one link; `address_links` has the links of one
 //! address, in the order in which a balanced pick asks them too; `table` keeps them all; `history` counts whole lists of
 //! events; `laws` says what the definitions come to.
 #![tactic(auto)]
 
+mod address_links;
 mod consumer;
 mod fault;
 mod history;
 mod laws;
-mod lineup;
 mod rules;
 mod table;
 

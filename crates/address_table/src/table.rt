@@ -6,10 +6,10 @@ ghost use Rattle.indexmap.specs.IndexMap.{get};
 ghost use Rattle.flow_counts.specs.Picks as picks;
 ghost use Rattle.flow_counts.specs.Picks.{AddressEvent, Attached, Detached, Begun, Decided};
 ghost use Rattle.address_table.specs.Picking.{rank_of, ranks_below, pick_of};
-ghost use Rattle.address_table.specs.Lineups.{AreSameLines, ChangesAt, IsLine, emptied, joined, left, line_of, stood};
+ghost use Rattle.address_table.specs.AddressLinks.{AreSameLines, ChangesAt, IsLine, emptied, joined, left, line_of, stood};
 
+use crate::address_links::{AddressLinks, first_of};
 use crate::consumer::Consumer;
-use crate::lineup::{Lineup, first_of};
 use capture_form::Distribution;
 use indexmap::IndexMap;
 use std::alloc::{AllocError, Global};
@@ -22,7 +22,7 @@ pub struct Table {
     alloc: Global,
     links: IndexMap<u64, Consumer>,
     /// The links of each address.
-    addresses: IndexMap<String, Lineup>,
+    addresses: IndexMap<String, AddressLinks>,
     ghost in_line: { (address : List ℕ) → IsLine (get nat_eq links) address (line_of (get_by_text addresses address)) },
 }
 
@@ -201,7 +201,7 @@ impl Table {
 /// The link comes last among those of the address. Where memory is refused, nothing changes.
 fn join(
     alloc: Global,
-    addresses: &mut IndexMap<String, Lineup>,
+    addresses: &mut IndexMap<String, AddressLinks>,
     address: &str,
     link: u64,
     is_ordered: bool,
@@ -219,7 +219,7 @@ fn join(
 /// The link is the first of the address.
 fn found(
     alloc: Global,
-    addresses: &mut IndexMap<String, Lineup>,
+    addresses: &mut IndexMap<String, AddressLinks>,
     address: &str,
     link: u64,
     is_ordered: bool,
@@ -228,14 +228,14 @@ fn found(
     ensures changed { OnOk result (ChangesAt (get_by_text addresses.old) (get_by_text addresses.new) address.now (joined is_ordered link)) }
     ensures unchanged { OnErr result (AreSameLines (get_by_text addresses.old) (get_by_text addresses.new)) }
 {
-    let lineup = Lineup::of(alloc, link, is_ordered)?;
+    let lineup = AddressLinks::of(alloc, link, is_ordered)?;
     let address = String::from_str(alloc, address)?;
     addresses.insert(address, lineup)?;
     Ok(())
 }
 
 /// The link is no more among those of the address.
-fn leave(addresses: &mut IndexMap<String, Lineup>, address: &str, link: u64)
+fn leave(addresses: &mut IndexMap<String, AddressLinks>, address: &str, link: u64)
     ensures { ChangesAt (get_by_text addresses.old) (get_by_text addresses.new) address.now (λ line. emptied (left link line)) }
 {
     if let Some(lineup) = addresses.get_mut(address) {
@@ -247,7 +247,7 @@ fn leave(addresses: &mut IndexMap<String, Lineup>, address: &str, link: u64)
 }
 
 /// The link of the consumer comes to its place among those of the address.
-fn stand(addresses: &mut IndexMap<String, Lineup>, consumer: &Consumer, link: u64)
+fn stand(addresses: &mut IndexMap<String, AddressLinks>, consumer: &Consumer, link: u64)
     ensures { ChangesAt (get_by_text addresses.old) (get_by_text addresses.new) consumer.now.address (stood link consumer.now.undecided) }
 {
     if let Some(lineup) = addresses.get_mut(consumer.address()) {

@@ -1,7 +1,7 @@
 use Rattle.std.proofs.Common.{◌∙◌, ap, sym, cond, Some, bytes_eq, string_bytes}
 use Rattle.std.proofs.lemmas.Map.Text.{hash_map_updates_text}
 use Rattle.std.specs.HashMap.{get_by_text}
-use Rattle.address_table.specs.Lineups.{joined, line_of}
+use Rattle.address_table.specs.AddressLinks.{joined, line_of}
 use Rattle.address_table.proofs.Lists.{written}
 use Rattle.address_table.proofs.table.found.Goals as goal
 

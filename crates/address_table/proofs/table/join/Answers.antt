@@ -1,6 +1,6 @@
 use Rattle.std.proofs.Common.{◌∙◌, ap, rules, Some}
 use Rattle.std.proofs.lemmas.Map.Text.{hash_map_updates_text}
-use Rattle.address_table.specs.Lineups.{joined, line_of}
+use Rattle.address_table.specs.AddressLinks.{joined, line_of}
 use Rattle.address_table.proofs.Lists.{on_err, written, kept}
 use Rattle.address_table.proofs.table.join.Goals as goal
 

@@ -1,6 +1,6 @@
 use Rattle.std.proofs.Common.{◌≡◌, ◌∙◌, ap, sym, rules, cond, true, false, Some, None, bytes_eq}
 use Rattle.std.proofs.lemmas.Map.Text.{hash_map_updates_text}
-use Rattle.address_table.specs.Lineups.{emptied, left, line_of}
+use Rattle.address_table.specs.AddressLinks.{emptied, left, line_of}
 use Rattle.address_table.proofs.Lists.{written, twice}
 use Rattle.address_table.proofs.Lines.{as_none, not_emptied}
 use Rattle.address_table.proofs.table.leave.Goals as goal

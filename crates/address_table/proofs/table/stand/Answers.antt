@@ -1,7 +1,7 @@
 use Rattle.std.proofs.Common.{◌∙◌, subst, rules, Some, List, ℕ}
 use Rattle.std.proofs.lemmas.Map.Text.{hash_map_updates_text}
 use Rattle.std.specs.HashMap.{get_by_text}
-use Rattle.address_table.specs.Lineups.{ChangesAt, line_of, stood}
+use Rattle.address_table.specs.AddressLinks.{ChangesAt, line_of, stood}
 use Rattle.address_table.proofs.Lists.{written}
 use Rattle.address_table.proofs.table.stand.Goals as goal
 

@@ -3,7 +3,7 @@ use Rattle.std.specs.Prelude.{nat_eq, ◌==◌}
 use Rattle.std.specs.HashMap.{get_by_text}
 use Rattle.indexmap.specs.IndexMap.{get}
 use Rattle.flow_counts.specs.Picks.{Consumer}
-use Rattle.address_table.specs.Lineups.{line_of}
+use Rattle.address_table.specs.AddressLinks.{line_of}
 use Rattle.address_table.proofs.Lines.{lines_stood, others_kept, changed_here}
 use Rattle.address_table.proofs.table.Table.decided.Goals as goal
 

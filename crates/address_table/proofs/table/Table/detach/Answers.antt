@@ -3,7 +3,7 @@ use Rattle.std.specs.Prelude.{nat_eq}
 use Rattle.std.specs.HashMap.{get_by_text}
 use Rattle.indexmap.specs.IndexMap.{get}
 use Rattle.flow_counts.specs.Picks.{Consumer}
-use Rattle.address_table.specs.Lineups.{line_of}
+use Rattle.address_table.specs.AddressLinks.{line_of}
 use Rattle.address_table.proofs.Lines.{lines_left, lines_same, others_kept}
 use Rattle.address_table.proofs.table.Table.detach.Goals as goal
 

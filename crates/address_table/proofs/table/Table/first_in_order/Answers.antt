@@ -1,6 +1,6 @@
 use Rattle.std.proofs.Common.{◌≡◌, ◌∙◌, ap, rules, of_calls, Some}
 use Rattle.std.specs.HashMap.{get_by_text}
-use Rattle.address_table.specs.Lineups.{line_of}
+use Rattle.address_table.specs.AddressLinks.{line_of}
 use Rattle.address_table.specs.Links.{undecided_on}
 use Rattle.address_table.proofs.FirstAsked.{first_kept, may_ask}
 use Rattle.address_table.proofs.table.Table.first_in_order.Goals as goal

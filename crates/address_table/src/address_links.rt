@@ -4,7 +4,7 @@ ghost use Rattle.std.specs.Prelude.{ℕ, ◌≡◌, ◌↔◌, ◌<◌, ◌^◌,
 ghost use Rattle.std.specs.List.{position};
 ghost use Rattle.std.specs.Option.{option_map};
 ghost use Rattle.std.specs.Vec.{vec_len, vec_capacity};
-ghost use Rattle.address_table.specs.Lineups.{MayAsk, at_first, closed_up, comes_before, is_of, items_of, joined, left, line_of, moved_up, put, put_back, stood, without};
+ghost use Rattle.address_table.specs.AddressLinks.{MayAsk, at_first, closed_up, comes_before, is_of, items_of, joined, left, line_of, moved_up, put, put_back, stood, without};
 
 use std::alloc::{AllocError, Global};
 
@@ -12,15 +12,15 @@ use std::alloc::{AllocError, Global};
 /// others were attached before it.
 #[doc(hidden)]
 #[derive(Clone, Copy, Drop)]
-pub struct Standing {
+pub struct LinkRank {
     undecided: u64,
     place: usize,
     link: u64,
 }
 
-impl Standing {
+impl LinkRank {
     /// It is asked before the other.
-    fn comes_before(&self, other: &Standing) -> bool
+    fn comes_before(&self, other: &LinkRank) -> bool
         ensures { result ≡ comes_before self.now other.now }
     {
         if self.undecided != other.undecided {
@@ -46,19 +46,19 @@ impl Standing {
 /// these ask them. Only `of` and `join` take memory.
 #[doc(hidden)]
 #[derive(Drop)]
-pub struct Lineup {
+pub struct AddressLinks {
     links: Vec<u64>,
-    order: Option<Vec<Standing>>,
+    order: Option<Vec<LinkRank>>,
 }
 
-impl Lineup {
+impl AddressLinks {
     /// One link, with nothing undecided. They stand in order where that is asked for.
-    pub(crate) fn of(alloc: Global, link: u64, is_ordered: bool) -> Result<Lineup, AllocError>
+    pub(crate) fn of(alloc: Global, link: u64, is_ordered: bool) -> Result<AddressLinks, AllocError>
         ensures { IfOk result (λ lineup. line_of (Some lineup) ≡ joined is_ordered link ([], Some [])) }
     {
         let mut order = Some(Vec::new(alloc));
         join_order(&mut order, first_standing(link, 0), is_ordered)?;
-        Ok(Lineup {
+        Ok(AddressLinks {
             links: vec![in alloc; link]?,
             order,
         })
@@ -113,7 +113,7 @@ impl Lineup {
     }
 
     /// The links in the order in which a balanced pick asks them, lent, if they stand in order.
-    pub(crate) fn order(&self) -> Option<&[Standing]>
+    pub(crate) fn order(&self) -> Option<&[LinkRank]>
         ensures { option_map (λ standings. standings.now) result ≡ (line_of (Some self.now)).1 }
     {
         match &self.order {
@@ -124,7 +124,7 @@ impl Lineup {
 }
 
 /// The first link in the order that passes the test. No link behind it is asked.
-pub(crate) fn first_of<F: Fn(u64) -> bool>(order: &[Standing], eligible: F) -> Option<u64>
+pub(crate) fn first_of<F: Fn(u64) -> bool>(order: &[LinkRank], eligible: F) -> Option<u64>
 where
     F: Drop,
     requires { MayAsk (F.pre eligible) (F.post eligible) order.now }
@@ -140,10 +140,10 @@ where
 }
 
 /// A link that comes to this place, with nothing undecided.
-fn first_standing(link: u64, place: usize) -> Standing
+fn first_standing(link: u64, place: usize) -> LinkRank
     ensures { result ≡ at_first link place }
 {
-    Standing {
+    LinkRank {
         undecided: 0,
         place,
         link,
@@ -153,8 +153,8 @@ fn first_standing(link: u64, place: usize) -> Standing
 /// One comes to its place among those in order, where there is an order and it is asked for; elsewhere there is none. Where
 /// memory is refused, nothing changes.
 fn join_order(
-    order: &mut Option<Vec<Standing>>,
-    standing: Standing,
+    order: &mut Option<Vec<LinkRank>>,
+    standing: LinkRank,
     is_ordered: bool,
 ) -> Result<(), AllocError>
     ensures joined { OnOk result (items_of order.new ≡ option_map (put standing) (if is_ordered then items_of order.old else None)) }
@@ -171,7 +171,7 @@ fn join_order(
 }
 
 /// The link is no more among those in order.
-fn leave_order(order: &mut Vec<Standing>, link: u64)
+fn leave_order(order: &mut Vec<LinkRank>, link: u64)
     ensures { order.new.items ≡ closed_up (find (is_of link) order.old.items) (without link order.old.items) }
 {
     if let Some(gone) = take_out(order, link) {
@@ -180,13 +180,13 @@ fn leave_order(order: &mut Vec<Standing>, link: u64)
 }
 
 /// The link comes to its place among those in order, with so many deliveries undecided.
-fn move_in_order(order: &mut Vec<Standing>, link: u64, undecided: u64)
+fn move_in_order(order: &mut Vec<LinkRank>, link: u64, undecided: u64)
     ensures { order.new.items ≡ put_back undecided (find (is_of link) order.old.items) (without link order.old.items) }
 {
     if let Some(standing) = take_out(order, link) {
         put_in(
             order,
-            Standing {
+            LinkRank {
                 undecided,
                 place: standing.place,
                 link: standing.link,
@@ -197,7 +197,7 @@ fn move_in_order(order: &mut Vec<Standing>, link: u64, undecided: u64)
 
 /// The standing comes to its place among those in order.
 #[tactic(auto, using(crate::proofs::Places::put_there))]
-fn put_in(order: &mut Vec<Standing>, standing: Standing)
+fn put_in(order: &mut Vec<LinkRank>, standing: LinkRank)
     requires { vec_len order.old < vec_capacity order.old }
     ensures { order.new.items ≡ put standing order.old.items }
 {
@@ -207,7 +207,7 @@ fn put_in(order: &mut Vec<Standing>, standing: Standing)
 }
 
 /// The place of the first that the standing comes before.
-fn place_for(order: &[Standing], standing: &Standing) -> Option<usize>
+fn place_for(order: &[LinkRank], standing: &LinkRank) -> Option<usize>
     ensures { result ≡ position (comes_before standing.now) order.now }
 {
     order.iter().position(|other| standing.comes_before(other))
@@ -215,7 +215,7 @@ fn place_for(order: &[Standing], standing: &Standing) -> Option<usize>
 
 /// The standing of the link, which is no more among them.
 #[tactic(auto, using(crate::proofs::Places::found_there, crate::proofs::Places::without_there, crate::proofs::Places::found_nowhere, crate::proofs::Places::without_nowhere))]
-fn take_out(order: &mut Vec<Standing>, link: u64) -> Option<Standing>
+fn take_out(order: &mut Vec<LinkRank>, link: u64) -> Option<LinkRank>
     ensures taken { result ≡ find (is_of link) order.old.items }
     ensures others { order.new.items ≡ without link order.old.items }
     ensures room { OnSome result (vec_len order.new < vec_capacity order.new) }
@@ -225,14 +225,14 @@ fn take_out(order: &mut Vec<Standing>, link: u64) -> Option<Standing>
 }
 
 /// The place of the link's standing.
-fn place_of(order: &[Standing], link: u64) -> Option<usize>
+fn place_of(order: &[LinkRank], link: u64) -> Option<usize>
     ensures { result ≡ position (is_of link) order.now }
 {
     order.iter().position(|standing| standing.link == link)
 }
 
 /// Those that were attached after one that has left move up.
-fn close_up(order: &mut Vec<Standing>, gone: usize)
+fn close_up(order: &mut Vec<LinkRank>, gone: usize)
     ensures { order.new.items ≡ map (moved_up gone) order.old.items }
 {
     for standing in order.iter_mut() {

@@ -5,30 +5,30 @@ use Rattle.std.specs.List.{list_any, list_all}
 use Rattle.std.specs.Option.{option_map}
 use Rattle.std.specs.declared.vec.Vec.{Vec}
 use Rattle.flow_counts.specs.Picks.{Consumer, balanced_rank, is_at}
-use Rattle.address_table.specs.declared.lineup.Standing.{Standing}
-use Rattle.address_table.specs.declared.lineup.Lineup.{Lineup}
+use Rattle.address_table.specs.declared.address_links.LinkRank.{LinkRank}
+use Rattle.address_table.specs.declared.address_links.AddressLinks.{AddressLinks}
 
 -- the first is asked before the other
-abbrev pub comes_before : Standing → Standing → Bool
+abbrev pub comes_before : LinkRank → LinkRank → Bool
 comes_before one other =
     if one.undecided == other.undecided then (if one.place == other.place then nat_le one.link other.link else nat_lt one.place other.place)
     else nat_lt one.undecided other.undecided
 
 -- at its place among those that stand in order
-abbrev pub put : Standing → List Standing → List Standing
+abbrev pub put : LinkRank → List LinkRank → List LinkRank
 put one [] = one ∷ []
 put one (other ∷ rest) = if comes_before one other then one ∷ other ∷ rest else other ∷ put one rest
 
-abbrev pub in_order : List Standing → List Standing
+abbrev pub in_order : List LinkRank → List LinkRank
 in_order [] = []
 in_order (one ∷ rest) = put one (in_order rest)
 
 -- links as they were attached one after the other, where so many were attached before
-abbrev pub standings : (ℕ → ℕ) → ℕ → List ℕ → List Standing
+abbrev pub standings : (ℕ → ℕ) → ℕ → List ℕ → List LinkRank
 standings undecided before [] = []
 standings undecided before (link ∷ links) = record { undecided = undecided link; place = before; link = link } ∷ standings undecided (before + 1) links
 
-abbrev pub order_of : (ℕ → ℕ) → List ℕ → List Standing
+abbrev pub order_of : (ℕ → ℕ) → List ℕ → List LinkRank
 order_of undecided links = in_order (standings undecided 0 links)
 
 abbrev pub are_distinct : List ℕ → Bool
@@ -39,12 +39,12 @@ are_distinct (link ∷ links) = not (list_any (λ other. other == link) links) &
 
 -- in the order in which they are asked only where one is kept
 abbrev pub Line : Type 0
-Line = List ℕ × Option (List Standing)
+Line = List ℕ × Option (List LinkRank)
 
-abbrev pub items_of : {A : Type 0} → Option (Vec Standing A) → Option (List Standing)
+abbrev pub items_of : {A : Type 0} → Option (Vec LinkRank A) → Option (List LinkRank)
 items_of order = option_map (λ standings. standings.items) order
 
-abbrev pub line_of : Option Lineup → Line
+abbrev pub line_of : Option AddressLinks → Line
 line_of None = ([], Some [])
 line_of (Some lineup) = (lineup.links.items, items_of lineup.order)
 
@@ -56,34 +56,34 @@ IsLine consumer address line =
 
 -- A test may be asked of these links one after the other: of the first, and of each other where it answered false at all
 -- in front.
-abbrev pub MayAsk : (ℕ → Type 0) → (ℕ → Bool → Type 0) → List Standing → Type 0
+abbrev pub MayAsk : (ℕ → Type 0) → (ℕ → Bool → Type 0) → List LinkRank → Type 0
 MayAsk may answers [] = ⊤
 MayAsk may answers (one ∷ rest) = may one.link × (answers one.link false → MayAsk may answers rest)
 
 -- ---- what happens to a line
 
-abbrev pub is_of : ℕ → Standing → Bool
+abbrev pub is_of : ℕ → LinkRank → Bool
 is_of link standing = standing.link == link
 
 -- without the first standing of the link
-abbrev pub without : ℕ → List Standing → List Standing
+abbrev pub without : ℕ → List LinkRank → List LinkRank
 without link [] = []
 without link (one ∷ rest) = if is_of link one then rest else one ∷ without link rest
 
 -- a link that has left is no more before the others
-abbrev pub moved_up : ℕ → Standing → Standing
+abbrev pub moved_up : ℕ → LinkRank → LinkRank
 moved_up place one = record { undecided = one.undecided; place = (if nat_lt place one.place then one.place - 1 else one.place); link = one.link }
 
-abbrev pub closed_up : Option Standing → List Standing → List Standing
+abbrev pub closed_up : Option LinkRank → List LinkRank → List LinkRank
 closed_up None rest = rest
 closed_up (Some gone) rest = map (moved_up gone.place) rest
 
-abbrev pub put_back : ℕ → Option Standing → List Standing → List Standing
+abbrev pub put_back : ℕ → Option LinkRank → List LinkRank → List LinkRank
 put_back undecided None rest = rest
 put_back undecided (Some one) rest = put (record { undecided = undecided; place = one.place; link = one.link }) rest
 
 -- it has nothing undecided in this place
-abbrev pub at_first : ℕ → ℕ → Standing
+abbrev pub at_first : ℕ → ℕ → LinkRank
 at_first link place = record { undecided = 0; place = place; link = link }
 
 -- the link comes last, with nothing undecided; an order is kept if there was one and it is asked for
@@ -105,9 +105,9 @@ stood link undecided line = (line.0, option_map (λ order. put_back undecided (f
 -- ---- what happens to the lines of all addresses
 
 -- the line of this address has changed so, and no other
-abbrev pub ChangesAt : (List ℕ → Option Lineup) → (List ℕ → Option Lineup) → List ℕ → (Line → Line) → Type 0
+abbrev pub ChangesAt : (List ℕ → Option AddressLinks) → (List ℕ → Option AddressLinks) → List ℕ → (Line → Line) → Type 0
 ChangesAt earlier later address change = (at : List ℕ) → line_of (later at) ≡ (if bytes_eq at address then change (line_of (earlier at)) else line_of (earlier at))
 
 -- no line has changed
-abbrev pub AreSameLines : (List ℕ → Option Lineup) → (List ℕ → Option Lineup) → Type 0
+abbrev pub AreSameLines : (List ℕ → Option AddressLinks) → (List ℕ → Option AddressLinks) → Type 0
 AreSameLines earlier later = (at : List ℕ) → line_of (later at) ≡ line_of (earlier at)

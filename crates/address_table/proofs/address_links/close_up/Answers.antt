@@ -1,8 +1,8 @@
 use Rattle.std.proofs.Common.{◌∙◌, ◌<◌, ap, rules, length}
 use Rattle.std.specs.Prelude.{slice_set}
 use Rattle.std.proofs.lemmas.List.Edits.{map_over_more}
-use Rattle.address_table.specs.Lineups.{moved_up}
-use Rattle.address_table.proofs.lineup.close_up.Goals as goal
+use Rattle.address_table.specs.AddressLinks.{moved_up}
+use Rattle.address_table.proofs.address_links.close_up.Goals as goal
 
 pub loop-standing-preserved : goal.loop-standing-preserved
 loop-standing-preserved c =

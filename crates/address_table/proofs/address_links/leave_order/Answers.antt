@@ -1,7 +1,7 @@
 use Rattle.std.proofs.Common.{◌∙◌}
-use Rattle.address_table.specs.Lineups.{closed_up}
+use Rattle.address_table.specs.AddressLinks.{closed_up}
 use Rattle.address_table.proofs.Places.{nothing_closed}
-use Rattle.address_table.proofs.lineup.leave_order.Goals as goal
+use Rattle.address_table.proofs.address_links.leave_order.Goals as goal
 
 pub returns-in-Some : goal.returns-in-Some
 returns-in-Some c = c.close_up.ensures ∙ (λ j. closed_up (c.in-Some.ensures.taken j) (c.in-Some.ensures.others j))

@@ -1,6 +1,6 @@
 use Rattle.std.proofs.Common.{ℕ, ◌≡◌, ◌<◌, ◌^◌, Bool, drop, find}
-use Rattle.address_table.specs.Lineups.{MayAsk}
-use Rattle.address_table.proofs.lineup.first_of.Given as goal
+use Rattle.address_table.specs.AddressLinks.{MayAsk}
+use Rattle.address_table.proofs.address_links.first_of.Given as goal
 
 abbrev pub invariant-loop-standing : goal.invariant-loop-standing
 invariant-loop-standing g l =
