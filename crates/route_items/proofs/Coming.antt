@@ -6,13 +6,13 @@ use Rattle.capture_form.specs.declared.records.What.{What}
 use Rattle.route_items.specs.declared.item.Item.{Item}
 use Rattle.route_items.specs.declared.item.Item.TheVariants.{Opened, In, Broken, Lost}
 use Rattle.route_items.specs.Items.{record_of, connection_of}
-use Rattle.route_items.specs.declared.lives.Life.{Life}
-use Rattle.route_items.specs.declared.lives.Lives.{Lives}
+use Rattle.route_items.specs.declared.connection_states.ConnectionState.{ConnectionState}
+use Rattle.route_items.specs.declared.connection_states.ConnectionStates.{ConnectionStates}
 use Rattle.route_items.specs.Inputs.{has_one, is_opening, is_losing, is_breaking}
-use Rattle.route_items.specs.Lives.{AreLives, IsNow, life_in, life_of, life_after}
+use Rattle.route_items.specs.ConnectionStates.{AreStates, IsNow, life_in, life_of, life_after}
 use Rattle.route_items.proofs.Appended.{has_one-other, has_one-now}
 
-abbrev made : Bool → Bool → Bool → Life
+abbrev made : Bool → Bool → Bool → ConnectionState
 made a b c = record { is_opened = a; is_lost = b; is_broken = c }
 
 alike : (a b c x y z : Bool) → a ≡ x → b ≡ y → c ≡ z → made a b c ≡ made x y z
@@ -55,8 +55,8 @@ here c records (Lost k) same =
     alike _ _ _ _ _ _ (has_one-other is_opening c records (record_of (Lost k)) refl) lost (still lost refl)
 
 -- the table behind an item, from the one before it
-module _ (old new : Lives) (item : Item) (life : Life) (is : life ≡ life_after (life_in old (connection_of item)) item) where
-  pub came : IsNow (connection_of item) life old new → (inputs : List Record) → AreLives old inputs → AreLives new (inputs ++ record_of item ∷ [])
+module _ (old new : ConnectionStates) (item : Item) (life : ConnectionState) (is : life ≡ life_after (life_in old (connection_of item)) item) where
+  pub came : IsNow (connection_of item) life old new → (inputs : List Record) → AreStates old inputs → AreStates new (inputs ++ record_of item ∷ [])
   came now inputs told c = now c ∙ by (connection_of item == c) refl
     where
       by : (b : Bool) → (connection_of item == c) ≡ b → (if b then life else life_in old c) ≡ life_of c (inputs ++ record_of item ∷ [])

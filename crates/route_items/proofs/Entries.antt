@@ -4,14 +4,14 @@ use Rattle.std.specs.Bool.{beq}
 use Rattle.std.specs.Cmp.{booleans_Decides}
 use Rattle.indexmap.specs.IndexMap.{get}
 use Rattle.number_runs.specs.Runs.{value_in}
-use Rattle.route_items.specs.declared.lives.Life.{Life}
-use Rattle.route_items.specs.declared.lives.Lives.{Lives}
-use Rattle.route_items.specs.Lives.{IsNow, life_in, no_life}
+use Rattle.route_items.specs.declared.connection_states.ConnectionState.{ConnectionState}
+use Rattle.route_items.specs.declared.connection_states.ConnectionStates.{ConnectionStates}
+use Rattle.route_items.specs.ConnectionStates.{IsNow, life_in, no_life}
 
-abbrev said : Option Life → Option Life → Life
+abbrev said : Option ConnectionState → Option ConnectionState → ConnectionState
 said entry run = unwrap_or entry (unwrap_or run no_life)
 
-module _ (old new : Lives) (c : ℕ) (life : Life) where
+module _ (old new : ConnectionStates) (c : ℕ) (life : ConnectionState) where
   -- its entry says it
   pub put-now : ((q : ℕ) → get nat_eq new.entries q ≡ cond (nat_eq c q) (Some life) (get nat_eq old.entries q)) → new.over ≡ old.over → IsNow c life old new
   put-now moves over n =
@@ -30,11 +30,11 @@ module _ (old new : Lives) (c : ℕ) (life : Life) where
       by true = refl
       by false = refl
 
-  pub now-behind : (mid : Lives) → ((n : ℕ) → life_in mid n ≡ life_in old n) → IsNow c life mid new → IsNow c life old new
+  pub now-behind : (mid : ConnectionStates) → ((n : ℕ) → life_in mid n ≡ life_in old n) → IsNow c life mid new → IsNow c life old new
   now-behind mid same now n = now n ∙ ap (λ l. if c == n then life else l) (same n)
 
 -- nothing changed
-pub none-put : (old new : Lives) (c : ℕ) (life : Life) → new.entries ≡ old.entries → ((q : ℕ) → value_in new.over q ≡ (if false && (c == q) then Some life else value_in old.over q))
+pub none-put : (old new : ConnectionStates) (c : ℕ) (life : ConnectionState) → new.entries ≡ old.entries → ((q : ℕ) → value_in new.over q ≡ (if false && (c == q) then Some life else value_in old.over q))
     → (n : ℕ) → life_in new n ≡ life_in old n
 none-put old new c life entries runs n = ap (λ m. said (get nat_eq m n) (value_in new.over n)) entries ∙ ap (said (get nat_eq old.entries n)) (runs n)
 
@@ -50,23 +50,23 @@ own : (a : Bool) → beq a a ≡ true
 own true = refl
 own false = refl
 
-abbrev pub alike : Life → Life → Bool
+abbrev pub alike : ConnectionState → ConnectionState → Bool
 alike x y = beq x.is_opened y.is_opened && (beq x.is_lost y.is_lost && beq x.is_broken y.is_broken)
 
-abbrev made : Bool → Bool → Bool → Life
+abbrev made : Bool → Bool → Bool → ConnectionState
 made a b c = record { is_opened = a; is_lost = b; is_broken = c }
 
 made-same : (a b c x y z : Bool) → a ≡ x → b ≡ y → c ≡ z → made a b c ≡ made x y z
 made-same a b c x y z p q r = ap (λ a. made a b c) p ∙ (ap (λ b. made x b c) q ∙ ap (λ c. made x y c) r)
 
-pub same : (x y : Life) → alike x y ≡ true → x ≡ y
+pub same : (x y : ConnectionState) → alike x y ≡ true → x ≡ y
 same x y is =
     let a = both (beq x.is_opened y.is_opened) _ is in
     let b = both (beq x.is_lost y.is_lost) _ a.1 in
     made-same _ _ _ _ _ _ (flag x.is_opened y.is_opened a.0) (flag x.is_lost y.is_lost b.0) (flag x.is_broken y.is_broken b.1)
 
-alike-own : (x : Life) → alike x x ≡ true
+alike-own : (x : ConnectionState) → alike x x ≡ true
 alike-own x = rw (own x.is_opened, own x.is_lost, own x.is_broken) refl
 
-pub alike-same : (x y : Life) → x ≡ y → alike x y ≡ true
+pub alike-same : (x y : ConnectionState) → x ≡ y → alike x y ≡ true
 alike-same x y is = subst (λ z. alike x z ≡ true) is (alike-own x)

@@ -3,21 +3,25 @@
 use crate::step::Step;
 use capture_form::{Frame, Record, What};
 use pairing_cert::Note;
-use route_items::{Item, Lives, Outs};
+use route_items::{ConnectionStates, Item, Outs};
 use std::alloc::{AllocError, AllocGlobal, Global};
 use std::io;
 
 /// Has the item of each step come, and prints whether an opening, a frame, octets that are none and a loss may come then on its
 /// connection. A step `asked` has none come.
 pub fn play_lives<R: Print + AllocGlobal>(rt: &R, steps: &[&str]) -> io::Result<()> {
-    let mut lives = Lives::new(rt.alloc());
+    let mut lives = ConnectionStates::new(rt.alloc());
     tell_lives(rt, &mut lives, steps)
 }
 
 /// The same.
 ///
 /// It borrows the lives: owned here, their drop would be proved on each way out.
-fn tell_lives<R: Print + AllocGlobal>(rt: &R, lives: &mut Lives, steps: &[&str]) -> io::Result<()> {
+fn tell_lives<R: Print + AllocGlobal>(
+    rt: &R,
+    lives: &mut ConnectionStates,
+    steps: &[&str],
+) -> io::Result<()> {
     for line in steps {
         let step = Step::of(line);
         come(rt.alloc(), lives, &step)?;
@@ -27,7 +31,7 @@ fn tell_lives<R: Print + AllocGlobal>(rt: &R, lives: &mut Lives, steps: &[&str])
 }
 
 /// Has the item of a step come, if it has one.
-fn come(alloc: Global, lives: &mut Lives, step: &Step<'_>) -> Result<(), AllocError> {
+fn come(alloc: Global, lives: &mut ConnectionStates, step: &Step<'_>) -> Result<(), AllocError> {
     let octets = step.octets(alloc);
     match item_of(step, octets.as_slice()) {
         Some(item) => lives.come(item),
@@ -47,7 +51,7 @@ fn item_of<'a>(step: &Step<'_>, octets: &'a [u8]) -> Option<Item<'a>> {
 }
 
 /// Whether an opening, a frame, octets that are none and a loss may come on the connection.
-fn answers(lives: &Lives, connection: u32) -> [bool; 4] {
+fn answers(lives: &ConnectionStates, connection: u32) -> [bool; 4] {
     [
         lives.may_come(Item::Opened(connection)),
         lives.may_come(Item::In(connection, &[])),
