@@ -7,7 +7,7 @@ use Rattle.capture_form.specs.Rules.{RuleSet}
 use Rattle.capture_form.specs.Text.{Trace, frame_of}
 use Rattle.address_table.specs.Served.{AreSameRules}
 use Rattle.route_items.specs.Inputs.{is_output}
-use Rattle.route_items.specs.Outs.{writes_on}
+use Rattle.route_items.specs.WrittenFrames.{writes_on}
 use Rattle.core_exchange.specs.declared.seat.Seat.{Seat}
 
 -- ---- what a capture has of a connection

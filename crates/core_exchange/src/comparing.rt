@@ -2,7 +2,7 @@
 
 ghost use Rattle.std.specs.Prelude.{◌≡◌, ◌↔◌, IsTrue, true};
 ghost use Rattle.capture_form.specs.Text.{frame_of};
-ghost use Rattle.route_items.specs.Outs.{writes_on, is_written};
+ghost use Rattle.route_items.specs.WrittenFrames.{writes_on, is_written};
 ghost use Rattle.core_exchange.specs.Seats.{Agrees, SeatAgrees, SeatsAgree, Begins, inputs_on, outs_on, is_input_on, owned_below, is_owned_below};
 
 use crate::seat::Seat;

@@ -6,7 +6,7 @@ use Rattle.std.proofs.lemmas.List.Elements.{filter-append, All-filter, All-head,
 use Rattle.capture_form.specs.declared.records.Record.{Record}
 use Rattle.capture_form.specs.Text.{frame_of}
 use Rattle.route_items.specs.Inputs.{inputs, is_output}
-use Rattle.route_items.specs.Outs.{is_written, writes_on}
+use Rattle.route_items.specs.WrittenFrames.{is_written, writes_on}
 use Rattle.daemon_core.specs.Recordings.{Recording}
 use Rattle.daemon_desk.specs.Desks.{IsEntry, told_by}
 use Rattle.daemon_rounds.specs.Stepping.{HasStepped, IsInput}

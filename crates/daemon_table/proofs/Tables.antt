@@ -9,7 +9,7 @@ use Rattle.capture_form.specs.declared.records.What.{What}
 use Rattle.capture_form.specs.declared.records.What.TheVariants as happened
 use Rattle.capture_form.specs.Text.{frame_of}
 use Rattle.route_items.specs.Inputs.{inputs}
-use Rattle.route_items.specs.Outs.{is_written, writes_on}
+use Rattle.route_items.specs.WrittenFrames.{is_written, writes_on}
 use Rattle.conn_serving.specs.declared.serving.Status.TheVariants.{Ended}
 use Rattle.daemon_core.specs.Recordings.{Recording}
 use Rattle.daemon_desk.specs.Desks.{IsEntry, told_by}

@@ -5,7 +5,7 @@ use Rattle.capture_form.specs.declared.records.Record.{Record}
 use Rattle.capture_form.specs.declared.records.What.{What}
 use Rattle.capture_form.specs.Text.{frame_of}
 use Rattle.route_items.specs.Inputs.{inputs}
-use Rattle.route_items.specs.Outs.{writes_on}
+use Rattle.route_items.specs.WrittenFrames.{writes_on}
 use Rattle.conn_engine.specs.Pausing.{Paused, resumed}
 use Rattle.conn_serving.specs.declared.serving.Status.TheVariants.{Ended}
 use Rattle.conn_serving.specs.Served.{LineHolds}

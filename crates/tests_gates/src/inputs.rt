@@ -3,7 +3,7 @@
 use crate::step::Step;
 use capture_form::{Frame, Record, What};
 use pairing_cert::Note;
-use route_items::{ConnectionStates, Item, Outs};
+use route_items::{ConnectionStates, Item, WrittenFrames};
 use std::alloc::{AllocError, AllocGlobal, Global};
 use std::io;
 
@@ -65,7 +65,7 @@ fn answers(lives: &ConnectionStates, connection: u32) -> [bool; 4] {
 pub fn play_outs<R: Print + AllocGlobal>(rt: &R, steps: &[&str]) -> io::Result<()> {
     let alloc = rt.alloc();
     let mut written = Written {
-        outs: Outs::new(alloc),
+        outs: WrittenFrames::new(alloc),
         records: Vec::new(alloc),
         more: Vec::new(alloc),
     };
@@ -75,7 +75,7 @@ pub fn play_outs<R: Print + AllocGlobal>(rt: &R, steps: &[&str]) -> io::Result<(
 /// Records that stand there, more that came, and where the frames that are known stand.
 #[derive(Drop)]
 struct Written {
-    outs: Outs,
+    outs: WrittenFrames,
     records: Vec<Record>,
     more: Vec<Record>,
 }

@@ -4,7 +4,7 @@ use Rattle.std.proofs.Math.Nat.{le-max_left, le-max_right}
 use Rattle.capture_form.specs.declared.records.Record.{Record}
 use Rattle.capture_form.specs.declared.records.What.{What}
 use Rattle.capture_form.specs.Text.{frame_of}
-use Rattle.route_items.specs.Outs.{is_written}
+use Rattle.route_items.specs.WrittenFrames.{is_written}
 use Rattle.daemon_table.proofs.Tables.{none-to, not-written, serves-laid, serves-passed, writes-none}
 use Rattle.daemon_table.proofs.table.Table.lay.Goals as goal
 

@@ -1,5 +1,5 @@
 use Rattle.std.proofs.Common.{◌≡◌, sym, ap, ◌∙◌, Some, option_map, arith}
-use Rattle.route_items.specs.Outs.{first_out}
+use Rattle.route_items.specs.WrittenFrames.{first_out}
 use Rattle.tests_core.proofs.Found.{asked, within}
 use Rattle.tests_core.proofs.exchanged.port.frame_from.Goals as goal
 

@@ -6,7 +6,7 @@ use Rattle.capture_form.specs.declared.records.Record.{Record}
 use Rattle.capture_form.specs.declared.records.What.{What}
 use Rattle.capture_form.specs.declared.records.What.TheVariants as whats
 use Rattle.capture_form.specs.Text.{frame_of}
-use Rattle.route_items.specs.declared.outs.Outs.{Outs}
+use Rattle.route_items.specs.declared.written_frames.WrittenFrames.{WrittenFrames}
 
 -- ---- what is asked
 
@@ -42,23 +42,23 @@ abbrev pub listed : {A : Type 0} → Option (Vec ℕ A) → List ℕ
 listed None = []
 listed (Some numbers) = numbers.items
 
-abbrev pub numbers_in : Outs → ℕ → List ℕ
+abbrev pub numbers_in : WrittenFrames → ℕ → List ℕ
 numbers_in table c = listed (get nat_eq table.entries c)
 
 -- for each connection the numbers of its frames are kept
-abbrev pub AreOuts : Outs → List Record → Type 0
-AreOuts table records = (c : ℕ) → numbers_in table c ≡ numbers_from c 0 records
+abbrev pub AreWritten : WrittenFrames → List Record → Type 0
+AreWritten table records = (c : ℕ) → numbers_in table c ≡ numbers_from c 0 records
 
 -- and perhaps those of records that never came behind these
-pub record HasOuts (table : Outs) (records : List Record) : Type 0 where
+pub record HasWritten (table : WrittenFrames) (records : List Record) : Type 0 where
   pub more : List Record
-  pub are : AreOuts table (records ++ more)
+  pub are : AreWritten table (records ++ more)
 
 -- ---- what changes
 
-abbrev pub AreSame : Outs → Outs → Type 0
+abbrev pub AreSame : WrittenFrames → WrittenFrames → Type 0
 AreSame earlier later = (c : ℕ) → numbers_in later c ≡ numbers_in earlier c
 
 -- the number has come last for the connection
-abbrev pub IsAdded : ℕ → ℕ → Outs → Outs → Type 0
+abbrev pub IsAdded : ℕ → ℕ → WrittenFrames → WrittenFrames → Type 0
 IsAdded c number earlier later = (at : ℕ) → numbers_in later at ≡ (if c == at then numbers_in earlier at ++ number ∷ [] else numbers_in earlier at)

@@ -1,8 +1,8 @@
 use Rattle.std.proofs.Common.{rules, arith, ◌≡◌, ◌+◌, ◌∙◌, ◌++◌, ◌∷◌, [], append_assoc, ap, sym, subst, List, take, length}
 use Rattle.std.proofs.lemmas.List.{take_more, length-append, length-take-le}
 use Rattle.capture_form.specs.declared.records.Record.{Record}
-use Rattle.route_items.specs.Outs.{AreOuts, numbers_from}
-use Rattle.route_items.proofs.outs.Outs.extend.Goals as goal
+use Rattle.route_items.specs.WrittenFrames.{AreWritten, numbers_from}
+use Rattle.route_items.proofs.written_frames.WrittenFrames.extend.Goals as goal
 
 pub returns-in_err-push-clause-kept : goal.returns-in_err-push-clause-kept
 returns-in_err-push-clause-kept c = λ records is are. record {

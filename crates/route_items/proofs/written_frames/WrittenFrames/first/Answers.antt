@@ -1,9 +1,9 @@
 use Rattle.std.proofs.Common.{◌∙◌, ap, subst, sym, List, ℕ, nat_le}
 use Rattle.std.specs.List.{find}
 use Rattle.std.specs.List.Sorted.{IsNonDecreasing}
-use Rattle.route_items.specs.Outs.{numbers_from}
+use Rattle.route_items.specs.WrittenFrames.{numbers_from}
 use Rattle.route_items.proofs.Numbers.{numbers-rise}
-use Rattle.route_items.proofs.outs.Outs.first.Goals as goal
+use Rattle.route_items.proofs.written_frames.WrittenFrames.first.Goals as goal
 
 pub returns : goal.returns
 returns c = λ records are.

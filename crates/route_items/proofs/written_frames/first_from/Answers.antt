@@ -1,7 +1,7 @@
 use Rattle.std.proofs.Common.{rules, of_calls, ◌∙◌, nat_lt}
 use Rattle.std.proofs.lemmas.Fn.{always_returns_same}
 use Rattle.route_items.proofs.Found.{looked-up, partitioned}
-use Rattle.route_items.proofs.outs.first_from.Goals as goal
+use Rattle.route_items.proofs.written_frames.first_from.Goals as goal
 
 pub returns : goal.returns
 returns c = λ rising.

@@ -5,7 +5,7 @@ ghost use Rattle.std.specs.List.{find};
 ghost use Rattle.std.specs.List.Sorted.{IsNonDecreasing};
 ghost use Rattle.capture_form.specs.declared.records.Record.{Record};
 ghost use Rattle.indexmap.specs.IndexMap.{get};
-ghost use Rattle.route_items.specs.Outs.{AreOuts, AreSame, HasOuts, IsAdded, first_out, frame_at, numbers_from, numbers_in};
+ghost use Rattle.route_items.specs.WrittenFrames.{AreWritten, AreSame, HasWritten, IsAdded, first_out, frame_at, numbers_from, numbers_in};
 
 use capture_form::{Frame, Record, What};
 use number_map::NumberMap;
@@ -13,7 +13,7 @@ use std::alloc::{AllocError, Global};
 
 /// By connection the numbers of the records that write a frame on it, in rising order.
 #[derive(Drop)]
-pub struct Outs {
+pub struct WrittenFrames {
     alloc: Global,
     entries: NumberMap<u32, Vec<u64>>,
 }
@@ -47,12 +47,12 @@ fn frame_at(records: &[Record], number: u64) -> Option<(u64, &Frame)>
     }
 }
 
-impl Outs {
+impl WrittenFrames {
     /// No records.
-    pub fn new(alloc: Global) -> Outs
-        ensures { AreOuts result [] }
+    pub fn new(alloc: Global) -> WrittenFrames
+        ensures { AreWritten result [] }
     {
-        Outs {
+        WrittenFrames {
             alloc,
             entries: NumberMap::new(alloc),
         }
@@ -65,8 +65,8 @@ impl Outs {
     /// Memory was refused. Then some of them may have come; the records so far are still found, and no others.
     pub fn extend(&mut self, first: u64, group: &[Record]) -> Result<(), AllocError>
         requires few { first + length group.now < 2 ^ 64 }
-        ensures extended { OnOk result ((records : List Record) → first ≡ length records → AreOuts self.old records → AreOuts self.new (records ++ group.now)) }
-        ensures kept { (records : List Record) → first ≡ length records → AreOuts self.old records → HasOuts self.new records }
+        ensures extended { OnOk result ((records : List Record) → first ≡ length records → AreWritten self.old records → AreWritten self.new (records ++ group.now)) }
+        ensures kept { (records : List Record) → first ≡ length records → AreWritten self.old records → HasWritten self.new records }
     {
         let mut number = first;
         for entry in group {
@@ -82,7 +82,7 @@ impl Outs {
     ///
     /// Memory was refused; then nothing changed.
     fn push(&mut self, number: u64, entry: &Record) -> Result<(), AllocError>
-        ensures pushed { OnOk result ((records : List Record) → number ≡ length records → AreOuts self.old records → AreOuts self.new (records ++ entry.now ∷ [])) }
+        ensures pushed { OnOk result ((records : List Record) → number ≡ length records → AreWritten self.old records → AreWritten self.new (records ++ entry.now ∷ [])) }
         ensures unchanged { OnErr result (AreSame self.old self.new) }
     {
         match entry.what {
@@ -127,7 +127,7 @@ impl Outs {
 
     /// The first number of the connection's that is this one or a later one.
     fn first(&self, connection: u32, from: u64) -> Option<u64>
-        ensures { (records : List Record) → AreOuts self.now records → result ≡ find (nat_le from) (numbers_from connection 0 records) }
+        ensures { (records : List Record) → AreWritten self.now records → result ≡ find (nat_le from) (numbers_from connection 0 records) }
     {
         first_from(self.numbers(connection), from)
     }
@@ -140,7 +140,7 @@ impl Outs {
         connection: u32,
         from: u64,
     ) -> Option<(u64, &'r Frame)>
-        ensures { HasOuts self.now records.now → option_map (λ out. (out.0, out.1.now)) result ≡ first_out connection from 0 records.now }
+        ensures { HasWritten self.now records.now → option_map (λ out. (out.0, out.1.now)) result ≡ first_out connection from 0 records.now }
     {
         match self.first(connection, from) {
             Some(number) => frame_at(records, number),

@@ -1,6 +1,6 @@
 use Rattle.std.proofs.Common.{◌∙◌, ap, sym, ◌++◌, None, Some}
 use Rattle.route_items.proofs.Found.{next}
-use Rattle.route_items.proofs.outs.Outs.next.Goals as goal
+use Rattle.route_items.proofs.written_frames.WrittenFrames.next.Goals as goal
 
 pub returns-in-Some : goal.returns-in-Some
 returns-in-Some c = λ has.

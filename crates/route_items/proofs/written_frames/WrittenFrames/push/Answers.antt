@@ -1,8 +1,8 @@
 use Rattle.std.proofs.Common.{ap, sym, refl, ◌∙◌}
 use Rattle.capture_form.specs.declared.records.What.{What}
-use Rattle.route_items.specs.Outs.{is_written, numbers_in}
+use Rattle.route_items.specs.WrittenFrames.{is_written, numbers_in}
 use Rattle.route_items.proofs.Moves.{written, unwritten, none_written, on_ok}
-use Rattle.route_items.proofs.outs.Outs.push.Goals as goal
+use Rattle.route_items.proofs.written_frames.WrittenFrames.push.Goals as goal
 
 pub returns-in-Out-clause-pushed : goal.returns-in-Out-clause-pushed
 returns-in-Out-clause-pushed c =
