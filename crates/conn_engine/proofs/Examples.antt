@@ -13,7 +13,7 @@ use Rattle.conn_engine.specs.declared.fault.EngineFault.TheVariants as faults
 use Rattle.conn_engine.specs.declared.place.Loss.TheVariants.{Untold, Told, Refused}
 use Rattle.conn_engine.specs.declared.place.Place.TheVariants.{Reading, Closing, Over}
 use Rattle.conn_engine.specs.Closing.{place_given}
-use Rattle.conn_engine.specs.Marks.{first_at, left_of, marks_after, no_marks}
+use Rattle.conn_engine.specs.FrameEnds.{first_at, left_of, marks_after, no_marks}
 use Rattle.conn_engine.specs.Said.{is_close, is_close_said, is_open, is_open_said, said_read, time_out_said}
 use Rattle.conn_engine.specs.Silence.{empty_frame, is_due, patience, silence_after, silence_given, no_silence, time_out_after}
 use Rattle.conn_engine.specs.declared.silence.Silence.{Silence}

@@ -14,7 +14,7 @@ use Rattle.conn_engine.specs.declared.place.Loss.TheVariants.{Untold, Told, Refu
 use Rattle.conn_engine.specs.declared.place.Place.{Place}
 use Rattle.conn_engine.specs.declared.place.Place.TheVariants.{Reading, Closing, Over}
 use Rattle.conn_engine.specs.Closing.{over_of, place_given}
-use Rattle.conn_engine.specs.Marks.{marks_left}
+use Rattle.conn_engine.specs.FrameEnds.{marks_left}
 use Rattle.conn_engine.specs.Silence.{silence_given, time_out_after}
 use Rattle.conn_engine.specs.Serving.{Connection, EndsAt, EndsOver, HasFed, and_unkept, items_of}
 use Rattle.conn_engine.specs.Feeding.{AfterPiece, AfterSteps, FedAt, StopsFor, Talk, Went, and_fed, and_piece, place_after, place_at_fault, talk_of, items_at_fault}

@@ -17,10 +17,10 @@ use Rattle.conn_engine.specs.declared.place.Loss.{Loss}
 use Rattle.conn_engine.specs.declared.place.Loss.TheVariants.{Untold, Told, Refused}
 use Rattle.conn_engine.specs.declared.place.Place.{Place}
 use Rattle.conn_engine.specs.declared.place.Place.TheVariants.{Reading, Closing, Over}
-use Rattle.conn_engine.specs.declared.marks.Marks.{Marks}
+use Rattle.conn_engine.specs.declared.frame_ends.FrameEnds.{FrameEnds}
 use Rattle.conn_engine.specs.Closing.{is_over, over_of, place_given}
 use Rattle.conn_engine.specs.Lacing.{IsPut}
-use Rattle.conn_engine.specs.Marks.{marks_after, marks_left}
+use Rattle.conn_engine.specs.FrameEnds.{marks_after, marks_left}
 use Rattle.conn_engine.specs.Silence.{empty_frame, is_asked, patience, silence_given}
 use Rattle.conn_engine.specs.Serving.{Connection, Extent, Whole, Part, HasGiven, SaysAt, SaysLast, and_unkept}
 use Rattle.conn_engine.specs.Feeding.{AfterPiece, AfterSteps, FedAt, ItemRefused, StopsFor, Talk, Went, and_fed, and_piece, extent_after, place_after, place_at_fault, talk_of}
@@ -135,7 +135,7 @@ pub put_on : (before after : Connection) (ticks : ℕ) (put : List ℕ) → afte
     → IsPut before.frames before.marks (is_asked before.time_out) ticks put → IsPut after.frames after.marks (is_asked after.time_out) ticks put
 put_on before after ticks put frames marks still is =
     subst (λ (f : List (List ℕ)). IsPut f after.marks (is_asked after.time_out) ticks put) (sym frames)
-    (subst (λ (m : Marks). IsPut before.frames m (is_asked after.time_out) ticks put) (sym marks) (put_asked before.frames before.marks (is_asked before.time_out) (is_asked after.time_out) ticks put still is))
+    (subst (λ (m : FrameEnds). IsPut before.frames m (is_asked after.time_out) ticks put) (sym marks) (put_asked before.frames before.marks (is_asked before.time_out) (is_asked after.time_out) ticks put still is))
 
 given_on : (extent extent_then : Extent) (before after : Connection) (fed given piece : List ℕ) (last : List What) (said : List ℕ) (ticks : ℕ) (h : HasGiven extent before fed given ticks) → h.said ≡ [] → h.unkept ≡ []
     → after.frames ≡ before.frames → after.marks ≡ before.marks → Went (and_piece (talk_of before) piece) (talk_of after) last said → (after.ahead.phase ≡ Open → said ≡ []) → SaysAt extent_then after.place after.ahead [] said
@@ -279,7 +279,7 @@ pub put_refilled : (before after : Connection) (ticks : ℕ) (put : List ℕ) (f
 put_refilled before after ticks put filled asked is =
     let more = filled.took.more in
     subst (λ (f : List (List ℕ)). IsPut f after.marks (is_asked after.time_out) ticks (put ++ concat more)) (sym filled.took.given)
-    (subst (λ (m : Marks). IsPut (before.frames ++ more) m (is_asked after.time_out) ticks (put ++ concat more)) (sym filled.took.marked)
+    (subst (λ (m : FrameEnds). IsPut (before.frames ++ more) m (is_asked after.time_out) ticks (put ++ concat more)) (sym filled.took.marked)
     (subst (λ (a : Bool). IsPut (before.frames ++ more) (marks_after before.marks (length before.waiting) more) a ticks (put ++ concat more)) (sym asked)
     (put_frames before.frames more before.marks (is_asked before.time_out) ticks (length before.waiting) put is)))
 

@@ -3,9 +3,9 @@ use Rattle.std.proofs.Common.{◌≡◌, ℕ, ◌+◌, ◌⊎◌, Bool, true, fa
 use Rattle.std.specs.List.{concat, list_any}
 use Rattle.std.proofs.lemmas.List.{append-nil}
 use Rattle.std.proofs.lemmas.List.Folds.{list_any-append}
-use Rattle.conn_engine.specs.declared.marks.Marks.{Marks}
+use Rattle.conn_engine.specs.declared.frame_ends.FrameEnds.{FrameEnds}
 use Rattle.conn_engine.specs.Lacing.{AFrame, AnEmpty, IsLaced, IsPut, Put, empties, frames_put, is_laced, may_rest, octets_put}
-use Rattle.conn_engine.specs.Marks.{IsMarked, first_at, left_of, marks_after, marks_at, marks_left, no_marks}
+use Rattle.conn_engine.specs.FrameEnds.{IsMarked, first_at, left_of, marks_after, marks_at, marks_left, no_marks}
 use Rattle.conn_engine.specs.Said.{is_open, is_close}
 use Rattle.conn_engine.specs.Silence.{empty_frame}
 
@@ -91,10 +91,10 @@ first_marked is None n frames frame marked = by (is frame) refl
     by true e = sym (list_any-append is frames (frame ∷ []) ∙ ap (λ (b : Bool). list_any is frames || (b || false)) e ∙ or_true (list_any is frames))
     by false e = sym (list_any-append is frames (frame ∷ []) ∙ ap (λ (b : Bool). list_any is frames || (b || false)) e ∙ or_false (list_any is frames) ∙ sym marked)
 
-marked_at : (marks : Marks) (n : ℕ) (frames : List (List ℕ)) (frame : List ℕ) → IsMarked marks frames → IsMarked (marks_at marks n frame) (frames ++ frame ∷ [])
+marked_at : (marks : FrameEnds) (n : ℕ) (frames : List (List ℕ)) (frame : List ℕ) → IsMarked marks frames → IsMarked (marks_at marks n frame) (frames ++ frame ∷ [])
 marked_at marks n frames frame is = record { opened = first_marked is_open marks.opened n frames frame is.opened; closed = first_marked is_close marks.closed n frames frame is.closed }
 
-pub marked_after : (marks : Marks) (n : ℕ) (frames more : List (List ℕ)) → IsMarked marks frames → IsMarked (marks_after marks n more) (frames ++ more)
+pub marked_after : (marks : FrameEnds) (n : ℕ) (frames more : List (List ℕ)) → IsMarked marks frames → IsMarked (marks_after marks n more) (frames ++ more)
 marked_after marks n frames [] is = subst (IsMarked marks) (sym (append-nil frames)) is
 marked_after marks n frames (frame ∷ more) is =
     subst (λ (t : List (List ℕ)). IsMarked (marks_after (marks_at marks n frame) (n + length frame) more) t) (append_assoc frames (frame ∷ []) more)
@@ -104,7 +104,7 @@ left_some : (end : Option ℕ) (n : ℕ) → is_some (left_of end n) ≡ is_some
 left_some None n = refl
 left_some (Some end) n = refl
 
-pub marked_left : (marks : Marks) (n : ℕ) (frames : List (List ℕ)) → IsMarked marks frames → IsMarked (marks_left marks n) frames
+pub marked_left : (marks : FrameEnds) (n : ℕ) (frames : List (List ℕ)) → IsMarked marks frames → IsMarked (marks_left marks n) frames
 marked_left marks n frames is = record { opened = left_some marks.opened n ∙ is.opened; closed = left_some marks.closed n ∙ is.closed }
 
 -- ---- all of it
@@ -116,7 +116,7 @@ put_none asked = record {
   quiet = inl refl;
 }
 
-pub put_frames : (frames more : List (List ℕ)) (marks : Marks) (asked : Bool) (ticks n : ℕ) (octets : List ℕ) → IsPut frames marks asked ticks octets
+pub put_frames : (frames more : List (List ℕ)) (marks : FrameEnds) (asked : Bool) (ticks n : ℕ) (octets : List ℕ) → IsPut frames marks asked ticks octets
     → IsPut (frames ++ more) (marks_after marks n more) asked ticks (octets ++ concat more)
 put_frames frames more marks asked ticks n octets is = record {
   laced = laced_frames frames more ticks octets is.laced;
@@ -124,17 +124,17 @@ put_frames frames more marks asked ticks n octets is = record {
   quiet = is.quiet;
 }
 
-pub put_left : (frames : List (List ℕ)) (marks : Marks) (asked : Bool) (ticks n : ℕ) (octets : List ℕ) → IsPut frames marks asked ticks octets → IsPut frames (marks_left marks n) asked ticks octets
+pub put_left : (frames : List (List ℕ)) (marks : FrameEnds) (asked : Bool) (ticks n : ℕ) (octets : List ℕ) → IsPut frames marks asked ticks octets → IsPut frames (marks_left marks n) asked ticks octets
 put_left frames marks asked ticks n octets is = record { laced = is.laced; marked = marked_left marks n frames is.marked; quiet = is.quiet }
 
-pub put_asked : (frames : List (List ℕ)) (marks : Marks) (asked later : Bool) (ticks : ℕ) (octets : List ℕ) → (asked ≡ true → later ≡ true) → IsPut frames marks asked ticks octets → IsPut frames marks later ticks octets
+pub put_asked : (frames : List (List ℕ)) (marks : FrameEnds) (asked later : Bool) (ticks : ℕ) (octets : List ℕ) → (asked ≡ true → later ≡ true) → IsPut frames marks asked ticks octets → IsPut frames marks later ticks octets
 put_asked frames marks asked later ticks octets still is = record { laced = is.laced; marked = is.marked; quiet = by is.quiet }
   where
     by : (ticks ≡ 0) ⊎ (asked ≡ true) → (ticks ≡ 0) ⊎ (later ≡ true)
     by (inl none) = inl none
     by (inr ask) = inr (still ask)
 
-pub put_empty : (frames : List (List ℕ)) (marks : Marks) (asked : Bool) (ticks : ℕ) (octets : List ℕ) → is_some marks.opened ≡ true → is_some marks.closed ≡ false → asked ≡ true
+pub put_empty : (frames : List (List ℕ)) (marks : FrameEnds) (asked : Bool) (ticks : ℕ) (octets : List ℕ) → is_some marks.opened ≡ true → is_some marks.closed ≡ false → asked ≡ true
     → IsPut frames marks asked ticks octets → IsPut frames marks asked (ticks + 1) (octets ++ empty_frame)
 put_empty frames marks asked ticks octets opened closed ask is = record {
   laced = laced_empty frames ticks octets (both (list_any is_open frames) (not (list_any is_close frames)) (sym is.marked.opened ∙ opened) (ap not (sym is.marked.closed ∙ closed))) is.laced;

@@ -1,6 +1,6 @@
 pub mod Device
 pub mod Said
-pub mod Marks
+pub mod FrameEnds
 pub mod Silence
 pub mod Lacing
 pub mod Giving

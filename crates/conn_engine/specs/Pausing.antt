@@ -2,7 +2,7 @@
 use Rattle.std.specs.Prelude.{ℕ, Bool, List, Option}
 use Rattle.capture_form.specs.declared.records.What.{What}
 use Rattle.stream_reading.specs.Steps.{Ahead}
-use Rattle.conn_engine.specs.declared.marks.Marks.{Marks}
+use Rattle.conn_engine.specs.declared.frame_ends.FrameEnds.{FrameEnds}
 use Rattle.conn_engine.specs.declared.place.Place.{Place}
 use Rattle.conn_engine.specs.declared.silence.Silence.{Silence}
 use Rattle.conn_engine.specs.Serving.{Connection}
@@ -12,7 +12,7 @@ pub record Paused : Type 0 where
   pub number : ℕ
   pub ahead : Ahead
   pub waiting : List ℕ
-  pub marks : Marks
+  pub marks : FrameEnds
   pub place : Place
   pub time_out : Option ℕ
   pub silence : Silence

@@ -14,7 +14,7 @@ use Rattle.conn_engine.specs.declared.place.Loss.{Loss}
 use Rattle.conn_engine.specs.declared.place.Loss.TheVariants.{Untold, Told, Refused}
 use Rattle.conn_engine.specs.declared.place.Place.{Place}
 use Rattle.conn_engine.specs.declared.place.Place.TheVariants.{Reading, Closing, Over}
-use Rattle.conn_engine.specs.declared.marks.Marks.{Marks}
+use Rattle.conn_engine.specs.declared.frame_ends.FrameEnds.{FrameEnds}
 use Rattle.conn_engine.specs.declared.silence.Silence.{Silence}
 use Rattle.conn_engine.specs.Lacing.{IsPut}
 use Rattle.conn_engine.specs.Silence.{is_asked, time_out_after}
@@ -30,7 +30,7 @@ pub record Connection : Type 0 where
   pub ahead : Ahead
   pub waiting : List ℕ
   pub is_idle : Bool
-  pub marks : Marks
+  pub marks : FrameEnds
   pub place : Place
   pub time_out : Option ℕ
   pub silence : Silence

@@ -10,14 +10,14 @@ use Rattle.conn_engine.specs.declared.place.Loss.{Loss}
 use Rattle.conn_engine.specs.declared.place.Loss.TheVariants.{Untold, Told, Refused}
 use Rattle.conn_engine.specs.declared.place.Place.{Place}
 use Rattle.conn_engine.specs.declared.place.Place.TheVariants.{Reading, Closing, Over}
-use Rattle.conn_engine.specs.declared.marks.Marks.{Marks}
+use Rattle.conn_engine.specs.declared.frame_ends.FrameEnds.{FrameEnds}
 use Rattle.conn_engine.specs.Closing.{over_of}
-use Rattle.conn_engine.specs.Marks.{marks_at, marks_after}
+use Rattle.conn_engine.specs.FrameEnds.{marks_at, marks_after}
 use Rattle.conn_engine.specs.Feeding.{ItemFault}
 use Rattle.conn_engine.specs.Serving.{Connection}
 
 -- a port gave frames more, which stand behind what waited, and this is where the first open and the first close end
-pub record TookFrames (frames frames_then : List (List ℕ)) (waiting waiting_then : List ℕ) (marks marks_then : Marks) : Type 0 where
+pub record TookFrames (frames frames_then : List (List ℕ)) (waiting waiting_then : List ℕ) (marks marks_then : FrameEnds) : Type 0 where
   pub more : List (List ℕ)
   pub given : frames_then ≡ frames ++ more
   pub put : waiting_then ≡ waiting ++ concat more
@@ -25,7 +25,7 @@ pub record TookFrames (frames frames_then : List (List ℕ)) (waiting waiting_th
 
 -- a port was asked for a frame from a record's number on: it gave one, and the next is asked for from a higher number,
 -- or none
-abbrev pub TookFrame : (frames frames_then : List (List ℕ)) (waiting waiting_then : List ℕ) (marks marks_then : Marks) (next next_then : ℕ) → Bool → Type 0
+abbrev pub TookFrame : (frames frames_then : List (List ℕ)) (waiting waiting_then : List ℕ) (marks marks_then : FrameEnds) (next next_then : ℕ) → Bool → Type 0
 TookFrame frames frames_then waiting waiting_then marks marks_then next next_then true =
     (frame : List ℕ) × (frames_then ≡ frames ++ frame ∷ []) × (waiting_then ≡ waiting ++ frame) × (marks_then ≡ marks_at marks (length waiting) frame) × (next < next_then) × (next_then < 2 ^ 64)
 TookFrame frames frames_then waiting waiting_then marks marks_then next next_then false =

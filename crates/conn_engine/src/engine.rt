@@ -4,7 +4,7 @@ ghost use Rattle.std.specs.Prelude.{◌≡◌, ◌≤◌, ◌++◌, ℕ, List, [
 ghost use Rattle.stream_reading.specs.declared.step.Phase.TheVariants.{FirstHeader, Open};
 ghost use Rattle.conn_engine.specs.declared.place.Place.TheVariants.{Reading};
 ghost use Rattle.conn_engine.specs.Closing.{is_over, place_given};
-ghost use Rattle.conn_engine.specs.Marks.{no_marks, marks_left};
+ghost use Rattle.conn_engine.specs.FrameEnds.{no_marks, marks_left};
 ghost use Rattle.conn_engine.specs.Silence.{no_silence, silence_given};
 ghost use Rattle.conn_engine.specs.Serving.{Extent, HasFed, HasGiven};
 ghost use Rattle.conn_engine.specs.Feeding.{FedAt, and_fed, extent_after, place_after};
@@ -13,7 +13,7 @@ ghost use Rattle.conn_engine.specs.Ticking.{AfterTick, and_tick, patience_of};
 
 use crate::fault::EngineFault;
 use crate::feeding::{submit, take_piece};
-use crate::marks::Marks;
+use crate::frame_ends::FrameEnds;
 use crate::output::Output;
 use crate::place::{Loss, Place};
 use crate::port::Port;
@@ -45,7 +45,7 @@ pub struct Engine<P: Port> {
     /// The number of the record from which on the router is asked for its next frame.
     next: u64,
     /// Where the router's open and its close end among the octets that wait.
-    marks: Marks,
+    marks: FrameEnds,
     place: Place,
     /// The idle-time-out of the client's open, in milliseconds, once it came; 0 where it has none.
     time_out: Option<u32>,
@@ -77,7 +77,7 @@ impl<P: Port> Engine<P> {
             reader: StreamReader::new(alloc),
             output: Output::new(alloc),
             next: 0,
-            marks: Marks::new(),
+            marks: FrameEnds::new(),
             place: Place::Reading,
             time_out: None,
             silence: Silence::new(),

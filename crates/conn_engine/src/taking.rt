@@ -3,7 +3,7 @@
 ghost use Rattle.std.specs.Prelude.{◌≡◌, true, false, IfOk, OnOk, OnErr};
 ghost use Rattle.conn_engine.specs.Taking.{IsRefilled, TookFrames, TookFrame};
 
-use crate::marks::Marks;
+use crate::frame_ends::FrameEnds;
 use crate::output::Output;
 use crate::port::Port;
 use std::alloc::AllocError;
@@ -21,7 +21,7 @@ pub(crate) fn take_frames<P: Port>(
     port: &mut P,
     output: &mut Output,
     next: &mut u64,
-    marks: &mut Marks,
+    marks: &mut FrameEnds,
 ) -> Result<(), AllocError>
     ensures took { TookFrames (P.frames port.old) (P.frames port.new) output.old output.new marks.old marks.new }
     ensures all { OnOk result (IsRefilled (P.is_idle port.new) output.new) }
@@ -43,7 +43,7 @@ fn take_all_frames<P: Port>(
     port: &mut P,
     output: &mut Output,
     next: &mut u64,
-    marks: &mut Marks,
+    marks: &mut FrameEnds,
 ) -> Result<(), AllocError>
     ensures took { TookFrames (P.frames port.old) (P.frames port.new) output.old output.new marks.old marks.new }
     ensures all { OnOk result (IsRefilled (P.is_idle port.new) output.new) }
@@ -65,7 +65,7 @@ fn take_frame<P: Port>(
     port: &mut P,
     output: &mut Output,
     next: &mut u64,
-    marks: &mut Marks,
+    marks: &mut FrameEnds,
 ) -> Result<bool, AllocError>
     ensures ok { IfOk result (TookFrame (P.frames port.old) (P.frames port.new) output.old output.new marks.old marks.new next.old next.new) }
     ensures none { IfOk result (λ taken. taken ≡ false → P.is_idle port.new ≡ true) }

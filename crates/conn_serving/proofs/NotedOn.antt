@@ -7,7 +7,7 @@ use Rattle.conn_engine.specs.declared.fault.EngineFault.{EngineFault}
 use Rattle.conn_engine.specs.declared.place.Place.{Place}
 use Rattle.conn_engine.specs.declared.place.Place.TheVariants.{Reading, Closing, Over}
 use Rattle.conn_engine.specs.Closing.{is_over, place_given}
-use Rattle.conn_engine.specs.Marks.{marks_left}
+use Rattle.conn_engine.specs.FrameEnds.{marks_left}
 use Rattle.conn_engine.specs.Silence.{silence_given}
 use Rattle.conn_engine.specs.Serving.{Connection}
 use Rattle.conn_engine.specs.Feeding.{AfterPiece, AfterSteps, FedAt, Talk, and_piece, talk_of}

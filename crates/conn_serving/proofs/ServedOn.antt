@@ -9,7 +9,7 @@ use Rattle.conn_engine.specs.declared.place.Loss.TheVariants.{Untold, Told, Refu
 use Rattle.conn_engine.specs.declared.place.Place.{Place}
 use Rattle.conn_engine.specs.declared.place.Place.TheVariants.{Reading, Closing, Over}
 use Rattle.conn_engine.specs.Closing.{is_over}
-use Rattle.conn_engine.specs.Marks.{no_marks}
+use Rattle.conn_engine.specs.FrameEnds.{no_marks}
 use Rattle.conn_engine.specs.Silence.{is_asked, no_silence}
 use Rattle.conn_engine.specs.Device.{KeepsTold, TellsMore}
 use Rattle.conn_engine.specs.Lacing.{IsLaced}

@@ -16,7 +16,7 @@ use Rattle.conn_engine.specs.declared.place.Place.{Place}
 use Rattle.conn_engine.specs.declared.place.Place.TheVariants.{Reading, Closing, Over}
 use Rattle.conn_engine.specs.Closing.{is_over, place_given}
 use Rattle.conn_engine.specs.Lacing.{IsPut}
-use Rattle.conn_engine.specs.Marks.{marks_left, no_marks}
+use Rattle.conn_engine.specs.FrameEnds.{marks_left, no_marks}
 use Rattle.conn_engine.specs.Silence.{empty_frame, is_asked, no_silence, silence_given}
 use Rattle.conn_engine.specs.Serving.{Connection}
 use Rattle.conn_engine.specs.Feeding.{AfterPiece, AfterSteps, FedAt, StopsFor, Went, and_piece, items_at_fault, place_after, place_at_fault, talk_of}

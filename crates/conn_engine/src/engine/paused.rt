@@ -3,12 +3,12 @@
 ghost use Rattle.std.specs.Prelude.{◌≡◌, [], None};
 ghost use Rattle.stream_reading.specs.declared.step.Phase.TheVariants.{FirstHeader};
 ghost use Rattle.conn_engine.specs.declared.place.Place.TheVariants.{Reading};
-ghost use Rattle.conn_engine.specs.Marks.{no_marks};
+ghost use Rattle.conn_engine.specs.FrameEnds.{no_marks};
 ghost use Rattle.conn_engine.specs.Pausing.{paused, resumed};
 ghost use Rattle.conn_engine.specs.Silence.{no_silence};
 
 use super::Engine;
-use crate::marks::Marks;
+use crate::frame_ends::FrameEnds;
 use crate::output::Output;
 use crate::place::Place;
 use crate::port::Port;
@@ -25,7 +25,7 @@ pub struct PausedEngine {
     reader: StreamReader,
     output: Output,
     next: u64,
-    marks: Marks,
+    marks: FrameEnds,
     place: Place,
     time_out: Option<u32>,
     silence: Silence,
@@ -49,7 +49,7 @@ impl PausedEngine {
             reader: StreamReader::new(alloc),
             output: Output::new(alloc),
             next: 0,
-            marks: Marks::new(),
+            marks: FrameEnds::new(),
             place: Place::Reading,
             time_out: None,
             silence: Silence::new(),

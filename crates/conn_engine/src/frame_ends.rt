@@ -1,7 +1,7 @@
 //! Where the router's open and its close end among the octets that wait.
 
 ghost use Rattle.std.specs.Prelude.{◌≡◌, ◌≤◌, drop, length};
-ghost use Rattle.conn_engine.specs.Marks.{first_at, left_of, marks_at, marks_left, no_marks};
+ghost use Rattle.conn_engine.specs.FrameEnds.{first_at, left_of, marks_at, marks_left, no_marks};
 ghost use Rattle.conn_engine.specs.Said.{is_open, is_close};
 ghost use Rattle.conn_engine.specs.Ticking.{is_given};
 
@@ -10,38 +10,38 @@ use crate::said::{is_close, is_open};
 /// How many of the octets that wait are up to the end of the first open, and of the first close, where these were taken. They
 /// are none once it was given.
 #[derive(Clone, Copy, Debug, PartialEq, Eq)]
-pub(crate) struct Marks {
+pub(crate) struct FrameEnds {
     pub(crate) opened: Option<usize>,
     pub(crate) closed: Option<usize>,
 }
 
-impl Marks {
+impl FrameEnds {
     /// Neither was taken.
-    pub(crate) const fn new() -> Marks
+    pub(crate) const fn new() -> FrameEnds
         ensures { result ≡ no_marks }
     {
-        Marks {
+        FrameEnds {
             opened: None,
             closed: None,
         }
     }
 
     /// Where the octets that wait have a frame behind the first ones.
-    pub(crate) fn with_frame(self, waiting: &[u8], before: usize) -> Marks
+    pub(crate) fn with_frame(self, waiting: &[u8], before: usize) -> FrameEnds
         requires { before ≤ length waiting.now }
         ensures { result ≡ marks_at self before (drop before waiting.now) }
     {
-        Marks {
+        FrameEnds {
             opened: opened_at(self.opened, waiting, before),
             closed: closed_at(self.closed, waiting, before),
         }
     }
 
     /// Where the first `n` octets were given.
-    pub(crate) fn left(self, n: usize) -> Marks
+    pub(crate) fn left(self, n: usize) -> FrameEnds
         ensures { result ≡ marks_left self n }
     {
-        Marks {
+        FrameEnds {
             opened: left_of(self.opened, n),
             closed: left_of(self.closed, n),
         }
