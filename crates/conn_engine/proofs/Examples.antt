@@ -10,8 +10,8 @@ use Rattle.amqp_frames.specs.Reading.{frame_at, headed_frame, sized_frame, whole
 use Rattle.amqp_perf.specs.declared.fault.PerfFault.TheVariants.{NotPerformative}
 use Rattle.amqp_perf.specs.Meaning.{AClose, AnEnd, AnOpen}
 use Rattle.conn_engine.specs.declared.fault.EngineFault.TheVariants as faults
-use Rattle.conn_engine.specs.declared.place.Loss.TheVariants.{Untold, Told, Refused}
-use Rattle.conn_engine.specs.declared.place.Place.TheVariants.{Reading, Closing, Over}
+use Rattle.conn_engine.specs.declared.engine_state.Loss.TheVariants.{Untold, Told, Refused}
+use Rattle.conn_engine.specs.declared.engine_state.EngineState.TheVariants.{Reading, Closing, Over}
 use Rattle.conn_engine.specs.Closing.{place_given}
 use Rattle.conn_engine.specs.FrameEnds.{first_at, left_of, marks_after, no_marks}
 use Rattle.conn_engine.specs.Said.{is_close, is_close_said, is_open, is_open_said, said_read, time_out_said}

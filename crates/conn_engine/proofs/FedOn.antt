@@ -10,9 +10,9 @@ use Rattle.stream_reading.specs.Stream.{IsRefused}
 use Rattle.stream_reading.specs.Steps.{Ahead, IsAfter, MayFollow, StepText, octets_of}
 use Rattle.conn_engine.specs.declared.fault.EngineFault.{EngineFault}
 use Rattle.conn_engine.specs.declared.fault.EngineFault.TheVariants as faults
-use Rattle.conn_engine.specs.declared.place.Loss.TheVariants.{Untold, Told, Refused}
-use Rattle.conn_engine.specs.declared.place.Place.{Place}
-use Rattle.conn_engine.specs.declared.place.Place.TheVariants.{Reading, Closing, Over}
+use Rattle.conn_engine.specs.declared.engine_state.Loss.TheVariants.{Untold, Told, Refused}
+use Rattle.conn_engine.specs.declared.engine_state.EngineState.{EngineState}
+use Rattle.conn_engine.specs.declared.engine_state.EngineState.TheVariants.{Reading, Closing, Over}
 use Rattle.conn_engine.specs.Closing.{over_of, place_given}
 use Rattle.conn_engine.specs.FrameEnds.{marks_left}
 use Rattle.conn_engine.specs.Silence.{silence_given, time_out_after}
@@ -100,12 +100,12 @@ fed_stopped : (before after : Connection) (fed piece : List ℕ) (fault : Engine
     → Went (and_piece (talk_of before) piece) (talk_of after) last said → StopsFor fault after.ahead last said → after.place ≡ place_after (Err fault) after.ahead.phase
     → HasFed after (fed ++ piece)
 fed_stopped before after fed piece fault last said h none kept went stops place =
-    fed_on before after fed piece last said h none kept went (subst (λ (p : Place). EndsAt p after.ahead [] last) (sym place) (ends_stopped fault after.ahead last said stops))
+    fed_on before after fed piece last said h none kept went (subst (λ (p : EngineState). EndsAt p after.ahead [] last) (sym place) (ends_stopped fault after.ahead last said stops))
 
 fed_steps : (before after : Connection) (fed piece : List ℕ) (result : Result Unit EngineFault) (h : HasFed before fed) → h.last ≡ [] → h.unkept ≡ []
     → AfterSteps (and_piece (talk_of before) piece) (talk_of after) result → after.place ≡ place_after result after.ahead.phase → HasFed after (and_fed result fed piece)
 fed_steps before after fed piece (Ok done) h none kept did place =
-    fed_on before after fed piece [] [] h none kept did.0 (subst (λ (p : Place). EndsAt p after.ahead [] []) (sym place) (refl, refl, did.1))
+    fed_on before after fed piece [] [] h none kept did.0 (subst (λ (p : EngineState). EndsAt p after.ahead [] []) (sym place) (refl, refl, did.1))
 fed_steps before after fed piece (Err faults.HeaderRefused) h none kept did place = fed_stopped before after fed piece faults.HeaderRefused did.0 did.1 h none kept did.2 did.3 place
 fed_steps before after fed piece (Err faults.Frame) h none kept did place = fed_stopped before after fed piece faults.Frame did.0 did.1 h none kept did.2 did.3 place
 fed_steps before after fed piece (Err (faults.Port fault)) h none kept did place = fed_stopped before after fed piece (faults.Port fault) did.0 did.1 h none kept did.2 did.3 place
@@ -124,7 +124,7 @@ fed_unkept before after fed piece h none same place =
       follows = subst (λ (a : Ahead). IsAfter (fed ++ piece) h.steps (and_unkept a (h.unkept ++ piece))) (sym ahead) (piece_unkept fed h.unkept piece h.steps before.ahead h.follows);
       items = ap (λ (t : Talk). t.items) same ∙ h.items;
       time_out = ap (λ (t : Talk). t.time_out) same ∙ h.time_out;
-      ends = subst (λ (p : Place). EndsAt p after.ahead (h.unkept ++ piece) h.last) (sym place) (ends_over after.ahead (h.unkept ++ piece) h.last none);
+      ends = subst (λ (p : EngineState). EndsAt p after.ahead (h.unkept ++ piece) h.last) (sym place) (ends_over after.ahead (h.unkept ++ piece) h.last none);
     }
 
 fed_piece : (before after : Connection) (fed piece : List ℕ) (result : Result Unit EngineFault) (h : HasFed before fed) → h.last ≡ [] → h.unkept ≡ []
@@ -143,13 +143,13 @@ fed_closing before fed piece h place = record {
   follows = piece_unkept fed h.unkept piece h.steps before.ahead h.follows;
   items = h.items;
   time_out = h.time_out;
-  ends = subst (λ (p : Place). EndsAt p before.ahead (h.unkept ++ piece) h.last) (sym place) (subst (λ (p : Place). EndsAt p before.ahead h.unkept h.last) place h.ends);
+  ends = subst (λ (p : EngineState). EndsAt p before.ahead (h.unkept ++ piece) h.last) (sym place) (subst (λ (p : EngineState). EndsAt p before.ahead h.unkept h.last) place h.ends);
 }
 
-pub fed_at : (place : Place) (before after : Connection) (fed piece : List ℕ) (result : Result Unit EngineFault) → before.place ≡ place → FedAt place before after piece result → HasFed before fed
+pub fed_at : (place : EngineState) (before after : Connection) (fed piece : List ℕ) (result : Result Unit EngineFault) → before.place ≡ place → FedAt place before after piece result → HasFed before fed
     → HasFed after (and_fed result fed piece)
 fed_at Reading before after fed piece result at did h =
-    let ends = subst (λ (p : Place). EndsAt p before.ahead h.unkept h.last) at h.ends in
+    let ends = subst (λ (p : EngineState). EndsAt p before.ahead h.unkept h.last) at h.ends in
     fed_piece before after fed piece result h ends.0 ends.1 did.0 did.1
 fed_at Closing before after fed piece result at did h =
     subst (λ (r : Result Unit EngineFault). HasFed after (and_fed r fed piece)) (sym did.0) (subst (λ (c : Connection). HasFed c (fed ++ piece)) (sym did.1) (fed_closing before fed piece h at))
@@ -159,16 +159,16 @@ fed_at (Over loss) before after fed piece result at did h =
 -- ---- the other calls
 
 -- an engine that goes on no more
-pub ends_over_of : (place : Place) (ahead : Ahead) (unkept : List ℕ) (last : List What) → EndsAt place ahead unkept last → EndsAt (over_of place) ahead unkept last
+pub ends_over_of : (place : EngineState) (ahead : Ahead) (unkept : List ℕ) (last : List What) → EndsAt place ahead unkept last → EndsAt (over_of place) ahead unkept last
 ends_over_of Reading ahead unkept last ends = ends_over ahead unkept last ends.0
 ends_over_of Closing ahead unkept last ends = record { broken = happened.Broken ∷ []; is_broken = inr (refl, ends.1); parts = ends.0 }
 ends_over_of (Over loss) ahead unkept last ends = ends
 
-ends_by : (place : Place) (is : Bool) (ahead : Ahead) (unkept : List ℕ) (last : List What) → EndsAt place ahead unkept last → EndsAt (if is then over_of place else place) ahead unkept last
+ends_by : (place : EngineState) (is : Bool) (ahead : Ahead) (unkept : List ℕ) (last : List What) → EndsAt place ahead unkept last → EndsAt (if is then over_of place else place) ahead unkept last
 ends_by place true ahead unkept last ends = ends_over_of place ahead unkept last ends
 ends_by place false ahead unkept last ends = ends
 
-pub ends_given : (place : Place) (close : Option ℕ) (n : ℕ) (ahead : Ahead) (unkept : List ℕ) (last : List What) → EndsAt place ahead unkept last → EndsAt (place_given place close n) ahead unkept last
+pub ends_given : (place : EngineState) (close : Option ℕ) (n : ℕ) (ahead : Ahead) (unkept : List ℕ) (last : List What) → EndsAt place ahead unkept last → EndsAt (place_given place close n) ahead unkept last
 ends_given place None n ahead unkept last ends = ends
 ends_given place (Some end) n ahead unkept last ends = ends_by place (nat_le end n) ahead unkept last ends
 
@@ -198,7 +198,7 @@ fed_refilled before after fed same h = subst (λ (c : Connection). HasFed c fed)
     (fed_elsewhere before (record before { frames = after.frames; waiting = after.waiting; is_idle = after.is_idle; marks = after.marks }) fed h refl refl refl h.ends)
 
 -- a loss that the router was told, or did not take
-told_over : (place : Place) (phase : Phase) (ahead : Ahead) (unkept : List ℕ) (last : List What) → is_loss_due phase place ≡ true → EndsAt place ahead unkept last → EndsOver ahead Untold last
+told_over : (place : EngineState) (phase : Phase) (ahead : Ahead) (unkept : List ℕ) (last : List What) → is_loss_due phase place ≡ true → EndsAt place ahead unkept last → EndsOver ahead Untold last
 told_over Reading phase ahead unkept last due ends = ends_over ahead unkept last ends.0
 told_over Closing phase ahead unkept last due ends = ends_over_of Closing ahead unkept last ends
 told_over (Over Untold) phase ahead unkept last due ends = ends

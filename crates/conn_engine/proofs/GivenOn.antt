@@ -13,10 +13,10 @@ use Rattle.stream_reading.specs.Stream.{IsRefused, MayStand, phase_after, answer
 use Rattle.stream_reading.specs.Steps.{Ahead, IsAfter, MayFollow, StepText, answers_to}
 use Rattle.conn_engine.specs.declared.fault.EngineFault.{EngineFault}
 use Rattle.conn_engine.specs.declared.fault.EngineFault.TheVariants as faults
-use Rattle.conn_engine.specs.declared.place.Loss.{Loss}
-use Rattle.conn_engine.specs.declared.place.Loss.TheVariants.{Untold, Told, Refused}
-use Rattle.conn_engine.specs.declared.place.Place.{Place}
-use Rattle.conn_engine.specs.declared.place.Place.TheVariants.{Reading, Closing, Over}
+use Rattle.conn_engine.specs.declared.engine_state.Loss.{Loss}
+use Rattle.conn_engine.specs.declared.engine_state.Loss.TheVariants.{Untold, Told, Refused}
+use Rattle.conn_engine.specs.declared.engine_state.EngineState.{EngineState}
+use Rattle.conn_engine.specs.declared.engine_state.EngineState.TheVariants.{Reading, Closing, Over}
 use Rattle.conn_engine.specs.declared.frame_ends.FrameEnds.{FrameEnds}
 use Rattle.conn_engine.specs.Closing.{is_over, over_of, place_given}
 use Rattle.conn_engine.specs.Lacing.{IsPut}
@@ -160,13 +160,13 @@ given_stopped : (extent : Extent) (before after : Connection) (fed given piece :
     → HasGiven (extent_after extent (Err fault)) after (fed ++ piece) given ticks
 given_stopped extent before after fed given piece fault last said ticks h none kept frames marks went stops place =
     given_on extent (extent_after extent (Err fault)) before after fed given piece last said ticks h none kept frames marks went (λ is. stop_unsaid fault after.ahead last said is stops)
-    (subst (λ (p : Place). SaysAt (extent_after extent (Err fault)) p after.ahead [] said) (sym place) (stop_says extent fault after.ahead last said stops))
+    (subst (λ (p : EngineState). SaysAt (extent_after extent (Err fault)) p after.ahead [] said) (sym place) (stop_says extent fault after.ahead last said stops))
 
 given_steps : (extent : Extent) (before after : Connection) (fed given piece : List ℕ) (result : Result Unit EngineFault) (ticks : ℕ) (h : HasGiven extent before fed given ticks) → h.said ≡ [] → h.unkept ≡ []
     → after.frames ≡ before.frames → after.marks ≡ before.marks → AfterSteps (and_piece (talk_of before) piece) (talk_of after) result → after.place ≡ place_after result after.ahead.phase
     → HasGiven (extent_after extent result) after (and_fed result fed piece) given ticks
 given_steps extent before after fed given piece (Ok done) ticks h none kept frames marks did place =
-    given_on extent extent before after fed given piece [] [] ticks h none kept frames marks did.0 (λ is. refl) (subst (λ (p : Place). SaysAt extent p after.ahead [] []) (sym place) (refl, refl, did.1))
+    given_on extent extent before after fed given piece [] [] ticks h none kept frames marks did.0 (λ is. refl) (subst (λ (p : EngineState). SaysAt extent p after.ahead [] []) (sym place) (refl, refl, did.1))
 given_steps extent before after fed given piece (Err faults.HeaderRefused) ticks h none kept frames marks did place = given_stopped extent before after fed given piece faults.HeaderRefused did.0 did.1 ticks h none kept frames marks did.2 did.3 place
 given_steps extent before after fed given piece (Err faults.Frame) ticks h none kept frames marks did place = given_stopped extent before after fed given piece faults.Frame did.0 did.1 ticks h none kept frames marks did.2 did.3 place
 given_steps extent before after fed given piece (Err (faults.Port fault)) ticks h none kept frames marks did place = given_stopped extent before after fed given piece (faults.Port fault) did.0 did.1 ticks h none kept frames marks did.2 did.3 place
@@ -198,17 +198,17 @@ given_piece extent before after fed given piece result ticks h none kept frames 
     subst (λ (r : Result Unit EngineFault). HasGiven (extent_after extent r) after (and_fed r fed piece) given ticks) (sym is)
     (given_elsewhere extent Part before after fed (fed ++ piece) given (h.unkept ++ piece) ticks h (ap (λ (t : Talk). t.ahead) same) (ap (λ (t : Talk). t.waiting) same) frames marks (ap (λ (t : Talk). t.time_out) same)
     (piece_unkept fed h.unkept piece h.steps before.ahead h.follows)
-    (subst (λ (p : Place). SaysAt Part p before.ahead (h.unkept ++ piece) h.said) (sym over) (inl none)))
+    (subst (λ (p : EngineState). SaysAt Part p before.ahead (h.unkept ++ piece) h.said) (sym over) (inl none)))
 
 given_closing : (extent : Extent) (before : Connection) (fed given piece : List ℕ) (ticks : ℕ) (h : HasGiven extent before fed given ticks) → before.place ≡ Closing → HasGiven extent before (fed ++ piece) given ticks
 given_closing extent before fed given piece ticks h place =
     given_elsewhere extent extent before before fed (fed ++ piece) given (h.unkept ++ piece) ticks h refl refl refl refl refl (piece_unkept fed h.unkept piece h.steps before.ahead h.follows)
-    (subst (λ (p : Place). SaysAt extent p before.ahead (h.unkept ++ piece) h.said) (sym place) (subst (λ (p : Place). SaysAt extent p before.ahead h.unkept h.said) place h.says))
+    (subst (λ (p : EngineState). SaysAt extent p before.ahead (h.unkept ++ piece) h.said) (sym place) (subst (λ (p : EngineState). SaysAt extent p before.ahead h.unkept h.said) place h.says))
 
-pub given_at : (place : Place) (extent : Extent) (before after : Connection) (fed given piece : List ℕ) (ticks : ℕ) (result : Result Unit EngineFault) → before.place ≡ place → after.frames ≡ before.frames → after.marks ≡ before.marks
+pub given_at : (place : EngineState) (extent : Extent) (before after : Connection) (fed given piece : List ℕ) (ticks : ℕ) (result : Result Unit EngineFault) → before.place ≡ place → after.frames ≡ before.frames → after.marks ≡ before.marks
     → FedAt place before after piece result → HasGiven extent before fed given ticks → HasGiven (extent_after extent result) after (and_fed result fed piece) given ticks
 given_at Reading extent before after fed given piece ticks result at frames marks did h =
-    let says = subst (λ (p : Place). SaysAt extent p before.ahead h.unkept h.said) at h.says in
+    let says = subst (λ (p : EngineState). SaysAt extent p before.ahead h.unkept h.said) at h.says in
     given_piece extent before after fed given piece result ticks h says.0 says.1 frames marks did.0 did.1
 given_at Closing extent before after fed given piece ticks result at frames marks did h =
     subst (λ (r : Result Unit EngineFault). HasGiven (extent_after extent r) after (and_fed r fed piece) given ticks) (sym did.0)
@@ -219,22 +219,22 @@ given_at (Over loss) extent before after fed given piece ticks result at frames 
 -- ---- the other calls
 
 -- an engine that goes on no more, whatever the router was told
-says_over : (extent : Extent) (place : Place) (loss : Loss) (ahead : Ahead) (unkept said : List ℕ) → SaysAt extent place ahead unkept said → SaysAt extent (Over loss) ahead unkept said
+says_over : (extent : Extent) (place : EngineState) (loss : Loss) (ahead : Ahead) (unkept said : List ℕ) → SaysAt extent place ahead unkept said → SaysAt extent (Over loss) ahead unkept said
 says_over extent Reading loss ahead unkept said is = over_says extent loss ahead unkept said (inr (inl is))
 says_over extent Closing loss ahead unkept said is = over_says extent loss ahead unkept said (inl is)
 says_over Whole (Over other) loss ahead unkept said is = is
 says_over Part (Over other) loss ahead unkept said is = is
 
-says_over_of : (extent : Extent) (place : Place) (ahead : Ahead) (unkept said : List ℕ) → SaysAt extent place ahead unkept said → SaysAt extent (over_of place) ahead unkept said
+says_over_of : (extent : Extent) (place : EngineState) (ahead : Ahead) (unkept said : List ℕ) → SaysAt extent place ahead unkept said → SaysAt extent (over_of place) ahead unkept said
 says_over_of extent Reading ahead unkept said is = says_over extent Reading Untold ahead unkept said is
 says_over_of extent Closing ahead unkept said is = says_over extent Closing Untold ahead unkept said is
 says_over_of extent (Over loss) ahead unkept said is = is
 
-says_by : (extent : Extent) (place : Place) (is_given : Bool) (ahead : Ahead) (unkept said : List ℕ) → SaysAt extent place ahead unkept said → SaysAt extent (if is_given then over_of place else place) ahead unkept said
+says_by : (extent : Extent) (place : EngineState) (is_given : Bool) (ahead : Ahead) (unkept said : List ℕ) → SaysAt extent place ahead unkept said → SaysAt extent (if is_given then over_of place else place) ahead unkept said
 says_by extent place true ahead unkept said is = says_over_of extent place ahead unkept said is
 says_by extent place false ahead unkept said is = is
 
-says_given : (extent : Extent) (place : Place) (close : Option ℕ) (n : ℕ) (ahead : Ahead) (unkept said : List ℕ) → SaysAt extent place ahead unkept said → SaysAt extent (place_given place close n) ahead unkept said
+says_given : (extent : Extent) (place : EngineState) (close : Option ℕ) (n : ℕ) (ahead : Ahead) (unkept said : List ℕ) → SaysAt extent place ahead unkept said → SaysAt extent (place_given place close n) ahead unkept said
 says_given extent place None n ahead unkept said is = is
 says_given extent place (Some end) n ahead unkept said is = says_by extent place (nat_le end n) ahead unkept said is
 
@@ -309,7 +309,7 @@ given_refilled extent before after fed given ticks filled same h =
           ap (λ (t : List ℕ). given ++ t) filled.took.put ∙ sym (append_assoc given before.waiting (concat more)) ∙ ap (λ (t : List ℕ). t ++ concat more) h.octets
           ∙ append_assoc (answers_to h.steps ++ h.said) h.put (concat more);
       is_put = put_refilled before after ticks h.put filled (ap (λ (c : Connection). is_asked c.time_out) same) h.is_put;
-      says = subst (λ (p : Place). SaysAt extent p after.ahead h.unkept h.said) (ap (λ (c : Connection). c.place) (sym same)) (subst (λ (a : Ahead). SaysAt extent before.place a h.unkept h.said) ahead h.says);
+      says = subst (λ (p : EngineState). SaysAt extent p after.ahead h.unkept h.said) (ap (λ (c : Connection). c.place) (sym same)) (subst (λ (a : Ahead). SaysAt extent before.place a h.unkept h.said) ahead h.says);
       behind = subst (λ (a : Ahead). (a.phase ≡ Open) ⊎ (after.frames ≡ [])) ahead (refilled_behind before.ahead.phase before.frames after.frames filled.closed (is_open before.ahead.phase) h.behind);
     }
 

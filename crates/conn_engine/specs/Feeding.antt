@@ -13,9 +13,9 @@ use Rattle.stream_reading.specs.Stream.{BeginsWith, IsLess, IsRefused, MayStand,
 use Rattle.stream_reading.specs.Steps.{Ahead, MayFollow, StepText, answers_to, octets_of}
 use Rattle.conn_engine.specs.declared.fault.EngineFault.{EngineFault}
 use Rattle.conn_engine.specs.declared.fault.EngineFault.TheVariants as faults
-use Rattle.conn_engine.specs.declared.place.Loss.TheVariants.{Untold}
-use Rattle.conn_engine.specs.declared.place.Place.{Place}
-use Rattle.conn_engine.specs.declared.place.Place.TheVariants.{Reading, Closing, Over}
+use Rattle.conn_engine.specs.declared.engine_state.Loss.TheVariants.{Untold}
+use Rattle.conn_engine.specs.declared.engine_state.EngineState.{EngineState}
+use Rattle.conn_engine.specs.declared.engine_state.EngineState.TheVariants.{Reading, Closing, Over}
 use Rattle.conn_engine.specs.Serving.{Connection, Extent, Part, and_unkept, items_of}
 use Rattle.conn_engine.specs.Silence.{time_out_after}
 
@@ -130,12 +130,12 @@ AfterPiece before after piece result = AfterSteps (and_piece before piece) after
 -- ---- a feed
 
 -- where an engine is whose octets stopped being frames: something is to be given where frames were due
-abbrev pub place_at_fault : Phase → Place
+abbrev pub place_at_fault : Phase → EngineState
 place_at_fault Open = Closing
 place_at_fault phase = Over Untold
 
 -- where an engine is that read a piece
-abbrev pub place_after : Result Unit EngineFault → Phase → Place
+abbrev pub place_after : Result Unit EngineFault → Phase → EngineState
 place_after (Ok done) phase = Reading
 place_after (Err faults.Frame) phase = place_at_fault phase
 place_after (Err fault) phase = Over Untold
@@ -144,7 +144,7 @@ abbrev pub talk_of : Connection → Talk
 talk_of c = talk c.items c.ahead c.waiting c.time_out
 
 -- what a feed did, by where the engine was
-abbrev pub FedAt : Place → Connection → Connection → List ℕ → Result Unit EngineFault → Type 0
+abbrev pub FedAt : EngineState → Connection → Connection → List ℕ → Result Unit EngineFault → Type 0
 FedAt Reading before after piece result = AfterPiece (talk_of before) (talk_of after) piece result × (after.place ≡ place_after result after.ahead.phase)
 FedAt Closing before after piece result = (result ≡ Err faults.Frame) × (after ≡ before)
 FedAt (Over loss) before after piece result = (result ≡ Err faults.Over) × (after ≡ before)

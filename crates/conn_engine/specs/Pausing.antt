@@ -3,7 +3,7 @@ use Rattle.std.specs.Prelude.{ℕ, Bool, List, Option}
 use Rattle.capture_form.specs.declared.records.What.{What}
 use Rattle.stream_reading.specs.Steps.{Ahead}
 use Rattle.conn_engine.specs.declared.frame_ends.FrameEnds.{FrameEnds}
-use Rattle.conn_engine.specs.declared.place.Place.{Place}
+use Rattle.conn_engine.specs.declared.engine_state.EngineState.{EngineState}
 use Rattle.conn_engine.specs.declared.silence.Silence.{Silence}
 use Rattle.conn_engine.specs.Serving.{Connection}
 
@@ -13,7 +13,7 @@ pub record Paused : Type 0 where
   pub ahead : Ahead
   pub waiting : List ℕ
   pub marks : FrameEnds
-  pub place : Place
+  pub place : EngineState
   pub time_out : Option ℕ
   pub silence : Silence
 

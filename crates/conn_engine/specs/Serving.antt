@@ -10,10 +10,10 @@ use Rattle.stream_reading.specs.declared.step.StreamFault.{StreamFault}
 use Rattle.stream_reading.specs.declared.step.StreamFault.TheVariants as stops
 use Rattle.stream_reading.specs.Stream.{BeginsWith, IsLess, IsRefused, MayStand, answer_to, answer_to_fault}
 use Rattle.stream_reading.specs.Steps.{Ahead, IsAfter, StepText, answers_to}
-use Rattle.conn_engine.specs.declared.place.Loss.{Loss}
-use Rattle.conn_engine.specs.declared.place.Loss.TheVariants.{Untold, Told, Refused}
-use Rattle.conn_engine.specs.declared.place.Place.{Place}
-use Rattle.conn_engine.specs.declared.place.Place.TheVariants.{Reading, Closing, Over}
+use Rattle.conn_engine.specs.declared.engine_state.Loss.{Loss}
+use Rattle.conn_engine.specs.declared.engine_state.Loss.TheVariants.{Untold, Told, Refused}
+use Rattle.conn_engine.specs.declared.engine_state.EngineState.{EngineState}
+use Rattle.conn_engine.specs.declared.engine_state.EngineState.TheVariants.{Reading, Closing, Over}
 use Rattle.conn_engine.specs.declared.frame_ends.FrameEnds.{FrameEnds}
 use Rattle.conn_engine.specs.declared.silence.Silence.{Silence}
 use Rattle.conn_engine.specs.Lacing.{IsPut}
@@ -31,7 +31,7 @@ pub record Connection : Type 0 where
   pub waiting : List ℕ
   pub is_idle : Bool
   pub marks : FrameEnds
-  pub place : Place
+  pub place : EngineState
   pub time_out : Option ℕ
   pub silence : Silence
 
@@ -70,7 +70,7 @@ pub record EndsOver (ahead : Ahead) (loss : Loss) (last : List What) : Type 0 wh
 
 -- what the items end with behind those of the steps, by what is ahead and what was not kept of the octets behind it:
 -- nothing while they are read, and then all are kept and no step is whole
-abbrev pub EndsAt : Place → Ahead → List ℕ → List What → Type 0
+abbrev pub EndsAt : EngineState → Ahead → List ℕ → List What → Type 0
 EndsAt Reading ahead unkept last = (last ≡ []) × (unkept ≡ []) × IsLess ahead.phase ahead.octets
 EndsAt Closing ahead unkept last = (last ≡ happened.Broken ∷ []) × StopsBeingFrames ahead
 EndsAt (Over loss) ahead unkept last = EndsOver ahead loss last
@@ -104,7 +104,7 @@ SaysLast ahead unkept said =
     ⊎ ((octets : List ℕ) × (said ≡ answer_to AmqpHeader) × MayStand ahead.phase AmqpHeader octets × BeginsWith ahead.octets octets)
 
 -- what is said behind the answers to the steps, by where it is
-abbrev pub SaysAt : Extent → Place → Ahead → List ℕ → List ℕ → Type 0
+abbrev pub SaysAt : Extent → EngineState → Ahead → List ℕ → List ℕ → Type 0
 SaysAt extent Reading ahead unkept said = (said ≡ []) × (unkept ≡ []) × IsLess ahead.phase ahead.octets
 SaysAt extent Closing ahead unkept said = (said ≡ []) × (ahead.phase ≡ Open)
 SaysAt Extent.Whole (Over loss) ahead unkept said = SaysLast ahead unkept said

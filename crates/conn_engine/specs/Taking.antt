@@ -6,10 +6,10 @@ use Rattle.stream_reading.specs.declared.step.Phase.{Phase}
 use Rattle.stream_reading.specs.declared.step.Phase.TheVariants.{Open}
 use Rattle.conn_engine.specs.declared.fault.EngineFault.{EngineFault}
 use Rattle.conn_engine.specs.declared.taking.TheConstants.{ENOUGH_OCTETS}
-use Rattle.conn_engine.specs.declared.place.Loss.{Loss}
-use Rattle.conn_engine.specs.declared.place.Loss.TheVariants.{Untold, Told, Refused}
-use Rattle.conn_engine.specs.declared.place.Place.{Place}
-use Rattle.conn_engine.specs.declared.place.Place.TheVariants.{Reading, Closing, Over}
+use Rattle.conn_engine.specs.declared.engine_state.Loss.{Loss}
+use Rattle.conn_engine.specs.declared.engine_state.Loss.TheVariants.{Untold, Told, Refused}
+use Rattle.conn_engine.specs.declared.engine_state.EngineState.{EngineState}
+use Rattle.conn_engine.specs.declared.engine_state.EngineState.TheVariants.{Reading, Closing, Over}
 use Rattle.conn_engine.specs.declared.frame_ends.FrameEnds.{FrameEnds}
 use Rattle.conn_engine.specs.Closing.{over_of}
 use Rattle.conn_engine.specs.FrameEnds.{marks_at, marks_after}
@@ -41,7 +41,7 @@ pub record Refilled (before after : Connection) : Type 0 where
   pub closed : before.ahead.phase ≢ Open → after.frames ≡ before.frames
 
 -- the router is still to be told of a loss: it was told that the connection is open, and of no loss
-abbrev pub is_loss_due : Phase → Place → Bool
+abbrev pub is_loss_due : Phase → EngineState → Bool
 is_loss_due Open Reading = true
 is_loss_due Open Closing = true
 is_loss_due Open (Over Untold) = true

@@ -2,7 +2,7 @@
 
 ghost use Rattle.std.specs.Prelude.{◌≡◌, ◌≤◌, ◌++◌, ℕ, List, [], length, take, drop, None, Some, OnOk};
 ghost use Rattle.stream_reading.specs.declared.step.Phase.TheVariants.{FirstHeader, Open};
-ghost use Rattle.conn_engine.specs.declared.place.Place.TheVariants.{Reading};
+ghost use Rattle.conn_engine.specs.declared.engine_state.EngineState.TheVariants.{Reading};
 ghost use Rattle.conn_engine.specs.Closing.{is_over, place_given};
 ghost use Rattle.conn_engine.specs.FrameEnds.{no_marks, marks_left};
 ghost use Rattle.conn_engine.specs.Silence.{no_silence, silence_given};
@@ -11,11 +11,11 @@ ghost use Rattle.conn_engine.specs.Feeding.{FedAt, and_fed, extent_after, place_
 ghost use Rattle.conn_engine.specs.Taking.{AfterLoss, IsRefilled, Refilled, is_loss_due, loss_of};
 ghost use Rattle.conn_engine.specs.Ticking.{AfterTick, and_tick, patience_of};
 
+use crate::engine_state::{EngineState, Loss};
 use crate::fault::EngineFault;
 use crate::feeding::{submit, take_piece};
 use crate::frame_ends::FrameEnds;
 use crate::output::Output;
-use crate::place::{Loss, Place};
 use crate::port::Port;
 use crate::silence::{EMPTY_FRAME, Silence, patience};
 use crate::taking::take_frames;
@@ -46,7 +46,7 @@ pub struct Engine<P: Port> {
     next: u64,
     /// Where the router's open and its close end among the octets that wait.
     marks: FrameEnds,
-    place: Place,
+    place: EngineState,
     /// The idle-time-out of the client's open, in milliseconds, once it came; 0 where it has none.
     time_out: Option<u32>,
     silence: Silence,
@@ -78,7 +78,7 @@ impl<P: Port> Engine<P> {
             output: Output::new(alloc),
             next: 0,
             marks: FrameEnds::new(),
-            place: Place::Reading,
+            place: EngineState::Reading,
             time_out: None,
             silence: Silence::new(),
         }
@@ -101,9 +101,9 @@ impl<P: Port> Engine<P> {
             → HasGiven (extent_after extent result) self.new (and_fed result fed piece.now) given ticks }
     {
         match self.place {
-            Place::Reading => self.read_piece(piece),
-            Place::Closing => Err(EngineFault::Frame),
-            Place::Over(_) => Err(EngineFault::Over),
+            EngineState::Reading => self.read_piece(piece),
+            EngineState::Closing => Err(EngineFault::Frame),
+            EngineState::Over(_) => Err(EngineFault::Over),
         }
     }
 
@@ -271,7 +271,7 @@ impl<P: Port> Engine<P> {
             return Ok(());
         }
         let told = submit(&mut self.port, Item::Lost(self.connection));
-        self.place = Place::Over(loss_of(told));
+        self.place = EngineState::Over(loss_of(told));
         told
     }
 
@@ -294,21 +294,23 @@ impl<P: Port> Engine<P> {
 }
 
 /// Where an engine is that read a piece.
-fn place_after(taken: Result<(), EngineFault>, phase: Phase) -> Place
+fn place_after(taken: Result<(), EngineFault>, phase: Phase) -> EngineState
     ensures { result ≡ place_after taken phase }
 {
     match taken {
-        Ok(()) => Place::Reading,
+        Ok(()) => EngineState::Reading,
         Err(EngineFault::Frame) => match phase {
-            Phase::Open => Place::Closing,
-            Phase::FirstHeader | Phase::Exchange | Phase::SecondHeader => Place::Over(Loss::Untold),
+            Phase::Open => EngineState::Closing,
+            Phase::FirstHeader | Phase::Exchange | Phase::SecondHeader => EngineState::Over(
+                Loss::Untold,
+            ),
         },
-        Err(_) => Place::Over(Loss::Untold),
+        Err(_) => EngineState::Over(Loss::Untold),
     }
 }
 
 /// Where an engine is when the first `n` octets that waited were given, of which so many are up to the end of a close.
-fn place_given(place: Place, close: Option<usize>, n: usize) -> Place
+fn place_given(place: EngineState, close: Option<usize>, n: usize) -> EngineState
     ensures { result ≡ place_given place close n }
 {
     match close {

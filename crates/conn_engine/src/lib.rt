@@ -7,19 +7,19 @@
 //! frame.
 //!
 //! - `gate`, `port`: what is asked of a device, and of a router;
-//! - `engine`: the engine; `place` is where it is, `fault` why it does not go on;
+//! - `engine`: the engine; `engine_state` is where it is, `fault` why it does not go on;
 //! - `feeding`: what it does with the octets of its client; `taking`: what it takes from its port;
 //! - `output`: octets that wait to be given; `frame_ends`: where the router's open and its close end among them;
 //! - `said`: what a frame says of the connection itself; `silence`: how long a client has heard nothing.
 #![tactic(auto)]
 
 mod engine;
+mod engine_state;
 mod fault;
 mod feeding;
 mod frame_ends;
 mod gate;
 mod output;
-mod place;
 mod port;
 mod said;
 mod silence;

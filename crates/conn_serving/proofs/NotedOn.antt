@@ -4,8 +4,8 @@ use Rattle.std.specs.List.{concat}
 use Rattle.std.proofs.lemmas.List.{append-nil, drop_at, length-append}
 use Rattle.std.proofs.lemmas.List.Folds.{concat-append}
 use Rattle.conn_engine.specs.declared.fault.EngineFault.{EngineFault}
-use Rattle.conn_engine.specs.declared.place.Place.{Place}
-use Rattle.conn_engine.specs.declared.place.Place.TheVariants.{Reading, Closing, Over}
+use Rattle.conn_engine.specs.declared.engine_state.EngineState.{EngineState}
+use Rattle.conn_engine.specs.declared.engine_state.EngineState.TheVariants.{Reading, Closing, Over}
 use Rattle.conn_engine.specs.Closing.{is_over, place_given}
 use Rattle.conn_engine.specs.FrameEnds.{marks_left}
 use Rattle.conn_engine.specs.Silence.{silence_given}
@@ -42,7 +42,7 @@ piece_put : (before after : Talk) (piece : List ℕ) (result : Result Unit Engin
 piece_put before after piece result (inl did) = steps_put (and_piece before piece) after result did
 piece_put before after piece result (inr did) = ([], ap (λ (t : Talk). t.waiting) did.1 ∙ sym (append-nil before.waiting))
 
-fed_put : (place : Place) (before after : Connection) (piece : List ℕ) (result : Result Unit EngineFault) → FedAt place before after piece result → (said : List ℕ) × (after.waiting ≡ before.waiting ++ said)
+fed_put : (place : EngineState) (before after : Connection) (piece : List ℕ) (result : Result Unit EngineFault) → FedAt place before after piece result → (said : List ℕ) × (after.waiting ≡ before.waiting ++ said)
 fed_put Reading before after piece result did = piece_put (talk_of before) (talk_of after) piece result did.0
 fed_put Closing before after piece result did = ([], ap (λ (c : Connection). c.waiting) did.1 ∙ sym (append-nil before.waiting))
 fed_put (Over loss) before after piece result did = ([], ap (λ (c : Connection). c.waiting) did.1 ∙ sym (append-nil before.waiting))

@@ -5,9 +5,9 @@ use Rattle.capture_form.specs.declared.records.What.{What}
 use Rattle.stream_reading.specs.declared.step.Phase.TheVariants.{FirstHeader}
 use Rattle.stream_reading.specs.Steps.{Ahead}
 use Rattle.conn_engine.specs.declared.fault.EngineFault.{EngineFault}
-use Rattle.conn_engine.specs.declared.place.Loss.TheVariants.{Untold, Told, Refused}
-use Rattle.conn_engine.specs.declared.place.Place.{Place}
-use Rattle.conn_engine.specs.declared.place.Place.TheVariants.{Reading, Closing, Over}
+use Rattle.conn_engine.specs.declared.engine_state.Loss.TheVariants.{Untold, Told, Refused}
+use Rattle.conn_engine.specs.declared.engine_state.EngineState.{EngineState}
+use Rattle.conn_engine.specs.declared.engine_state.EngineState.TheVariants.{Reading, Closing, Over}
 use Rattle.conn_engine.specs.Closing.{is_over}
 use Rattle.conn_engine.specs.FrameEnds.{no_marks}
 use Rattle.conn_engine.specs.Silence.{is_asked, no_silence}
@@ -79,7 +79,7 @@ open_fed Delivered Took gate done before after script later piece delivered took
 }
 
 -- why an engine is over
-over_cause : (place : Place) (has_ended : Bool) (ahead : Ahead) (frames : List (List ℕ)) (waiting : List ℕ) → is_over place ≡ true → waiting ≡ [] → IsOverFor place ahead frames → HasCause has_ended ahead frames waiting
+over_cause : (place : EngineState) (has_ended : Bool) (ahead : Ahead) (frames : List (List ℕ)) (waiting : List ℕ) → is_over place ≡ true → waiting ≡ [] → IsOverFor place ahead frames → HasCause has_ended ahead frames waiting
 over_cause Reading has_ended ahead frames waiting is none over = absurd cc
 over_cause Closing has_ended ahead frames waiting is none over = absurd cc
 over_cause (Over Untold) has_ended ahead frames waiting is none (inl over) = inr (inl over)
@@ -87,7 +87,7 @@ over_cause (Over Untold) has_ended ahead frames waiting is none (inr over) = inr
 over_cause (Over Told) has_ended ahead frames waiting is none over = absurd over
 over_cause (Over Refused) has_ended ahead frames waiting is none over = absurd over
 
-cause : (place : Place) (has_ended later : Bool) (ahead : Ahead) (frames : List (List ℕ)) (waiting : List ℕ) → later ≡ has_ended → (has_ended ≡ true) ⊎ ((is_over place ≡ true) × (waiting ≡ []))
+cause : (place : EngineState) (has_ended later : Bool) (ahead : Ahead) (frames : List (List ℕ)) (waiting : List ℕ) → later ≡ has_ended → (has_ended ≡ true) ⊎ ((is_over place ≡ true) × (waiting ≡ []))
     → IsOverFor place ahead frames → HasCause later ahead frames waiting
 cause place has_ended later ahead frames waiting same (inl is) over = inl (same ∙ is)
 cause place has_ended later ahead frames waiting same (inr is) over = over_cause place later ahead frames waiting is.0 is.1 over

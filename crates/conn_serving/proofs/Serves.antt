@@ -11,9 +11,9 @@ use Rattle.stream_reading.specs.Stream.{IsRefused}
 use Rattle.stream_reading.specs.Steps.{Ahead, answers_to}
 use Rattle.conn_engine.specs.declared.fault.EngineFault.{EngineFault}
 use Rattle.conn_engine.specs.declared.fault.EngineFault.TheVariants as faults
-use Rattle.conn_engine.specs.declared.place.Loss.TheVariants.{Untold, Told, Refused}
-use Rattle.conn_engine.specs.declared.place.Place.{Place}
-use Rattle.conn_engine.specs.declared.place.Place.TheVariants.{Reading, Closing, Over}
+use Rattle.conn_engine.specs.declared.engine_state.Loss.TheVariants.{Untold, Told, Refused}
+use Rattle.conn_engine.specs.declared.engine_state.EngineState.{EngineState}
+use Rattle.conn_engine.specs.declared.engine_state.EngineState.TheVariants.{Reading, Closing, Over}
 use Rattle.conn_engine.specs.Closing.{is_over, place_given}
 use Rattle.conn_engine.specs.Lacing.{IsPut}
 use Rattle.conn_engine.specs.FrameEnds.{marks_left, no_marks}
@@ -226,7 +226,7 @@ serving_refused : (before after : Connection) (octets piece taken : List ℕ) (f
     → IsServing after (octets ++ piece) taken
 serving_refused before after octets piece taken fault last said h unfinished went frames marks stopped why place =
     serving_on before after octets piece taken last said h unfinished went frames marks (λ is. stop_unsaid fault after.ahead last said is stopped) (inr why.0)
-    (λ is. absurd (over_not_reading (sym place ∙ is))) (λ is. why.0) (subst (λ (p : Place). IsOverFor p after.ahead after.frames) (sym place) (inl why.1))
+    (λ is. absurd (over_not_reading (sym place ∙ is))) (λ is. why.0) (subst (λ (p : EngineState). IsOverFor p after.ahead after.frames) (sym place) (inl why.1))
 
 -- octets that are no frame
 serving_unframed : (before after : Connection) (octets piece taken : List ℕ) (last : List What) (said : List ℕ) (h : IsServing before octets taken)
@@ -237,7 +237,7 @@ serving_unframed before after octets piece taken last said h unfinished went fra
     let why : IsStopped after.ahead last said = (stops.BadFrame, stopped.0, stopped.1, stopped.2) in
     serving_on before after octets piece taken last said h unfinished went frames marks (λ is. stopped.2) (inr why)
     (λ is. absurd (not_reading after.ahead.phase (sym place ∙ is))) (λ is. why)
-    (subst (λ (p : Place). IsOverFor p after.ahead after.frames) (sym place) (over_at_fault after.ahead.phase after.ahead.octets after.frames stopped.0))
+    (subst (λ (p : EngineState). IsOverFor p after.ahead after.frames) (sym place) (over_at_fault after.ahead.phase after.ahead.octets after.frames stopped.0))
 
 serving_steps : (before after : Connection) (octets piece taken : List ℕ) (result : Result Unit EngineFault) (h : IsServing before octets taken)
     → IsUnfinished before.ahead h.stream.behind h.stream.told h.stream.said → AfterSteps (and_piece (talk_of before) piece) (talk_of after) result
@@ -245,7 +245,7 @@ serving_steps : (before after : Connection) (octets piece taken : List ℕ) (res
     → IsServing after (octets ++ piece) taken
 serving_steps before after octets piece taken (Ok done) h unfinished did frames marks place goes =
     serving_on before after octets piece taken [] [] h unfinished did.0 frames marks (λ is. refl) (inl (refl, refl, refl, did.1)) (λ is. (refl, refl, refl, did.1)) (λ is. absurd (by (sym place ∙ is)))
-    (subst (λ (p : Place). IsOverFor p after.ahead after.frames) (sym place) tt)
+    (subst (λ (p : EngineState). IsOverFor p after.ahead after.frames) (sym place) tt)
   where
     by : Reading ≡ Closing → ⊥
     by is = cc
@@ -302,7 +302,7 @@ serving_closing before octets piece taken place h = record {
     by : Closing ≡ Reading → ⊥
     by is = cc
 
-serving_at : (place : Place) (before after : Connection) (octets piece taken : List ℕ) (result : Result Unit EngineFault) → before.place ≡ place → is_over place ≡ false → FedAt place before after piece result
+serving_at : (place : EngineState) (before after : Connection) (octets piece taken : List ℕ) (result : Result Unit EngineFault) → before.place ≡ place → is_over place ≡ false → FedAt place before after piece result
     → after.frames ≡ before.frames → after.marks ≡ before.marks → stop_of result ≡ None → IsServing before octets taken → IsServing after (octets ++ piece) taken
 serving_at Reading before after octets piece taken result at going did frames marks goes h = serving_piece before after octets piece taken result h (h.reads at) did.0 frames marks did.1 goes
 serving_at Closing before after octets piece taken result at going did frames marks goes h =
@@ -328,7 +328,7 @@ told_loss before after (Err faults.Memory) did goes = absurd cc
 untold_loss : (before after : Connection) (result : Result Unit EngineFault) → AfterLoss false before after result → (after.items ≡ before.items ++ []) × (after.frames ≡ before.frames)
 untold_loss before after result did = (ap (λ (c : Connection). c.items) did.1 ∙ sym (append-nil before.items), ap (λ (c : Connection). c.frames) did.1)
 
-loss_by : (phase : Phase) (place : Place) (ahead : Ahead) (before after : Connection) (result : Result Unit EngineFault) → IsOverFor place ahead before.frames → AfterLoss (is_loss_due phase place) before after result
+loss_by : (phase : Phase) (place : EngineState) (ahead : Ahead) (before after : Connection) (result : Result Unit EngineFault) → IsOverFor place ahead before.frames → AfterLoss (is_loss_due phase place) before after result
     → stop_of result ≡ None → (after.items ≡ before.items ++ loss_at phase) × (after.frames ≡ before.frames)
 loss_by FirstHeader place ahead before after result over did goes = untold_loss before after result did
 loss_by Exchange place ahead before after result over did goes = untold_loss before after result did

@@ -6,9 +6,9 @@ use Rattle.stream_reading.specs.declared.step.Phase.TheVariants as phases
 use Rattle.stream_reading.specs.Steps.{Ahead}
 use Rattle.conn_engine.specs.declared.fault.EngineFault.{EngineFault}
 use Rattle.conn_engine.specs.declared.fault.EngineFault.TheVariants as faults
-use Rattle.conn_engine.specs.declared.place.Loss.TheVariants.{Untold, Told, Refused}
-use Rattle.conn_engine.specs.declared.place.Place.{Place}
-use Rattle.conn_engine.specs.declared.place.Place.TheVariants.{Reading, Closing, Over}
+use Rattle.conn_engine.specs.declared.engine_state.Loss.TheVariants.{Untold, Told, Refused}
+use Rattle.conn_engine.specs.declared.engine_state.EngineState.{EngineState}
+use Rattle.conn_engine.specs.declared.engine_state.EngineState.TheVariants.{Reading, Closing, Over}
 use Rattle.conn_engine.specs.Lacing.{IsPut}
 use Rattle.conn_engine.specs.Said.{is_close}
 use Rattle.conn_engine.specs.Serving.{Connection}
@@ -32,7 +32,7 @@ abbrev pub HasClose : List (List ℕ) → Type 0
 HasClose frames = list_any is_close frames ≡ true
 
 -- why an engine is over, if it is: the client was turned away, or a close was given
-abbrev pub IsOverFor : Place → Ahead → List (List ℕ) → Type 0
+abbrev pub IsOverFor : EngineState → Ahead → List (List ℕ) → Type 0
 IsOverFor Reading ahead frames = Unit {0}
 IsOverFor Closing ahead frames = Unit {0}
 IsOverFor (Over Untold) ahead frames = IsTurnedAway ahead ⊎ HasClose frames

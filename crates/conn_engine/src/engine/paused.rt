@@ -2,15 +2,15 @@
 
 ghost use Rattle.std.specs.Prelude.{◌≡◌, [], None};
 ghost use Rattle.stream_reading.specs.declared.step.Phase.TheVariants.{FirstHeader};
-ghost use Rattle.conn_engine.specs.declared.place.Place.TheVariants.{Reading};
+ghost use Rattle.conn_engine.specs.declared.engine_state.EngineState.TheVariants.{Reading};
 ghost use Rattle.conn_engine.specs.FrameEnds.{no_marks};
 ghost use Rattle.conn_engine.specs.Pausing.{paused, resumed};
 ghost use Rattle.conn_engine.specs.Silence.{no_silence};
 
 use super::Engine;
+use crate::engine_state::EngineState;
 use crate::frame_ends::FrameEnds;
 use crate::output::Output;
-use crate::place::Place;
 use crate::port::Port;
 use crate::silence::Silence;
 use std::alloc::Global;
@@ -26,7 +26,7 @@ pub struct PausedEngine {
     output: Output,
     next: u64,
     marks: FrameEnds,
-    place: Place,
+    place: EngineState,
     time_out: Option<u32>,
     silence: Silence,
 }
@@ -50,7 +50,7 @@ impl PausedEngine {
             output: Output::new(alloc),
             next: 0,
             marks: FrameEnds::new(),
-            place: Place::Reading,
+            place: EngineState::Reading,
             time_out: None,
             silence: Silence::new(),
         }

@@ -1,5 +1,5 @@
 use Rattle.std.proofs.Common.{◌≡◌, rules}
-use Rattle.conn_engine.specs.declared.place.Place.TheVariants.{Reading}
+use Rattle.conn_engine.specs.declared.engine_state.EngineState.TheVariants.{Reading}
 use Rattle.conn_engine.proofs.FedOn.{fed_at}
 use Rattle.conn_engine.proofs.GivenOn.{given_at}
 use Rattle.conn_engine.proofs.engine.Engine.feed.Goals as goal

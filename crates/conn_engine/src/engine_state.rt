@@ -8,7 +8,7 @@ use stream_reading::Phase;
 
 /// Whether octets are taken.
 #[derive(Clone, Copy, Debug, PartialEq, Eq)]
-pub(crate) enum Place {
+pub(crate) enum EngineState {
     /// They are.
     Reading,
     /// Not any more: they stopped being frames, and the router was told so. Its close is still to be given.
@@ -26,14 +26,14 @@ pub(crate) enum Loss {
     Refused,
 }
 
-impl Place {
+impl EngineState {
     /// Where an engine is then that goes on no more.
-    pub(crate) fn over(self) -> Place
+    pub(crate) fn over(self) -> EngineState
         ensures { result ≡ over_of self }
     {
         match self {
-            Place::Reading | Place::Closing => Place::Over(Loss::Untold),
-            Place::Over(loss) => Place::Over(loss),
+            EngineState::Reading | EngineState::Closing => EngineState::Over(Loss::Untold),
+            EngineState::Over(loss) => EngineState::Over(loss),
         }
     }
 
@@ -41,8 +41,8 @@ impl Place {
         ensures { result ≡ is_over self }
     {
         match self {
-            Place::Reading | Place::Closing => false,
-            Place::Over(_) => true,
+            EngineState::Reading | EngineState::Closing => false,
+            EngineState::Over(_) => true,
         }
     }
 
@@ -52,8 +52,9 @@ impl Place {
     {
         match phase {
             Phase::Open => match self {
-                Place::Reading | Place::Closing | Place::Over(Loss::Untold) => true,
-                Place::Over(Loss::Told) | Place::Over(Loss::Refused) => false,
+                EngineState::Reading | EngineState::Closing | EngineState::Over(Loss::Untold) =>
+                    true,
+                EngineState::Over(Loss::Told) | EngineState::Over(Loss::Refused) => false,
             },
             Phase::FirstHeader | Phase::Exchange | Phase::SecondHeader => false,
         }
