@@ -17,7 +17,7 @@ use Rattle.conn_engine.specs.Closing.{over_of, place_given}
 use Rattle.conn_engine.specs.FrameEnds.{marks_left}
 use Rattle.conn_engine.specs.Silence.{silence_given, time_out_after}
 use Rattle.conn_engine.specs.Serving.{Connection, EndsAt, EndsOver, HasFed, and_unkept, items_of}
-use Rattle.conn_engine.specs.Feeding.{AfterPiece, AfterSteps, FedAt, StopsFor, Talk, Went, and_fed, and_piece, place_after, place_at_fault, talk_of, items_at_fault}
+use Rattle.conn_engine.specs.Feeding.{AfterPiece, AfterSteps, FedAt, StopsFor, FeedState, Went, and_fed, and_piece, place_after, place_at_fault, feed_state_of, items_at_fault}
 use Rattle.conn_engine.specs.Taking.{AfterLoss, is_loss_due}
 use Rattle.conn_engine.specs.Ticking.{AfterTick, patience_of, ticked}
 use Rattle.conn_engine.proofs.Going.{follow_all, items_all, octets_all}
@@ -85,7 +85,7 @@ ends_stopped faults.Memory ahead last said is = ends_over ahead [] last is.0
 
 -- steps that were taken, and what was told behind them
 fed_on : (before after : Connection) (fed piece : List ℕ) (last : List What) (said : List ℕ) (h : HasFed before fed) → h.last ≡ [] → h.unkept ≡ []
-    → Went (and_piece (talk_of before) piece) (talk_of after) last said → EndsAt after.place after.ahead [] last → HasFed after (fed ++ piece)
+    → Went (and_piece (feed_state_of before) piece) (feed_state_of after) last said → EndsAt after.place after.ahead [] last → HasFed after (fed ++ piece)
 fed_on before after fed piece last said h none kept went ends = record {
   steps = h.steps ++ went.steps;
   unkept = [];
@@ -97,13 +97,13 @@ fed_on before after fed piece last said h none kept went ends = record {
 }
 
 fed_stopped : (before after : Connection) (fed piece : List ℕ) (fault : EngineFault) (last : List What) (said : List ℕ) (h : HasFed before fed) → h.last ≡ [] → h.unkept ≡ []
-    → Went (and_piece (talk_of before) piece) (talk_of after) last said → StopsFor fault after.ahead last said → after.place ≡ place_after (Err fault) after.ahead.phase
+    → Went (and_piece (feed_state_of before) piece) (feed_state_of after) last said → StopsFor fault after.ahead last said → after.place ≡ place_after (Err fault) after.ahead.phase
     → HasFed after (fed ++ piece)
 fed_stopped before after fed piece fault last said h none kept went stops place =
     fed_on before after fed piece last said h none kept went (subst (λ (p : EngineState). EndsAt p after.ahead [] last) (sym place) (ends_stopped fault after.ahead last said stops))
 
 fed_steps : (before after : Connection) (fed piece : List ℕ) (result : Result Unit EngineFault) (h : HasFed before fed) → h.last ≡ [] → h.unkept ≡ []
-    → AfterSteps (and_piece (talk_of before) piece) (talk_of after) result → after.place ≡ place_after result after.ahead.phase → HasFed after (and_fed result fed piece)
+    → AfterSteps (and_piece (feed_state_of before) piece) (feed_state_of after) result → after.place ≡ place_after result after.ahead.phase → HasFed after (and_fed result fed piece)
 fed_steps before after fed piece (Ok done) h none kept did place =
     fed_on before after fed piece [] [] h none kept did.0 (subst (λ (p : EngineState). EndsAt p after.ahead [] []) (sym place) (refl, refl, did.1))
 fed_steps before after fed piece (Err faults.HeaderRefused) h none kept did place = fed_stopped before after fed piece faults.HeaderRefused did.0 did.1 h none kept did.2 did.3 place
@@ -114,21 +114,21 @@ fed_steps before after fed piece (Err faults.SaslRefused) h none kept did place 
 fed_steps before after fed piece (Err faults.Memory) h none kept did place = fed_stopped before after fed piece faults.Memory did.0 did.1 h none kept did.2 did.3 place
 
 -- a piece that was not kept
-fed_unkept : (before after : Connection) (fed piece : List ℕ) (h : HasFed before fed) → h.last ≡ [] → talk_of after ≡ talk_of before → after.place ≡ Over Untold → HasFed after (fed ++ piece)
+fed_unkept : (before after : Connection) (fed piece : List ℕ) (h : HasFed before fed) → h.last ≡ [] → feed_state_of after ≡ feed_state_of before → after.place ≡ Over Untold → HasFed after (fed ++ piece)
 fed_unkept before after fed piece h none same place =
-    let ahead : after.ahead ≡ before.ahead = ap (λ (t : Talk). t.ahead) same in
+    let ahead : after.ahead ≡ before.ahead = ap (λ (t : FeedState). t.ahead) same in
     record {
       steps = h.steps;
       unkept = h.unkept ++ piece;
       last = h.last;
       follows = subst (λ (a : Ahead). IsAfter (fed ++ piece) h.steps (and_unkept a (h.unkept ++ piece))) (sym ahead) (piece_unkept fed h.unkept piece h.steps before.ahead h.follows);
-      items = ap (λ (t : Talk). t.items) same ∙ h.items;
-      time_out = ap (λ (t : Talk). t.time_out) same ∙ h.time_out;
+      items = ap (λ (t : FeedState). t.items) same ∙ h.items;
+      time_out = ap (λ (t : FeedState). t.time_out) same ∙ h.time_out;
       ends = subst (λ (p : EngineState). EndsAt p after.ahead (h.unkept ++ piece) h.last) (sym place) (ends_over after.ahead (h.unkept ++ piece) h.last none);
     }
 
 fed_piece : (before after : Connection) (fed piece : List ℕ) (result : Result Unit EngineFault) (h : HasFed before fed) → h.last ≡ [] → h.unkept ≡ []
-    → AfterPiece (talk_of before) (talk_of after) piece result → after.place ≡ place_after result after.ahead.phase → HasFed after (and_fed result fed piece)
+    → AfterPiece (feed_state_of before) (feed_state_of after) piece result → after.place ≡ place_after result after.ahead.phase → HasFed after (and_fed result fed piece)
 fed_piece before after fed piece result h none kept (inl did) place = fed_steps before after fed piece result h none kept did place
 fed_piece before after fed piece result h none kept (inr (is, same)) place =
     subst (λ (r : Result Unit EngineFault). HasFed after (and_fed r fed piece)) (sym is)

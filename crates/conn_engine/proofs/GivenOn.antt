@@ -23,7 +23,7 @@ use Rattle.conn_engine.specs.Lacing.{IsPut}
 use Rattle.conn_engine.specs.FrameEnds.{marks_after, marks_left}
 use Rattle.conn_engine.specs.Silence.{empty_frame, is_asked, patience, silence_given}
 use Rattle.conn_engine.specs.Serving.{Connection, Extent, Whole, Part, HasGiven, SaysAt, SaysLast, and_unkept}
-use Rattle.conn_engine.specs.Feeding.{AfterPiece, AfterSteps, FedAt, ItemRefused, StopsFor, Talk, Went, and_fed, and_piece, extent_after, place_after, place_at_fault, talk_of}
+use Rattle.conn_engine.specs.Feeding.{AfterPiece, AfterSteps, FedAt, ItemRefused, StopsFor, FeedState, Went, and_fed, and_piece, extent_after, place_after, place_at_fault, feed_state_of}
 use Rattle.conn_engine.specs.Taking.{AfterLoss, Refilled, is_loss_due}
 use Rattle.conn_engine.specs.Ticking.{AfterTick, and_tick, is_given, patience_of, ticked}
 use Rattle.conn_engine.proofs.Going.{answers_all}
@@ -138,7 +138,7 @@ put_on before after ticks put frames marks still is =
     (subst (λ (m : FrameEnds). IsPut before.frames m (is_asked after.time_out) ticks put) (sym marks) (put_asked before.frames before.marks (is_asked before.time_out) (is_asked after.time_out) ticks put still is))
 
 given_on : (extent extent_then : Extent) (before after : Connection) (fed given piece : List ℕ) (last : List What) (said : List ℕ) (ticks : ℕ) (h : HasGiven extent before fed given ticks) → h.said ≡ [] → h.unkept ≡ []
-    → after.frames ≡ before.frames → after.marks ≡ before.marks → Went (and_piece (talk_of before) piece) (talk_of after) last said → (after.ahead.phase ≡ Open → said ≡ []) → SaysAt extent_then after.place after.ahead [] said
+    → after.frames ≡ before.frames → after.marks ≡ before.marks → Went (and_piece (feed_state_of before) piece) (feed_state_of after) last said → (after.ahead.phase ≡ Open → said ≡ []) → SaysAt extent_then after.place after.ahead [] said
     → HasGiven extent_then after (fed ++ piece) given ticks
 given_on extent extent_then before after fed given piece last said ticks h none kept frames marks went silent says = record {
   steps = h.steps ++ went.steps;
@@ -156,14 +156,14 @@ given_on extent extent_then before after fed given piece last said ticks h none 
 }
 
 given_stopped : (extent : Extent) (before after : Connection) (fed given piece : List ℕ) (fault : EngineFault) (last : List What) (said : List ℕ) (ticks : ℕ) (h : HasGiven extent before fed given ticks) → h.said ≡ [] → h.unkept ≡ []
-    → after.frames ≡ before.frames → after.marks ≡ before.marks → Went (and_piece (talk_of before) piece) (talk_of after) last said → StopsFor fault after.ahead last said → after.place ≡ place_after (Err fault) after.ahead.phase
+    → after.frames ≡ before.frames → after.marks ≡ before.marks → Went (and_piece (feed_state_of before) piece) (feed_state_of after) last said → StopsFor fault after.ahead last said → after.place ≡ place_after (Err fault) after.ahead.phase
     → HasGiven (extent_after extent (Err fault)) after (fed ++ piece) given ticks
 given_stopped extent before after fed given piece fault last said ticks h none kept frames marks went stops place =
     given_on extent (extent_after extent (Err fault)) before after fed given piece last said ticks h none kept frames marks went (λ is. stop_unsaid fault after.ahead last said is stops)
     (subst (λ (p : EngineState). SaysAt (extent_after extent (Err fault)) p after.ahead [] said) (sym place) (stop_says extent fault after.ahead last said stops))
 
 given_steps : (extent : Extent) (before after : Connection) (fed given piece : List ℕ) (result : Result Unit EngineFault) (ticks : ℕ) (h : HasGiven extent before fed given ticks) → h.said ≡ [] → h.unkept ≡ []
-    → after.frames ≡ before.frames → after.marks ≡ before.marks → AfterSteps (and_piece (talk_of before) piece) (talk_of after) result → after.place ≡ place_after result after.ahead.phase
+    → after.frames ≡ before.frames → after.marks ≡ before.marks → AfterSteps (and_piece (feed_state_of before) piece) (feed_state_of after) result → after.place ≡ place_after result after.ahead.phase
     → HasGiven (extent_after extent result) after (and_fed result fed piece) given ticks
 given_steps extent before after fed given piece (Ok done) ticks h none kept frames marks did place =
     given_on extent extent before after fed given piece [] [] ticks h none kept frames marks did.0 (λ is. refl) (subst (λ (p : EngineState). SaysAt extent p after.ahead [] []) (sym place) (refl, refl, did.1))
@@ -190,13 +190,13 @@ given_elsewhere extent extent_then before after fed fed_then given unkept ticks 
 }
 
 given_piece : (extent : Extent) (before after : Connection) (fed given piece : List ℕ) (result : Result Unit EngineFault) (ticks : ℕ) (h : HasGiven extent before fed given ticks) → h.said ≡ [] → h.unkept ≡ []
-    → after.frames ≡ before.frames → after.marks ≡ before.marks → AfterPiece (talk_of before) (talk_of after) piece result → after.place ≡ place_after result after.ahead.phase
+    → after.frames ≡ before.frames → after.marks ≡ before.marks → AfterPiece (feed_state_of before) (feed_state_of after) piece result → after.place ≡ place_after result after.ahead.phase
     → HasGiven (extent_after extent result) after (and_fed result fed piece) given ticks
 given_piece extent before after fed given piece result ticks h none kept frames marks (inl did) place = given_steps extent before after fed given piece result ticks h none kept frames marks did place
 given_piece extent before after fed given piece result ticks h none kept frames marks (inr (is, same)) place =
     let over : after.place ≡ Over Untold = place ∙ ap (λ (r : Result Unit EngineFault). place_after r after.ahead.phase) is in
     subst (λ (r : Result Unit EngineFault). HasGiven (extent_after extent r) after (and_fed r fed piece) given ticks) (sym is)
-    (given_elsewhere extent Part before after fed (fed ++ piece) given (h.unkept ++ piece) ticks h (ap (λ (t : Talk). t.ahead) same) (ap (λ (t : Talk). t.waiting) same) frames marks (ap (λ (t : Talk). t.time_out) same)
+    (given_elsewhere extent Part before after fed (fed ++ piece) given (h.unkept ++ piece) ticks h (ap (λ (t : FeedState). t.ahead) same) (ap (λ (t : FeedState). t.waiting) same) frames marks (ap (λ (t : FeedState). t.time_out) same)
     (piece_unkept fed h.unkept piece h.steps before.ahead h.follows)
     (subst (λ (p : EngineState). SaysAt Part p before.ahead (h.unkept ++ piece) h.said) (sym over) (inl none)))
 

@@ -20,7 +20,7 @@ use Rattle.conn_engine.specs.declared.fault.EngineFault.TheVariants as faults
 use Rattle.conn_engine.specs.Serving.{items_in, items_of}
 use Rattle.conn_engine.specs.Silence.{time_out_at}
 use Rattle.conn_engine.proofs.TimeOuts.{time_out_on}
-use Rattle.conn_engine.specs.Feeding.{AfterStep, FaultTold, ItemRefused, Stopped, StepRefused, StopsFor, Talk, ToldMore, talk, Went, engine_fault, items_at_fault}
+use Rattle.conn_engine.specs.Feeding.{AfterStep, FaultTold, ItemRefused, Stopped, StepRefused, StopsFor, FeedState, ToldMore, feed_state, Went, engine_fault, items_at_fault}
 
 -- ---- one after the other
 
@@ -42,11 +42,11 @@ regrouped : {A : Type 0} (a b c d : List A) → (a ++ (b ++ [])) ++ (c ++ d) ≡
 regrouped a b c d = simp (append_assoc, append-nil)
 
 -- no step
-pub went_none : (t : Talk) → Went t t [] []
+pub went_none : (t : FeedState) → Went t t [] []
 went_none t = record { steps = []; parts = refl; follow = refl; items = sym (append-nil t.items); waiting = sym (append-nil t.waiting); time_out = refl }
 
 -- some, and then others
-pub went_on : (before mid after : Talk) (last : List What) (said : List ℕ) → Went before mid [] [] → Went mid after last said → Went before after last said
+pub went_on : (before mid after : FeedState) (last : List What) (said : List ℕ) → Went before mid [] [] → Went mid after last said → Went before after last said
 went_on before mid after last said first then = record {
   steps = first.steps ++ then.steps;
   parts =
@@ -64,7 +64,7 @@ went_on before mid after last said first then = record {
   time_out = time_out_on before.time_out mid.time_out after.time_out first.steps then.steps first.time_out then.time_out;
 }
 
-pub stopped_on : (before mid after : Talk) (fault : EngineFault) → Went before mid [] [] → Stopped mid after fault → Stopped before after fault
+pub stopped_on : (before mid after : FeedState) (fault : EngineFault) → Went before mid [] [] → Stopped mid after fault → Stopped before after fault
 stopped_on before mid after fault first then = (then.0, then.1, went_on before mid after then.0 then.1 first then.2, then.3)
 
 -- ---- one step
@@ -79,7 +79,7 @@ front_is octets front begins = ap (λ (t : List ℕ). take (length front) t) beg
 -- a step that was taken, told and answered
 pub went_step : (items items_then : List What) (ahead : Ahead) (waiting waiting_then : List ℕ) (time_out : Option ℕ) (event : Event) (octets : List ℕ)
     → MayStand ahead.phase event octets → BeginsWith ahead.octets octets → items_then ≡ items ++ items_in event octets → waiting_then ≡ waiting ++ answer_to event
-    → Went (talk items ahead waiting time_out) (talk items_then (record { phase = phase_after event; octets = drop (length octets) ahead.octets }) waiting_then (time_out_at time_out event octets)) [] []
+    → Went (feed_state items ahead waiting time_out) (feed_state items_then (record { phase = phase_after event; octets = drop (length octets) ahead.octets }) waiting_then (time_out_at time_out event octets)) [] []
 went_step items items_then ahead waiting waiting_then time_out event octets stands begins told answered = record {
   steps = record { event = event; octets = octets } ∷ [];
   parts = behind_front ahead.octets octets begins ∙ ap (λ (t : List ℕ). t ++ drop (length octets) ahead.octets) (sym (append-nil octets));
@@ -91,7 +91,7 @@ went_step items items_then ahead waiting waiting_then time_out event octets stan
 
 -- nothing was taken, and this was told and said
 pub went_last : (items items_then : List What) (ahead : Ahead) (waiting waiting_then : List ℕ) (time_out : Option ℕ) (last : List What) (said : List ℕ) → items_then ≡ items ++ last → waiting_then ≡ waiting ++ said
-    → Went (talk items ahead waiting time_out) (talk items_then ahead waiting_then time_out) last said
+    → Went (feed_state items ahead waiting time_out) (feed_state items_then ahead waiting_then time_out) last said
 went_last items items_then ahead waiting waiting_then time_out last said told answered = record { steps = []; parts = refl; follow = refl; items = told; waiting = answered; time_out = refl }
 
 -- a step has octets
@@ -132,10 +132,10 @@ shorter octets front begins long = omega (arith, long, ap length (behind_front o
 pub took_step : (items items_then : List What) (ahead after : Ahead) (waiting waiting_then : List ℕ) (time_out time_out_then : Option ℕ) (event : Event) (octets : List ℕ)
     → MayStand ahead.phase event octets → BeginsWith ahead.octets octets → items_then ≡ items ++ items_in event octets → waiting_then ≡ waiting ++ answer_to event
     → time_out_then ≡ time_out_at time_out event octets → after ≡ record { phase = phase_after event; octets = drop (length octets) ahead.octets }
-    → AfterStep (talk items ahead waiting time_out) (talk items_then after waiting_then time_out_then) (Ok true)
+    → AfterStep (feed_state items ahead waiting time_out) (feed_state items_then after waiting_then time_out_then) (Ok true)
 took_step items items_then ahead after waiting waiting_then time_out time_out_then event octets stands begins told answered kept is =
-    subst (λ (a : Ahead). AfterStep (talk items ahead waiting time_out) (talk items_then a waiting_then time_out_then) (Ok true)) (sym is) (
-      subst (λ (t : Option ℕ). Went (talk items ahead waiting time_out) (talk items_then (record { phase = phase_after event; octets = drop (length octets) ahead.octets }) waiting_then t) [] []) (sym kept)
+    subst (λ (a : Ahead). AfterStep (feed_state items ahead waiting time_out) (feed_state items_then a waiting_then time_out_then) (Ok true)) (sym is) (
+      subst (λ (t : Option ℕ). Went (feed_state items ahead waiting time_out) (feed_state items_then (record { phase = phase_after event; octets = drop (length octets) ahead.octets }) waiting_then t) [] []) (sym kept)
           (went_step items items_then ahead waiting waiting_then time_out event octets stands begins told answered),
       shorter ahead.octets octets begins (step_long ahead.phase event octets stands),
     )
@@ -157,7 +157,7 @@ item_refused ahead AnonymousInit octets stands begins is = absurd cc
 
 -- a step that was answered, or not, and not told
 pub step_refused : (items items_then : List What) (ahead : Ahead) (waiting waiting_then : List ℕ) (time_out : Option ℕ) (event : Event) (octets : List ℕ) (fault : EngineFault)
-    → MayStand ahead.phase event octets → BeginsWith ahead.octets octets → items_then ≡ items → StepRefused event waiting waiting_then fault → Stopped (talk items ahead waiting time_out) (talk items_then ahead waiting_then time_out) fault
+    → MayStand ahead.phase event octets → BeginsWith ahead.octets octets → items_then ≡ items → StepRefused event waiting waiting_then fault → Stopped (feed_state items ahead waiting time_out) (feed_state items_then ahead waiting_then time_out) fault
 step_refused items items_then ahead waiting waiting_then time_out event octets (faults.Port fault) stands begins same refused =
     ([], answer_to event, went_last items items_then ahead waiting waiting_then time_out [] (answer_to event) (same ∙ sym (append-nil items)) refused.1, (refl, item_refused ahead event octets stands begins refused.0))
 step_refused items items_then ahead waiting waiting_then time_out event octets faults.Memory stands begins same (inl is) =
@@ -211,6 +211,6 @@ fault_told ahead fault faults.Over last said is told = stops_as ahead fault faul
 fault_told ahead fault faults.SaslRefused last said is told = stops_as ahead fault faults.SaslRefused last said is told.0 told.1 told.2
 
 pub fault_stopped : (items items_then : List What) (ahead : Ahead) (waiting waiting_then : List ℕ) (time_out : Option ℕ) (fault : StreamFault) (answered : EngineFault) → IsRefused ahead.phase ahead.octets fault
-    → ToldMore items items_then waiting waiting_then (λ last said. FaultTold ahead.phase fault last said answered) → Stopped (talk items ahead waiting time_out) (talk items_then ahead waiting_then time_out) answered
+    → ToldMore items items_then waiting waiting_then (λ last said. FaultTold ahead.phase fault last said answered) → Stopped (feed_state items ahead waiting time_out) (feed_state items_then ahead waiting_then time_out) answered
 fault_stopped items items_then ahead waiting waiting_then time_out fault answered is told =
     (told.0, told.1, went_last items items_then ahead waiting waiting_then time_out told.0 told.1 told.2 told.3, fault_told ahead fault answered told.0 told.1 is told.4)

@@ -71,21 +71,21 @@ ToldMore items items_then waiting waiting_then Told =
 -- ---- steps
 
 -- what a feed changes of a connection
-pub record Talk : Type 0 where
+pub record FeedState : Type 0 where
   pub items : List What
   pub ahead : Ahead
   pub waiting : List ℕ
   pub time_out : Option ℕ
 
-abbrev pub talk : List What → Ahead → List ℕ → Option ℕ → Talk
-talk items ahead waiting time_out = record { items = items; ahead = ahead; waiting = waiting; time_out = time_out }
+abbrev pub feed_state : List What → Ahead → List ℕ → Option ℕ → FeedState
+feed_state items ahead waiting time_out = record { items = items; ahead = ahead; waiting = waiting; time_out = time_out }
 
 -- a piece was fed
-abbrev pub and_piece : Talk → List ℕ → Talk
+abbrev pub and_piece : FeedState → List ℕ → FeedState
 and_piece t piece = record { items = t.items; ahead = and_unkept t.ahead piece; waiting = t.waiting; time_out = t.time_out }
 
 -- steps were taken from the front of what was ahead, each told and answered, and this was told and said behind them
-pub record Went (before after : Talk) (last : List What) (said : List ℕ) : Type 0 where
+pub record Went (before after : FeedState) (last : List What) (said : List ℕ) : Type 0 where
   pub steps : List StepText
   pub parts : before.ahead.octets ≡ octets_of steps ++ after.ahead.octets
   pub follow : MayFollow before.ahead.phase steps after.ahead.phase
@@ -109,22 +109,22 @@ StopsFor faults.Over ahead last said = ⊥
 StopsFor faults.SaslRefused ahead last said = IsRefused ahead.phase ahead.octets stops.SaslRefused × (last ≡ []) × (said ≡ answer_to_fault stops.SaslRefused)
 StopsFor faults.Memory ahead last said = (last ≡ []) × ((said ≡ []) ⊎ ItemRefused ahead said)
 
-abbrev pub Stopped : Talk → Talk → EngineFault → Type 0
+abbrev pub Stopped : FeedState → FeedState → EngineFault → Type 0
 Stopped before after fault = (last : List What) × (said : List ℕ) × Went before after last said × StopsFor fault after.ahead last said
 
 -- what was done where a step was looked for
-abbrev pub AfterStep : Talk → Talk → Result Bool EngineFault → Type 0
+abbrev pub AfterStep : FeedState → FeedState → Result Bool EngineFault → Type 0
 AfterStep before after (Ok true) = Went before after [] [] × (length after.ahead.octets < length before.ahead.octets)
 AfterStep before after (Ok false) = (after ≡ before) × IsLess after.ahead.phase after.ahead.octets
 AfterStep before after (Err fault) = Stopped before after fault
 
 -- what was done where all whole steps were taken
-abbrev pub AfterSteps : Talk → Talk → Result Unit EngineFault → Type 0
+abbrev pub AfterSteps : FeedState → FeedState → Result Unit EngineFault → Type 0
 AfterSteps before after (Ok done) = Went before after [] [] × IsLess after.ahead.phase after.ahead.octets
 AfterSteps before after (Err fault) = Stopped before after fault
 
 -- what was done with a piece of the stream: all whole steps were taken, or the piece was not kept for want of memory
-abbrev pub AfterPiece : Talk → Talk → List ℕ → Result Unit EngineFault → Type 0
+abbrev pub AfterPiece : FeedState → FeedState → List ℕ → Result Unit EngineFault → Type 0
 AfterPiece before after piece result = AfterSteps (and_piece before piece) after result ⊎ ((result ≡ Err faults.Memory) × (after ≡ before))
 
 -- ---- a feed
@@ -140,12 +140,12 @@ place_after (Ok done) phase = Reading
 place_after (Err faults.Frame) phase = place_at_fault phase
 place_after (Err fault) phase = Over Untold
 
-abbrev pub talk_of : Connection → Talk
-talk_of c = talk c.items c.ahead c.waiting c.time_out
+abbrev pub feed_state_of : Connection → FeedState
+feed_state_of c = feed_state c.items c.ahead c.waiting c.time_out
 
 -- what a feed did, by where the engine was
 abbrev pub FedAt : EngineState → Connection → Connection → List ℕ → Result Unit EngineFault → Type 0
-FedAt Reading before after piece result = AfterPiece (talk_of before) (talk_of after) piece result × (after.place ≡ place_after result after.ahead.phase)
+FedAt Reading before after piece result = AfterPiece (feed_state_of before) (feed_state_of after) piece result × (after.place ≡ place_after result after.ahead.phase)
 FedAt Closing before after piece result = (result ≡ Err faults.Frame) × (after ≡ before)
 FedAt (Over loss) before after piece result = (result ≡ Err faults.Over) × (after ≡ before)
 

@@ -5,7 +5,7 @@ ghost use Rattle.route_items.specs.Items.{connection_of, what_of, IsShort};
 ghost use Rattle.stream_reading.specs.declared.step.Phase.TheVariants as phases;
 ghost use Rattle.stream_reading.specs.Stream.{answer_to, answer_to_fault};
 ghost use Rattle.conn_engine.specs.Serving.{items_in};
-ghost use Rattle.conn_engine.specs.Feeding.{talk, items_at_fault, ItemFault, IsShortStep, StepRefused, FaultTold, ToldMore, AfterStep, AfterSteps, AfterPiece};
+ghost use Rattle.conn_engine.specs.Feeding.{feed_state, items_at_fault, ItemFault, IsShortStep, StepRefused, FaultTold, ToldMore, AfterStep, AfterSteps, AfterPiece};
 
 use crate::fault::EngineFault;
 use crate::output::Output;
@@ -29,7 +29,7 @@ pub(crate) fn take_piece<P: Port>(
     piece: &[u8],
 ) -> Result<(), EngineFault>
     requires own { connection ≡ P.connection port.old }
-    ensures told { AfterPiece (talk (P.items port.old) reader.old output.old time_out.old) (talk (P.items port.new) reader.new output.new time_out.new) piece.now result }
+    ensures told { AfterPiece (feed_state (P.items port.old) reader.old output.old time_out.old) (feed_state (P.items port.new) reader.new output.new time_out.new) piece.now result }
     ensures frames { P.frames port.new ≡ P.frames port.old }
     ensures connection { P.connection port.new ≡ P.connection port.old }
 {
@@ -51,7 +51,7 @@ fn take_steps<P: Port>(
     time_out: &mut Option<u32>,
 ) -> Result<(), EngineFault>
     requires own { connection ≡ P.connection port.old }
-    ensures told { AfterSteps (talk (P.items port.old) reader.old output.old time_out.old) (talk (P.items port.new) reader.new output.new time_out.new) result }
+    ensures told { AfterSteps (feed_state (P.items port.old) reader.old output.old time_out.old) (feed_state (P.items port.new) reader.new output.new time_out.new) result }
     ensures frames { P.frames port.new ≡ P.frames port.old }
     ensures connection { P.connection port.new ≡ P.connection port.old }
 {
@@ -73,7 +73,7 @@ fn take_step<P: Port>(
     time_out: &mut Option<u32>,
 ) -> Result<bool, EngineFault>
     requires own { connection ≡ P.connection port.old }
-    ensures told { AfterStep (talk (P.items port.old) reader.old output.old time_out.old) (talk (P.items port.new) reader.new output.new time_out.new) result }
+    ensures told { AfterStep (feed_state (P.items port.old) reader.old output.old time_out.old) (feed_state (P.items port.new) reader.new output.new time_out.new) result }
     ensures frames { P.frames port.new ≡ P.frames port.old }
     ensures connection { P.connection port.new ≡ P.connection port.old }
 {

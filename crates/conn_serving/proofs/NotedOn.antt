@@ -10,7 +10,7 @@ use Rattle.conn_engine.specs.Closing.{is_over, place_given}
 use Rattle.conn_engine.specs.FrameEnds.{marks_left}
 use Rattle.conn_engine.specs.Silence.{silence_given}
 use Rattle.conn_engine.specs.Serving.{Connection}
-use Rattle.conn_engine.specs.Feeding.{AfterPiece, AfterSteps, FedAt, Talk, and_piece, talk_of}
+use Rattle.conn_engine.specs.Feeding.{AfterPiece, AfterSteps, FedAt, FeedState, and_piece, feed_state_of}
 use Rattle.conn_engine.specs.Taking.{Refilled}
 use Rattle.conn_engine.specs.Ticking.{AfterTick, patience_of, placed}
 use Rattle.conn_serving.specs.declared.script.Script.{Script}
@@ -34,16 +34,16 @@ tick_put (Some bears) moment before after (Ok is_placed) did = (placed is_placed
 tick_put (Some bears) moment before after (Err fault) did = ([], ap (λ (c : Connection). c.waiting) did.1 ∙ sym (append-nil before.waiting), ap (λ (c : Connection). c.frames) did.1)
 
 -- what a feed put
-steps_put : (before after : Talk) (result : Result Unit EngineFault) → AfterSteps before after result → (said : List ℕ) × (after.waiting ≡ before.waiting ++ said)
+steps_put : (before after : FeedState) (result : Result Unit EngineFault) → AfterSteps before after result → (said : List ℕ) × (after.waiting ≡ before.waiting ++ said)
 steps_put before after (Ok done) did = (_, did.0.waiting)
 steps_put before after (Err fault) did = (_, did.2.waiting)
 
-piece_put : (before after : Talk) (piece : List ℕ) (result : Result Unit EngineFault) → AfterPiece before after piece result → (said : List ℕ) × (after.waiting ≡ before.waiting ++ said)
+piece_put : (before after : FeedState) (piece : List ℕ) (result : Result Unit EngineFault) → AfterPiece before after piece result → (said : List ℕ) × (after.waiting ≡ before.waiting ++ said)
 piece_put before after piece result (inl did) = steps_put (and_piece before piece) after result did
-piece_put before after piece result (inr did) = ([], ap (λ (t : Talk). t.waiting) did.1 ∙ sym (append-nil before.waiting))
+piece_put before after piece result (inr did) = ([], ap (λ (t : FeedState). t.waiting) did.1 ∙ sym (append-nil before.waiting))
 
 fed_put : (place : EngineState) (before after : Connection) (piece : List ℕ) (result : Result Unit EngineFault) → FedAt place before after piece result → (said : List ℕ) × (after.waiting ≡ before.waiting ++ said)
-fed_put Reading before after piece result did = piece_put (talk_of before) (talk_of after) piece result did.0
+fed_put Reading before after piece result did = piece_put (feed_state_of before) (feed_state_of after) piece result did.0
 fed_put Closing before after piece result did = ([], ap (λ (c : Connection). c.waiting) did.1 ∙ sym (append-nil before.waiting))
 fed_put (Over loss) before after piece result did = ([], ap (λ (c : Connection). c.waiting) did.1 ∙ sym (append-nil before.waiting))
 

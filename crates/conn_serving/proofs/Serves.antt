@@ -19,7 +19,7 @@ use Rattle.conn_engine.specs.Lacing.{IsPut}
 use Rattle.conn_engine.specs.FrameEnds.{marks_left, no_marks}
 use Rattle.conn_engine.specs.Silence.{empty_frame, is_asked, no_silence, silence_given}
 use Rattle.conn_engine.specs.Serving.{Connection}
-use Rattle.conn_engine.specs.Feeding.{AfterPiece, AfterSteps, FedAt, StopsFor, Went, and_piece, items_at_fault, place_after, place_at_fault, talk_of}
+use Rattle.conn_engine.specs.Feeding.{AfterPiece, AfterSteps, FedAt, StopsFor, Went, and_piece, items_at_fault, place_after, place_at_fault, feed_state_of}
 use Rattle.conn_engine.specs.Taking.{AfterLoss, Refilled, is_loss_due}
 use Rattle.conn_engine.specs.Ticking.{AfterTick, patience_of}
 use Rattle.conn_engine.proofs.FedOn.{items_on, piece_unkept, steps_on}
@@ -146,7 +146,7 @@ serving_given before after octets taken n is h = subst (λ (c : Connection). IsS
 
 -- steps were taken of what was fed and the piece
 serving_on : (before after : Connection) (octets piece taken : List ℕ) (last : List What) (said : List ℕ) (h : IsServing before octets taken)
-    → IsUnfinished before.ahead h.stream.behind h.stream.told h.stream.said → Went (and_piece (talk_of before) piece) (talk_of after) last said
+    → IsUnfinished before.ahead h.stream.behind h.stream.told h.stream.said → Went (and_piece (feed_state_of before) piece) (feed_state_of after) last said
     → after.frames ≡ before.frames → after.marks ≡ before.marks → (after.ahead.phase ≡ Open → said ≡ [])
     → IsUnfinished after.ahead [] last said ⊎ IsStopped after.ahead last said → (after.place ≡ Reading → IsUnfinished after.ahead [] last said) → (after.place ≡ Closing → IsStopped after.ahead last said)
     → IsOverFor after.place after.ahead after.frames → IsServing after (octets ++ piece) taken
@@ -221,7 +221,7 @@ over_not_reading is = cc
 
 -- octets that are refused, so that the engine is over
 serving_refused : (before after : Connection) (octets piece taken : List ℕ) (fault : EngineFault) (last : List What) (said : List ℕ) (h : IsServing before octets taken)
-    → IsUnfinished before.ahead h.stream.behind h.stream.told h.stream.said → Went (and_piece (talk_of before) piece) (talk_of after) last said
+    → IsUnfinished before.ahead h.stream.behind h.stream.told h.stream.said → Went (and_piece (feed_state_of before) piece) (feed_state_of after) last said
     → after.frames ≡ before.frames → after.marks ≡ before.marks → StopsFor fault after.ahead last said → IsStopped after.ahead last said × IsTurnedAway after.ahead → after.place ≡ Over Untold
     → IsServing after (octets ++ piece) taken
 serving_refused before after octets piece taken fault last said h unfinished went frames marks stopped why place =
@@ -230,7 +230,7 @@ serving_refused before after octets piece taken fault last said h unfinished wen
 
 -- octets that are no frame
 serving_unframed : (before after : Connection) (octets piece taken : List ℕ) (last : List What) (said : List ℕ) (h : IsServing before octets taken)
-    → IsUnfinished before.ahead h.stream.behind h.stream.told h.stream.said → Went (and_piece (talk_of before) piece) (talk_of after) last said
+    → IsUnfinished before.ahead h.stream.behind h.stream.told h.stream.said → Went (and_piece (feed_state_of before) piece) (feed_state_of after) last said
     → after.frames ≡ before.frames → after.marks ≡ before.marks → StopsFor faults.Frame after.ahead last said → after.place ≡ place_at_fault after.ahead.phase
     → IsServing after (octets ++ piece) taken
 serving_unframed before after octets piece taken last said h unfinished went frames marks stopped place =
@@ -240,7 +240,7 @@ serving_unframed before after octets piece taken last said h unfinished went fra
     (subst (λ (p : EngineState). IsOverFor p after.ahead after.frames) (sym place) (over_at_fault after.ahead.phase after.ahead.octets after.frames stopped.0))
 
 serving_steps : (before after : Connection) (octets piece taken : List ℕ) (result : Result Unit EngineFault) (h : IsServing before octets taken)
-    → IsUnfinished before.ahead h.stream.behind h.stream.told h.stream.said → AfterSteps (and_piece (talk_of before) piece) (talk_of after) result
+    → IsUnfinished before.ahead h.stream.behind h.stream.told h.stream.said → AfterSteps (and_piece (feed_state_of before) piece) (feed_state_of after) result
     → after.frames ≡ before.frames → after.marks ≡ before.marks → after.place ≡ place_after result after.ahead.phase → stop_of result ≡ None
     → IsServing after (octets ++ piece) taken
 serving_steps before after octets piece taken (Ok done) h unfinished did frames marks place goes =
@@ -268,7 +268,7 @@ memory_stops (Err faults.SaslRefused) is goes = cc
 memory_stops (Err faults.Memory) is goes = cc
 
 serving_piece : (before after : Connection) (octets piece taken : List ℕ) (result : Result Unit EngineFault) (h : IsServing before octets taken)
-    → IsUnfinished before.ahead h.stream.behind h.stream.told h.stream.said → AfterPiece (talk_of before) (talk_of after) piece result
+    → IsUnfinished before.ahead h.stream.behind h.stream.told h.stream.said → AfterPiece (feed_state_of before) (feed_state_of after) piece result
     → after.frames ≡ before.frames → after.marks ≡ before.marks → after.place ≡ place_after result after.ahead.phase → stop_of result ≡ None
     → IsServing after (octets ++ piece) taken
 serving_piece before after octets piece taken result h unfinished (inl did) frames marks place goes = serving_steps before after octets piece taken result h unfinished did frames marks place goes
