@@ -1,4 +1,4 @@
 pub mod BySession
-pub mod Awake
+pub mod AddressesToTry
 pub mod Waking
 pub mod Waiting

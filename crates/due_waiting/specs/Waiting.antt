@@ -10,7 +10,7 @@ use Rattle.trace_duties.specs.Diligent.{is_next_waiting, is_picked_link}
 use Rattle.trace_values.specs.View.{incoming_view, link_view}
 use Rattle.due_queues.specs.Picks.{ArePicks}
 use Rattle.due_queues.specs.Queues.{HaveQueues}
-use Rattle.due_waiting.specs.Awake.{is_awake}
+use Rattle.due_waiting.specs.AddressesToTry.{is_awake}
 use Rattle.due_waiting.specs.BySession.{stands}
 use Rattle.due_waiting.specs.Waking.{MayBegin}
 use Rattle.due_flows.specs.declared.begin.DueBegin.{DueBegin}

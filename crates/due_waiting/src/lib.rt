@@ -2,13 +2,13 @@
 //! one may, and answers of what is due there the delivery that was completed first.
 //!
 //! - `waiting`: the list, moved by one event after the other;
-//! - `awake`: the addresses to look at;
+//! - `addresses_to_try`: the addresses to look at;
 //! - `by_session`: the live links of consumers, by their sessions.
 //!
 //! In `specs/`, each of them has a file of its name, which says what it has; `Waking` says which events bring an address there.
 #![tactic(auto)]
 
-mod awake;
+mod addresses_to_try;
 mod by_session;
 mod waiting;
 

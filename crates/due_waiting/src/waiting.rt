@@ -13,10 +13,10 @@ ghost use Rattle.state_incoming.specs.EntryAnswers.{Knows};
 ghost use Rattle.state_answers.specs.Tables.{TellsOf};
 ghost use Rattle.due_queues.specs.Picks.{ArePicks};
 ghost use Rattle.due_queues.specs.Queues.{HaveQueues};
-ghost use Rattle.due_waiting.specs.Awake.{count_of, is_among_first};
+ghost use Rattle.due_waiting.specs.AddressesToTry.{count_of, is_among_first};
 ghost use Rattle.due_waiting.specs.Waiting.{HasWaiting, IsDueWaiting, IsEarliest, NoneBegins, earlier_of};
 
-use crate::awake::Awake;
+use crate::addresses_to_try::AddressesToTry;
 use crate::by_session::BySession;
 use capture_form::RuleSet;
 use due_flows::DueBegin;
@@ -36,7 +36,7 @@ pub struct Waiting {
     /// The live links of consumers.
     links: BySession,
     /// The addresses at which one may begin, and others.
-    awake: Awake,
+    awake: AddressesToTry,
 }
 
 impl Waiting {
@@ -49,7 +49,7 @@ impl Waiting {
             picks: Picks::new(alloc),
             queues: Queues::new(alloc),
             links: BySession::new(alloc),
-            awake: Awake::new(alloc),
+            awake: AddressesToTry::new(alloc),
         }
     }
 

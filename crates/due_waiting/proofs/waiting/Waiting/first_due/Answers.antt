@@ -10,7 +10,7 @@ use Rattle.state_incoming.specs.EntryAnswers.{Knows}
 use Rattle.state_incoming.specs.HeldTables.{IsTable}
 use Rattle.state_incoming.specs.declared.deliveries.Deliveries.{Deliveries}
 use Rattle.state_answers.specs.Tables.{TellsOf}
-use Rattle.due_waiting.specs.Awake.{is_among_first}
+use Rattle.due_waiting.specs.AddressesToTry.{is_among_first}
 use Rattle.due_waiting.specs.Waiting.{HasWaiting, IsDueWaiting, IsEarliest, is_ahead}
 use Rattle.due_waiting.specs.Waking.{MayBegin}
 use Rattle.due_flows.specs.declared.begin.DueBegin.{DueBegin}

@@ -4,7 +4,7 @@ use Rattle.trace_events.specs.Event as law
 use Rattle.trace_events.specs.History.{history}
 use Rattle.trace_events.specs.Incoming.{address_of}
 use Rattle.state_answers.specs.Tables.{TellsOf}
-use Rattle.due_waiting.specs.Awake.{count_of, is_among_first}
+use Rattle.due_waiting.specs.AddressesToTry.{count_of, is_among_first}
 use Rattle.due_waiting.specs.Waiting.{HasWaiting, IsDueWaiting, is_ahead}
 use Rattle.due_waiting.specs.Waking.{MayBegin}
 use Rattle.due_waiting.proofs.waiting.Waiting.first_due.Given as goal

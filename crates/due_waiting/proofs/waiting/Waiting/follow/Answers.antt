@@ -5,7 +5,7 @@ use Rattle.trace_events.proofs.Judged.{history-judged}
 use Rattle.trace_values.specs.View.{event_view}
 use Rattle.trace_values.specs.declared.event.Link.{Link}
 use Rattle.state_tables.specs.EndedLinks.{AreEnded, views}
-use Rattle.due_waiting.specs.Awake.{is_awake}
+use Rattle.due_waiting.specs.AddressesToTry.{is_awake}
 use Rattle.due_waiting.specs.BySession.{stands}
 use Rattle.due_waiting.proofs.WaitingFollowed.{completed-wakes, have-waiting}
 use Rattle.due_waiting.proofs.waiting.Waiting.follow.Goals as goal

@@ -3,9 +3,9 @@ use Rattle.number_groups.specs.Groups.{numbers}
 use Rattle.trace_events.specs.Event as law
 use Rattle.trace_events.specs.Words.{is_some_and}
 use Rattle.state_addresses.specs.ConsumerLinks.{link_in}
-use Rattle.due_waiting.specs.Awake.{is_awake}
+use Rattle.due_waiting.specs.AddressesToTry.{is_awake}
 use Rattle.due_waiting.proofs.AwakeWoken.{at-once, before, named, one-more}
-use Rattle.due_waiting.proofs.awake.Awake.wake_session.Goals as goal
+use Rattle.due_waiting.proofs.addresses_to_try.AddressesToTry.wake_session.Goals as goal
 
 pub loop-index-preserved : goal.loop-index-preserved
 loop-index-preserved c =

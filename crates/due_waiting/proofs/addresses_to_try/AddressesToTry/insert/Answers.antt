@@ -1,6 +1,6 @@
 use Rattle.std.proofs.Common.{◌≡◌, rules}
 use Rattle.due_waiting.proofs.AwakeMoves.{came}
-use Rattle.due_waiting.proofs.awake.Awake.insert.Goals as goal
+use Rattle.due_waiting.proofs.addresses_to_try.AddressesToTry.insert.Goals as goal
 
 pub returns : goal.returns
 returns c =

@@ -3,8 +3,8 @@ use Rattle.std.specs.List.{list_any}
 use Rattle.number_groups.specs.Groups.{numbers}
 use Rattle.trace_events.specs.Event as law
 use Rattle.state_addresses.specs.ConsumerLinks.{link_in}
-use Rattle.due_waiting.specs.Awake.{IsKept, is_awake}
-use Rattle.due_waiting.proofs.awake.Awake.wake_session.Given as goal
+use Rattle.due_waiting.specs.AddressesToTry.{IsKept, is_awake}
+use Rattle.due_waiting.proofs.addresses_to_try.AddressesToTry.wake_session.Given as goal
 
 abbrev pub invariant-loop-index : goal.invariant-loop-index
 invariant-loop-index l =

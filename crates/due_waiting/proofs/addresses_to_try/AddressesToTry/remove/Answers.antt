@@ -1,7 +1,7 @@
 use Rattle.std.proofs.Common.{ap, bytes_eq}
 use Rattle.std.specs.List.{list_any}
 use Rattle.due_waiting.proofs.AwakeMoves.{before-same, gone, one-fewer}
-use Rattle.due_waiting.proofs.awake.Awake.remove.Goals as goal
+use Rattle.due_waiting.proofs.addresses_to_try.AddressesToTry.remove.Goals as goal
 
 pub returns-clause-removed : goal.returns-clause-removed
 returns-clause-removed c =

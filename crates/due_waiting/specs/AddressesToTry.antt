@@ -2,23 +2,23 @@
 use Rattle.std.specs.Prelude.{◌≡◌, ℕ, Bool, true, List, Option, bytes_eq, option_map, slice_get, take}
 use Rattle.std.specs.List.{list_any}
 use Rattle.indexmap.specs.IndexSet.{contains_by, index_set_len}
-use Rattle.due_waiting.specs.declared.awake.Awake.{Awake}
+use Rattle.due_waiting.specs.declared.addresses_to_try.AddressesToTry.{AddressesToTry}
 
 -- the address is one of them
-abbrev pub is_awake : Awake → List ℕ → Bool
+abbrev pub is_awake : AddressesToTry → List ℕ → Bool
 is_awake awake address = contains_by (λ kept. bytes_eq address kept.items) awake.addresses
 
-abbrev pub count_of : Awake → ℕ
+abbrev pub count_of : AddressesToTry → ℕ
 count_of awake = index_set_len awake.addresses
 
 -- the one at the index
-abbrev pub address_at : Awake → ℕ → Option (List ℕ)
+abbrev pub address_at : AddressesToTry → ℕ → Option (List ℕ)
 address_at awake index = option_map (λ kept. kept.items) (slice_get awake.addresses.keys index)
 
 -- the address is one of the first so many
-abbrev pub is_among_first : Awake → ℕ → List ℕ → Bool
+abbrev pub is_among_first : AddressesToTry → ℕ → List ℕ → Bool
 is_among_first awake n address = list_any (λ kept. bytes_eq address kept.items) (take n awake.addresses.keys)
 
 -- none went
-abbrev pub IsKept : Awake → Awake → Type 0
+abbrev pub IsKept : AddressesToTry → AddressesToTry → Type 0
 IsKept earlier later = (address : List ℕ) → is_awake earlier address ≡ true → is_awake later address ≡ true

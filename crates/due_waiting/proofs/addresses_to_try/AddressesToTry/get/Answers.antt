@@ -1,7 +1,7 @@
 use Rattle.std.proofs.Common.{sym, ap, ◌∙◌, ◌||◌, ℕ, List, bytes_eq}
-use Rattle.due_waiting.specs.Awake.{is_among_first}
+use Rattle.due_waiting.specs.AddressesToTry.{is_among_first}
 use Rattle.due_waiting.proofs.AwakeMoves.{first-more}
-use Rattle.due_waiting.proofs.awake.Awake.get.Goals as goal
+use Rattle.due_waiting.proofs.addresses_to_try.AddressesToTry.get.Goals as goal
 
 pub returns-in-Some-clause-more : goal.returns-in-Some-clause-more
 returns-in-Some-clause-more c = λ at.

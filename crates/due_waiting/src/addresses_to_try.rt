@@ -13,7 +13,7 @@ ghost use Rattle.state_addresses.specs.ConsumerLinks.{consumer_at, link_in};
 ghost use Rattle.state_answers.specs.Tables.{TellsOf};
 ghost use Rattle.due_flows.specs.Standing.{goes_on, grants_window, has_window};
 ghost use Rattle.due_waiting.specs.BySession.{stands};
-ghost use Rattle.due_waiting.specs.Awake.{IsKept, address_at, count_of, is_among_first, is_awake};
+ghost use Rattle.due_waiting.specs.AddressesToTry.{IsKept, address_at, count_of, is_among_first, is_awake};
 ghost use Rattle.due_waiting.specs.Waking.{IsGranted};
 
 use crate::by_session::BySession;
@@ -27,17 +27,17 @@ use trace_values::Event;
 
 /// Addresses, each once.
 #[derive(Drop)]
-pub struct Awake {
+pub struct AddressesToTry {
     alloc: Global,
     addresses: IndexSet<Vec<u8>>,
 }
 
-impl Awake {
+impl AddressesToTry {
     /// None.
-    pub fn new(alloc: Global) -> Awake
+    pub fn new(alloc: Global) -> AddressesToTry
         ensures { (address : List ℕ) → is_awake result address ≡ false }
     {
-        Awake {
+        AddressesToTry {
             alloc,
             addresses: IndexSet::new(alloc),
         }
