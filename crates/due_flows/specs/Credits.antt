@@ -20,13 +20,13 @@ use Rattle.due_flows.specs.Candidates.{value_of}
 use Rattle.due_flows.specs.Numbers.{has}
 use Rattle.due_flows.specs.Topping.{IsProducing, consumer_opened, settles}
 use Rattle.due_flows.specs.declared.credits.Credits.{Credits}
-use Rattle.due_flows.specs.declared.credits.Place.{Place}
+use Rattle.due_flows.specs.declared.credits.LinkKey.{LinkKey}
 
-abbrev pub place_of : Link → Place
+abbrev pub place_of : Link → LinkKey
 place_of l = record { connection = l.session.connection; channel = l.session.channel; handle = l.handle }
 
 -- where the link of this number is found
-abbrev pub place_in : Credits → ℕ → Option Place
+abbrev pub place_in : Credits → ℕ → Option LinkKey
 place_in credits n = value_of credits.places n
 
 -- it stands among those of the session, and of the address

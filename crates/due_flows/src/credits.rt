@@ -35,7 +35,7 @@ use trace_values::{Event, Link};
 
 /// Where a link is found.
 #[derive(Clone, Copy, Debug)]
-pub struct Place {
+pub struct LinkKey {
     connection: u32,
     channel: u16,
     handle: u32,
@@ -46,7 +46,7 @@ pub struct Place {
 pub struct Credits {
     alloc: Global,
     /// Where each is found, by its number.
-    places: Candidates<Place>,
+    places: Candidates<LinkKey>,
     /// All of them, by their sessions and by their addresses.
     of_session: Groups<u64>,
     of_address: OctetGroups,
@@ -163,10 +163,10 @@ impl Credits {
     }
 }
 
-fn place_of(link: &Link) -> Place
+fn place_of(link: &Link) -> LinkKey
     ensures { result ≡ place_of (link_view link.now) }
 {
-    Place {
+    LinkKey {
         connection: link.session.connection,
         channel: link.session.channel,
         handle: link.handle,
@@ -261,7 +261,7 @@ fn has_waited(ended: &[Link], before: &LentTables<'_>) -> bool
 #[inline(never)]
 fn credit_due<'t>(
     number: u64,
-    place: Option<Place>,
+    place: Option<LinkKey>,
     rules: &RuleSet,
     looked: &LentTables<'t>,
 ) -> Option<Link<'t>>
