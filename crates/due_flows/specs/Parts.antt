@@ -11,18 +11,18 @@ use Rattle.trace_values.specs.View.{link_view}
 use Rattle.due_flows.specs.Numbers.{has}
 use Rattle.due_flows.specs.Standing.{IsGoing, has_window}
 use Rattle.due_flows.specs.declared.parts.DuePart.{DuePart}
-use Rattle.due_flows.specs.declared.parts.Parts.{Parts}
+use Rattle.due_flows.specs.declared.parts.DeliveriesInProgress.{DeliveriesInProgress}
 
 -- the link of this number stands among those of the session
-abbrev pub stands : Parts → ℕ → ℕ → Bool
+abbrev pub stands : DeliveriesInProgress → ℕ → ℕ → Bool
 stands parts session n = is_member nat_eq parts.of_session session n
 
 -- it is a candidate
-abbrev pub waits : Parts → ℕ → Bool
+abbrev pub waits : DeliveriesInProgress → ℕ → Bool
 waits parts n = has parts.links n
 
 -- each link with a delivery in progress stands with its session, and is a candidate where that has window
-abbrev pub HasParts : Parts → List Event → Type 0
+abbrev pub HasParts : DeliveriesInProgress → List Event → Type 0
 HasParts parts past = (l : Link) → IsGoing l past
     → (stands parts l.session.number l.number ≡ true) × (has_window l.session past ≡ true → waits parts l.number ≡ true)
 

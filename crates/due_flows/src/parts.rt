@@ -37,7 +37,7 @@ pub struct DuePart<'t> {
 
 /// The deliveries in progress, by the links on which they are.
 #[derive(Drop)]
-pub struct Parts {
+pub struct DeliveriesInProgress {
     alloc: Global,
     /// All links with one, by their sessions.
     of_session: Groups<u64>,
@@ -45,12 +45,12 @@ pub struct Parts {
     links: Numbers,
 }
 
-impl Parts {
+impl DeliveriesInProgress {
     /// No records.
-    pub fn new(alloc: Global) -> Parts
+    pub fn new(alloc: Global) -> DeliveriesInProgress
         ensures { HasParts result [] }
     {
-        Parts {
+        DeliveriesInProgress {
             alloc,
             of_session: Groups::new(alloc),
             links: Numbers::new(alloc),

@@ -19,7 +19,7 @@ ghost use Rattle.route_work.specs.Work.{HasSending, IsAllSent, IsAllTold};
 use crate::Due;
 use capture_form::RuleSet;
 use due_copies::UnsentCopies;
-use due_flows::{DueBegin, Parts};
+use due_flows::{DeliveriesInProgress, DueBegin};
 use due_waiting::Waiting;
 use state_answers::LentTables;
 use std::alloc::{AllocError, Global};
@@ -27,7 +27,7 @@ use trace_values::Event;
 
 /// Deliveries to consumers that may go on or begin.
 pub struct Sending {
-    parts: Parts,
+    parts: DeliveriesInProgress,
     waiting: Waiting,
     copies: UnsentCopies,
 }
@@ -48,7 +48,7 @@ impl Sending {
     pub(crate) fn new(alloc: Global) -> Sending
         ensures { (rules : RuleSet) → HasSending rules result [] }
     {
-        let parts = Parts::new(alloc);
+        let parts = DeliveriesInProgress::new(alloc);
         let waiting = Waiting::new(alloc);
         let copies = UnsentCopies::new(alloc);
         Sending {

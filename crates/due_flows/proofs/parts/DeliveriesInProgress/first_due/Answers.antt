@@ -6,7 +6,7 @@ use Rattle.number_groups.specs.Groups.{is_member}
 use Rattle.std.specs.Prelude.{nat_eq}
 use Rattle.due_flows.specs.declared.parts.DuePart.{DuePart}
 use Rattle.due_flows.proofs.PartsFollowed.{have-dropped, none-still}
-use Rattle.due_flows.proofs.parts.Parts.first_due.Goals as goal
+use Rattle.due_flows.proofs.parts.DeliveriesInProgress.first_due.Goals as goal
 
 none-due : (o : Option DuePart) → o ≡ None → is_some o ≡ true → ⊥
 none-due o none some = let never : false ≡ true = ap is_some (sym none) ∙ some in absurd cc

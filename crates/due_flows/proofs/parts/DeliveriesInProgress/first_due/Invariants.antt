@@ -4,7 +4,7 @@ use Rattle.trace_events.specs.Event.{Event}
 use Rattle.state_answers.specs.Tables.{TellsOf}
 use Rattle.due_flows.specs.Numbers.{count_of}
 use Rattle.due_flows.specs.Parts.{HasParts}
-use Rattle.due_flows.proofs.parts.Parts.first_due.Given as goal
+use Rattle.due_flows.proofs.parts.DeliveriesInProgress.first_due.Given as goal
 
 abbrev pub invariant-loop-number : goal.invariant-loop-number
 invariant-loop-number l = (rules : RuleSet) (past : List Event) → TellsOf rules l.looked past → HasParts l.fn.self past → HasParts l.self past

@@ -6,7 +6,7 @@ use Rattle.trace_values.specs.declared.event.Link.{Link}
 use Rattle.state_tables.specs.EndedLinks.{AreEnded, views}
 use Rattle.due_flows.specs.Parts.{stands, waits}
 use Rattle.due_flows.proofs.PartsFollowed.{have-parts}
-use Rattle.due_flows.proofs.parts.Parts.follow.Goals as goal
+use Rattle.due_flows.proofs.parts.DeliveriesInProgress.follow.Goals as goal
 
 pub returns : goal.returns
 returns c = λ rules records r next are has.

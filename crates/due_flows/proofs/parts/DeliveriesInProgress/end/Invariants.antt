@@ -2,7 +2,7 @@ use Rattle.std.proofs.Common.{◌≡◌, ℕ, true, false, take}
 use Rattle.state_tables.specs.EndedLinks.{views}
 use Rattle.state_addresses.specs.ConsumerLinks.{has_number}
 use Rattle.due_flows.specs.Parts.{stands, waits}
-use Rattle.due_flows.proofs.parts.Parts.end.Given as goal
+use Rattle.due_flows.proofs.parts.DeliveriesInProgress.end.Given as goal
 
 abbrev pub invariant-loop-link : goal.invariant-loop-link
 invariant-loop-link l =
