@@ -11,8 +11,8 @@ use Rattle.trace_events.specs.Event.{Event}
 use Rattle.trace_events.specs.History.{history}
 use Rattle.trace_clauses.specs.Written.{spoken_octets}
 use Rattle.route_work.specs.Dues.{IsNextFrame}
-use Rattle.route_work.specs.declared.books.Books.{Books}
-use Rattle.route_work.specs.Books.{AreBooks, AreInOrder, IsUnbroken}
+use Rattle.route_work.specs.declared.router_state.RouterState.{RouterState}
+use Rattle.route_work.specs.RouterState.{IsRouterState, AreInOrder, IsUnbroken}
 use Rattle.route_dues.specs.Writing.{IsInOrder}
 use Rattle.route_dues.specs.Steps.{IsAnswering, IsUnderWay}
 use Rattle.route_dues.proofs.Steps as steps
@@ -20,7 +20,7 @@ use Rattle.route_dues.specs.Work.{work_left}
 use Rattle.route_items.specs.Inputs.{is_output}
 use Rattle.route_records.specs.Replies.{AreReplies}
 use Rattle.route_records.specs.Outputs.{AddsOutputs}
-use Rattle.route_records.specs.Drafts.{AreBooksOf, IsAnswered, IsDraft}
+use Rattle.route_records.specs.Drafts.{IsRouterStateOf, IsAnswered, IsDraft}
 use Rattle.route_records.proofs.Drafts.{due-less, due-unbroken, due-under_way, reply-unbroken, reply-answering}
 use Rattle.route_records.proofs.Outputs.{one-added}
 
@@ -43,7 +43,7 @@ module _ {D : Type 0} (HasAll : D → RuleSet → List Event → Type 0) (captur
 
   -- ---- an answer
 
-  pub nothing-left : (books : Books D) (group : List Record) → IsAnswered HasAll capture books group [] → IsDraft HasAll capture books group
+  pub nothing-left : (books : RouterState D) (group : List Record) → IsAnswered HasAll capture books group [] → IsDraft HasAll capture books group
   nothing-left books group answered = by answered.frames answered.replies answered.answering
     where
       by : (frames : List Spoken) → AreReplies answered.connection frames [] → IsAnswering capture.rules answered.connection (history capture.rules (so_far group)) frames
@@ -55,7 +55,7 @@ module _ {D : Type 0} (HasAll : D → RuleSet → List Event → Type 0) (captur
       }
       by (s ∷ frames) replies answering = absurd replies
 
-  pub reply-fits : (books : Books D) (group left : List Record) (r : Record) → IsAnswered HasAll capture books group (r ∷ left) → IsUnbroken capture.rules (so_far group) r
+  pub reply-fits : (books : RouterState D) (group left : List Record) (r : Record) → IsAnswered HasAll capture books group (r ∷ left) → IsUnbroken capture.rules (so_far group) r
   reply-fits books group left r answered = by answered.frames answered.replies answered.answering
     where
       by : (frames : List Spoken) → AreReplies answered.connection frames (r ∷ left) → IsAnswering capture.rules answered.connection (history capture.rules (so_far group)) frames
@@ -63,14 +63,14 @@ module _ {D : Type 0} (HasAll : D → RuleSet → List Event → Type 0) (captur
       by [] replies answering = absurd replies
       by (s ∷ frames) replies answering = reply-unbroken capture.rules (so_far group) answered.connection s frames r answering replies.0
 
-  pub reply-output : (books : Books D) (group left : List Record) (r : Record) → IsAnswered HasAll capture books group (r ∷ left) → is_output r.what ≡ true
+  pub reply-output : (books : RouterState D) (group left : List Record) (r : Record) → IsAnswered HasAll capture books group (r ∷ left) → is_output r.what ≡ true
   reply-output books group left r answered = by answered.frames answered.replies
     where
       by : (frames : List Spoken) → AreReplies answered.connection frames (r ∷ left) → is_output r.what ≡ true
       by [] replies = absurd replies
       by (s ∷ frames) replies = output_is r.what (spoken_octets s) replies.0.what
 
-  pub reply-entered : (books later : Books D) (group left : List Record) (r : Record) → IsAnswered HasAll capture books group (r ∷ left) → AreBooksOf HasAll capture later (group ++ r ∷ [])
+  pub reply-entered : (books later : RouterState D) (group left : List Record) (r : Record) → IsAnswered HasAll capture books group (r ∷ left) → IsRouterStateOf HasAll capture later (group ++ r ∷ [])
       → IsAnswered HasAll capture later (group ++ r ∷ []) left
   reply-entered books later group left r answered stand = by answered.frames answered.replies answered.answering
     where
@@ -89,29 +89,29 @@ module _ {D : Type 0} (HasAll : D → RuleSet → List Event → Type 0) (captur
       }
 
   -- a reply that was entered
-  pub reply-follows : (books later : Books D) (group after left : List Record) (r : Record) → after ≡ group ++ r ∷ []
-      → (AreBooksOf HasAll capture books group → IsUnbroken capture.rules (so_far group) r → AreBooksOf HasAll capture later (group ++ r ∷ []))
+  pub reply-follows : (books later : RouterState D) (group after left : List Record) (r : Record) → after ≡ group ++ r ∷ []
+      → (IsRouterStateOf HasAll capture books group → IsUnbroken capture.rules (so_far group) r → IsRouterStateOf HasAll capture later (group ++ r ∷ []))
       → IsAnswered HasAll capture books group (r ∷ left) → IsAnswered HasAll capture later after left
   reply-follows books later group after left r is entered answered =
       subst (λ (rs : List Record). IsAnswered HasAll capture later rs left) (sym is)
       (reply-entered books later group left r answered (entered answered.stand (reply-fits books group left r answered)))
 
-  pub reply-adds : (books : Books D) (group after left : List Record) (r : Record) → after ≡ group ++ r ∷ [] → IsAnswered HasAll capture books group (r ∷ left) → AddsOutputs group after
+  pub reply-adds : (books : RouterState D) (group after left : List Record) (r : Record) → after ≡ group ++ r ∷ [] → IsAnswered HasAll capture books group (r ∷ left) → AddsOutputs group after
   reply-adds books group after left r is answered = one-added group after r is (reply-output books group left r answered)
 
   -- ---- a frame that is due
 
-  pub known : (given : RuleSet) → given ≡ capture.rules → (books : Books D) (group : List Record) → IsDraft HasAll capture books group → AreInOrder HasAll given books
+  pub known : (given : RuleSet) → given ≡ capture.rules → (books : RouterState D) (group : List Record) → IsDraft HasAll capture books group → AreInOrder HasAll given books
   known given same books group draft =
       subst (λ (xs : RuleSet). AreInOrder HasAll xs books) (sym same)
       (record { records = so_far group; stand = draft.stand; order = draft.under_way.order })
 
-  pub due-fits : (books : Books D) (group : List Record) (r : Record) → IsDraft HasAll capture books group → IsNextFrame capture.rules (history capture.rules (so_far group)) r
+  pub due-fits : (books : RouterState D) (group : List Record) (r : Record) → IsDraft HasAll capture books group → IsNextFrame capture.rules (history capture.rules (so_far group)) r
       → IsUnbroken capture.rules (so_far group) r
   due-fits books group r draft next = due-unbroken capture.rules (so_far group) r draft.under_way next
 
-  pub due-entered : (books later : Books D) (group : List Record) (r : Record) → IsDraft HasAll capture books group → IsNextFrame capture.rules (history capture.rules (so_far group)) r → IsRecord r
-      → AreBooksOf HasAll capture later (group ++ r ∷ []) → IsDraft HasAll capture later (group ++ r ∷ [])
+  pub due-entered : (books later : RouterState D) (group : List Record) (r : Record) → IsDraft HasAll capture books group → IsNextFrame capture.rules (history capture.rules (so_far group)) r → IsRecord r
+      → IsRouterStateOf HasAll capture later (group ++ r ∷ []) → IsDraft HasAll capture later (group ++ r ∷ [])
   due-entered books later group r draft next bounds stand = record {
     stand = stand;
     under_way =
@@ -120,7 +120,7 @@ module _ {D : Type 0} (HasAll : D → RuleSet → List Event → Type 0) (captur
     bounds = all-more IsRecord group r draft.bounds bounds;
   }
 
-pub due-leaves-less : {D : Type 0} (HasAll : D → RuleSet → List Event → Type 0) (capture : Trace) (books : Books D) (group : List Record) (r : Record) → IsDraft HasAll capture books group
+pub due-leaves-less : {D : Type 0} (HasAll : D → RuleSet → List Event → Type 0) (capture : Trace) (books : RouterState D) (group : List Record) (r : Record) → IsDraft HasAll capture books group
     → IsNextFrame capture.rules (history capture.rules (capture.records ++ group)) r
     → work_left (history capture.rules (capture.records ++ (group ++ r ∷ []))) < work_left (history capture.rules (capture.records ++ group))
 due-leaves-less HasAll capture books group r draft next =
@@ -131,8 +131,8 @@ pub due-output : (rules : RuleSet) (past : List Event) (r : Record) → IsNextFr
 due-output rules past r next = output_is r.what (spoken_octets next.spoken) next.what
 
 -- a frame that is due, by rules that were lent, once it was entered
-module _ {D : Type 0} (HasAll : D → RuleSet → List Event → Type 0) (capture : Trace) (given : RuleSet) (same : given ≡ capture.rules) (books between later : Books D) (group after : List Record) (next : Option Record) (r : Record) (is : next ≡ Some r)
-    (asked : (rs : List Record) → AreBooks HasAll given books rs → IsInOrder given (history given rs) → IfSome next (IsNextFrame given (history given rs)))
+module _ {D : Type 0} (HasAll : D → RuleSet → List Event → Type 0) (capture : Trace) (given : RuleSet) (same : given ≡ capture.rules) (books between later : RouterState D) (group after : List Record) (next : Option Record) (r : Record) (is : next ≡ Some r)
+    (asked : (rs : List Record) → IsRouterState HasAll given books rs → IsInOrder given (history given rs) → IfSome next (IsNextFrame given (history given rs)))
     (bounds : IfSome next IsRecord)
     (draft : IsDraft HasAll capture books group) where
   abbrev past : List Event
@@ -141,7 +141,7 @@ module _ {D : Type 0} (HasAll : D → RuleSet → List Event → Type 0) (captur
   is_next : IsNextFrame capture.rules past r
   is_next =
       subst (λ (o : Option Record). IfSome o (IsNextFrame capture.rules past)) is
-      (subst (λ (xs : RuleSet). (rs : List Record) → AreBooks HasAll xs books rs → IsInOrder xs (history xs rs) → IfSome next (IsNextFrame xs (history xs rs))) same asked
+      (subst (λ (xs : RuleSet). (rs : List Record) → IsRouterState HasAll xs books rs → IsInOrder xs (history xs rs) → IfSome next (IsNextFrame xs (history xs rs))) same asked
       (capture.records ++ group) draft.stand draft.under_way.order)
 
   pub due-adds : after ≡ group ++ r ∷ [] → AddsOutputs group after
@@ -152,10 +152,10 @@ module _ {D : Type 0} (HasAll : D → RuleSet → List Event → Type 0) (captur
       subst (λ (rs : List Record). work_left (history capture.rules (capture.records ++ rs)) < work_left past) (sym grown)
       (due-leaves-less HasAll capture books group r draft is_next)
 
-  pub due-follows : ((rs : List Record) → AreBooks HasAll given books rs → AreBooks HasAll given between rs)
-      → (AreBooksOf HasAll capture between group → IsUnbroken capture.rules (capture.records ++ group) r → AreBooksOf HasAll capture later (group ++ r ∷ []))
+  pub due-follows : ((rs : List Record) → IsRouterState HasAll given books rs → IsRouterState HasAll given between rs)
+      → (IsRouterStateOf HasAll capture between group → IsUnbroken capture.rules (capture.records ++ group) r → IsRouterStateOf HasAll capture later (group ++ r ∷ []))
       → after ≡ group ++ r ∷ [] → IsDraft HasAll capture later after
   due-follows kept entered grown =
-      let stood = subst (λ (xs : RuleSet). (rs : List Record) → AreBooks HasAll xs books rs → AreBooks HasAll xs between rs) same kept (capture.records ++ group) draft.stand in
+      let stood = subst (λ (xs : RuleSet). (rs : List Record) → IsRouterState HasAll xs books rs → IsRouterState HasAll xs between rs) same kept (capture.records ++ group) draft.stand in
       subst (λ (rs : List Record). IsDraft HasAll capture later rs) (sym grown)
       (due-entered HasAll capture books later group r draft is_next (subst (λ (o : Option Record). IfSome o IsRecord) is bounds) (entered stood (due-fits HasAll capture books group r draft is_next)))

@@ -8,7 +8,7 @@ use Rattle.trace_clauses.specs.Clauses.{first_broken}
 use Rattle.trace_clauses.proofs.Lawful.{history-push}
 use Rattle.trace_clauses.proofs.Broken.{length-history}
 use Rattle.state_tables.specs.Connections.{IsLawfulNext}
-use Rattle.route_work.specs.Books.{IsUnbroken}
+use Rattle.route_work.specs.RouterState.{IsUnbroken}
 
 module _ (rules : RuleSet) (records : List Record) (r : Record) where
   abbrev past : List Event

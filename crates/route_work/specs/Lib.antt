@@ -1,3 +1,3 @@
 pub mod Work
 pub mod Dues
-pub mod Books
+pub mod RouterState

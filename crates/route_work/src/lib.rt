@@ -3,7 +3,7 @@
 //! - `due`: whatever is due to be written next, as one type over what the lists of a router's work answer;
 //! - `writing`: the record of the frame that is then written;
 //! - `dues`: what is asked of lists of what is due;
-//! - `books`: the tables that answer the questions about the past, with such lists, moved together by one record after the
+//! - `router_state`: the tables that answer the questions about the past, with such lists, moved together by one record after the
 //!   other;
 //! - `telling`: outcomes, and settlings behind them;
 //! - `sending`: deliveries in progress, those that wait, and copies;
@@ -11,17 +11,17 @@
 //! - `work`: all of these lists as one, in the order in which a step goes over them.
 #![tactic(auto)]
 
-mod books;
 mod due;
 mod dues;
 mod flowing;
+mod router_state;
 mod sending;
 mod telling;
 mod work;
 mod writing;
 
-pub use books::Books;
 pub use due::Due;
 pub use dues::Dues;
+pub use router_state::RouterState;
 pub use work::Work;
 pub use writing::record_of;

@@ -11,7 +11,7 @@ use Rattle.trace_values.specs.View.{event_view}
 use Rattle.state_ledger.specs.HeldEvents.{held_event_view}
 use Rattle.state_answers.proofs.NextKnown.{next-opens}
 use Rattle.route_work.proofs.Entering.{numbered, same-event, lawful-next, on_ok}
-use Rattle.route_work.proofs.books.Books.judge.Goals as goal
+use Rattle.route_work.proofs.router_state.RouterState.judge.Goals as goal
 
 pub returns : goal.returns
 returns g c =

@@ -5,7 +5,7 @@ use Rattle.trace_values.specs.View.{event_view}
 use Rattle.state_addresses.specs.Addressed.{IsAddressed}
 use Rattle.state_answers.specs.Tables.{AreTables, completed_by_all, completed_with}
 use Rattle.route_work.proofs.Entering.{longer}
-use Rattle.route_work.proofs.books.Books.follow.Goals as goal
+use Rattle.route_work.proofs.router_state.RouterState.follow.Goals as goal
 
 pub returns : goal.returns
 returns g c = λ records r next stand.

@@ -10,7 +10,7 @@ ghost use Rattle.trace_duties.specs.Quiet.{is_quiet};
 ghost use Rattle.route_work.specs.Dues.{IsNextFrame};
 ghost use Rattle.route_dues.specs.Writing.{IsInOrder};
 ghost use Rattle.capture_form.specs.Text.{IsRecord};
-ghost use Rattle.route_work.specs.Books.{AreBooks, AreInOrder, IsUnbroken};
+ghost use Rattle.route_work.specs.RouterState.{IsRouterState, AreInOrder, IsUnbroken};
 ghost use Rattle.state_tables.specs.Connections.{IsLawfulNext};
 ghost use Rattle.trace_values.specs.View.{Events, event_view};
 
@@ -24,16 +24,16 @@ use trace_judge::{judge_unopened, open};
 use trace_values::{Event, ReadRecord};
 
 /// The tables of the records so far, and what is due behind them.
-pub struct Books<D: Dues> {
+pub struct RouterState<D: Dues> {
     alloc: Global,
     tables: Tables,
     dues: D,
 }
 
 // Written out, and not derived, so that where one is let go the prover need not go through all that it owns.
-impl<D: Dues + Drop> Drop for Books<D> {
+impl<D: Dues + Drop> Drop for RouterState<D> {
     fn drop(self) {
-        let Books {
+        let RouterState {
             alloc: _,
             tables: _,
             dues: _,
@@ -41,14 +41,14 @@ impl<D: Dues + Drop> Drop for Books<D> {
     }
 }
 
-impl<D: Dues> Books<D> {
+impl<D: Dues> RouterState<D> {
     /// No records.
-    pub fn new(alloc: Global) -> Books<D>
-        ensures { (rules : RuleSet) → AreBooks D.has_all rules result [] }
+    pub fn new(alloc: Global) -> RouterState<D>
+        ensures { (rules : RuleSet) → IsRouterState D.has_all rules result [] }
     {
         let tables = Tables::new(alloc);
         let dues = D::new(alloc);
-        Books {
+        RouterState {
             alloc,
             tables,
             dues,
@@ -57,14 +57,14 @@ impl<D: Dues> Books<D> {
 
     /// The tables, lent.
     pub fn looked(&self) -> LentTables<'_>
-        ensures { (rules : RuleSet) (records : List Record) → AreBooks D.has_all rules self.now records → TellsOf rules result (history rules records) }
+        ensures { (rules : RuleSet) (records : List Record) → IsRouterState D.has_all rules self.now records → TellsOf rules result (history rules records) }
     {
         self.tables.looked()
     }
 
     /// How many deliveries from clients were completed; the greatest number where they are more.
     pub fn completed(&self) -> u64
-        ensures { (rules : RuleSet) (records : List Record) → AreBooks D.has_all rules self.now records →
+        ensures { (rules : RuleSet) (records : List Record) → IsRouterState D.has_all rules self.now records →
             result ≡ completed_by_all (history rules records) }
     {
         self.tables.completed()
@@ -89,7 +89,7 @@ impl<D: Dues> Books<D> {
         number: u64,
         entry: &ReadRecord<'_>,
     ) -> Result<(), AllocError>
-        ensures { OnOk result ((records : List Record) → AreBooks D.has_all rules.now self.now records → number ≡ length records →
+        ensures { OnOk result ((records : List Record) → IsRouterState D.has_all rules.now self.now records → number ≡ length records →
             IsUnbroken rules.now records entry.now → IsLawfulNext rules.now records entry.now (held_event_view held.new (moment_of entry.now.what))) }
     {
         let looked = self.tables.looked();
@@ -102,10 +102,10 @@ impl<D: Dues> Books<D> {
     ///
     /// # Errors
     ///
-    /// Memory was refused; then the books may agree with no records any more.
+    /// Memory was refused; then the state may agree with no records any more.
     pub fn follow(&mut self, rules: &RuleSet, event: &Event) -> Result<(), AllocError>
         ensures { OnOk result ((records : List Record) (r : Record) → IsLawfulNext rules.now records r (event_view event.now) →
-            AreBooks D.has_all rules.now self.old records → AreBooks D.has_all rules.now self.new (records ++ r ∷ [])) }
+            IsRouterState D.has_all rules.now self.old records → IsRouterState D.has_all rules.now self.new (records ++ r ∷ [])) }
     {
         let looked = self.tables.looked();
         let completed = looked.deliveries.completed_for(event);
@@ -124,10 +124,10 @@ impl<D: Dues> Books<D> {
     pub fn next_record(&mut self, rules: &RuleSet) -> Result<Option<Record>, AllocError>
         requires known { AreInOrder D.has_all rules.now self.old }
         ensures bounds { IfOk result (λ next. IfSome next IsRecord) }
-        ensures next { (records : List Record) → AreBooks D.has_all rules.now self.old records → IsInOrder rules.now (history rules.now records) →
+        ensures next { (records : List Record) → IsRouterState D.has_all rules.now self.old records → IsInOrder rules.now (history rules.now records) →
             IfOk result (λ next. IfSome next (IsNextFrame rules.now (history rules.now records))) }
-        ensures kept { (records : List Record) → AreBooks D.has_all rules.now self.old records → AreBooks D.has_all rules.now self.new records }
-        ensures quiet { (records : List Record) → AreBooks D.has_all rules.now self.old records →
+        ensures kept { (records : List Record) → IsRouterState D.has_all rules.now self.old records → IsRouterState D.has_all rules.now self.new records }
+        ensures quiet { (records : List Record) → IsRouterState D.has_all rules.now self.old records →
             IfOk result (λ next. next ≡ None → is_quiet rules.now (history rules.now records) ≡ true) }
     {
         let looked = self.tables.looked();

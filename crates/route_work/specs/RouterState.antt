@@ -1,4 +1,4 @@
--- What a router's books stand for: the records so far, judged by its rules (own rules).
+-- What a router's state stands for: the records so far, judged by its rules (own rules).
 use Rattle.std.specs.Prelude.{◌≡◌, List, None}
 use Rattle.capture_form.specs.declared.records.Record.{Record}
 use Rattle.capture_form.specs.Rules.{RuleSet}
@@ -7,7 +7,7 @@ use Rattle.trace_events.specs.History.{judge, history}
 use Rattle.trace_clauses.specs.Clauses.{broken_clause}
 use Rattle.state_answers.specs.Tables.{AreTables, completed_by_all}
 use Rattle.route_dues.specs.Writing.{IsInOrder}
-use Rattle.route_work.specs.declared.books.Books.{Books}
+use Rattle.route_work.specs.declared.router_state.RouterState.{RouterState}
 
 -- a record breaks no clause behind others
 abbrev pub IsUnbroken : RuleSet → List Record → Record → Type 0
@@ -15,13 +15,13 @@ IsUnbroken rules records r = let past = history rules records in broken_clause r
 
 module _ {D : Type 0} (HasAll : D → RuleSet → List Event → Type 0) where
   -- the tables tell of these records, and so how many deliveries they complete; and all that is due is listed
-  pub record AreBooks (rules : RuleSet) (books : Books D) (records : List Record) : Type 0 where
+  pub record IsRouterState (rules : RuleSet) (books : RouterState D) (records : List Record) : Type 0 where
     pub tables : AreTables rules books.tables (history rules records)
     pub counted : books.tables.completed ≡ completed_by_all (history rules records)
     pub listed : HasAll books.dues rules (history rules records)
 
   -- of some records, which are in order
-  pub record AreInOrder (rules : RuleSet) (books : Books D) : Type 0 where
+  pub record AreInOrder (rules : RuleSet) (books : RouterState D) : Type 0 where
     pub records : List Record
-    pub stand : AreBooks rules books records
+    pub stand : IsRouterState rules books records
     pub order : IsInOrder rules (history rules records)

@@ -1,6 +1,6 @@
 use Rattle.std.proofs.Common.{◌∙◌}
 use Rattle.trace_events.specs.History.{history}
-use Rattle.route_work.proofs.books.Books.next_record.Goals as goal
+use Rattle.route_work.proofs.router_state.RouterState.next_record.Goals as goal
 
 pub returns-in_ok-record_of-in-Some-clause-next : goal.returns-in_ok-record_of-in-Some-clause-next
 returns-in_ok-record_of-in-Some-clause-next g c = λ records stand order.
