@@ -1,4 +1,4 @@
 mod Extended
 mod Histories
 pub mod Stepped
-mod ShelfExamples
+mod KernelStateExamples

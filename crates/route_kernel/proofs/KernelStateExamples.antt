@@ -7,7 +7,7 @@ use Rattle.route_items.specs.declared.item.Item.{Item}
 use Rattle.route_items.specs.declared.item.Item.TheVariants as items
 use Rattle.route_items.specs.Items.{record_of}
 use Rattle.route_items.specs.Inputs.{is_output}
-use Rattle.route_kernel.specs.Shelf.{HasGiven}
+use Rattle.route_kernel.specs.KernelState.{HasGiven}
 
 abbrev opens : Item
 opens = items.Opened 0
