@@ -10,22 +10,22 @@ const COUNTS: usize = 1024;
 /// Counts of the frames that a core wrote. Whoever found no more frames at some count will find none while it stands: so a
 /// port that waits for frames asks for the lock only where there may be one.
 #[derive(Drop)]
-pub(crate) struct Marks {
+pub(crate) struct WrittenCounts {
     counts: Vec<AtomicU64>,
 }
 
-impl Marks {
+impl WrittenCounts {
     /// Counts of nothing.
     ///
     /// # Errors
     ///
     /// Where memory is refused.
-    pub(crate) fn new(alloc: Global) -> Result<Marks, AllocError> {
+    pub(crate) fn new(alloc: Global) -> Result<WrittenCounts, AllocError> {
         let mut counts = Vec::new(alloc);
         for _ in 0..COUNTS {
             counts.push(AtomicU64::new(0))?;
         }
-        Ok(Marks { counts })
+        Ok(WrittenCounts { counts })
     }
 
     /// Counts the frames that these records write.
