@@ -3,7 +3,7 @@
 ghost use Rattle.std.specs.Prelude.{◌≡◌, ◌<◌, IfOk, vec_len};
 
 use crate::slot::Slot;
-use crate::station::{Station, Stations};
+use crate::worker_poll::{WorkerPoll, WorkerPolls};
 use mio::net::TcpListener;
 use std::alloc::{AllocError, Global};
 use std::io;
@@ -46,50 +46,50 @@ pub fn slots_at<'a, R: Wait + Net>(
     requires { 0 < workers }
     ensures { IfOk result (λ slots. vec_len slots ≡ connections) }
 {
-    let stations = stations_at(rt, alloc, &mut listener, workers)?;
+    let polls = polls_at(rt, alloc, &mut listener, workers)?;
     let listener = Arc::new(alloc, Mutex::new(listener))?;
-    let slots = slots_of(rt, alloc, &listener, stations, connections)?;
+    let slots = slots_of(rt, alloc, &listener, polls, connections)?;
     Ok(slots)
 }
 
-/// A station for each worker.
-fn stations_at(
+/// A poll for each worker.
+fn polls_at(
     net: &impl Net,
     alloc: Global,
     listener: &mut TcpListener,
     workers: usize,
-) -> io::Result<Vec<Arc<Station, Global>>>
-    ensures { IfOk result (λ stations. vec_len stations ≡ workers) }
+) -> io::Result<Vec<Arc<WorkerPoll, Global>>>
+    ensures { IfOk result (λ polls. vec_len polls ≡ workers) }
 {
-    let mut stations = Vec::new(alloc);
+    let mut polls = Vec::new(alloc);
     for worker in 0..workers {
-        let station = Station::new(net, alloc, worker, listener)?;
-        stations.push(Arc::new(alloc, station)?)?;
+        let poll = WorkerPoll::new(net, alloc, worker, listener)?;
+        polls.push(Arc::new(alloc, poll)?)?;
     }
-    Ok(stations)
+    Ok(polls)
 }
 
-/// So many slots, at the stations in turn.
+/// So many slots, at the polls in turn.
 fn slots_of<'a, R: Wait + Net>(
     rt: &'a R,
     alloc: Global,
     listener: &Arc<Mutex<TcpListener>, Global>,
-    stations: Vec<Arc<Station, Global>>,
+    polls: Vec<Arc<WorkerPoll, Global>>,
     connections: u32,
 ) -> Result<Vec<Slot<&'a R>>, AllocError>
-    requires { 0 < vec_len stations }
+    requires { 0 < vec_len polls }
     ensures { IfOk result (λ slots. vec_len slots ≡ connections) }
 {
-    let stations = Arc::new(alloc, Stations::new(stations))?;
+    let polls = Arc::new(alloc, WorkerPolls::new(polls))?;
     let mut slots = Vec::new(alloc);
     for number in 0..connections {
-        let station = Arc::try_clone(stations.station_of(number))?;
+        let poll = Arc::try_clone(polls.poll_of(number))?;
         let slot = Slot::new(
             rt,
             alloc,
             Arc::try_clone(listener)?,
-            Arc::try_clone(&stations)?,
-            station,
+            Arc::try_clone(&polls)?,
+            poll,
         );
         slots.push(slot)?;
     }

@@ -6,7 +6,7 @@ ghost use Rattle.std.specs.Bool.{OnTrue};
 use crate::connection::{Connection, Moved};
 use crate::millis::moment;
 use crate::refusal::{Refusal, refusal_of};
-use crate::station::{Station, Stations};
+use crate::worker_poll::{WorkerPoll, WorkerPolls};
 use conn_engine::{Delivered, Gate, Ready, Taken};
 use mio::net::{TcpListener, TcpStream};
 use std::alloc::Global;
@@ -33,8 +33,8 @@ pub struct Slot<R: Wait> {
     rt: R,
     alloc: Global,
     listener: Arc<Mutex<TcpListener>, Global>,
-    stations: Arc<Stations, Global>,
-    station: Arc<Station, Global>,
+    polls: Arc<WorkerPolls, Global>,
+    poll: Arc<WorkerPoll, Global>,
     place: Place,
     // The listener or the poll failed.
     is_broken: bool,
@@ -48,16 +48,16 @@ impl<R: Wait> Slot<R> {
         rt: R,
         alloc: Global,
         listener: Arc<Mutex<TcpListener>, Global>,
-        stations: Arc<Stations, Global>,
-        station: Arc<Station, Global>,
+        polls: Arc<WorkerPolls, Global>,
+        poll: Arc<WorkerPoll, Global>,
     ) -> Slot<R> {
-        station.add_slot();
+        poll.add_slot();
         Slot {
             rt,
             alloc,
             listener,
-            stations,
-            station,
+            polls,
+            poll,
             place: Place::Vacant,
             is_broken: false,
             ended: false,
@@ -70,7 +70,7 @@ impl<R: Wait> Slot<R> {
         ensures ended { self.new.ended ≡ self.old.ended }
         ensures failed { self.new.failed ≡ self.old.failed }
     {
-        if !self.station.may_accept() {
+        if !self.poll.may_accept() {
             return;
         }
         let Some(listener) = self.listener.try_lock() else {
@@ -91,7 +91,7 @@ impl<R: Wait> Slot<R> {
     {
         match refusal {
             Refusal::Client => {}
-            Refusal::NoneWaits | Refusal::Means => self.station.none_is_there(),
+            Refusal::NoneWaits | Refusal::Means => self.poll.none_is_there(),
             Refusal::Listener => self.is_broken = true,
         }
     }
@@ -99,7 +99,7 @@ impl<R: Wait> Slot<R> {
     /// What a gate delivered is handed to the router before any gate of its worker is called again. So it is time now to
     /// tell the other workers, for whose connections frames may have come of it.
     fn pass_on(&self) {
-        self.stations.pass_on(&self.station);
+        self.polls.pass_on(&self.poll);
     }
 
     /// Makes a stream the connection of the slot. That the poll does not take it, or memory is refused, is its own fault alone.
@@ -109,7 +109,7 @@ impl<R: Wait> Slot<R> {
     {
         // Small frames are not to wait for one another.
         let _ = stream.set_nodelay(true);
-        match self.station.admit(&self.rt, self.alloc, &mut stream) {
+        match self.poll.admit(&self.rt, self.alloc, &mut stream) {
             Ok((key, signs)) => self.place = Place::Taken(Connection::new(stream, key, signs)),
             Err(_) => self.place = Place::Unfit,
         }
@@ -143,7 +143,7 @@ impl<R: Wait + Clock> Gate for Slot<R> {
 
     fn read(&mut self, buffer: &mut [u8]) -> Delivered {
         self.pass_on();
-        if self.station.look(&self.rt).is_err() {
+        if self.poll.look(&self.rt).is_err() {
             self.is_broken = true;
         }
         if matches!(self.place, Place::Vacant) {
@@ -156,7 +156,7 @@ impl<R: Wait + Clock> Gate for Slot<R> {
         };
         match moved {
             Moved::Octets(n) => {
-                self.station.note_delivery();
+                self.poll.note_delivery();
                 Delivered::Octets(n)
             }
             Moved::Nothing => Delivered::Nothing,
@@ -198,7 +198,7 @@ impl<R: Wait + Clock> Gate for Slot<R> {
     fn ready(&mut self) -> Ready {
         self.pass_on();
         if !self.is_broken {
-            match self.station.wait(&self.rt) {
+            match self.poll.wait(&self.rt) {
                 Ok(true) => return Ready::Yes,
                 Ok(false) => return Ready::No,
                 Err(_) => self.is_broken = true,
@@ -213,18 +213,18 @@ impl<R: Wait + Clock> Gate for Slot<R> {
 
     fn shut(&mut self) {
         // The router was told of the loss before, which may bring about frames as well.
-        self.station.note_delivery();
+        self.poll.note_delivery();
         self.pass_on();
         match mem::replace(&mut self.place, Place::Shut) {
             Place::Taken(mut connection) => {
                 connection.shut();
-                self.station.dismiss(&self.rt, connection.key());
+                self.poll.dismiss(&self.rt, connection.key());
                 // Here its descriptor is let go.
                 drop(connection);
-                self.stations.one_may_be_there();
+                self.polls.one_may_be_there();
             }
             // That of one that could not be taken in was let go at once.
-            Place::Unfit => self.stations.one_may_be_there(),
+            Place::Unfit => self.polls.one_may_be_there(),
             Place::Vacant | Place::Shut => {}
         }
     }

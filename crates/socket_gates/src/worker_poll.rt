@@ -26,7 +26,7 @@ const DELIVERIES: u64 = 16;
 
 /// The poll of a worker's sockets, and what ends its wait. The worker alone takes the lock; others only call.
 #[derive(Drop)]
-pub(crate) struct Station {
+pub(crate) struct WorkerPoll {
     worker: usize,
     watch: Mutex<Watch>,
     waker: Waker,
@@ -44,8 +44,8 @@ pub(crate) struct Station {
     vacant: AtomicU64,
 }
 
-impl Station {
-    /// The station of this worker, without slots.
+impl WorkerPoll {
+    /// The poll of this worker, without slots.
     ///
     /// # Errors
     ///
@@ -55,9 +55,9 @@ impl Station {
         alloc: Global,
         worker: usize,
         listener: &mut TcpListener,
-    ) -> io::Result<Station> {
+    ) -> io::Result<WorkerPoll> {
         let (watch, waker) = Watch::new(net, alloc, listener)?;
-        Ok(Station {
+        Ok(WorkerPoll {
             worker,
             watch: Mutex::new(watch),
             waker,
@@ -213,43 +213,43 @@ impl Station {
     }
 }
 
-/// The stations of all workers.
+/// The polls of all workers.
 #[derive(Drop)]
-pub(crate) struct Stations {
-    stations: Vec<Arc<Station, Global>>,
+pub(crate) struct WorkerPolls {
+    polls: Vec<Arc<WorkerPoll, Global>>,
 }
 
-impl Stations {
-    pub(crate) fn new(stations: Vec<Arc<Station, Global>>) -> Stations
-        ensures { result.stations ≡ stations }
+impl WorkerPolls {
+    pub(crate) fn new(polls: Vec<Arc<WorkerPoll, Global>>) -> WorkerPolls
+        ensures { result.polls ≡ polls }
     {
-        Stations { stations }
+        WorkerPolls { polls }
     }
 
-    /// The station of this slot.
-    pub(crate) fn station_of(&self, slot: u32) -> &Arc<Station, Global>
-        requires { 0 < vec_len self.now.stations }
+    /// The poll of this slot.
+    pub(crate) fn poll_of(&self, slot: u32) -> &Arc<WorkerPoll, Global>
+        requires { 0 < vec_len self.now.polls }
     {
-        &self.stations[slot as usize % self.stations.len()]
+        &self.polls[slot as usize % self.polls.len()]
     }
 
     /// A descriptor is free again, which may be what a connection waits for that no worker could accept.
     pub(crate) fn one_may_be_there(&self) {
-        for station in self.stations.iter() {
-            station.one_may_be_there();
-            station.end_wait();
+        for poll in self.polls.iter() {
+            poll.one_may_be_there();
+            poll.end_wait();
         }
     }
 
     /// Ends the waits of all other workers, if octets were delivered to this one since the last time: behind a delivery
     /// they were handed to the router, which may have written frames for any connection. It costs a call of the system
     /// only for a worker that waits.
-    pub(crate) fn pass_on(&self, station: &Station) {
-        if !station.takes_delivery() {
+    pub(crate) fn pass_on(&self, poll: &WorkerPoll) {
+        if !poll.takes_delivery() {
             return;
         }
-        for other in self.stations.iter() {
-            if other.worker != station.worker {
+        for other in self.polls.iter() {
+            if other.worker != poll.worker {
                 other.end_wait();
             }
         }
