@@ -2,7 +2,7 @@
 
 ghost use Rattle.std.specs.Prelude.{◌≡◌, ◌<◌, IfOk, vec_len};
 
-use crate::slot::Slot;
+use crate::slot::ConnectionSlot;
 use crate::worker_poll::{WorkerPoll, WorkerPolls};
 use mio::net::TcpListener;
 use std::alloc::{AllocError, Global};
@@ -23,7 +23,7 @@ pub fn open_slots<'a, R: Wait + Net>(
     addr: SocketAddr,
     workers: usize,
     connections: u32,
-) -> io::Result<Vec<Slot<&'a R>>>
+) -> io::Result<Vec<ConnectionSlot<&'a R>>>
     requires { 0 < workers }
     ensures { IfOk result (λ slots. vec_len slots ≡ connections) }
 {
@@ -42,7 +42,7 @@ pub fn slots_at<'a, R: Wait + Net>(
     mut listener: TcpListener,
     workers: usize,
     connections: u32,
-) -> io::Result<Vec<Slot<&'a R>>>
+) -> io::Result<Vec<ConnectionSlot<&'a R>>>
     requires { 0 < workers }
     ensures { IfOk result (λ slots. vec_len slots ≡ connections) }
 {
@@ -76,7 +76,7 @@ fn slots_of<'a, R: Wait + Net>(
     listener: &Arc<Mutex<TcpListener>, Global>,
     polls: Vec<Arc<WorkerPoll, Global>>,
     connections: u32,
-) -> Result<Vec<Slot<&'a R>>, AllocError>
+) -> Result<Vec<ConnectionSlot<&'a R>>, AllocError>
     requires { 0 < vec_len polls }
     ensures { IfOk result (λ slots. vec_len slots ≡ connections) }
 {
@@ -84,7 +84,7 @@ fn slots_of<'a, R: Wait + Net>(
     let mut slots = Vec::new(alloc);
     for number in 0..connections {
         let poll = Arc::try_clone(polls.poll_of(number))?;
-        let slot = Slot::new(
+        let slot = ConnectionSlot::new(
             rt,
             alloc,
             Arc::try_clone(listener)?,

@@ -7,7 +7,7 @@ ghost use Rattle.conn_workers.specs.declared.report.RunFault.TheVariants.{Memory
 ghost use Rattle.conn_workers.specs.Faults.{Brings};
 ghost use Rattle.socket_gates.specs.Served.{IsServedRun};
 
-use crate::{Slot, open_slots};
+use crate::{ConnectionSlot, open_slots};
 use address_table::Rules;
 use conn_workers::{RunFault, RunReport, run_workers};
 use std::alloc::Global;
@@ -35,7 +35,7 @@ pub fn serve<'a, R: Threads + Wait + Net + Clock + Sync>(
     connections: u32,
     rules: &Rules,
     limit: u64,
-) -> Result<RunReport<Slot<&'a R>>, RunFault>
+) -> Result<RunReport<ConnectionSlot<&'a R>>, RunFault>
     requires { (0 < workers) × (workers ≤ 64) }
     ensures run { IfOk result (λ report. IsServedRun rules.now connections report.capture report.conns.items) }
     ensures fault { IfErr result Brings }

@@ -16,7 +16,7 @@ use std::time::Clock;
 
 /// Where a slot is.
 #[derive(Drop)]
-enum Place {
+enum SlotState {
     /// It has had no connection.
     Vacant,
     Taken(Connection),
@@ -29,20 +29,20 @@ enum Place {
 /// A gate that takes one connection from a listener, which stands behind a lock. What a socket delivers and takes is the
 /// system's affair, and no clause speaks of it.
 #[derive(Drop)]
-pub struct Slot<R: Wait> {
+pub struct ConnectionSlot<R: Wait> {
     rt: R,
     alloc: Global,
     listener: Arc<Mutex<TcpListener>, Global>,
     polls: Arc<WorkerPolls, Global>,
     poll: Arc<WorkerPoll, Global>,
-    place: Place,
+    state: SlotState,
     // The listener or the poll failed.
     is_broken: bool,
     ended: bool,
     failed: u64,
 }
 
-impl<R: Wait> Slot<R> {
+impl<R: Wait> ConnectionSlot<R> {
     /// A slot without a connection.
     pub(crate) fn new(
         rt: R,
@@ -50,15 +50,15 @@ impl<R: Wait> Slot<R> {
         listener: Arc<Mutex<TcpListener>, Global>,
         polls: Arc<WorkerPolls, Global>,
         poll: Arc<WorkerPoll, Global>,
-    ) -> Slot<R> {
+    ) -> ConnectionSlot<R> {
         poll.add_slot();
-        Slot {
+        ConnectionSlot {
             rt,
             alloc,
             listener,
             polls,
             poll,
-            place: Place::Vacant,
+            state: SlotState::Vacant,
             is_broken: false,
             ended: false,
             failed: 0,
@@ -110,8 +110,8 @@ impl<R: Wait> Slot<R> {
         // Small frames are not to wait for one another.
         let _ = stream.set_nodelay(true);
         match self.poll.admit(&self.rt, self.alloc, &mut stream) {
-            Ok((key, signs)) => self.place = Place::Taken(Connection::new(stream, key, signs)),
-            Err(_) => self.place = Place::Unfit,
+            Ok((key, signs)) => self.state = SlotState::Taken(Connection::new(stream, key, signs)),
+            Err(_) => self.state = SlotState::Unfit,
         }
     }
 
@@ -128,7 +128,7 @@ impl<R: Wait> Slot<R> {
     }
 }
 
-impl<R: Wait + Clock> Gate for Slot<R> {
+impl<R: Wait + Clock> Gate for ConnectionSlot<R> {
     ghost use Rattle.std.specs.Prelude.{⊤};
 
     ghost delivered = { λ slot octets. ⊤ };
@@ -146,13 +146,13 @@ impl<R: Wait + Clock> Gate for Slot<R> {
         if self.poll.look(&self.rt).is_err() {
             self.is_broken = true;
         }
-        if matches!(self.place, Place::Vacant) {
+        if matches!(self.state, SlotState::Vacant) {
             self.accept();
         }
-        let moved = match &mut self.place {
-            Place::Taken(connection) => connection.read(buffer),
-            Place::Unfit => Moved::Fault,
-            Place::Vacant | Place::Shut => Moved::Nothing,
+        let moved = match &mut self.state {
+            SlotState::Taken(connection) => connection.read(buffer),
+            SlotState::Unfit => Moved::Fault,
+            SlotState::Vacant | SlotState::Shut => Moved::Nothing,
         };
         match moved {
             Moved::Octets(n) => {
@@ -177,10 +177,10 @@ impl<R: Wait + Clock> Gate for Slot<R> {
 
     fn write(&mut self, octets: &[u8]) -> Taken {
         self.pass_on();
-        let moved = match &mut self.place {
-            Place::Taken(connection) => connection.write(octets),
-            Place::Unfit => Moved::Fault,
-            Place::Vacant | Place::Shut => Moved::Nothing,
+        let moved = match &mut self.state {
+            SlotState::Taken(connection) => connection.write(octets),
+            SlotState::Unfit => Moved::Fault,
+            SlotState::Vacant | SlotState::Shut => Moved::Nothing,
         };
         match moved {
             Moved::Octets(n) => Taken::Took(n),
@@ -215,8 +215,8 @@ impl<R: Wait + Clock> Gate for Slot<R> {
         // The router was told of the loss before, which may bring about frames as well.
         self.poll.note_delivery();
         self.pass_on();
-        match mem::replace(&mut self.place, Place::Shut) {
-            Place::Taken(mut connection) => {
+        match mem::replace(&mut self.state, SlotState::Shut) {
+            SlotState::Taken(mut connection) => {
                 connection.shut();
                 self.poll.dismiss(&self.rt, connection.key());
                 // Here its descriptor is let go.
@@ -224,8 +224,8 @@ impl<R: Wait + Clock> Gate for Slot<R> {
                 self.polls.one_may_be_there();
             }
             // That of one that could not be taken in was let go at once.
-            Place::Unfit => self.polls.one_may_be_there(),
-            Place::Vacant | Place::Shut => {}
+            SlotState::Unfit => self.polls.one_may_be_there(),
+            SlotState::Vacant | SlotState::Shut => {}
         }
     }
 

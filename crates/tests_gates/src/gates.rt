@@ -3,7 +3,7 @@
 use crate::step::{Step, tell};
 use conn_engine::{Delivered, Gate, Ready, Taken};
 use mio::net::TcpListener;
-use socket_gates::{Slot, slots_at};
+use socket_gates::{ConnectionSlot, slots_at};
 use std::alloc::{AllocError, AllocGlobal, Global};
 use std::io::{Read, Write};
 use std::net::{Ipv4Addr, Net, SocketAddr, TcpStream};
