@@ -21,4 +21,4 @@ mod sockets;
 pub use fault::Fault;
 pub use gate::SocketGate;
 pub use serving::{Limits, SocketServer, Tally};
-pub use sockets::Seen;
+pub use sockets::PollSigns;

@@ -9,7 +9,7 @@ ghost use Rattle.trace_duties.specs.Turn.{is_ordered};
 
 use crate::fault::Fault;
 use crate::gate::SocketGate;
-use crate::sockets::{Seen, Sockets};
+use crate::sockets::{PollSigns, Sockets};
 use daemon_server::{Halt, Server};
 use mio::net::{TcpListener, TcpStream};
 use route_work::Dues;
@@ -181,7 +181,7 @@ impl<D: Dues + Drop, W: Write + Drop> SocketServer<D, W> {
     /// # Errors
     ///
     /// As `Fault` says. Then nothing more is served.
-    pub fn turn(&mut self, clock: &impl Clock, buffer: &mut [u8]) -> Result<Seen, Fault>
+    pub fn turn(&mut self, clock: &impl Clock, buffer: &mut [u8]) -> Result<PollSigns, Fault>
         requires room { 0 < length buffer.old }
     {
         let patience = self.patience();
@@ -282,7 +282,7 @@ impl<D: Dues + Drop, W: Write + Drop> SocketServer<D, W> {
     }
 
     /// Waits so long for a sign, notes all that there are, and tells the gates the moment.
-    fn look(&mut self, clock: &impl Clock, patience: u64) -> Result<Seen, Fault> {
+    fn look(&mut self, clock: &impl Clock, patience: u64) -> Result<PollSigns, Fault> {
         let seen = self.sockets.wait(Duration::from_millis(patience))?;
         self.looks = if seen.any || self.is_signed {
             0

@@ -29,7 +29,7 @@ const WATCHED: Token = Token(usize::MAX - 1);
 
 /// What a wait saw.
 #[derive(Clone, Copy, Debug, PartialEq, Eq)]
-pub struct Seen {
+pub struct PollSigns {
     /// Whether there was any sign.
     pub any: bool,
     /// Whether what is watched beside the sockets may be read.
@@ -38,7 +38,7 @@ pub struct Seen {
 
 /// A socket in the poll: the number of its connection, once it has one, and what is known of it since it was polled.
 #[derive(Drop)]
-struct Standing {
+struct PolledSocket {
     number: Option<u32>,
     signs: Arc<Signs, Global>,
 }
@@ -50,7 +50,7 @@ pub(crate) struct Sockets {
     poll: Poll,
     events: Events,
     listener: TcpListener,
-    standing: Slab<Standing>,
+    sockets: Slab<PolledSocket>,
     notice: Arc<Notice, Global>,
     /// Whether a connection may wait at the listener.
     may_accept: bool,
@@ -77,7 +77,7 @@ impl Sockets {
             poll,
             events,
             listener,
-            standing: Slab::new(alloc),
+            sockets: Slab::new(alloc),
             notice,
             may_accept: true,
         })
@@ -131,12 +131,12 @@ impl Sockets {
     /// # Errors
     ///
     /// Where the poll fails.
-    pub(crate) fn wait(&mut self, patience: Duration) -> io::Result<Seen> {
+    pub(crate) fn wait(&mut self, patience: Duration) -> io::Result<PollSigns> {
         self.poll.poll(&mut self.events, Some(patience))?;
         if self.events.iter().any(|event| event.token() == LISTENER) {
             self.may_accept = true;
         }
-        Ok(Seen {
+        Ok(PollSigns {
             any: !self.events.is_empty(),
             watched: self.events.iter().any(|event| event.token() == WATCHED),
         })
@@ -152,7 +152,7 @@ impl Sockets {
         server: &mut Server<D, W, SocketGate>,
     ) -> Result<(), Halt> {
         for event in self.events.iter() {
-            if let Some(number) = note(&self.standing, event) {
+            if let Some(number) = note(&self.sockets, event) {
                 server.sign(number)?;
             }
         }
@@ -189,7 +189,7 @@ impl Sockets {
         let _ = stream.set_nodelay(true);
         let notice = Arc::try_clone(&self.notice)?;
         let signs = Arc::new(self.alloc, Signs::new())?;
-        let key = self.standing.insert(Standing {
+        let key = self.sockets.insert(PolledSocket {
             number: None,
             signs: Arc::try_clone(&signs)?,
         })?;
@@ -208,26 +208,26 @@ impl Sockets {
 
     /// The socket of this key is that of the connection of this number.
     pub(crate) fn name(&mut self, key: usize, number: u32) {
-        if let Some(standing) = self.standing.get_mut(key) {
-            standing.number = Some(number);
+        if let Some(socket) = self.sockets.get_mut(key) {
+            socket.number = Some(number);
         }
     }
 
     /// Frees a key. The socket leaves the poll when it is closed.
     pub(crate) fn dismiss(&mut self, key: usize) {
-        let _ = self.standing.try_remove(key);
+        let _ = self.sockets.try_remove(key);
     }
 
     /// Frees the keys of sockets that are gone.
     pub(crate) fn sweep(&mut self) {
-        self.standing
-            .retain(|_key, standing| Arc::strong_count(&standing.signs) > 1);
+        self.sockets
+            .retain(|_key, socket| Arc::strong_count(&socket.signs) > 1);
     }
 }
 
 /// Notes what a poll reports at the socket that it is of, and tells the number of its connection. One that is gone has none.
-fn note(standing: &Slab<Standing>, event: &Event) -> Option<u32> {
-    let standing = standing.get(event.token().0)?;
-    standing.signs.note(event);
-    standing.number
+fn note(sockets: &Slab<PolledSocket>, event: &Event) -> Option<u32> {
+    let socket = sockets.get(event.token().0)?;
+    socket.signs.note(event);
+    socket.number
 }

@@ -22,7 +22,7 @@ const WAKER: Token = Token(usize::MAX);
 
 /// What a wait saw.
 #[derive(Clone, Copy, Debug, PartialEq, Eq)]
-pub(crate) struct Seen {
+pub(crate) struct PollSigns {
     /// Whether there was any sign.
     pub(crate) any: bool,
     /// Whether there may be a connection to accept.
@@ -93,12 +93,12 @@ impl Watch {
     /// # Errors
     ///
     /// Where the poll fails.
-    pub(crate) fn wait(&mut self, timeout: Duration) -> io::Result<Seen> {
+    pub(crate) fn wait(&mut self, timeout: Duration) -> io::Result<PollSigns> {
         self.poll.poll(&mut self.events, Some(timeout))?;
         for event in self.events.iter() {
             note(&self.signs, event);
         }
-        Ok(Seen {
+        Ok(PollSigns {
             any: !self.events.is_empty(),
             at_listener: self.events.iter().any(|event| event.token() == LISTENER),
         })
