@@ -1,7 +1,7 @@
 //! The router: `amqp_router LISTEN CAPTURE WORKERS CONNECTIONS [RULE]...` serves so many connections at an address, by so
 //! many threads, and writes the capture of what it did to a file.
 //!
-//! It prints how the run ended as one line on standard output; the exit status tells it too (`router_words::Outcome`).
+//! It prints how the run ended as one line on standard output; the exit status tells it too (`router_words::RunEnd`).
 //! Words that the parser does not take give its text on standard error, nothing on standard output, and status 64; those
 //! that it takes and that are wrong have a line and status 64 too. The library `router_program` is a run over any words and
 //! writers.

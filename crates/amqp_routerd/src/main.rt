@@ -1,7 +1,7 @@
 //! The router that stays up: `amqp_routerd [OPTION]...` serves connections at an address until it is told to end, and writes the
 //! capture of what it does to a new file while it serves.
 //!
-//! It prints how the run ended as one line on standard output; the exit status tells it too (`router_words::Outcome`). It ends where
+//! It prints how the run ended as one line on standard output; the exit status tells it too (`router_words::RunEnd`). It ends where
 //! standard input ends or has the line `quit`, unless that is a terminal. Words that the parser does not take give its text on
 //! standard error, nothing on standard output, and status 64. The library `daemon_program` is a run over any words, input and
 //! writers.

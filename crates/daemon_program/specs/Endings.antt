@@ -5,11 +5,11 @@ use Rattle.daemon_server.specs.declared.halt.Halt.{Halt}
 use Rattle.daemon_server.specs.declared.halt.Halt.TheVariants as halts
 use Rattle.daemon_sockets.specs.declared.fault.Fault.{Fault}
 use Rattle.daemon_sockets.specs.declared.fault.Fault.TheVariants as faults
-use Rattle.router_words.specs.declared.outcome.Outcome.{Outcome}
-use Rattle.router_words.specs.declared.outcome.Outcome.TheVariants.{CoreFailed, DeviceFault, NoMemory, NotWritten}
+use Rattle.router_words.specs.declared.run_end.RunEnd.{RunEnd}
+use Rattle.router_words.specs.declared.run_end.RunEnd.TheVariants.{CoreFailed, DeviceFault, NoMemory, NotWritten}
 
 -- its server stopped so, when its writer had so many records (own rule)
-abbrev pub outcome_of_halt : Halt → ℕ → Outcome
+abbrev pub outcome_of_halt : Halt → ℕ → RunEnd
 outcome_of_halt halts.Memory records = NoMemory
 outcome_of_halt (halts.Turn stops.Memory) records = NoMemory
 outcome_of_halt (halts.Turn stops.Device) records = DeviceFault
@@ -19,6 +19,6 @@ outcome_of_halt (halts.NotWritten fault) records = NotWritten
 outcome_of_halt halts.Stopped records = CoreFailed records
 
 -- it stopped so (own rule)
-abbrev pub outcome_after : Fault → ℕ → Outcome
+abbrev pub outcome_after : Fault → ℕ → RunEnd
 outcome_after (faults.Device error) records = DeviceFault
 outcome_after (faults.Server halt) records = outcome_of_halt halt records

@@ -2,7 +2,7 @@
 //! capture of what it does to a new file while it serves.
 //!
 //! The line on standard output tells how the run ended, and the exit status tells it too, both as those of the router that serves
-//! a number of connections (`router_words::Outcome`). Standard error has a line when it listens, what the system said where that
+//! a number of connections (`router_words::RunEnd`). Standard error has a line when it listens, what the system said where that
 //! is why it ends, and lines of what was served where they are asked for. Words that the parser does not take give its text there,
 //! nothing on standard output, and status 64; those that it takes and that are wrong have a line and status 64 too.
 //!

@@ -1,7 +1,7 @@
 //! A run over any words, input and writers.
 
 ghost use Rattle.std.specs.Prelude.{◌≡◌, ◌⊎◌, ◌<◌, ◌≤◌};
-ghost use Rattle.router_words.specs.Outcome.{TellsSome};
+ghost use Rattle.router_words.specs.RunEnd.{TellsSome};
 ghost use Rattle.daemon_program.specs.Run.{IsStatus};
 
 use crate::capture_file::CaptureFile;
@@ -14,7 +14,7 @@ use daemon_sockets::{Fault, Limits, SocketServer};
 use mio::net::TcpListener;
 use program_ends::tell_refused_words;
 use route_work::Work;
-use router_words::{Outcome, Service, Words as Asked, tell};
+use router_words::{RunEnd, Service, Words as Asked, tell};
 use std::alloc::Global;
 use std::convert::AsStr;
 use std::fs::{File, OpenFile};
@@ -65,9 +65,9 @@ fn outcome_asked<R: Files + Wait + Net + Clock, I: Read, E: Write>(
     heard: Option<RawFd>,
     input: &mut I,
     err: &mut E,
-) -> Outcome {
+) -> RunEnd {
     let Ok(rules) = Vec::from_slice(alloc, &words.rules) else {
-        return Outcome::NoMemory;
+        return RunEnd::NoMemory;
     };
     let asked = Asked {
         listen: words.listen,
@@ -78,7 +78,7 @@ fn outcome_asked<R: Files + Wait + Net + Clock, I: Read, E: Write>(
     };
     match Service::from_words(alloc, &asked) {
         Ok(service) => served(rt, alloc, words, &service, heard, input, err),
-        Err(fault) => Outcome::Refused(fault),
+        Err(fault) => RunEnd::Refused(fault),
     }
 }
 
@@ -91,18 +91,18 @@ fn served<R: Files + Wait + Net + Clock, I: Read, E: Write>(
     heard: Option<RawFd>,
     input: &mut I,
     err: &mut E,
-) -> Outcome {
+) -> RunEnd {
     let address = SocketAddr::V4(service.address);
     let listener = match TcpListener::bind(rt, address) {
         Ok(listener) => listener,
         Err(error) => {
-            return refused(err, "listen", words.listen, &error, Outcome::DeviceFault);
+            return refused(err, "listen", words.listen, &error, RunEnd::DeviceFault);
         }
     };
     let file = match File::create_new(rt, service.capture) {
         Ok(file) => CaptureFile::new(file, words.sync),
         Err(error) => {
-            return refused(err, "capture", words.capture, &error, Outcome::NotWritten);
+            return refused(err, "capture", words.capture, &error, RunEnd::NotWritten);
         }
     };
     match begun(rt, alloc, words, &service.rules, listener, file) {
@@ -140,13 +140,13 @@ fn served_by<R: Wait + Clock, F: Write + OpenFile + Drop, I: Read, E: Write>(
     heard: Option<RawFd>,
     input: &mut I,
     err: &mut E,
-) -> Outcome {
+) -> RunEnd {
     tell_address(err, &server);
     let ended = serve_all(rt, &mut server, heard, words.stats, input, err);
     let tally = server.tally();
     let file = server.into_writer();
     match ended {
-        Ok(()) => Outcome::Served {
+        Ok(()) => RunEnd::Served {
             connections: tally.connections,
             records: tally.records,
         },
@@ -171,8 +171,8 @@ fn refused<E: Write>(
     what: &str,
     name: &str,
     error: &io::Error,
-    outcome: Outcome,
-) -> Outcome {
+    outcome: RunEnd,
+) -> RunEnd {
     let _ = writeln!(err, "{what} {name}: {error}");
     outcome_refused(error, outcome)
 }

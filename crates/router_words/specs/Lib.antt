@@ -2,4 +2,4 @@ pub mod Words
 pub mod Asking
 pub mod RuleWords
 pub mod Service
-pub mod Outcome
+pub mod RunEnd

@@ -6,19 +6,19 @@
 //! - `rule_words`: the rules that words spell, and whether one of them is `anonymous`
 //! - `service`: what the router is to serve, after all words were looked into
 //! - `fault`: what is wrong with words that the parser took
-//! - `outcome`: how a run ended, with its line and its exit status
-//! - `telling`: writing an outcome where it belongs
+//! - `run_end`: how a run ended, with its line and its exit status
+//! - `telling`: writing how a run ended where it belongs
 #![tactic(auto)]
 
 mod fault;
-mod outcome;
 mod rule_words;
+mod run_end;
 mod service;
 mod telling;
 mod words;
 
 pub use fault::WordsFault;
-pub use outcome::Outcome;
+pub use run_end::RunEnd;
 pub use service::Service;
 pub use telling::tell;
 pub use words::Words;

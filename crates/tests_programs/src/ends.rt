@@ -6,7 +6,7 @@ use address_table::RulesFault;
 use audit_core::{Clause, FormKind, Tally, Verdict};
 use clap::Command;
 use program_ends::{tell_line, tell_refused_words, tell_unread_words};
-use router_words::{Outcome, Service, Words, WordsFault};
+use router_words::{RunEnd, Service, Words, WordsFault};
 use std::alloc::{AllocError, Global};
 use std::io;
 use std::io::{ErrorKind, Write};
@@ -28,20 +28,20 @@ const VERDICTS: [Verdict; 5] = [
 ];
 
 /// An outcome of each kind.
-const OUTCOMES: [Outcome; 10] = [
-    Outcome::Served {
+const OUTCOMES: [RunEnd; 10] = [
+    RunEnd::Served {
         connections: 2,
         records: 26,
     },
-    Outcome::DeviceFault,
-    Outcome::NotWritten,
-    Outcome::NoMemory,
-    Outcome::Mismatch,
-    Outcome::CoreFailed { records: 10 },
-    Outcome::Refused(WordsFault::BadAddress),
-    Outcome::Refused(WordsFault::BadRule),
-    Outcome::Refused(WordsFault::RuleRefused(RulesFault::TooLong)),
-    Outcome::Refused(WordsFault::NoMemory),
+    RunEnd::DeviceFault,
+    RunEnd::NotWritten,
+    RunEnd::NoMemory,
+    RunEnd::Mismatch,
+    RunEnd::CoreFailed { records: 10 },
+    RunEnd::Refused(WordsFault::BadAddress),
+    RunEnd::Refused(WordsFault::BadRule),
+    RunEnd::Refused(WordsFault::RuleRefused(RulesFault::TooLong)),
+    RunEnd::Refused(WordsFault::NoMemory),
 ];
 
 /// Does what the case asks for.
@@ -133,7 +133,7 @@ fn look_into_words(
 ) -> io::Result<()> {
     match Service::from_words(alloc, words) {
         Ok(service) => tell_service(&service, case.input.as_slice(), left),
-        Err(fault) => writeln!(left.out, "{}", Outcome::Refused(fault)),
+        Err(fault) => writeln!(left.out, "{}", RunEnd::Refused(fault)),
     }
 }
 

@@ -1,6 +1,6 @@
 use Rattle.std.proofs.Common.{arith}
 use Rattle.program_ends.proofs.Statuses.{low_is_memory}
-use Rattle.router_words.specs.declared.outcome.Outcome.TheVariants.{NoMemory}
+use Rattle.router_words.specs.declared.run_end.RunEnd.TheVariants.{NoMemory}
 use Rattle.daemon_program.proofs.run.run_words.Goals as goal
 
 -- the low status of refused words is that of refused memory, and its line is told

@@ -5,7 +5,7 @@ use std::fmt;
 
 /// How a run of the router ended.
 #[derive(Clone, Copy, Debug, PartialEq, Eq)]
-pub enum Outcome {
+pub enum RunEnd {
     /// All connections were served, and the capture was written.
     Served { connections: u64, records: u64 },
     /// A poll or a listener failed, or the address could not be listened at.
@@ -22,45 +22,45 @@ pub enum Outcome {
     Refused(WordsFault),
 }
 
-impl Outcome {
+impl RunEnd {
     ghost use Rattle.std.specs.Prelude.{◌≡◌};
-    ghost use Rattle.router_words.specs.Outcome.{status_of};
+    ghost use Rattle.router_words.specs.RunEnd.{status_of};
 
     /// The exit status that tells the outcome.
     pub fn status(&self) -> u8
         ensures { result ≡ status_of self.now }
     {
         match self {
-            Outcome::Served { .. } => 0,
-            Outcome::DeviceFault => 1,
-            Outcome::NotWritten => 2,
-            Outcome::NoMemory | Outcome::Refused(WordsFault::NoMemory) => 3,
-            Outcome::Mismatch => 4,
-            Outcome::CoreFailed { .. } => 5,
-            Outcome::Refused(_) => 64,
+            RunEnd::Served { .. } => 0,
+            RunEnd::DeviceFault => 1,
+            RunEnd::NotWritten => 2,
+            RunEnd::NoMemory | RunEnd::Refused(WordsFault::NoMemory) => 3,
+            RunEnd::Mismatch => 4,
+            RunEnd::CoreFailed { .. } => 5,
+            RunEnd::Refused(_) => 64,
         }
     }
 }
 
 /// The one line that tells the outcome, without its newline.
-impl fmt::Display for Outcome {
+impl fmt::Display for RunEnd {
     ghost use Rattle.std.specs.Prelude.{Some};
-    ghost use Rattle.router_words.specs.Outcome.{line_of};
+    ghost use Rattle.router_words.specs.RunEnd.{line_of};
 
     ghost output = { λ outcome. Some (line_of outcome) };
 
     fn fmt<W: fmt::Write>(&self, f: &mut fmt::Formatter<W>) -> fmt::Result {
         match self {
-            Outcome::Served {
+            RunEnd::Served {
                 connections,
                 records,
             } => write!(f, "served connections={connections} records={records}"),
-            Outcome::DeviceFault => write!(f, "device fault"),
-            Outcome::NotWritten => write!(f, "capture not written"),
-            Outcome::NoMemory => write!(f, "no memory"),
-            Outcome::Mismatch => write!(f, "mismatch"),
-            Outcome::CoreFailed { records } => write!(f, "core failed records={records}"),
-            Outcome::Refused(fault) => write!(f, "{fault}"),
+            RunEnd::DeviceFault => write!(f, "device fault"),
+            RunEnd::NotWritten => write!(f, "capture not written"),
+            RunEnd::NoMemory => write!(f, "no memory"),
+            RunEnd::Mismatch => write!(f, "mismatch"),
+            RunEnd::CoreFailed { records } => write!(f, "core failed records={records}"),
+            RunEnd::Refused(fault) => write!(f, "{fault}"),
         }
     }
 }
