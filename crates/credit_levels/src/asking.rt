@@ -9,8 +9,8 @@ ghost use Rattle.trace_values.specs.View.{Events, link_view};
 ghost use Rattle.credit_chart.specs.Places.{most};
 ghost use Rattle.credit_levels.specs.Levels as spec;
 
+use crate::delivery_counts::DeliveryCounts;
 use crate::pick::{Pick, Place};
-use crate::standing::Standing;
 use capture_form::{Record, RuleSet};
 use credit_chart::Level;
 use trace_judge::{Counts, Inputs};
@@ -95,7 +95,7 @@ fn is_consumers(link: Option<Link<'_>>) -> bool
 }
 
 /// What stands at a place, if there is one and a link lives there.
-pub(crate) fn level_of<'a, P: Inputs<'a> + Counts + Standing>(
+pub(crate) fn level_of<'a, P: Inputs<'a> + Counts + DeliveryCounts>(
     past: &P,
     rules: &RuleSet,
     place: Option<Place>,
@@ -106,7 +106,7 @@ pub(crate) fn level_of<'a, P: Inputs<'a> + Counts + Standing>(
 }
 
 /// What stands at a place, if a link lives there.
-fn level_at<'a, P: Inputs<'a> + Counts + Standing>(
+fn level_at<'a, P: Inputs<'a> + Counts + DeliveryCounts>(
     past: &P,
     rules: &RuleSet,
     place: Place,

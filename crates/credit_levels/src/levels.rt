@@ -1,8 +1,8 @@
 //! The levels of the records so far.
 
 use crate::asking::{level_of, placed};
+use crate::delivery_counts::DeliveryCounts;
 use crate::pick::{Pick, Place};
-use crate::standing::Standing;
 use capture_form::{Record, RuleSet};
 use credit_chart::Thinned;
 use std::alloc::{AllocError, Global};
@@ -55,7 +55,7 @@ impl<'p> Levels<'p> {
     /// # Errors
     ///
     /// Memory was refused; then all stays as it was.
-    pub fn take<'a, P: Inputs<'a> + Counts + Standing>(
+    pub fn take<'a, P: Inputs<'a> + Counts + DeliveryCounts>(
         &mut self,
         past: &P,
         rules: &RuleSet,

@@ -7,16 +7,16 @@
 //! picked. What was told is thinned on its way, so that it takes no more memory than a picture.
 //!
 //! - `pick`: which link, and where it stands;
-//! - `standing`: the questions that no clause of the law asks, with the tables' answers;
+//! - `delivery_counts`: the questions that no clause of the law asks, with the tables' answers;
 //! - `asking`: what stands there, asked of the past;
 //! - `levels`: the levels of the records so far.
 #![tactic(auto)]
 
 mod asking;
+mod delivery_counts;
 mod levels;
 mod pick;
-mod standing;
 
+pub use delivery_counts::DeliveryCounts;
 pub use levels::Levels;
 pub use pick::{Pick, Place};
-pub use standing::Standing;

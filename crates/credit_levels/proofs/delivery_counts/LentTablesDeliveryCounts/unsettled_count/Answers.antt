@@ -3,7 +3,7 @@ use Rattle.trace_events.specs.Event.{Event}
 use Rattle.trace_values.specs.View.{link_view}
 use Rattle.state_outgoing.specs.SentTables.{IsTable}
 use Rattle.state_outgoing.specs.UnsettledCount.{unsettled_count}
-use Rattle.credit_levels.proofs.standing.LentTablesStanding.unsettled_count.Goals as goal
+use Rattle.credit_levels.proofs.delivery_counts.LentTablesDeliveryCounts.unsettled_count.Goals as goal
 
 pub returns : goal.returns
 returns c = λ past stands.

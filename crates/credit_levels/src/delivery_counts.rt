@@ -6,7 +6,7 @@ use trace_judge::History;
 use trace_values::Link;
 
 /// How many deliveries wait, and how many are unsettled.
-pub trait Standing: History {
+pub trait DeliveryCounts: History {
     ghost use Rattle.std.specs.Prelude.{◌≡◌};
     ghost use Rattle.capture_form.specs.Rules.{RuleSet};
     ghost use Rattle.trace_values.specs.View.{Events, link_view};
@@ -22,7 +22,7 @@ pub trait Standing: History {
         ensures { (history : Events) → Self.stands_for self.now rules.now history → (result ≡ unsettled.unsettled_count (link_view link.now) history) };
 }
 
-impl Standing for LentTables<'_> {
+impl DeliveryCounts for LentTables<'_> {
     fn waiting_count(&self, _rules: &RuleSet, address: &[u8]) -> usize {
         self.deliveries.waiting_count(address)
     }
