@@ -15,7 +15,7 @@ use Rattle.trace_clauses.specs.Written.{spoken_octets}
 use Rattle.trace_clauses.proofs.Made.{accepted, carry, detach_of, disposes, draining, first, from, from_with, gives, hi, q, receives_from, sent}
 use Rattle.credit_chart.specs.declared.level.Level.{Level}
 use Rattle.credit_levels.specs.declared.pick.Pick.{Pick}
-use Rattle.credit_levels.specs.declared.pick.Place.{Place}
+use Rattle.credit_levels.specs.declared.pick.PickedLink.{PickedLink}
 use Rattle.credit_levels.specs.Pick.{attached_at, picks}
 use Rattle.credit_levels.specs.Levels.{chosen, levels_of}
 
@@ -58,7 +58,7 @@ unfoldable levels_in : Pick → List Record → List (Option Level)
 unfolding frame_read whole_frame frame_at sized_frame headed_frame read digits spoken_octets frame_octets written
 levels_in pick records = levels_of pick no_rules (history no_rules records)
 
-unfoldable place_in : Pick → List Record → Option Place
+unfoldable place_in : Pick → List Record → Option PickedLink
 unfolding frame_read whole_frame frame_at sized_frame headed_frame read digits spoken_octets frame_octets written
 place_in pick records = chosen pick (history no_rules records)
 

@@ -14,7 +14,7 @@ use Rattle.credit_chart.specs.declared.level.Level.{Level}
 use Rattle.credit_chart.specs.declared.thinned.Thinned.{Thinned}
 use Rattle.credit_chart.specs.Thinned.{AreThinned}
 use Rattle.credit_levels.specs.declared.pick.Pick.{Pick}
-use Rattle.credit_levels.specs.declared.pick.Place.{Place}
+use Rattle.credit_levels.specs.declared.pick.PickedLink.{PickedLink}
 use Rattle.credit_levels.specs.Levels.{chosen, level_at, levels_of, opened}
 
 -- what holds of a value holds where it passes a test
@@ -41,17 +41,17 @@ module _ (rules : RuleSet) (past : List Event) (entry : Record) (pick : Pick) wh
   abbrev now : List Event
   now = judge rules past entry ∷ past
 
-  abbrev found : Pick → ℕ → Option Place
+  abbrev found : Pick → ℕ → Option PickedLink
   found asked number = opened asked number entry.connection (moment_of entry.what) now
 
-  pub chosen_next : (asked : Pick) (number : ℕ) (earlier place : Option Place) → asked ≡ pick → number ≡ length past → earlier ≡ chosen pick past → place ≡ or_else earlier (found asked number) → place ≡ chosen pick now
+  pub chosen_next : (asked : Pick) (number : ℕ) (earlier place : Option PickedLink) → asked ≡ pick → number ≡ length past → earlier ≡ chosen pick past → place ≡ or_else earlier (found asked number) → place ≡ chosen pick now
   chosen_next asked number earlier place asks at stood is =
       is
       ∙ (ap (λ o. or_else o (found asked number)) stood
       ∙ (ap (λ p. or_else (chosen pick past) (found p number)) asks ∙ ap (λ n. or_else (chosen pick past) (found pick n)) at))
 
   -- and what stands there
-  pub levels_next : (place : Option Place) (level : Option Level) (thinned : Thinned) → place ≡ chosen pick now → level ≡ option_and_then (λ p. level_at rules p now) place
+  pub levels_next : (place : Option PickedLink) (level : Option Level) (thinned : Thinned) → place ≡ chosen pick now → level ≡ option_and_then (λ p. level_at rules p now) place
       → AreThinned (levels_of pick rules past ++ level ∷ []) thinned → AreThinned (levels_of pick rules now) thinned
   levels_next place level thinned stands is are =
       subst (λ o. AreThinned (levels_of pick rules past ++ o ∷ []) thinned) (is ∙ ap (option_and_then (λ p. level_at rules p now)) stands) are

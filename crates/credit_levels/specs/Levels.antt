@@ -12,22 +12,22 @@ use Rattle.credit_chart.specs.declared.level.Level.{Level}
 use Rattle.credit_chart.specs.Places.{most}
 use Rattle.credit_chart.specs.Thinned.{AreThinned}
 use Rattle.credit_levels.specs.declared.pick.Pick.{Pick}
-use Rattle.credit_levels.specs.declared.pick.Place.{Place}
+use Rattle.credit_levels.specs.declared.pick.PickedLink.{PickedLink}
 use Rattle.credit_levels.specs.declared.levels.Levels.{Levels}
 use Rattle.credit_levels.specs.Pick.{attached}
 
 -- Behind a record are the events up to it, the newest first.
 
 -- the link that stands at a place: the live one of the handle, if it opened in that record
-abbrev pub link_at : Place → List Event → Option Link
+abbrev pub link_at : PickedLink → List Event → Option Link
 link_at place now = where_passes (λ l. l.number == place.number) (live_link place.connection place.channel place.handle now)
 
 -- where the link stands that opened in the last record, of this number, if it is one of a consumer that is picked
-abbrev pub opened : Pick → ℕ → ℕ → Moment → List Event → Option Place
+abbrev pub opened : Pick → ℕ → ℕ → Moment → List Event → Option PickedLink
 opened pick number connection moment now = where_passes (λ place. is_some_and (link_at place now) is_consumer) (attached pick number connection moment)
 
 -- where the first such link stands
-abbrev pub chosen : Pick → List Event → Option Place
+abbrev pub chosen : Pick → List Event → Option PickedLink
 chosen pick [] = None
 chosen pick (e ∷ past) = let earlier = chosen pick past in or_else earlier (opened pick e.number e.connection e.moment (e ∷ past))
 
@@ -45,7 +45,7 @@ level_on rules now l = record {
 }
 
 -- what stands at a place, if a link lives there
-abbrev pub level_at : RuleSet → Place → List Event → Option Level
+abbrev pub level_at : RuleSet → PickedLink → List Event → Option Level
 level_at rules place now = option_map (level_on rules now) (link_at place now)
 
 -- what stands behind the last record, of the link that is picked, if that lives

@@ -10,14 +10,14 @@ ghost use Rattle.credit_chart.specs.Places.{most};
 ghost use Rattle.credit_levels.specs.Levels as spec;
 
 use crate::delivery_counts::DeliveryCounts;
-use crate::pick::{Pick, Place};
+use crate::pick::{Pick, PickedLink};
 use capture_form::{Record, RuleSet};
 use credit_chart::Level;
 use trace_judge::{Counts, Inputs};
 use trace_values::{Link, Moment};
 
 /// The link that stands at a place, if it lives.
-pub(crate) fn link_at<'a, P: Inputs<'a>>(past: &P, place: Place) -> Option<Link<'a>>
+pub(crate) fn link_at<'a, P: Inputs<'a>>(past: &P, place: PickedLink) -> Option<Link<'a>>
     ensures value { (rules : RuleSet) (history : Events) → P.stands_for past.now rules history → option_map link_view result ≡ spec.link_at place history }
     ensures live { (rules : RuleSet) (history : Events) → P.stands_for past.now rules history → IfSome (option_map link_view result) (λ l. IsLiveLink l history) }
 {
@@ -25,7 +25,7 @@ pub(crate) fn link_at<'a, P: Inputs<'a>>(past: &P, place: Place) -> Option<Link<
 }
 
 /// The link that lives on the handle of a place.
-fn link_on<'a, P: Inputs<'a>>(past: &P, place: Place) -> Option<Link<'a>>
+fn link_on<'a, P: Inputs<'a>>(past: &P, place: PickedLink) -> Option<Link<'a>>
     ensures value { (rules : RuleSet) (history : Events) → P.stands_for past.now rules history →
         option_map link_view result ≡ live_link place.connection place.channel place.handle history }
     ensures live { (rules : RuleSet) (history : Events) → P.stands_for past.now rules history → IfSome (option_map link_view result) (λ l. IsLiveLink l history) }
@@ -58,7 +58,7 @@ fn opened<'a, P: Inputs<'a>>(
     pick: &Pick<'_>,
     number: u64,
     entry: &Record,
-) -> Option<Place>
+) -> Option<PickedLink>
     ensures { (rules : RuleSet) (history : Events) → P.stands_for past.now rules history →
         result ≡ spec.opened pick.now number entry.now.connection (moment_of entry.now.what) history }
 {
@@ -69,12 +69,12 @@ fn opened<'a, P: Inputs<'a>>(
 
 /// The same, unless one stood before.
 pub(crate) fn placed<'a, P: Inputs<'a>>(
-    earlier: Option<Place>,
+    earlier: Option<PickedLink>,
     past: &P,
     pick: &Pick<'_>,
     number: u64,
     entry: &Record,
-) -> Option<Place>
+) -> Option<PickedLink>
     ensures { (rules : RuleSet) (history : Events) → P.stands_for past.now rules history →
         result ≡ or_else earlier (spec.opened pick.now number entry.now.connection (moment_of entry.now.what) history) }
 {
@@ -98,7 +98,7 @@ fn is_consumers(link: Option<Link<'_>>) -> bool
 pub(crate) fn level_of<'a, P: Inputs<'a> + Counts + DeliveryCounts>(
     past: &P,
     rules: &RuleSet,
-    place: Option<Place>,
+    place: Option<PickedLink>,
 ) -> Option<Level>
     ensures { (history : Events) → P.stands_for past.now rules.now history → result ≡ option_and_then (λ at. spec.level_at rules.now at history) place }
 {
@@ -109,7 +109,7 @@ pub(crate) fn level_of<'a, P: Inputs<'a> + Counts + DeliveryCounts>(
 fn level_at<'a, P: Inputs<'a> + Counts + DeliveryCounts>(
     past: &P,
     rules: &RuleSet,
-    place: Place,
+    place: PickedLink,
 ) -> Option<Level>
     ensures { (history : Events) → P.stands_for past.now rules.now history → result ≡ spec.level_at rules.now place history }
 {

@@ -2,7 +2,7 @@
 
 use crate::asking::{level_of, placed};
 use crate::delivery_counts::DeliveryCounts;
-use crate::pick::{Pick, Place};
+use crate::pick::{Pick, PickedLink};
 use capture_form::{Record, RuleSet};
 use credit_chart::Thinned;
 use std::alloc::{AllocError, Global};
@@ -12,7 +12,7 @@ use trace_judge::{Counts, Inputs};
 #[derive(Drop)]
 pub struct Levels<'p> {
     pick: Pick<'p>,
-    place: Option<Place>,
+    place: Option<PickedLink>,
     levels: Thinned,
 }
 
@@ -37,7 +37,7 @@ impl<'p> Levels<'p> {
     }
 
     /// Where the link stands that is picked, if one has opened.
-    pub fn place(&self) -> Option<Place>
+    pub fn place(&self) -> Option<PickedLink>
         ensures { (pick : Pick) (rules : RuleSet) (history : Events) → AreOf pick rules self.now history → result ≡ chosen pick history }
     {
         self.place

@@ -19,4 +19,4 @@ mod pick;
 
 pub use delivery_counts::DeliveryCounts;
 pub use levels::Levels;
-pub use pick::{Pick, Place};
+pub use pick::{Pick, PickedLink};

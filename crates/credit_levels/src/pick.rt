@@ -18,7 +18,7 @@ pub struct Pick<'a> {
 
 /// Where a link stands. It is named by the record of the attach with which the router opened it.
 #[derive(Clone, Copy, Debug, PartialEq, Eq)]
-pub struct Place {
+pub struct PickedLink {
     /// That record.
     pub number: u64,
     pub connection: u32,
@@ -48,7 +48,7 @@ impl Pick<'_> {
         number: u64,
         connection: u32,
         moment: &Moment<'_>,
-    ) -> Option<Place>
+    ) -> Option<PickedLink>
         ensures { result ≡ spec.attached self.now number connection (moment_view moment.now) }
     {
         match moment {
@@ -57,16 +57,18 @@ impl Pick<'_> {
         }
     }
 
-    fn attached_by(&self, number: u64, connection: u32, spoken: &Spoken<'_>) -> Option<Place>
+    fn attached_by(&self, number: u64, connection: u32, spoken: &Spoken<'_>) -> Option<PickedLink>
         ensures { result ≡ spec.attached_by self.now number connection (spoken_view spoken.now) }
     {
         match &spoken.performative {
-            Performative::Attach(attach) if self.picks(connection, attach.name) => Some(Place {
-                number,
-                connection,
-                channel: spoken.channel,
-                handle: attach.handle,
-            }),
+            Performative::Attach(attach) if self.picks(connection, attach.name) => Some(
+                PickedLink {
+                    number,
+                    connection,
+                    channel: spoken.channel,
+                    handle: attach.handle,
+                },
+            ),
             _ => None,
         }
     }

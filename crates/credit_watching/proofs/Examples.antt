@@ -8,10 +8,10 @@ use Rattle.audit_core.specs.declared.verdict.Verdict.TheVariants.{Accepted, Malf
 use Rattle.credit_chart.specs.declared.level.Level.{Level}
 use Rattle.credit_chart.specs.Curves.{HasCurves}
 use Rattle.credit_levels.specs.declared.pick.Pick.{Pick}
-use Rattle.credit_levels.specs.declared.pick.Place.{Place}
+use Rattle.credit_levels.specs.declared.pick.PickedLink.{PickedLink}
 use Rattle.credit_watching.specs.Drawn.{DrawsAt, DrawsRecords, DrawsTaken}
 
-place : Place
+place : PickedLink
 place = record { number = 7; connection = 1; channel = 0; handle = 2 }
 
 -- without a link there is no document, and with one there is

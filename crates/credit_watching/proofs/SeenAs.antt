@@ -9,7 +9,7 @@ use Rattle.audit_core.specs.declared.verdict.Verdict.TheVariants.{Accepted, Refu
 use Rattle.audit_core.specs.Watching.{Watched}
 use Rattle.credit_chart.specs.declared.level.Level.{Level}
 use Rattle.credit_chart.specs.Curves.{HasCurves}
-use Rattle.credit_levels.specs.declared.pick.Place.{Place}
+use Rattle.credit_levels.specs.declared.pick.PickedLink.{PickedLink}
 use Rattle.credit_watching.specs.Drawn.{DrawsAt, title_on}
 
 -- what is known of one follows from what is known of another
@@ -40,9 +40,9 @@ module _ {V W : Type 0} (saw : V → RuleSet → List Record → Type 0) (refuse
 
 -- ---- a document, where a link is found
 
-pub drawn_at : (title : List ℕ) (found stands : Option Place) (levels : List (Option Level)) (place : Place) (octets : List ℕ) → found ≡ Some place → found ≡ stands
+pub drawn_at : (title : List ℕ) (found stands : Option PickedLink) (levels : List (Option Level)) (place : PickedLink) (octets : List ℕ) → found ≡ Some place → found ≡ stands
     → HasCurves (title_on title place) levels octets → DrawsAt title stands levels (Some octets)
 drawn_at title found stands levels place octets is same drawn = subst (λ o. DrawsAt title o levels (Some octets)) (sym is ∙ same) drawn
 
-pub undrawn : (title : List ℕ) (found stands : Option Place) (levels : List (Option Level)) → found ≡ None → found ≡ stands → DrawsAt title stands levels None
+pub undrawn : (title : List ℕ) (found stands : Option PickedLink) (levels : List (Option Level)) → found ≡ None → found ≡ stands → DrawsAt title stands levels None
 undrawn title found stands levels is same = subst (λ o. DrawsAt title o levels None) (sym is ∙ same) refl

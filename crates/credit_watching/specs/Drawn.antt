@@ -9,17 +9,17 @@ use Rattle.audit_core.specs.Watching.{Watched}
 use Rattle.credit_chart.specs.declared.level.Level.{Level}
 use Rattle.credit_chart.specs.Curves.{HasCurves}
 use Rattle.credit_levels.specs.declared.pick.Pick.{Pick}
-use Rattle.credit_levels.specs.declared.pick.Place.{Place}
+use Rattle.credit_levels.specs.declared.pick.PickedLink.{PickedLink}
 use Rattle.credit_levels.specs.Levels.{chosen, levels_of}
 
 -- the title of a capture, with where a link stands (own format)
-abbrev pub title_on : List ℕ → Place → List ℕ
+abbrev pub title_on : List ℕ → PickedLink → List ℕ
 title_on title place =
     (((title ++ (codes ": link opened in record " ++ decimal place.number)) ++ (codes ", connection " ++ decimal place.connection)) ++ (codes ", channel " ++ decimal place.channel))
     ++ (codes ", handle " ++ decimal place.handle)
 
 -- a document of these levels, of the link that stands there; where there is no link there is no document
-abbrev pub DrawsAt : List ℕ → Option Place → List (Option Level) → Option (List ℕ) → Type 0
+abbrev pub DrawsAt : List ℕ → Option PickedLink → List (Option Level) → Option (List ℕ) → Type 0
 DrawsAt title None levels drawn = drawn ≡ None
 DrawsAt title (Some place) levels None = ⊥
 DrawsAt title (Some place) levels (Some octets) = HasCurves (title_on title place) levels octets

@@ -15,7 +15,7 @@ use crate::title::title_on;
 use crate::watching::Watching;
 use audit_core::{Verdict, audit_watched};
 use credit_chart::draw_levels;
-use credit_levels::{Levels, Pick, Place};
+use credit_levels::{Levels, Pick, PickedLink};
 use std::alloc::{AllocError, Global};
 use std::io::Read;
 
@@ -74,7 +74,7 @@ fn draw_at(
     alloc: Global,
     title: &str,
     levels: &Levels<'_>,
-    place: Place,
+    place: PickedLink,
 ) -> Result<String, AllocError>
     ensures document { IfOk result (λ text. IsSvg (string_bytes text)) }
     ensures curves { IfOk result (λ text. (pick : picks.Pick) (rules : RuleSet) (history : List Event) → AreOf pick rules levels.now history →

@@ -4,12 +4,12 @@ ghost use Rattle.std.specs.Prelude.{◌≡◌, ◌++◌, decimal, IfOk, OnOk};
 ghost use Rattle.std.specs.String.{string_bytes};
 ghost use Rattle.credit_watching.specs.Drawn.{title_on};
 
-use credit_levels::Place;
+use credit_levels::PickedLink;
 use itoa::Buffer;
 use std::alloc::{AllocError, Global};
 
 /// The title of a capture, with where the link stands.
-pub(crate) fn title_on(alloc: Global, title: &str, place: Place) -> Result<String, AllocError>
+pub(crate) fn title_on(alloc: Global, title: &str, place: PickedLink) -> Result<String, AllocError>
     ensures { IfOk result (λ words. string_bytes words ≡ title_on title.now place) }
 {
     let mut words = String::from_str(alloc, title)?;

@@ -2,7 +2,7 @@
 
 use capture_form::{Capture, Record, RuleSet, read_capture};
 use credit_chart::draw_levels;
-use credit_levels::{Levels, Pick, Place};
+use credit_levels::{Levels, Pick, PickedLink};
 use state_ledger::{Ledger, NotEntered};
 use std::alloc::{AllocError, Global};
 use std::{fs, io};
@@ -74,7 +74,7 @@ fn tell_link(
     rt.print(draw_levels(rt.alloc(), title, levels.levels())?.as_str())
 }
 
-fn tell_place(rt: &HostRuntime, place: Option<Place>) -> io::Result<()> {
+fn tell_place(rt: &HostRuntime, place: Option<PickedLink>) -> io::Result<()> {
     match place {
         Some(place) => println!(rt;
             "opened in record {} on connection {}, channel {}, handle {}",
