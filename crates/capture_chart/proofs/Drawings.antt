@@ -18,7 +18,7 @@ use Rattle.svg_parts.proofs.Drawings.{Ends, closed, draws_then}
 use Rattle.capture_chart.specs.Marks.{Marking, class_of}
 use Rattle.capture_chart.specs.declared.arrow.Arrow.{Arrow}
 use Rattle.capture_chart.specs.Shown.{Shown, Worded, shown, shown_in, title_text, worded}
-use Rattle.capture_chart.specs.declared.places.Place.{Place}
+use Rattle.capture_chart.specs.declared.places.ArrowPlace.{ArrowPlace}
 use Rattle.capture_chart.specs.declared.places.TheConstants.{ROUTER}
 use Rattle.capture_chart.specs.Places.{between, lanes_of, place_at, row_place}
 use Rattle.svg_parts.specs.Parts.{Draws, DrawsSome, element_octets, label_octets, line_octets}
@@ -36,7 +36,7 @@ unfolding start_octets group_octets
 group_is class words is =
     ap (λ (t : List ℕ). encode_utf8_all (start_text (record { name = codes "g"; attributes = (let a : grammar.Attribute = record { name = codes "class"; value = pieces_of (chars t) } in a) ∷ [] }))) is
 
-pub arrow_drawn : {E : Type 0} (r : Result Drawn E) (a opened titled described tied told shot seen : Drawn) (start title : List ℕ) (arrow : Worded) (place : Place)
+pub arrow_drawn : {E : Type 0} (r : Result Drawn E) (a opened titled described tied told shot seen : Drawn) (start title : List ℕ) (arrow : Worded) (place : ArrowPlace)
     → opened ≡ record { octets = a.octets ++ start; unclosed = a.unclosed ++ Group ∷ [] } → start ≡ group_octets (class_of place.mark)
     → Draws opened titled (element_octets Title title) → title ≡ title_text place.mark arrow.shows → Draws titled described (element_octets Description arrow.words)
     → Draws described tied (tie_octets place) → Draws tied told (told_octets place arrow.shows) → Draws told shot (shaft_octets arrow.shows.course place)
@@ -64,7 +64,7 @@ arrow_drawn r a opened titled described tied told shot seen start title arrow pl
     IfOk-weaker r _ _ (λ after drawn. subst (Draws a after) parts drawn) (closed r a opened seen Group start inside is draws ends)
 
 -- the line of an outcome
-pub outcome_drawn : {E : Type 0} (r : Result Drawn E) (a opened titled lined : Drawn) (start title : List ℕ) (place : Place) (delivery : ℕ × ℕ) (at : ℕ)
+pub outcome_drawn : {E : Type 0} (r : Result Drawn E) (a opened titled lined : Drawn) (start title : List ℕ) (place : ArrowPlace) (delivery : ℕ × ℕ) (at : ℕ)
     → opened ≡ record { octets = a.octets ++ start; unclosed = a.unclosed ++ Group ∷ [] } → start ≡ group_octets (codes "outcome")
     → Draws opened titled (element_octets Title title) → Draws titled lined (line_octets (codes "tells") (at, delivery.1) (place.lane, place.row)) → at ≡ between ROUTER delivery.0 → Ends r lined
     → IfOk r (λ after. Draws a after (outcome_octets place delivery title))
@@ -89,7 +89,7 @@ arrows_push marks lanes all row (x ∷ xs) arrow =
     ∙ sym (append_assoc first (arrows_octets marks lanes all (row + 1) xs) _)
 
 -- one arrow more
-pub arrows_more : (marks : Marking) (lanes : List ℕ) (all : List Shown) (a b c : Drawn) (arrows : List Arrow) (i : ℕ) (arrow : Arrow) (place : Place) → i < length arrows → arrow ≡ get_or arrows i arrow
+pub arrows_more : (marks : Marking) (lanes : List ℕ) (all : List Shown) (a b c : Drawn) (arrows : List Arrow) (i : ℕ) (arrow : Arrow) (place : ArrowPlace) → i < length arrows → arrow ≡ get_or arrows i arrow
     → place ≡ place_at marks lanes all i (shown arrow)
     → Draws a b (arrows_octets marks lanes all 0 (map worded (take i arrows))) → Draws b c (arrow_octets place (worded arrow))
     → Draws a c (arrows_octets marks lanes all 0 (map worded (take (i + 1) arrows)))
@@ -102,7 +102,7 @@ arrows_more marks lanes all a b c arrows i arrow place below is placed before on
     ap (arrows_octets marks lanes all 0) same
     ∙ arrows_push marks lanes all 0 (map worded (take i arrows)) (worded arrow)
     ∙ ap (λ (n : ℕ). front ++ arrow_octets (place_at marks lanes all n (shown arrow)) (worded arrow)) count
-    ∙ ap (λ (p : Place). front ++ arrow_octets p (worded arrow)) (sym placed) in
+    ∙ ap (λ (p : ArrowPlace). front ++ arrow_octets p (worded arrow)) (sym placed) in
     subst (Draws a c) (sym whole) (draws_then a b c front _ before one)
 
 pub all_arrows : (marks : Marking) (lanes : List ℕ) (all : List Shown) (a b : Drawn) (arrows : List Arrow) (i : ℕ) → length arrows ≤ i

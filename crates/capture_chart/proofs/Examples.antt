@@ -13,7 +13,7 @@ use Rattle.capture_view.specs.Viewed.{Viewed}
 use Rattle.capture_view.specs.Viewed as happenings
 use Rattle.svg_text.specs.declared.element.Element.TheVariants.{Description, Group, Title}
 use Rattle.svg_text.specs.Drawn.{end_octets, root_end, root_octets, start_octets}
-use Rattle.capture_chart.specs.declared.places.Place.{Place}
+use Rattle.capture_chart.specs.declared.places.ArrowPlace.{ArrowPlace}
 use Rattle.capture_chart.specs.declared.topic.Course.TheVariants.{Beside, ToClient, ToRouter}
 use Rattle.capture_chart.specs.declared.topic.Topic.TheVariants as topics
 use Rattle.capture_chart.specs.declared.marks.Mark.TheVariants.{Compared, Plain, Refused}
@@ -150,7 +150,7 @@ fourth_name : connection_words 4 ≡ codes "connection 4"
 unfolding digits
 fourth_name = refl
 
-here : Place
+here : ArrowPlace
 here = record { lane = 360; row = 60; carried = None; told = None; mark = Plain }
 
 to_router : shaft_octets ToRouter here ≡ line_octets (codes "shaft") (360, 60) (60, 60)
@@ -179,7 +179,7 @@ untold = refl
 outcome : Shown
 outcome = record { number = 6; connection = 7; course = ToClient; topic = topics.Disposition; carried = None; told = Some 2 }
 
-outcome_there : Place
+outcome_there : ArrowPlace
 outcome_there = record { lane = 620; row = 88; carried = None; told = Some (340, 60); mark = Plain }
 
 told_there : told_octets outcome_there outcome

@@ -7,7 +7,7 @@ use Rattle.svg_text.specs.Escaping.{pieces_of}
 use Rattle.svg_text.specs.Drawn.{end_octets, root_end, root_octets}
 use Rattle.svg_parts.specs.Parts.{element_octets, label_octets, line_octets}
 use Rattle.capture_chart.specs.declared.places.TheConstants.{ROUTER}
-use Rattle.capture_chart.specs.declared.places.Place.{Place}
+use Rattle.capture_chart.specs.declared.places.ArrowPlace.{ArrowPlace}
 use Rattle.capture_chart.specs.declared.topic.Course.{Course}
 use Rattle.capture_chart.specs.declared.topic.Course.TheVariants.{ToRouter, ToClient, Beside}
 use Rattle.capture_chart.specs.Marks.{Marking, class_of}
@@ -35,11 +35,11 @@ all_lanes bottom lanes = lane_octets bottom ROUTER (codes "router") ++ lanes_oct
 -- ---- arrows
 
 -- a line from the middle of the arrow of the delivery that is carried, if that is shown, to the middle of this one
-abbrev pub tie_from : Place → Option (ℕ × ℕ) → List ℕ
+abbrev pub tie_from : ArrowPlace → Option (ℕ × ℕ) → List ℕ
 tie_from place None = []
 tie_from place (Some delivery) = line_octets (codes "carries") (between ROUTER delivery.0, delivery.1) (between ROUTER place.lane, place.row)
 
-abbrev pub tie_octets : Place → List ℕ
+abbrev pub tie_octets : ArrowPlace → List ℕ
 tie_octets place = tie_from place place.carried
 
 -- what begins a group of this class
@@ -47,26 +47,26 @@ unfoldable pub group_octets : List ℕ → List ℕ
 group_octets class = encode_utf8_all (start_text (record { name = codes "g"; attributes = record { name = codes "class"; value = pieces_of (chars class) } ∷ [] }))
 
 -- a line from the middle of the arrow of a delivery to where this one ends at its client, in a group with a title of its own
-unfoldable pub outcome_octets : Place → ℕ × ℕ → List ℕ → List ℕ
+unfoldable pub outcome_octets : ArrowPlace → ℕ × ℕ → List ℕ → List ℕ
 outcome_octets place delivery title =
     group_octets (codes "outcome") ++ ((element_octets Title title ++ line_octets (codes "tells") (between ROUTER delivery.0, delivery.1) (place.lane, place.row)) ++ end_octets Group)
 
 -- one from the delivery whose outcome is told, if that is shown
-abbrev pub told_from : Place → Shown → Option (ℕ × ℕ) → Option ℕ → List ℕ
+abbrev pub told_from : ArrowPlace → Shown → Option (ℕ × ℕ) → Option ℕ → List ℕ
 told_from place shown (Some delivery) (Some number) = outcome_octets place delivery (told_text number shown)
 told_from place shown _ _ = []
 
-abbrev pub told_octets : Place → Shown → List ℕ
+abbrev pub told_octets : ArrowPlace → Shown → List ℕ
 told_octets place shown = told_from place shown place.told shown.told
 
 -- a line between the lanes of the connection and the router, with its head at its end
-abbrev pub shaft_octets : Course → Place → List ℕ
+abbrev pub shaft_octets : Course → ArrowPlace → List ℕ
 shaft_octets ToRouter place = line_octets (codes "shaft") (place.lane, place.row) (ROUTER, place.row)
 shaft_octets ToClient place = line_octets (codes "shaft") (ROUTER, place.row) (place.lane, place.row)
 shaft_octets Beside place = []
 
 -- an arrow at a place: a group with the arrow's title, its words as its description, its lines, and its label beside it
-unfoldable pub arrow_octets : Place → Worded → List ℕ
+unfoldable pub arrow_octets : ArrowPlace → Worded → List ℕ
 arrow_octets place arrow = group_octets (class_of place.mark)
     ++ (element_octets Title (title_text place.mark arrow.shows)
     ++ (element_octets Description arrow.words

@@ -2,7 +2,7 @@
 use Rattle.std.specs.Prelude.{ℕ, ◌+◌, ◌-◌, ◌*◌, ◌/◌, ◌^◌, ◌==◌, min, List, [], ◌∷◌, ◌++◌, Option, Some, None, if◌then◌else◌}
 use Rattle.std.specs.List.{list_any}
 use Rattle.capture_chart.specs.declared.places.TheConstants.{FIRST_LANE, LANE, ROUTER, ROW, TOP}
-use Rattle.capture_chart.specs.declared.places.Place.{Place}
+use Rattle.capture_chart.specs.declared.places.ArrowPlace.{ArrowPlace}
 use Rattle.capture_chart.specs.Marks.{Marking, mark_of}
 use Rattle.capture_chart.specs.Shown.{Shown}
 
@@ -54,7 +54,7 @@ record_place lanes arrows None = None
 record_place lanes arrows (Some number) = found_place lanes number 0 arrows
 
 -- where the arrow in a row of a chart stands, and its mark
-abbrev pub place_at : Marking → List ℕ → List Shown → ℕ → Shown → Place
+abbrev pub place_at : Marking → List ℕ → List Shown → ℕ → Shown → ArrowPlace
 place_at marks lanes arrows row arrow = record {
   lane = connection_place lanes arrow.connection;
   row = row_place row;

@@ -8,7 +8,7 @@ ghost use Rattle.capture_chart.specs.Drawn.{arrow_octets, arrows_octets, outcome
 
 use crate::arrow::Arrow;
 use crate::marks::Marks;
-use crate::places::{Place, ROUTER, between, place_at};
+use crate::places::{ArrowPlace, ROUTER, between, place_at};
 use crate::topic::Course;
 use std::alloc::{AllocError, Global};
 use svg_parts::{draw_label, draw_line, draw_words};
@@ -37,7 +37,7 @@ fn draw_arrow(
     alloc: Global,
     drawing: Drawing,
     arrow: &Arrow,
-    place: Place,
+    place: ArrowPlace,
 ) -> Result<Drawing, AllocError>
     ensures { IfOk result (λ after. Draws drawing after (arrow_octets place (worded arrow.now))) }
 {
@@ -58,7 +58,7 @@ fn draw_arrow(
 }
 
 /// Draws a line from the delivery that is carried, if it is shown.
-fn draw_tie(drawing: Drawing, place: Place) -> Result<Drawing, AllocError>
+fn draw_tie(drawing: Drawing, place: ArrowPlace) -> Result<Drawing, AllocError>
     ensures { IfOk result (λ after. Draws drawing after (tie_octets place)) }
 {
     match place.carried {
@@ -77,7 +77,7 @@ fn draw_told(
     alloc: Global,
     drawing: Drawing,
     arrow: &Arrow,
-    place: Place,
+    place: ArrowPlace,
 ) -> Result<Drawing, AllocError>
     ensures { IfOk result (λ after. Draws drawing after (told_octets place (shown arrow.now))) }
 {
@@ -93,7 +93,7 @@ fn draw_told(
 /// Draws a line from where a delivery comes in to where its outcome ends, with this title.
 fn draw_outcome(
     drawing: Drawing,
-    place: Place,
+    place: ArrowPlace,
     delivery: (u32, u32),
     title: &str,
 ) -> Result<Drawing, AllocError>
@@ -116,7 +116,7 @@ fn draw_outcome(
 }
 
 /// Draws a line from the side that wrote a frame to the other.
-fn draw_shaft(drawing: Drawing, course: Course, place: Place) -> Result<Drawing, AllocError>
+fn draw_shaft(drawing: Drawing, course: Course, place: ArrowPlace) -> Result<Drawing, AllocError>
     ensures { IfOk result (λ after. Draws drawing after (shaft_octets course place)) }
 {
     let client = (place.lane, place.row);

@@ -22,7 +22,7 @@ pub(crate) const ROW: u32 = 28;
 
 /// Where an arrow stands, and how it is marked.
 #[derive(Clone, Copy, Debug)]
-pub(crate) struct Place {
+pub(crate) struct ArrowPlace {
     /// Of its connection's lane.
     pub lane: u32,
     pub row: u32,
@@ -81,10 +81,10 @@ pub(crate) fn place_at(
     arrows: &[Arrow],
     row: usize,
     arrow: &Arrow,
-) -> Place
+) -> ArrowPlace
     ensures { result ≡ spec.place_at (marking marks.entry) lanes.now (map shown arrows.now) row (shown arrow.now) }
 {
-    Place {
+    ArrowPlace {
         lane: connection_place(lanes, arrow.connection),
         row: row_place(row),
         carried: record_place(lanes, arrows, arrow.carried),
