@@ -3,7 +3,7 @@ use Rattle.std.proofs.Common.{◌≡◌, ◌≢◌, ◌<◌, ◌≤◌, ◌⊎�
 use Rattle.clap.specs.Words.{kind_of}
 use Rattle.clap.specs.declared.error.Error.{Error}
 use Rattle.clap.specs.declared.error.kind.ErrorKind.TheVariants.{OutOfMemory}
-use Rattle.program_ends.specs.Source.{path_of}
+use Rattle.program_ends.specs.InputSource.{path_of}
 use Rattle.program_ends.specs.Telling.{TellsNoMemory, is_mistake}
 use Rattle.program_ends.proofs.Statuses.{low_is_memory, or_not_written}
 use Rattle.audit_core.specs.declared.verdict.Verdict.{Verdict}

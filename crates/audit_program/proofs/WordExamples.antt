@@ -1,6 +1,6 @@
 -- Ends that are asked for, and that are not.
 use Rattle.std.proofs.Common.{◌≡◌, ℕ, List, Option, true, false, [], ◌∷◌, None, Some, Ok, refl, codes}
-use Rattle.program_ends.specs.declared.source.Source.TheVariants.{StandardInput}
+use Rattle.program_ends.specs.declared.input_source.InputSource.TheVariants.{StandardInput}
 use Rattle.audit_program.specs.declared.words.End.{End}
 use Rattle.audit_program.specs.declared.words.End.TheVariants.{First, Idle, Never}
 use Rattle.audit_program.specs.declared.words.Words.{Words}

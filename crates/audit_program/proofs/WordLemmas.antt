@@ -8,7 +8,7 @@ use Rattle.program_ends.specs.Words.{is_option}
 use Rattle.program_ends.proofs.Parsing.{no_kind, only_kind}
 use Rattle.program_ends.proofs.PlainWords.{dashes-plain, strip_byte-plain}
 use Rattle.program_ends.proofs.Sources.{asked-plain}
-use Rattle.program_ends.specs.Source.{path_asked, path_of}
+use Rattle.program_ends.specs.InputSource.{path_asked, path_of}
 use Rattle.audit_program.specs.declared.words.End.TheVariants.{First, Never}
 use Rattle.audit_program.specs.declared.words.Words.{Words}
 use Rattle.audit_program.specs.Words.{AnswersWords, AsksToFollow, command_line}

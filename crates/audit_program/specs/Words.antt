@@ -7,7 +7,7 @@ use Rattle.clap.specs.declared.builder.value_parser.ValueParser.TheVariants.{Uns
 use Rattle.clap.specs.declared.error.Error.{Error}
 use Rattle.clap.specs.declared.error.kind.ErrorKind.TheVariants.{OutOfMemory, UnknownArgument}
 use Rattle.program_ends.specs.Words.{is_option}
-use Rattle.program_ends.specs.Source.{path_of}
+use Rattle.program_ends.specs.InputSource.{path_of}
 use Rattle.audit_program.specs.declared.words.End.{End}
 use Rattle.audit_program.specs.declared.words.End.TheVariants.{First, Idle, Never}
 use Rattle.audit_program.specs.declared.words.Words.{Words}

@@ -4,13 +4,13 @@ ghost use Rattle.program_ends.specs.Growth.{IsRefusedGrowth};
 ghost use Rattle.audit_core.specs.declared.verdict.Verdict.TheVariants.{NoMemory, Unreadable};
 ghost use Rattle.audit_core.specs.Report.{status_of};
 ghost use Rattle.audit_program.specs.Run.{IsRunOn, IsStatus, IsVerdictOnInput, Tells, TellsInput, TellsSome};
-ghost use Rattle.program_ends.specs.Source.{path_of};
+ghost use Rattle.program_ends.specs.InputSource.{path_of};
 
 use crate::words::{End, Words};
 use audit_core::{Verdict, audit_stream};
 use audit_following::audit_growing_file;
 use program_ends::{
-    NOT_WRITTEN, Source, WORDS_FAULT, is_refused_growth, tell_line, tell_refused_words,
+    InputSource, NOT_WRITTEN, WORDS_FAULT, is_refused_growth, tell_line, tell_refused_words,
 };
 use std::alloc::Global;
 use std::convert::AsStr;
@@ -63,8 +63,8 @@ fn verdict_on<F: Files, C: Clock, R: Read>(
     ensures { path_of words.entry.source ≡ None → IsVerdictOnInput (R.remaining input.old) result }
 {
     match words.source {
-        Source::StandardInput => verdict_up_to(clock, alloc, words.end, input),
-        Source::File(path) => match fs::open(files, path) {
+        InputSource::StandardInput => verdict_up_to(clock, alloc, words.end, input),
+        InputSource::File(path) => match fs::open(files, path) {
             Ok(file) => verdict_up_to(clock, alloc, words.end, file),
             Err(error) => verdict_unopened(&error),
         },

@@ -5,7 +5,7 @@ ghost use Rattle.audit_program.specs.Words.{asking_argument, bare_command, comma
 
 use clap::builder::ValueParser;
 use clap::{Arg, ArgAction, Command, Error, value_parser};
-use program_ends::Source;
+use program_ends::InputSource;
 use std::alloc::{AllocError, Global};
 use std::convert::AsStr;
 
@@ -40,7 +40,7 @@ impl End {
 #[derive(Clone, Copy, Debug)]
 pub(crate) struct Words<'a> {
     /// Where the capture is read from.
-    pub source: Source<'a>,
+    pub source: InputSource<'a>,
     pub end: End,
 }
 
@@ -55,7 +55,7 @@ impl<'a> Words<'a> {
         ensures followed { AsksToFollow (map S.text words.entry.now) result }
     {
         let matches = command_line(alloc)?.try_get_matches_from(words)?;
-        let source = Source::of_word(matches.get_str("FILE"));
+        let source = InputSource::of_word(matches.get_str("FILE"));
         let is_followed = matches.get_flag("follow");
         let idle = matches.get_one::<u64>("idle");
         let end = End::of_words(is_followed, idle);

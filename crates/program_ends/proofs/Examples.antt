@@ -3,7 +3,7 @@ use Rattle.std.proofs.Common.{◌≡◌, ℕ, List, [], ◌∷◌, None, Some, f
 use Rattle.clap.specs.declared.error.kind.ErrorKind.TheVariants.{DisplayHelp, DisplayVersion, MissingRequiredArgument, OutOfMemory, UnknownArgument}
 use Rattle.program_ends.specs.Telling.{TellsLine, TellsNoMemory, is_mistake}
 use Rattle.program_ends.specs.Words.{is_option}
-use Rattle.program_ends.specs.Source.{path_asked}
+use Rattle.program_ends.specs.InputSource.{path_asked}
 
 abbrev held : List ℕ
 held = codes "held, "

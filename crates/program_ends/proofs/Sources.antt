@@ -1,6 +1,6 @@
 -- What a word that is no option names.
 use Rattle.std.proofs.Common.{◌≡◌, ℕ, List, [], ◌∷◌, Some, false, refl}
-use Rattle.program_ends.specs.Source.{path_asked}
+use Rattle.program_ends.specs.InputSource.{path_asked}
 use Rattle.program_ends.specs.Words.{is_option}
 
 -- a word that is no option is no hyphen alone

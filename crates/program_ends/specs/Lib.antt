@@ -1,5 +1,5 @@
 pub mod Growth
-pub mod Source
+pub mod InputSource
 pub mod Telling
 pub mod Unread
 pub mod Words

@@ -4,20 +4,20 @@
 //! parser's text on standard error instead, with status 64. The modules, in reading order:
 //!
 //! - `words`: the words that the program was given
-//! - `source`: where it reads from, by one of them
+//! - `input_source`: where it reads from, by one of them
 //! - `unread`: why the system did not give them
 //! - `growth`: whether a fault of the system's is refused memory
 //! - `telling`: the line and the exit status, and what is told in place of a run where the words do not ask for one
 #![tactic(auto)]
 
 mod growth;
-mod source;
+mod input_source;
 mod telling;
 mod unread;
 mod words;
 
 pub use growth::is_refused_growth;
-pub use source::Source;
+pub use input_source::InputSource;
 pub use telling::{
     NO_MEMORY, NOT_WRITTEN, WORDS_FAULT, tell_line, tell_refused_words, tell_unread_words,
 };

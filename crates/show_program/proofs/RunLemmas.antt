@@ -14,7 +14,7 @@ use Rattle.capture_words.specs.Shown.{AppendsSome, EndsText}
 use Rattle.capture_words.proofs.Known.{appends_nothing, appends_then}
 use Rattle.show_program.specs.declared.words.Words.{Words}
 use Rattle.show_program.specs.Run.{ExplainsInput, IsRunOn, ShowsInput, Tells, TellsEnd, TellsSome, is_whole, tail_of}
-use Rattle.program_ends.specs.Source.{path_of}
+use Rattle.program_ends.specs.InputSource.{path_of}
 use Rattle.show_program.specs.declared.words.Mode.{Mode}
 use Rattle.show_program.specs.Words.{AnswersWords, AsksWhy, IsAudit, IsPlain, chart_of, credit_of, is_why, packets_of}
 use Rattle.audit_core.specs.declared.verdict.Verdict.{Verdict}

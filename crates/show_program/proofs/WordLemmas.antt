@@ -4,9 +4,9 @@ use Rattle.clap.specs.Words.{HasKind, fault_of, first_of, is_simple_and_free, ma
 use Rattle.clap.specs.declared.error.kind.ErrorKind.TheVariants.{UnknownArgument}
 use Rattle.clap.specs.declared.error.Error.{Error}
 use Rattle.clap.proofs.OnLiterals.{clap_on_literals}
-use Rattle.program_ends.specs.Source.{path_asked, path_of}
+use Rattle.program_ends.specs.InputSource.{path_asked, path_of}
 use Rattle.program_ends.specs.Words.{is_option}
-use Rattle.program_ends.specs.declared.source.Source.{Source}
+use Rattle.program_ends.specs.declared.input_source.InputSource.{InputSource}
 use Rattle.program_ends.proofs.Sources.{asked-plain}
 use Rattle.program_ends.proofs.Parsing.{no_kind, only_kind}
 use Rattle.program_ends.proofs.PlainWords.{dashes-plain, strip_byte-plain}
@@ -134,7 +134,7 @@ answers_refused (first ∷ second ∷ more) error kind = λ plain plain'.
     only_kind UnknownArgument error (subst (λ kinds. HasKind kinds error) (fault_of-more first second more plain plain') kind)
 
 -- the parser took the word that asks for an audit, and this was read
-pub why_taken : (words : List (List ℕ)) (source : Source) (mode : Option Mode) → words ≡ codes "--why" ∷ []
+pub why_taken : (words : List (List ℕ)) (source : InputSource) (mode : Option Mode) → words ≡ codes "--why" ∷ []
     → path_of source ≡ path_asked (first_of (codes "FILE") (matches_of command_line words))
     → (first_of (codes "pcapng") (matches_of command_line words) ≡ None → first_of (codes "chart") (matches_of command_line words) ≡ None
     → first_of (codes "credit") (matches_of command_line words) ≡ None

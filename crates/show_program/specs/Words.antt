@@ -7,7 +7,7 @@ use Rattle.clap.specs.declared.builder.value_parser.ValueParser.TheVariants.{Sig
 use Rattle.clap.specs.declared.error.Error.{Error}
 use Rattle.clap.specs.declared.error.kind.ErrorKind.TheVariants.{OutOfMemory, UnknownArgument}
 use Rattle.program_ends.specs.Words.{is_option}
-use Rattle.program_ends.specs.Source.{path_of}
+use Rattle.program_ends.specs.InputSource.{path_of}
 use Rattle.show_program.specs.declared.words.Mode.{Mode}
 use Rattle.show_program.specs.declared.words.Mode.TheVariants.{Lines, Summary, Why, Packets, Chart, Marked, Credit}
 use Rattle.show_program.specs.declared.words.Words.{Words}

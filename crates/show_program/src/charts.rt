@@ -9,7 +9,7 @@ use crate::charted::{Drawn, NoChart, draw_capture};
 use crate::telling::{NO_FILE, TOO_MANY, tell, tell_no_chart, tell_too_many};
 use crate::words::Words;
 use capture_words::{Ending, NotWritten};
-use program_ends::{NOT_WRITTEN, Source};
+use program_ends::{InputSource, NOT_WRITTEN};
 use std::alloc::Global;
 use std::fs::File;
 use std::io::{Read, Write};
@@ -95,9 +95,9 @@ pub fn write_new<F: Files>(files: &F, path: &str, text: &str) -> Result<(), NotW
 }
 
 /// What the chart of a capture that is read from here is called.
-pub fn title_of<'a>(source: Source<'a>) -> &'a str {
+pub fn title_of<'a>(source: InputSource<'a>) -> &'a str {
     match source {
-        Source::StandardInput => "standard input",
-        Source::File(path) => path,
+        InputSource::StandardInput => "standard input",
+        InputSource::File(path) => path,
     }
 }

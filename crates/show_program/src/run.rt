@@ -5,7 +5,7 @@ ghost use Rattle.capture_words.specs.declared.ending.Ending.TheVariants.{NoMemor
 ghost use Rattle.std.specs.Io.KnownBytes.{Appends};
 ghost use Rattle.program_ends.specs.Growth.{IsRefusedGrowth};
 ghost use Rattle.show_program.specs.Run.{ExplainsInput, ExplainsSome, IsRunOn, IsStatus, ShowsInput, TellsNoFile, TellsSome, no_chart, no_link, no_packets, too_many};
-ghost use Rattle.program_ends.specs.Source.{path_of};
+ghost use Rattle.program_ends.specs.InputSource.{path_of};
 ghost use Rattle.show_program.specs.Words.{chart_of, credit_of, is_why, packets_of};
 
 use crate::charts::write_chart;
@@ -18,7 +18,7 @@ use crate::telling::{NO_FILE, NO_LINK, TOO_MANY, tell};
 use crate::why::show_why;
 use crate::words::{Mode, Words};
 use capture_words::{Ending, NotWritten, Page, View, show_capture};
-use program_ends::{NOT_WRITTEN, Source, WORDS_FAULT, is_refused_growth, tell_refused_words};
+use program_ends::{InputSource, NOT_WRITTEN, WORDS_FAULT, is_refused_growth, tell_refused_words};
 use std::alloc::Global;
 use std::convert::AsStr;
 use std::io::{Read, Write};
@@ -123,8 +123,10 @@ fn show_source<F: Files, R: Read, O: Write, E: Write>(
     ensures status { (result ≤ NO_LINK) ⊎ (result ≡ NOT_WRITTEN) }
 {
     match words.source {
-        Source::StandardInput => show_input(files, alloc, words, mode, is_watched, input, out, err),
-        Source::File(path) => match fs::open(files, path) {
+        InputSource::StandardInput => show_input(
+            files, alloc, words, mode, is_watched, input, out, err,
+        ),
+        InputSource::File(path) => match fs::open(files, path) {
             Ok(file) => show_input(files, alloc, words, mode, is_watched, file, out, err),
             Err(error) => tell(&ending_unopened(&error), out),
         },

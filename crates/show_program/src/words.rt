@@ -7,7 +7,7 @@ ghost use Rattle.show_program.specs.Words.{asking_argument, bare_command, choosi
 use capture_view::Choice;
 use clap::builder::ValueParser;
 use clap::{Arg, ArgAction, Command, Error, value_parser};
-use program_ends::Source;
+use program_ends::InputSource;
 use std::alloc::{AllocError, Global};
 use std::convert::AsStr;
 
@@ -33,7 +33,7 @@ pub enum Mode<'a> {
 /// What is asked for.
 #[derive(Clone, Copy, Debug)]
 pub struct Words<'a> {
-    pub source: Source<'a>,
+    pub source: InputSource<'a>,
     /// None where more than one is asked for, but for a chart and an audit.
     pub mode: Option<Mode<'a>>,
     pub choice: Choice<'a>,
@@ -90,7 +90,7 @@ impl<'a> Words<'a> {
         ensures why { map S.text words.entry.now ≡ codes "--why" ∷ [] → AsksWhy result }
     {
         let matches = command_line(alloc)?.try_get_matches_from(words)?;
-        let source = Source::of_word(matches.get_str("FILE"));
+        let source = InputSource::of_word(matches.get_str("FILE"));
         let is_audited = matches.get_flag("why");
         let is_summary = matches.get_flag("summary");
         let mode = Mode::of_words(

@@ -2,7 +2,7 @@ use Rattle.std.proofs.Common.{rules, ap, ap₂, codes, map, subst, sym, [], ◌�
 use Rattle.std.proofs.lemmas.Result.{err_from_is_err_and}
 use Rattle.clap.specs.Words.{HasKind, app_of, fault_of}
 use Rattle.audit_program.specs.Words.{AnswersWords, AsksToFollow, command_line, end_asked}
-use Rattle.program_ends.specs.Source.{path_asked}
+use Rattle.program_ends.specs.InputSource.{path_asked}
 use Rattle.program_ends.proofs.Parsing.{faults_of, flag_of, word_of}
 use Rattle.audit_program.proofs.WordLemmas.{answers_refused, answers_taken, command_line-is_free, following_refused, following_taken}
 use Rattle.audit_program.proofs.words.Words.read.Goals as goal

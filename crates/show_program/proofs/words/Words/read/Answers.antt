@@ -1,7 +1,7 @@
 use Rattle.std.proofs.Common.{rules, map, subst, sym, [], ap, codes, ◌≡◌, ◌∙◌}
 use Rattle.std.proofs.lemmas.Result.{err_from_is_err_and}
 use Rattle.clap.specs.Words.{HasKind, app_of, fault_of}
-use Rattle.program_ends.specs.Source.{path_asked}
+use Rattle.program_ends.specs.InputSource.{path_asked}
 use Rattle.show_program.specs.Words.{AnswersWords, AsksWhy, command_line}
 use Rattle.program_ends.proofs.Parsing.{faults_of, flag_of, word_of}
 use Rattle.show_program.proofs.WordLemmas.{answers_refused, answers_taken, command_line-is_free, why_refused, why_taken}

@@ -1,11 +1,11 @@
 -- Where a program reads from.
 use Rattle.std.specs.Prelude.{ℕ, List, [], ◌∷◌, Option, Some, None, if◌then◌else◌}
 use Rattle.std.specs.Str.{bytes_eq}
-use Rattle.program_ends.specs.declared.source.Source.{Source}
-use Rattle.program_ends.specs.declared.source.Source.TheVariants.{StandardInput, File}
+use Rattle.program_ends.specs.declared.input_source.InputSource.{InputSource}
+use Rattle.program_ends.specs.declared.input_source.InputSource.TheVariants.{StandardInput, File}
 
 -- the file that is read; none is standard input (own format)
-abbrev pub path_of : Source → Option (List ℕ)
+abbrev pub path_of : InputSource → Option (List ℕ)
 path_of StandardInput = None
 path_of (File path) = Some path.now
 
