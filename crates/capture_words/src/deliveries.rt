@@ -73,7 +73,7 @@ impl Links {
     }
 
     /// Begins a delivery on the live link of a transfer's handle, or goes on with the one in progress there.
-    fn go_on(&mut self, part: &Part<'_>) -> Option<Step> {
+    fn go_on(&mut self, part: &Part<'_>) -> Option<TransferEffect> {
         let transfer = &part.transfer;
         let link = self.link_of(part.writer, part.key())?;
         let row = self.rows.get_mut(link)?;
@@ -101,7 +101,7 @@ impl Links {
             ..before
         };
         row.progress = (transfer.has_more() && !transfer.is_aborted()).then_some(after);
-        Some(Step {
+        Some(TransferEffect {
             delivery: before.delivery,
             id: before.id,
             is_settled,
@@ -110,7 +110,7 @@ impl Links {
     }
 
     /// A part of a client's delivery has come: behind its last one it waits, unless it is given up.
-    fn arrive(&mut self, step: &Step, transfer: &Transfer<'_>) -> Result<(), AllocError> {
+    fn arrive(&mut self, step: &TransferEffect, transfer: &Transfer<'_>) -> Result<(), AllocError> {
         if step.is_new {
             self.begin_to_send(step.delivery)?;
         }
@@ -170,7 +170,7 @@ impl Links {
 
 /// What a transfer did to its link.
 #[derive(Clone, Copy, Debug)]
-struct Step {
+struct TransferEffect {
     delivery: Delivery,
     id: Option<u32>,
     is_settled: bool,
