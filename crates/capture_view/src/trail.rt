@@ -7,7 +7,7 @@ use std::alloc::{AllocError, Global};
 
 /// Where the delivery comes from.
 #[derive(Clone, Copy, Debug)]
-struct Source {
+struct DeliveryOrigin {
     link: LinkKey,
     id: Option<u32>,
     /// Parts of it may still come.
@@ -21,7 +21,7 @@ struct Source {
 pub struct Trail {
     /// The record of its first transfer.
     delivery: u64,
-    source: Option<Source>,
+    source: Option<DeliveryOrigin>,
     /// The ids of the deliveries that carry it.
     copies: Ids<u64>,
 }
@@ -98,7 +98,7 @@ impl Trail {
     fn take_part(&mut self, number: u64, link: LinkKey, transfer: &Transfer<'_>) -> bool {
         let arrives = transfer.has_more() && !transfer.is_aborted();
         if number == self.delivery {
-            self.source = Some(Source {
+            self.source = Some(DeliveryOrigin {
                 link,
                 id: transfer.delivery_id,
                 arrives,
@@ -111,7 +111,7 @@ impl Trail {
         };
         let is_part = source.arrives && source.link == link;
         if is_part {
-            self.source = Some(Source { arrives, ..source });
+            self.source = Some(DeliveryOrigin { arrives, ..source });
         }
         is_part
     }
@@ -155,7 +155,7 @@ impl Trail {
                 .id
                 .is_some_and(|id| covers(disposition.first, disposition.last_id(), id));
         if is_named && disposition.is_settled() {
-            self.source = Some(Source {
+            self.source = Some(DeliveryOrigin {
                 is_named: false,
                 ..source
             });
@@ -169,7 +169,7 @@ impl Trail {
             .clear(scope_of(connection, channel, Sender::Router));
         if let Some(source) = self.source {
             if source.link.connection == connection && source.link.channel == channel {
-                self.source = Some(Source {
+                self.source = Some(DeliveryOrigin {
                     arrives: false,
                     is_named: false,
                     ..source
