@@ -5,7 +5,7 @@
 //! of the deliveries are decided while others come: in any order, by any outcome or none, settled or not, one or several at once.
 
 use crate::deed::Deed;
-use crate::known::{Held, Place};
+use crate::known::{ChannelKey, Held};
 use crate::measured::{BEGIN, DETACH, OPEN, attaching, put_transfer};
 use crate::said;
 use crate::said::Crediting;

@@ -2,7 +2,7 @@
 
 use crate::deed::Deed;
 use crate::driver::Driver;
-use crate::known::{Client, Life, Place};
+use crate::known::{ChannelKey, Client, Life};
 use crate::said;
 use crate::said::{Attaching, Crediting, Sending, repeated};
 use std::alloc::AllocError;
@@ -169,14 +169,14 @@ impl Driver {
     }
 
     /// The place of some live session of the client, or channel 0.
-    fn some_place(&mut self, client: Client) -> Place {
+    fn some_place(&mut self, client: Client) -> ChannelKey {
         let connection = client.connection;
         match self
             .known
             .session_of(&mut self.chance, connection, Life::Live)
         {
             Some(session) => session.place,
-            None => Place {
+            None => ChannelKey {
                 connection,
                 channel: 0,
             },
@@ -201,7 +201,7 @@ impl Driver {
     }
 
     /// The same of a link of this name, which may be its address too.
-    fn odd_attach_of(&mut self, place: Place, name: &[u8]) -> Result<Vec<u8>, AllocError> {
+    fn odd_attach_of(&mut self, place: ChannelKey, name: &[u8]) -> Result<Vec<u8>, AllocError> {
         let source = self.odd_source();
         let target = self.odd_target();
         let long = said::terminus(self.alloc, 0x28, name, false)?;

@@ -53,7 +53,7 @@ pub struct Client {
 
 /// A channel of a connection.
 #[derive(Clone, Copy, PartialEq, Eq)]
-pub struct Place {
+pub struct ChannelKey {
     pub connection: u32,
     pub channel: u16,
 }
@@ -61,7 +61,7 @@ pub struct Place {
 /// A session.
 #[derive(Clone, Copy)]
 pub struct Session {
-    pub place: Place,
+    pub place: ChannelKey,
     pub life: Life,
     /// The number of the client's next transfer.
     pub next: u32,
@@ -74,7 +74,7 @@ pub struct Session {
 /// A link.
 #[derive(Clone, Copy)]
 pub struct Link {
-    pub place: Place,
+    pub place: ChannelKey,
     pub handle: u32,
     pub life: Life,
     pub is_producer: bool,
@@ -92,7 +92,7 @@ pub struct Link {
 
 impl Link {
     /// Whether it has this handle of this place.
-    pub(crate) fn is_on(&self, place: Place, handle: u32) -> bool {
+    pub(crate) fn is_on(&self, place: ChannelKey, handle: u32) -> bool {
         self.place == place && self.handle == handle
     }
 }
@@ -107,7 +107,7 @@ pub struct Sent {
 /// A delivery that a consumer has not decided.
 #[derive(Clone, Copy)]
 pub struct Held {
-    pub place: Place,
+    pub place: ChannelKey,
     pub id: u32,
 }
 
@@ -176,7 +176,7 @@ impl Known {
     }
 
     /// How far the session of a place has come.
-    pub fn life_at(&self, place: Place) -> Option<Life> {
+    pub fn life_at(&self, place: ChannelKey) -> Option<Life> {
         for session in self.sessions.iter() {
             if session.place == place {
                 return Some(session.life);
@@ -186,7 +186,7 @@ impl Known {
     }
 
     /// Whether a handle is in use.
-    pub fn has_link(&self, place: Place, handle: u32) -> bool {
+    pub fn has_link(&self, place: ChannelKey, handle: u32) -> bool {
         self.links.iter().any(|link| link.is_on(place, handle))
     }
 
@@ -214,7 +214,7 @@ impl Known {
     }
 
     /// The session of a place.
-    pub fn session_at(&self, place: Place) -> Option<Session> {
+    pub fn session_at(&self, place: ChannelKey) -> Option<Session> {
         for session in self.sessions.iter() {
             if session.place == place {
                 return Some(*session);

@@ -2,7 +2,7 @@
 
 use crate::deed::Deed;
 use crate::driver::Driver;
-use crate::known::{Client, Life, Link, Place, Session, Stage};
+use crate::known::{ChannelKey, Client, Life, Link, Session, Stage};
 use crate::said;
 use crate::said::{Attaching, Crediting, Sending};
 use kit_clients::framed;
@@ -114,14 +114,18 @@ impl Driver {
     }
 
     /// A frame of this body on a place's channel.
-    pub(crate) fn on(&self, place: Place, body: Vec<u8>) -> Result<Option<Vec<u8>>, AllocError> {
+    pub(crate) fn on(
+        &self,
+        place: ChannelKey,
+        body: Vec<u8>,
+    ) -> Result<Option<Vec<u8>>, AllocError> {
         Ok(Some(self.framed(place.channel, body)?))
     }
 
     /// A begin, on a channel that is free.
     fn begin(&mut self, client: Client) -> Result<Option<Vec<u8>>, AllocError> {
         let channel = (self.chance.number(3) & 3) as u16;
-        let place = Place {
+        let place = ChannelKey {
             connection: client.connection,
             channel,
         };

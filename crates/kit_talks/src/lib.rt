@@ -37,14 +37,14 @@ pub use crowd::{CROWDED, Crowd, CrowdCounts};
 pub use deed::Deed;
 pub use driver::Driver;
 pub use frame_counts::FrameCounts;
-pub use known::{Held, Known, Life, Link, Place, Sent, Session};
+pub use known::{ChannelKey, Held, Known, Life, Link, Sent, Session};
 pub use lines::lines_meant;
 pub use measured::{
     BEGIN, DETACH, OPEN, attaching, attaching_settled, crediting, put_accepted, put_transfer,
 };
 pub use picks::{Picks, scan_picks};
 pub use records::{Names, Telling};
-pub use served::{Seen, Served, are_served};
+pub use served::{EngineReport, Served, are_served};
 pub use stage::{Difference, Stage};
 pub use stream_counts::StreamCounts;
 pub use streams::stream;

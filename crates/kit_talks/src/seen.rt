@@ -1,6 +1,8 @@
 //! What the clients learn from the records of a step: of what they said themselves, and of what the router wrote.
 
-use crate::known::{ADDRESSES, Held, Known, Life, Link, NO_ADDRESS, Place, Sent, Session, Stage};
+use crate::known::{
+    ADDRESSES, ChannelKey, Held, Known, Life, Link, NO_ADDRESS, Sent, Session, Stage,
+};
 use amqp_frames::FrameView;
 use amqp_perf::{
     Address, Attach, Disposition, Flow, Performative, Role, Target, Terminus, Transfer,
@@ -53,7 +55,7 @@ impl Known {
     fn say(
         &mut self,
         number: u64,
-        place: Place,
+        place: ChannelKey,
         said: &Performative<'_>,
     ) -> Result<(), AllocError> {
         match (self.stage_of(place.connection), said) {
@@ -88,7 +90,7 @@ impl Known {
     }
 
     /// The client asked for a link.
-    fn ask(&mut self, place: Place, attach: &Attach<'_>) -> Result<(), AllocError> {
+    fn ask(&mut self, place: ChannelKey, attach: &Attach<'_>) -> Result<(), AllocError> {
         let is_producer = attach.role == Role::Sender;
         let count = if is_producer {
             attach.initial_delivery_count.unwrap_or(0)
@@ -113,7 +115,7 @@ impl Known {
     fn send(
         &mut self,
         number: u64,
-        place: Place,
+        place: ChannelKey,
         transfer: &Transfer<'_>,
     ) -> Result<(), AllocError> {
         let mut begun = None;
@@ -141,7 +143,7 @@ impl Known {
     }
 
     /// It was a transfer of a session, and maybe the first of a delivery.
-    fn count_sent(&mut self, place: Place, has_begun: bool) {
+    fn count_sent(&mut self, place: ChannelKey, has_begun: bool) {
         for session in self.sessions.iter_mut() {
             if session.place == place {
                 session.next = session.next.wrapping_add(1);
@@ -153,7 +155,7 @@ impl Known {
     }
 
     /// The client decided, or at least spoke of, some deliveries.
-    fn decide(&mut self, place: Place, disposition: &Disposition<'_>) {
+    fn decide(&mut self, place: ChannelKey, disposition: &Disposition<'_>) {
         if disposition.role == Role::Receiver {
             let (first, last) = (disposition.first, disposition.last_id());
             let most = last.wrapping_sub(first);
@@ -163,7 +165,7 @@ impl Known {
 
     /// A link was detached. Where the other end had detached it before, it has come so far, and is gone; else it comes so far as
     /// is told last.
-    fn turn_link(&mut self, place: Place, handle: u32, gone: Life, fresh: Life) {
+    fn turn_link(&mut self, place: ChannelKey, handle: u32, gone: Life, fresh: Life) {
         self.links
             .retain(|link| !link.is_on(place, handle) || link.life != gone);
         for link in self.links.iter_mut() {
@@ -174,7 +176,7 @@ impl Known {
     }
 
     /// A session was ended, in the same way.
-    fn turn_session(&mut self, place: Place, gone: Life, fresh: Life) {
+    fn turn_session(&mut self, place: ChannelKey, gone: Life, fresh: Life) {
         self.sessions
             .retain(|session| session.place != place || session.life != gone);
         for session in self.sessions.iter_mut() {
@@ -185,7 +187,7 @@ impl Known {
     }
 
     /// The router wrote this.
-    fn hear(&mut self, place: Place, said: &Performative<'_>) -> Result<(), AllocError> {
+    fn hear(&mut self, place: ChannelKey, said: &Performative<'_>) -> Result<(), AllocError> {
         match said {
             Performative::Open(_) => {}
             Performative::Close(_) => self.leave(place.connection, Stage::Closed),
@@ -209,7 +211,7 @@ impl Known {
     }
 
     /// A session begins.
-    fn begun(&mut self, place: Place) {
+    fn begun(&mut self, place: ChannelKey) {
         for session in self.sessions.iter_mut() {
             if session.place == place {
                 session.life = Life::Live;
@@ -218,14 +220,14 @@ impl Known {
     }
 
     /// A session ends.
-    fn ended(&mut self, place: Place) {
+    fn ended(&mut self, place: ChannelKey) {
         self.turn_session(place, Life::Leaving, Life::Over);
         self.links.retain(|link| link.place != place);
         self.held.retain(|held| held.place != place);
     }
 
     /// A link begins.
-    fn attached(&mut self, place: Place, handle: u32) {
+    fn attached(&mut self, place: ChannelKey, handle: u32) {
         for link in self.links.iter_mut() {
             if link.is_on(place, handle) {
                 link.life = Life::Live;
@@ -234,7 +236,7 @@ impl Known {
     }
 
     /// The router gives credit, or tells its numbers.
-    fn credited(&mut self, place: Place, flow: &Flow) {
+    fn credited(&mut self, place: ChannelKey, flow: &Flow) {
         for link in self.links.iter_mut() {
             if link.place == place && flow.handle == Some(link.handle) && link.is_producer {
                 link.credit = flow.link_credit.unwrap_or(link.credit);
@@ -243,7 +245,7 @@ impl Known {
     }
 
     /// A part of a delivery comes.
-    fn received(&mut self, place: Place, transfer: &Transfer<'_>) -> Result<(), AllocError> {
+    fn received(&mut self, place: ChannelKey, transfer: &Transfer<'_>) -> Result<(), AllocError> {
         for session in self.sessions.iter_mut() {
             if session.place == place {
                 session.seen = session.seen.wrapping_add(1);
@@ -260,7 +262,7 @@ impl Known {
     }
 
     /// A part goes to a consumer's link: more are to come or not, and maybe a delivery begins with it.
-    fn go_on(&mut self, place: Place, transfer: &Transfer<'_>) {
+    fn go_on(&mut self, place: ChannelKey, transfer: &Transfer<'_>) {
         for link in self.links.iter_mut() {
             if link.is_on(place, transfer.handle) {
                 link.is_in_progress = transfer.has_more();
@@ -295,12 +297,12 @@ fn address_of(attach: &Attach<'_>) -> usize {
 }
 
 /// What a frame says, and on which channel.
-pub(crate) fn spoken(connection: u32, octets: &[u8]) -> Option<(Place, Performative<'_>)> {
+pub(crate) fn spoken(connection: u32, octets: &[u8]) -> Option<(ChannelKey, Performative<'_>)> {
     let frame = FrameView::whole(octets, u32::MAX)?;
     let channel = frame.channel();
     let (said, _) = Performative::read(frame.body()).ok()?;
     Some((
-        Place {
+        ChannelKey {
             connection,
             channel,
         },

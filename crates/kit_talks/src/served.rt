@@ -8,7 +8,7 @@ use std::alloc::{AllocError, Global};
 
 /// What was seen of an engine.
 #[derive(Clone, Copy)]
-pub struct Seen {
+pub struct EngineReport {
     /// How many octets of the stream were fed. A feed that is answered `Over` does not count.
     pub fed: usize,
     /// What the first feed was answered that was not taken, but for `Over`.
@@ -28,15 +28,15 @@ pub struct Seen {
 pub struct Served {
     pub connection: u32,
     pub stream: Vec<u8>,
-    pub seen: Seen,
+    pub seen: EngineReport,
     pub items: Vec<What>,
     pub frames: Vec<Vec<u8>>,
     pub given: Vec<u8>,
 }
 
-impl Seen {
+impl EngineReport {
     /// Nothing was seen yet.
-    pub const NOTHING: Seen = Seen {
+    pub const NOTHING: EngineReport = EngineReport {
         fed: 0,
         fault: None,
         before_over: None,
@@ -157,7 +157,7 @@ fn is_recorded(served: &Served, reading: &Reading<'_>, recorded: &Recorded<'_>) 
 /// Whether the core was told what was read.
 fn is_told_of(
     alloc: Global,
-    seen: &Seen,
+    seen: &EngineReport,
     reading: &Reading<'_>,
     told: &[Told<'_>],
 ) -> Result<bool, AllocError> {
@@ -241,7 +241,7 @@ fn put_told<'a>(told: &mut Vec<Told<'a>>, reading: &Reading<'a>) -> Result<(), A
 }
 
 /// Whether a client was answered as its octets say, or else because the core is full.
-fn is_answered(seen: &Seen, reading: &Reading<'_>, is_full: bool) -> bool {
+fn is_answered(seen: &EngineReport, reading: &Reading<'_>, is_full: bool) -> bool {
     let full = EngineFault::Port(StepFault::Full);
     let is_loss_answered = seen.loss == Some(Ok(())) || (is_full && seen.loss == Some(Err(full)));
     let is_feed_answered = seen.fault == reading.fault || (is_full && seen.fault == Some(full));
@@ -249,7 +249,7 @@ fn is_answered(seen: &Seen, reading: &Reading<'_>, is_full: bool) -> bool {
 }
 
 /// Whether the core was told what was read, or where it was full the first of it, and then of the loss.
-fn is_told(seen: &Seen, read: &[Told<'_>], told: &[Told<'_>]) -> bool {
+fn is_told(seen: &EngineReport, read: &[Told<'_>], told: &[Told<'_>]) -> bool {
     let told = match told {
         [told @ .., Told::Lost] => {
             if seen.loss != Some(Ok(())) || told.is_empty() {
@@ -300,7 +300,7 @@ fn slices_of<'a>(alloc: Global, frames: &'a [Vec<u8>]) -> Result<Vec<&'a [u8]>, 
 }
 
 /// Whether an engine that goes on was over once a close was given and not before, and one that does not was over then.
-fn is_over_in_time(seen: &Seen, reading: &Reading<'_>, written: &[&[u8]]) -> bool {
+fn is_over_in_time(seen: &EngineReport, reading: &Reading<'_>, written: &[&[u8]]) -> bool {
     let goes_on = match seen.fault {
         None => true,
         Some(EngineFault::Frame) => reading.is_open,

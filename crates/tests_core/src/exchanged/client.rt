@@ -3,7 +3,7 @@
 use crate::exchanged::device::Device;
 use conn_engine::EngineFault;
 use kit_clients::Chance;
-use kit_talks::{Seen, Served};
+use kit_talks::{EngineReport, Served};
 use route_core::Core;
 use route_items::StepFault;
 use std::alloc::{AllocError, Global};
@@ -19,7 +19,7 @@ pub struct Client<'a> {
     stream: Vec<u8>,
     /// The most octets of a piece.
     most: usize,
-    seen: Seen,
+    seen: EngineReport,
 }
 
 impl<'a> Client<'a> {
@@ -35,7 +35,7 @@ impl<'a> Client<'a> {
             device: Device::new(alloc, connection, core),
             stream,
             most,
-            seen: Seen::NOTHING,
+            seen: EngineReport::NOTHING,
         }
     }
 
