@@ -12,7 +12,7 @@
 //! | `waits=15` | how many records the capture has, and whether the delivery that begins in this one waits in the end |
 //! | `entries=21` | how many entries an auditor has behind so many records of the text, which is made while it is read |
 
-use crate::parts::{Part, Parts, octets_of};
+use crate::parts::{Part, PartsReader, octets_of};
 use crate::seen::tell_verdicts;
 use crate::taken::take;
 use crate::worked::{tell_other_verdicts, tell_verdict, tell_worked};
@@ -91,7 +91,7 @@ fn tell_cut(rt: &HostRuntime, name: &str, length: usize, verdict: Verdict) -> io
 
 /// Writes the verdict of a text that is made while it is read.
 fn tell_read(rt: &HostRuntime, name: &str, parts: &[Part]) -> io::Result<()> {
-    let verdict = audit_stream(rt.alloc(), Parts::of(parts));
+    let verdict = audit_stream(rt.alloc(), PartsReader::of(parts));
     println!(rt; "{name}: {verdict}")
 }
 
@@ -122,7 +122,7 @@ fn tell_entries(rt: &HostRuntime, name: &str, parts: &[Part], count: u32) -> io:
 /// How many entries an auditor has behind the first `count` records of a text; none where a record is refused, or the text
 /// has fewer.
 fn entries_behind(alloc: Global, parts: &[Part], count: u32) -> Option<usize> {
-    match Reader::start(alloc, Parts::of(parts)) {
+    match Reader::start(alloc, PartsReader::of(parts)) {
         Ok((rules, mut records)) => entries_of(
             &mut Auditor::new(alloc, rules),
             &mut records,
@@ -135,7 +135,11 @@ fn entries_behind(alloc: Global, parts: &[Part], count: u32) -> Option<usize> {
 /// How many entries an auditor has that takes so many next records.
 ///
 /// It borrows the auditor: owned here, its drop would be proved on each way out.
-fn entries_of(auditor: &mut Auditor, records: &mut Reader<Parts<'_>>, count: u32) -> Option<usize> {
+fn entries_of(
+    auditor: &mut Auditor,
+    records: &mut Reader<PartsReader<'_>>,
+    count: u32,
+) -> Option<usize> {
     if takes(auditor, records, count) {
         Some(auditor.entries())
     } else {
@@ -144,7 +148,7 @@ fn entries_of(auditor: &mut Auditor, records: &mut Reader<Parts<'_>>, count: u32
 }
 
 /// Whether an auditor takes so many next records.
-fn takes(auditor: &mut Auditor, records: &mut Reader<Parts<'_>>, count: u32) -> bool {
+fn takes(auditor: &mut Auditor, records: &mut Reader<PartsReader<'_>>, count: u32) -> bool {
     for _ in 0..count {
         let Ok(Some(entry)) = records.next_record() else {
             return false;

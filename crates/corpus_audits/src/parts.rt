@@ -27,17 +27,17 @@ impl Part {
 
 /// Gives the octets of parts, one behind the other, each as often as it comes.
 #[derive(Drop)]
-pub struct Parts<'a> {
+pub struct PartsReader<'a> {
     left: &'a [u8],
     parts: &'a [Part],
     /// How often the first of these parts was given.
     given: u32,
 }
 
-impl<'a> Parts<'a> {
+impl<'a> PartsReader<'a> {
     /// All of these parts.
-    pub fn of(parts: &'a [Part]) -> Parts<'a> {
-        Parts {
+    pub fn of(parts: &'a [Part]) -> PartsReader<'a> {
+        PartsReader {
             left: &[],
             parts,
             given: 0,
@@ -58,7 +58,7 @@ impl<'a> Parts<'a> {
     }
 }
 
-impl Read for Parts<'_> {
+impl Read for PartsReader<'_> {
     fn read(&mut self, buf: &mut [u8]) -> io::Result<usize> {
         if self.left.is_empty() {
             self.go_on();
@@ -70,6 +70,6 @@ impl Read for Parts<'_> {
 /// All octets of these parts.
 pub fn octets_of(alloc: Global, parts: &[Part]) -> io::Result<Vec<u8>> {
     let mut octets = Vec::new(alloc);
-    let _ = Parts::of(parts).read_to_end(&mut octets)?;
+    let _ = PartsReader::of(parts).read_to_end(&mut octets)?;
     Ok(octets)
 }
