@@ -1,6 +1,6 @@
 //! Slots at a listener, and clients beside them.
 
-use crate::step::{Step, tell};
+use crate::step::{ScriptLine, tell};
 use conn_engine::{Delivered, Gate, Ready, Taken};
 use mio::net::TcpListener;
 use socket_gates::{ConnectionSlot, slots_at};
@@ -21,7 +21,7 @@ const BLOCK: [u8; 4096] = [b'7'; 4096];
 const BLOCKS: u32 = 100_000;
 
 /// Opens so many slots of so many workers at a free port, and does with them and their clients what the steps say.
-pub fn play<R>(rt: &R, subject: &Step<'_>, steps: &[&str]) -> io::Result<()>
+pub fn play<R>(rt: &R, subject: &ScriptLine<'_>, steps: &[&str]) -> io::Result<()>
 where
     R: Wait + Net<Stream = TcpStream> + Clock + Print + AllocGlobal,
 {
@@ -60,7 +60,7 @@ where
     R: Net<Stream = TcpStream> + Print + AllocGlobal,
 {
     for line in steps {
-        let told = step_told(rt, addr, gates, clients, &Step::of(line))?;
+        let told = step_told(rt, addr, gates, clients, &ScriptLine::of(line))?;
         tell(rt, line, told.as_str())?;
     }
     Ok(())
@@ -72,7 +72,7 @@ fn step_told<R: Net<Stream = TcpStream> + AllocGlobal, G: Gate>(
     addr: SocketAddr,
     gates: &mut [G],
     clients: &mut Vec<TcpStream>,
-    step: &Step<'_>,
+    step: &ScriptLine<'_>,
 ) -> io::Result<String> {
     match step.verb {
         "connect" | "leave" | "say" | "pour" | "hear" => client_told(rt, addr, clients, step),
@@ -90,7 +90,7 @@ fn client_told<R: Net<Stream = TcpStream> + AllocGlobal>(
     rt: &R,
     addr: SocketAddr,
     clients: &mut Vec<TcpStream>,
-    step: &Step<'_>,
+    step: &ScriptLine<'_>,
 ) -> io::Result<String> {
     if step.verb == "connect" {
         clients.push(TcpStream::connect(rt, addr)?)?;
@@ -128,7 +128,11 @@ fn heard_told(alloc: Global, octets: &[u8]) -> Result<String, AllocError> {
 }
 
 /// What comes of a step of a gate.
-fn gate_told<G: Gate>(alloc: Global, gate: &mut G, step: &Step<'_>) -> Result<String, AllocError> {
+fn gate_told<G: Gate>(
+    alloc: Global,
+    gate: &mut G,
+    step: &ScriptLine<'_>,
+) -> Result<String, AllocError> {
     let mut buffer = [0u8; 64];
     match step.verb {
         "read" => {

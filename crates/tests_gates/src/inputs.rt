@@ -1,6 +1,6 @@
 //! Which inputs may come, and where the frames that were written stand.
 
-use crate::step::Step;
+use crate::step::ScriptLine;
 use capture_form::{Frame, Record, What};
 use pairing_cert::Note;
 use route_items::{ConnectionStates, Item, WrittenFrames};
@@ -23,7 +23,7 @@ fn tell_lives<R: Print + AllocGlobal>(
     steps: &[&str],
 ) -> io::Result<()> {
     for line in steps {
-        let step = Step::of(line);
+        let step = ScriptLine::of(line);
         come(rt.alloc(), lives, &step)?;
         println!(rt; "{line}: {:?}", answers(lives, step.number()))?;
     }
@@ -31,7 +31,11 @@ fn tell_lives<R: Print + AllocGlobal>(
 }
 
 /// Has the item of a step come, if it has one.
-fn come(alloc: Global, lives: &mut ConnectionStates, step: &Step<'_>) -> Result<(), AllocError> {
+fn come(
+    alloc: Global,
+    lives: &mut ConnectionStates,
+    step: &ScriptLine<'_>,
+) -> Result<(), AllocError> {
     let octets = step.octets(alloc);
     match item_of(step, octets.as_slice()) {
         Some(item) => lives.come(item),
@@ -40,7 +44,7 @@ fn come(alloc: Global, lives: &mut ConnectionStates, step: &Step<'_>) -> Result<
 }
 
 /// The item of a step.
-fn item_of<'a>(step: &Step<'_>, octets: &'a [u8]) -> Option<Item<'a>> {
+fn item_of<'a>(step: &ScriptLine<'_>, octets: &'a [u8]) -> Option<Item<'a>> {
     match step.verb {
         "opened" => Some(Item::Opened(step.number())),
         "in" => Some(Item::In(step.number(), octets)),
@@ -84,7 +88,7 @@ impl Written {
     /// Plays the steps. It is lent: in a function that owns it its drop would be proved on each way out.
     fn play<R: Print + AllocGlobal>(&mut self, rt: &R, steps: &[&str]) -> io::Result<()> {
         for line in steps {
-            let step = Step::of(line);
+            let step = ScriptLine::of(line);
             match step.verb {
                 "opened" | "out" => self.more.push(record_of(rt.alloc(), &step)?)?,
                 "known" => self.outs.extend(self.records.len() as u64, &self.more)?,
@@ -104,7 +108,7 @@ impl Written {
 const LARGEST: usize = 64;
 
 /// The record of a step: a frame of these octets, or, where there are none, an opening.
-fn record_of(alloc: Global, step: &Step<'_>) -> Result<Record, AllocError> {
+fn record_of(alloc: Global, step: &ScriptLine<'_>) -> Result<Record, AllocError> {
     let octets = step.octets(alloc);
     let what = if octets.is_empty() {
         What::Opened

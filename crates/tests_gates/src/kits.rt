@@ -1,6 +1,6 @@
 //! Choices by chance, the frames of clients, and their streams read at once.
 
-use crate::step::{Step, octets_of, tell};
+use crate::step::{ScriptLine, octets_of, tell};
 use kit_clients::{Chance, Fields, Reading, framed, read};
 use std::alloc::{AllocError, AllocGlobal, Global};
 use std::io;
@@ -9,14 +9,14 @@ use std::io;
 pub fn play_chance<R: Print + AllocGlobal>(rt: &R, seed: u64, steps: &[&str]) -> io::Result<()> {
     let mut chance = Chance::new(seed);
     for line in steps {
-        let told = chosen(rt.alloc(), &mut chance, &Step::of(line))?;
+        let told = chosen(rt.alloc(), &mut chance, &ScriptLine::of(line))?;
         tell(rt, line, told.as_str())?;
     }
     Ok(())
 }
 
 /// The choice that a step asks for.
-fn chosen(alloc: Global, chance: &mut Chance, step: &Step<'_>) -> Result<String, AllocError> {
+fn chosen(alloc: Global, chance: &mut Chance, step: &ScriptLine<'_>) -> Result<String, AllocError> {
     let number = step.number();
     match step.verb {
         "number" => chance.number(number).to_string(alloc),
@@ -50,7 +50,7 @@ fn tell_fields<R: Print + AllocGlobal>(
     steps: &[&str],
 ) -> io::Result<()> {
     for line in steps {
-        let step = Step::of(line);
+        let step = ScriptLine::of(line);
         match step.verb {
             "described" => tell_described(rt, line, fields, octet_of(step.first))?,
             "framed" => tell_framed(rt, line, &step)?,
@@ -72,7 +72,11 @@ fn tell_described<R: Print + AllocGlobal>(
 }
 
 /// Prints the octets of the frame of a step.
-fn tell_framed<R: Print + AllocGlobal>(rt: &R, line: &str, step: &Step<'_>) -> io::Result<()> {
+fn tell_framed<R: Print + AllocGlobal>(
+    rt: &R,
+    line: &str,
+    step: &ScriptLine<'_>,
+) -> io::Result<()> {
     let channel = step.first.parse::<u16>().unwrap_or(0);
     let octets = framed(rt.alloc(), channel, step.octets(rt.alloc()).as_slice())?;
     tell_octets(rt, line, octets.as_slice())
@@ -85,7 +89,7 @@ fn tell_octets<R: Print + AllocGlobal>(rt: &R, line: &str, octets: &[u8]) -> io:
 }
 
 /// Puts the field of a step.
-fn put(alloc: Global, fields: &mut Fields, step: &Step<'_>) -> Result<(), AllocError> {
+fn put(alloc: Global, fields: &mut Fields, step: &ScriptLine<'_>) -> Result<(), AllocError> {
     match step.verb {
         "sized" => fields.sized(octet_of(step.first), step.octets(alloc).as_slice()),
         "skip" => fields.skip(step.number()),

@@ -23,7 +23,7 @@ use std::net::{Net, TcpStream};
 use std::sync::Wait;
 use std::thread::Threads;
 use std::time::Clock;
-use step::Step;
+use step::ScriptLine;
 
 fn main(rt: HostRuntime) -> io::Result<()> {
     let text = io::read_to_string(rt.alloc(), rt.stdin())?;
@@ -55,7 +55,7 @@ where
         return Ok(());
     };
     println!(rt; "== {heading}")?;
-    let subject = Step::of(heading);
+    let subject = ScriptLine::of(heading);
     match subject.verb {
         "lives" => inputs::play_lives(rt, steps),
         "outs" => inputs::play_outs(rt, steps),

@@ -5,17 +5,17 @@ use std::io;
 
 /// A line: a verb, a word, and the rest.
 #[derive(Clone, Copy, Debug)]
-pub struct Step<'a> {
+pub struct ScriptLine<'a> {
     pub verb: &'a str,
     pub first: &'a str,
     pub rest: &'a str,
 }
 
-impl<'a> Step<'a> {
-    pub fn of(line: &'a str) -> Step<'a> {
+impl<'a> ScriptLine<'a> {
+    pub fn of(line: &'a str) -> ScriptLine<'a> {
         let (verb, words) = parted(line);
         let (first, rest) = parted(words);
-        Step { verb, first, rest }
+        ScriptLine { verb, first, rest }
     }
 
     /// The word as a number; 0 where it is none.

@@ -6,7 +6,7 @@ use crate::cores::core_without_rules;
 use crate::exchanged::device::Device;
 use capture_form::Capture;
 use conn_engine::EngineFault;
-use kit_clients::{CONSUMER, PRODUCER, Step, heard};
+use kit_clients::{CONSUMER, PRODUCER, ScriptStep, heard};
 use route_core::Core;
 use std::alloc::{AllocError, Global};
 use std::cell::RefCell;
@@ -18,7 +18,7 @@ const ROUNDS: usize = 16;
 #[derive(Drop)]
 struct Player<'a> {
     alloc: Global,
-    steps: &'static [Step],
+    steps: &'static [ScriptStep],
     device: Device<'a>,
     /// How many of its steps are done, up to the last that it said.
     done: usize,
@@ -30,7 +30,7 @@ impl<'a> Player<'a> {
         alloc: Global,
         connection: u32,
         core: &'a RefCell<Core>,
-        steps: &'static [Step],
+        steps: &'static [ScriptStep],
     ) -> Player<'a> {
         Player {
             alloc,
@@ -53,7 +53,7 @@ impl<'a> Player<'a> {
         let next = self.next_said();
         if self.has_heard(next) {
             match self.steps.get(next) {
-                Some(Step::Says(octets)) => {
+                Some(ScriptStep::Says(octets)) => {
                     self.device.feed_pieces(octets, most)?;
                     self.done = next.saturating_add(1);
                 }
@@ -69,7 +69,7 @@ impl<'a> Player<'a> {
     /// The next step in which it says something; as many as there are, where there is none.
     fn next_said(&self) -> usize {
         for (place, step) in self.steps.iter().enumerate().skip(self.done) {
-            if let Step::Says(_) = step {
+            if let ScriptStep::Says(_) = step {
                 return place;
             }
         }
