@@ -27,8 +27,8 @@ use Rattle.trace_duties.specs.Pick.{may_take}
 use Rattle.trace_duties.specs.Quiet.{has_earlier_unsent, is_held_back, copies_are_sent}
 use Rattle.trace_duties.proofs.QuietLists.{all-each}
 use Rattle.trace_duties.proofs.PicksInOrder.{none-before}
+use Rattle.state_tables.specs.LetGo.{is_let_go}
 use Rattle.state_incoming.specs.HeldTables.{AreOver}
-use Rattle.state_incoming.specs.LetGo.{is_let_go}
 use Rattle.state_incoming.specs.declared.deliveries.Deliveries.{Deliveries}
 use Rattle.state_incoming.proofs.OverKnown.{unsent-kept}
 use Rattle.due_flows.proofs.LiveOnes.{link-found, live_links-live}

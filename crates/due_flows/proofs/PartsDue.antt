@@ -16,11 +16,11 @@ use Rattle.trace_clauses.specs.TransferClause.{to_carry}
 use Rattle.trace_events.proofs.Judged.{AreJudged}
 use Rattle.trace_clauses.proofs.OneConsumer.{passes-some}
 use Rattle.trace_clauses.proofs.OutgoingProgress.{judged-carrying, carrying-noted, carrying-not_gone}
+use Rattle.state_tables.specs.LetGo.{names_let_go}
 use Rattle.state_addresses.specs.ConsumerLinks.{consumer_at, is_live_consumer}
 use Rattle.state_addresses.proofs.ConsumerLinkSteps.{consumer-lives}
 use Rattle.state_outgoing.specs.Sent.{Sent, outgoing_at}
 use Rattle.state_incoming.specs.HeldTables.{AreOver}
-use Rattle.state_incoming.specs.LetGo.{names_let_go}
 use Rattle.state_incoming.specs.declared.deliveries.Deliveries.{Deliveries}
 use Rattle.state_incoming.proofs.OverKnown.{carrier-kept}
 use Rattle.state_outgoing.specs.LetGo.{is_finished}

@@ -19,10 +19,10 @@ use Rattle.trace_events.proofs.Judged.{AreJudged}
 use Rattle.trace_clauses.proofs.IncomingProgress.{judged-kept}
 use Rattle.trace_clauses.proofs.Parts.{IsKept}
 use Rattle.trace_clauses.proofs.WaitingQueue.{all_contained, contains_first, contains_later, contains_none, contains_cases, each_completed}
+use Rattle.state_tables.specs.LetGo.{is_let_go}
 use Rattle.state_incoming.specs.Held.{Held, held, held_at, is_held, says_waiting}
 use Rattle.state_incoming.specs.declared.held.Fate.TheVariants.{Arriving, Waiting, Gone, Paired, Copied}
 use Rattle.state_incoming.specs.HeldTables.{IsTable, held_in}
-use Rattle.state_incoming.specs.LetGo.{is_let_go}
 use Rattle.state_incoming.specs.declared.deliveries.Deliveries.{Deliveries}
 use Rattle.state_incoming.proofs.HeldAnswers.{waiting-kept}
 use Rattle.state_incoming.proofs.OverKnown as let_go

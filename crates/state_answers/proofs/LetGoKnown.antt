@@ -8,10 +8,10 @@ use Rattle.trace_events.specs.Event.{Event, Incoming, Outgoing}
 use Rattle.trace_events.specs.Outgoing.{outgoing_begun}
 use Rattle.trace_events.proofs.Judged.{AreJudged}
 use Rattle.trace_clauses.specs.Clauses.{first_broken}
+use Rattle.state_tables.specs.LetGo.{is_let_go, names_let_go}
 use Rattle.state_incoming.specs.EntryAnswers.{Knows}
 use Rattle.state_incoming.specs.Held.{Held, held_at}
 use Rattle.state_incoming.specs.HeldTables.{AreHeld, AreOver, held_in}
-use Rattle.state_incoming.specs.LetGo.{is_let_go, names_let_go}
 use Rattle.state_incoming.specs.declared.deliveries.Deliveries.{Deliveries}
 use Rattle.state_incoming.proofs.OverKnown.{kept-law}
 use Rattle.state_incoming.proofs.OverLasts.{begins-kept}

@@ -9,9 +9,10 @@ use Rattle.trace_events.specs.Outgoing.{names, outgoing_deliveries}
 use Rattle.trace_events.proofs.Judged.{AreJudged}
 use Rattle.trace_clauses.specs.Clauses.{first_broken}
 use Rattle.trace_clauses.proofs.OneConsumer.{some-and}
+use Rattle.state_tables.specs.LetGo.{is_let_go}
 use Rattle.state_incoming.specs.Held.{Held, held_at}
 use Rattle.state_incoming.specs.HeldTables.{AreHeld, held_in}
-use Rattle.state_incoming.specs.LetGo.{HasAllCopies, IsOver, is_finished, is_let_go, is_spent}
+use Rattle.state_incoming.specs.LetGo.{HasAllCopies, IsOver, is_finished, is_spent}
 use Rattle.state_incoming.specs.declared.deliveries.Deliveries.{Deliveries}
 use Rattle.state_incoming.proofs.HeldAnswers.{IsHeldOf, held-of}
 use Rattle.state_incoming.proofs.OverKnown.{kept-law, table-law}

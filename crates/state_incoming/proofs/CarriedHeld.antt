@@ -14,9 +14,9 @@ use Rattle.trace_clauses.specs.Clauses.{first_broken}
 use Rattle.trace_clauses.specs.TransferClause.{carried_before}
 use Rattle.trace_clauses.proofs.BegunDeliveries.{found-begun}
 use Rattle.trace_clauses.proofs.Pairs.{paired-not_gone}
+use Rattle.state_tables.specs.LetGo.{is_let_go}
 use Rattle.state_incoming.specs.Held.{Held, held, held_at, is_held}
 use Rattle.state_incoming.specs.HeldTables.{AreHeld, AreOver, held_in}
-use Rattle.state_incoming.specs.LetGo.{is_let_go}
 use Rattle.state_incoming.specs.EntryAnswers.{Knows, delivery_in, is_shut}
 use Rattle.state_incoming.specs.declared.deliveries.Deliveries.{Deliveries}
 use Rattle.trace_clauses.proofs.IdsApart.{found_any}

@@ -8,10 +8,10 @@ use Rattle.trace_events.specs.Incoming.{address_of, payload, completed_before, i
 use Rattle.trace_events.specs.Settling.{is_closed}
 use Rattle.trace_events.specs.Waiting.{is_gone}
 use Rattle.trace_clauses.specs.TransferClause.{to_carry}
+use Rattle.state_tables.specs.LetGo.{names_let_go}
 use Rattle.state_incoming.specs.Held.{Held, may_go}
 use Rattle.state_incoming.specs.HeldTables.{AreHeld, held_in}
 use Rattle.state_incoming.specs.EntryAnswers.{Knows, delivery_in, has_number, says_complete, says_closed, has_gone, address_in, payload_of, is_before, carried, carried_by}
-use Rattle.state_incoming.specs.LetGo.{names_let_go}
 use Rattle.state_incoming.specs.declared.deliveries.Deliveries.{Deliveries}
 use Rattle.state_incoming.proofs.HeldAnswers.{IsHeldOf, held-of, held-address, held-payload, held-closed, held-complete, held-gone, held-before, to_carry-held}
 use Rattle.state_incoming.proofs.GroupAnswers.{found-passes}

@@ -5,9 +5,10 @@ use Rattle.capture_form.specs.Rules.{RuleSet}
 use Rattle.trace_events.specs.Words.{is_some_and}
 use Rattle.trace_events.specs.Event.{Event}
 use Rattle.trace_events.proofs.Judged.{AreJudged}
+use Rattle.state_tables.specs.LetGo.{is_let_go}
 use Rattle.state_incoming.specs.Grouped.{AreGrouped, has_id, is_for, is_of_link, is_of_session}
 use Rattle.state_incoming.specs.Held.{Held, held_at, says_arriving, says_waiting}
-use Rattle.state_incoming.specs.LetGo.{IsOver, is_let_go}
+use Rattle.state_incoming.specs.LetGo.{IsOver}
 use Rattle.state_incoming.specs.declared.groups.HeldGroups.{HeldGroups}
 use Rattle.state_incoming.proofs.OverKnown.{kept-law, over-arrived, over-undecided, over-waited}
 

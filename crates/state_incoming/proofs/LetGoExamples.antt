@@ -20,8 +20,9 @@ use Rattle.trace_events.specs.Link.{is_live, link_at}
 use Rattle.trace_clauses.specs.Written.{spoken_octets}
 use Rattle.trace_clauses.proofs.Captures.{outgoing_of, rule, unmarked}
 use Rattle.trace_clauses.proofs.Made.{from, from_with, to, carry, tell, gives, shows, first, with_more, as_settled, disposes, accepted, detach_of, producer, consumer, q, hi, sent, sent_by}
+use Rattle.state_tables.specs.LetGo.{is_let_go, names_let_go}
 use Rattle.state_incoming.specs.Held.{held_at}
-use Rattle.state_incoming.specs.LetGo.{is_finished, is_let_go, is_spent, names_let_go}
+use Rattle.state_incoming.specs.LetGo.{is_finished, is_spent}
 
 -- ---- which were let go
 

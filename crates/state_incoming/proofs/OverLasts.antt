@@ -27,9 +27,10 @@ use Rattle.trace_clauses.proofs.OneConsumer.{carried-at}
 use Rattle.trace_clauses.proofs.Parts.{IsKept, delivery_kept}
 use Rattle.trace_clauses.proofs.VerdictSteps.{due_before, not_named_before}
 use Rattle.trace_clauses.proofs.WaitingQueue.{all_contained, contains_cases}
+use Rattle.state_tables.specs.LetGo.{is_let_go, names_let_go}
 use Rattle.state_incoming.specs.Held.{Held, address_behind, closed_next, fate_next, held_at, moved, says_copied, says_paired, stays_with}
 use Rattle.state_incoming.specs.HeldTables.{AreHeld, AreOver, held_in}
-use Rattle.state_incoming.specs.LetGo.{AreFinished, HasAllCopies, IsOver, is_finished, is_let_go, is_spent, names_let_go}
+use Rattle.state_incoming.specs.LetGo.{AreFinished, HasAllCopies, IsOver, is_finished, is_spent}
 use Rattle.state_incoming.specs.declared.deliveries.Deliveries.{Deliveries}
 use Rattle.state_incoming.specs.declared.held.Fate.TheVariants.{Paired, Copied}
 use Rattle.state_incoming.proofs.CopiesLast.{copies-last}

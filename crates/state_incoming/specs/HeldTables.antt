@@ -6,10 +6,11 @@ use Rattle.capture_form.specs.declared.records.Record.{Record}
 use Rattle.trace_events.specs.Event.{Event, Link}
 use Rattle.trace_events.specs.Incoming.{incoming_begun}
 use Rattle.trace_events.specs.History.{history}
+use Rattle.state_tables.specs.LetGo.{is_let_go}
 use Rattle.state_incoming.specs.Grouped.{AreGrouped}
 use Rattle.state_incoming.specs.Held.{Held, held_at, held_on}
 use Rattle.state_incoming.specs.HeldViews.{held_view}
-use Rattle.state_incoming.specs.LetGo.{IsOver, is_let_go}
+use Rattle.state_incoming.specs.LetGo.{IsOver}
 use Rattle.state_incoming.specs.Touched.{may_touch}
 use Rattle.state_incoming.specs.declared.deliveries.Deliveries.{Deliveries}
 

@@ -1,25 +1,12 @@
 -- Which deliveries from clients a table may let go: those of which nothing can come any more.
-use Rattle.std.specs.Prelude.{◌≡◌, ℕ, Bool, true, false, ◌&&◌, ◌||◌, not, List, Some, Contains, ◌==◌}
-use Rattle.std.specs.List.{list_any}
+use Rattle.std.specs.Prelude.{◌≡◌, ℕ, Bool, true, false, ◌&&◌, ◌||◌, not, List, Some, Contains}
 use Rattle.capture_form.specs.Rules.{RuleSet}
-use Rattle.pairing_cert.specs.declared.note.Note.{Note}
-use Rattle.pairing_cert.specs.declared.note.Note.TheVariants as notes
 use Rattle.trace_events.specs.Due.{is_unsent}
 use Rattle.trace_events.specs.Event.{Event, Link, Incoming, Outgoing}
 use Rattle.trace_events.specs.Link.{IsLiveLink}
 use Rattle.trace_events.specs.Outgoing.{is_sent, names, outgoing_deliveries}
 use Rattle.trace_events.specs.Work.{stands_unsettled}
 use Rattle.state_incoming.specs.Held.{Held, held_at, says_copied, says_paired}
-
--- the delivery of this number is one of those that were let go
-abbrev pub is_let_go : List (ℕ × Unit {0}) → ℕ → Bool
-is_let_go gone n = list_any (λ p. p.0 == n) gone
-
--- the note names one of them
-abbrev pub names_let_go : List (ℕ × Unit {0}) → Note → Bool
-names_let_go gone (notes.Pair n) = is_let_go gone n
-names_let_go gone notes.None = false
-names_let_go gone (notes.Told why) = false
 
 -- a delivery to a client is finished: its last part is written, and it is not unsettled any more
 abbrev pub is_finished : List Event → Outgoing → Bool

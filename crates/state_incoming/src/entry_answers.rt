@@ -7,10 +7,10 @@ ghost use Rattle.trace_events.specs.Incoming as received;
 ghost use Rattle.trace_events.specs.Settling as settling;
 ghost use Rattle.trace_events.specs.Waiting as waiting;
 ghost use Rattle.trace_values.specs.View.{Events, incoming_view};
+ghost use Rattle.state_tables.specs.LetGo.{names_let_go};
 ghost use Rattle.state_incoming.specs.EntryAnswers as entries;
 ghost use Rattle.state_incoming.specs.EntryAnswers.{Knows, delivery_in, has_number};
 ghost use Rattle.state_incoming.specs.HeldTables.{AreHeld, held_in};
-ghost use Rattle.state_incoming.specs.LetGo.{names_let_go};
 
 use crate::deliveries::Deliveries;
 use crate::held::is_multicast;

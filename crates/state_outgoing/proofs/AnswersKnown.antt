@@ -20,11 +20,12 @@ use Rattle.trace_events.proofs.OutgoingLinks.{first_deciding-before}
 use Rattle.trace_events.proofs.SettlingSteps.{is_to_settle-parts}
 use Rattle.trace_clauses.specs.TransferClause.{carried_before}
 use Rattle.number_groups.specs.Groups.{numbers}
+use Rattle.state_tables.specs.LetGo.{is_let_go, names_let_go}
 use Rattle.state_outgoing.specs.Earliest.{least}
 use Rattle.number_groups.specs.Ids.{same_id}
 use Rattle.state_outgoing.specs.Carriers.{carriers_in}
 use Rattle.state_outgoing.specs.LastBegun.{carrier_number, last_number}
-use Rattle.state_outgoing.specs.LetGo.{is_let_go, names_let_go, where_kept, kept_at, is_finished}
+use Rattle.state_outgoing.specs.LetGo.{where_kept, kept_at, is_finished}
 use Rattle.state_outgoing.specs.Sent.{IsKnownTo, Sent, sent, outgoing_at, sent_at, is_left_unsettled}
 use Rattle.state_outgoing.specs.SentAnswers.{AreClosings, Knows, KnowsOrBegins, carried, closes, decided, delivery_in, is_settleable, says_sent, unsent}
 use Rattle.state_outgoing.specs.SentTables.{AreSent, IsTable, is_done_in, sent_in}

@@ -17,7 +17,8 @@ use Rattle.trace_events.proofs.Links.{passing}
 use Rattle.trace_events.proofs.OutgoingLinks.{IsOnEarlier, judged-on_earlier, deliveries-earlier}
 use Rattle.trace_events.proofs.OutgoingSteps.{in_progress-same, is_sent-no_part}
 use Rattle.trace_clauses.proofs.OutgoingProgress.{IsPartOf, judged-outgoing_part, noted_pair}
-use Rattle.state_outgoing.specs.LetGo.{names_let_go, where_kept, kept_at}
+use Rattle.state_tables.specs.LetGo.{names_let_go}
+use Rattle.state_outgoing.specs.LetGo.{where_kept, kept_at}
 use Rattle.state_outgoing.specs.Sent.{Sent, sent, outgoing_at}
 use Rattle.state_outgoing.specs.LastBegun.{last_on, last_number, begins_on, on_link_next}
 use Rattle.trace_clauses.proofs.WaitingQueue.{find_has}

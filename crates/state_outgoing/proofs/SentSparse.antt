@@ -5,7 +5,8 @@ use Rattle.trace_events.specs.Words.{is_some_and}
 use Rattle.trace_events.specs.Event.{Event}
 use Rattle.trace_events.specs.Outgoing.{outgoing_begun}
 use Rattle.trace_events.proofs.Judged.{AreJudged}
-use Rattle.state_outgoing.specs.LetGo.{names_let_go, kept_at}
+use Rattle.state_tables.specs.LetGo.{names_let_go}
+use Rattle.state_outgoing.specs.LetGo.{kept_at}
 use Rattle.state_outgoing.specs.Sent.{Sent, sent_next, sent_begun, sent_behind, begins_number}
 use Rattle.state_outgoing.specs.SentTouched.{touches}
 use Rattle.state_outgoing.proofs.SentKept.{kept-behind}

@@ -8,7 +8,8 @@ use Rattle.trace_events.specs.Event.{Event, Outgoing}
 use Rattle.trace_events.specs.Outgoing.{outgoing_begun}
 use Rattle.trace_events.proofs.Judged.{AreJudged}
 use Rattle.trace_events.proofs.Links.{passing}
-use Rattle.state_outgoing.specs.LetGo.{names_let_go, where_kept, kept_at}
+use Rattle.state_tables.specs.LetGo.{names_let_go}
+use Rattle.state_outgoing.specs.LetGo.{where_kept, kept_at}
 use Rattle.state_outgoing.specs.Sent.{Sent, sent_begun, sent_next, sent_behind, begins_number, unsent}
 use Rattle.state_outgoing.specs.SentTouched.{touches}
 use Rattle.state_outgoing.proofs.SentFollowed.{unbegun}

@@ -1,23 +1,11 @@
 -- Which deliveries a table lets go: those from clients by their numbers, and with each the ones to clients that carry it, once
 -- these are finished (own rules).
-use Rattle.std.specs.Prelude.{ℕ, Bool, false, ◌&&◌, not, List, Option, ◌==◌}
-use Rattle.std.specs.List.{list_any}
-use Rattle.pairing_cert.specs.declared.note.Note.{Note}
-use Rattle.pairing_cert.specs.declared.note.Note.TheVariants as notes
+use Rattle.std.specs.Prelude.{ℕ, Bool, ◌&&◌, not, List, Option}
 use Rattle.trace_events.specs.Words.{where_passes}
 use Rattle.trace_events.specs.Event.{Event, Outgoing}
 use Rattle.trace_events.specs.Outgoing as law
+use Rattle.state_tables.specs.LetGo.{names_let_go}
 use Rattle.state_outgoing.specs.Sent.{Sent, sent_at, is_left_unsettled}
-
--- the numbers of the deliveries from clients that were let go have this one
-abbrev pub is_let_go : List (ℕ × Unit {0}) → ℕ → Bool
-is_let_go gone n = list_any (λ p. p.0 == n) gone
-
--- the note names one of them
-abbrev pub names_let_go : List (ℕ × Unit {0}) → Note → Bool
-names_let_go gone (notes.Pair n) = is_let_go gone n
-names_let_go gone notes.None = false
-names_let_go gone (notes.Told why) = false
 
 -- what a table keeps of an entry: nothing, where what its delivery carries was let go
 abbrev pub where_kept : List (ℕ × Unit {0}) → Option Sent → Option Sent

@@ -4,10 +4,11 @@ use Rattle.indexmap.specs.IndexMap.{get}
 use Rattle.trace_events.specs.Words.{is_some_and}
 use Rattle.trace_events.specs.Event.{Event, Outgoing}
 use Rattle.trace_events.specs.Outgoing.{outgoing_deliveries}
+use Rattle.state_tables.specs.LetGo.{is_let_go, names_let_go}
 use Rattle.state_outgoing.specs.Sent.{Sent, sent_next}
 use Rattle.state_outgoing.specs.Carriers.{carriers_in}
 use Rattle.state_outgoing.specs.LastBegun.{last_number, carrier_numbers}
-use Rattle.state_outgoing.specs.LetGo.{is_let_go, names_let_go, kept_at, is_done, is_finished}
+use Rattle.state_outgoing.specs.LetGo.{kept_at, is_done, is_finished}
 use Rattle.state_outgoing.specs.SentGrouped.{AreGrouped, is_of_link}
 use Rattle.state_outgoing.specs.SentViews.{sent_view}
 use Rattle.state_outgoing.specs.declared.begun.LastNumbers.{LastNumbers}

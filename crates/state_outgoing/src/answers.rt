@@ -13,7 +13,7 @@ ghost use Rattle.trace_events.specs.Incoming.{incoming_at};
 ghost use Rattle.trace_events.specs.Event as events;
 ghost use Rattle.trace_events.specs.Outgoing as law;
 ghost use Rattle.trace_events.specs.Settling as settling;
-ghost use Rattle.state_outgoing.specs.LetGo.{is_let_go};
+ghost use Rattle.state_tables.specs.LetGo.{is_let_go};
 ghost use Rattle.state_outgoing.specs.Sent.{is_left_unsettled};
 ghost use Rattle.state_outgoing.specs.SentAnswers as entries;
 ghost use Rattle.state_outgoing.specs.SentAnswers.{AreClosings, Knows, KnowsOrBegins};

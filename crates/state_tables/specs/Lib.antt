@@ -7,3 +7,4 @@ pub mod LinkTables
 pub mod HeldViews
 pub mod EndedLinks
 pub mod Entries
+pub mod LetGo

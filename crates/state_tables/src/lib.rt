@@ -10,6 +10,8 @@
 //!   those of a session; `channels`: those of a connection; `links`: all of them; `ended_links`: those that an event ends;
 //! - `held_link`: the link of a delivery that is kept;
 //! - `answers`, `link_answers`: what they answer to the questions of `trace_judge`.
+//!
+//! `LetGo` in `specs/` is of the tables of deliveries, in the crates above: which deliveries from clients one has let go.
 #![tactic(auto)]
 
 mod answers;

@@ -19,7 +19,8 @@ use Rattle.trace_events.specs.Words.{is_some_and}
 use Rattle.trace_clauses.specs.Written.{spoken_octets}
 use Rattle.trace_clauses.proofs.Captures.{rule, unmarked}
 use Rattle.trace_clauses.proofs.Made.{from, from_with, to, carry, gives, shows, first, disposes, accepted, detach_of, producer, consumer, q, hi}
-use Rattle.state_verdicts.specs.Verdicts.{awaits_at, is_let_go}
+use Rattle.state_tables.specs.LetGo.{is_let_go}
+use Rattle.state_verdicts.specs.Verdicts.{awaits_at}
 
 -- ---- which were let go
 

@@ -1,7 +1,7 @@
 -- What is left of the verdicts where those of one delivery are let go.
 use Rattle.std.proofs.Common.{◌≡◌, refl, sym, ap, ◌∙◌, ℕ, Bool, true, false, ◌||◌, List, [], ◌∷◌, ◌++◌, ◌==◌}
 use Rattle.std.proofs.lemmas.List.Folds.{list_any-append}
-use Rattle.state_verdicts.specs.Verdicts.{is_let_go}
+use Rattle.state_tables.specs.LetGo.{is_let_go}
 use Rattle.state_verdicts.proofs.TableSteps.{or_false}
 
 either-off : (a b : Bool) → a || b ≡ false → (a ≡ false) × (b ≡ false)

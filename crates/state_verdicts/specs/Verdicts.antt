@@ -12,6 +12,7 @@ use Rattle.trace_events.specs.Incoming.{completed_by, incoming_at}
 use Rattle.trace_events.specs.Link.{link_at}
 use Rattle.trace_clauses.specs.CopyVerdict.{awaits_verdict, awaits_now, begun_verdict}
 use Rattle.trace_clauses.specs.BestVerdict.{is_same_outcome, has_verdict}
+use Rattle.state_tables.specs.LetGo.{is_let_go}
 use Rattle.state_verdicts.specs.declared.had.Had.{Had}
 use Rattle.state_verdicts.specs.declared.verdicts.Verdicts.{Verdicts}
 use Rattle.state_verdicts.specs.declared.verdicts.CopyVerdict.{CopyVerdict}
@@ -38,10 +39,6 @@ awaits_in table link n = is_member nat_eq table.on_link link n
 -- and some copy of that delivery has this one
 abbrev pub had_in : Verdicts → ℕ → Outcome → Bool
 had_in table n outcome = is_some_and (get nat_eq table.had n) (λ x. says x outcome)
-
--- the verdicts of the delivery of this number are among those that were let go
-abbrev pub is_let_go : List (ℕ × Unit {0}) → ℕ → Bool
-is_let_go gone n = list_any (λ p. p.0 == n) gone
 
 -- ---- what the law says of the numbers
 

@@ -12,7 +12,8 @@ ghost use Rattle.trace_events.specs.Incoming.{incoming_at};
 ghost use Rattle.trace_events.specs.Link.{IsLiveLink};
 ghost use Rattle.trace_values.specs.View.{incoming_view};
 ghost use Rattle.trace_clauses.specs.BestVerdict.{best_verdict, has_all_verdicts, whole_verdict};
-ghost use Rattle.state_verdicts.specs.Verdicts.{AreVerdicts, best_of, had_in, is_let_go};
+ghost use Rattle.state_tables.specs.LetGo.{is_let_go};
+ghost use Rattle.state_verdicts.specs.Verdicts.{AreVerdicts, best_of, had_in};
 
 use crate::verdicts::Verdicts;
 use amqp_perf::Outcome;

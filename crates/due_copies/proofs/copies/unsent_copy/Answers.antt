@@ -9,7 +9,7 @@ use Rattle.trace_clauses.specs.TransferClause.{to_carry}
 use Rattle.trace_clauses.proofs.OneConsumer.{incoming_at-is, passes-some}
 use Rattle.trace_clauses.proofs.Parts.{holds_some}
 use Rattle.trace_values.specs.View.{incoming_view, link_view}
-use Rattle.state_incoming.specs.LetGo.{is_let_go}
+use Rattle.state_tables.specs.LetGo.{is_let_go}
 use Rattle.state_incoming.proofs.GroupAnswers.{judged-of}
 use Rattle.due_flows.proofs.Members.{found-contained}
 use Rattle.due_copies.proofs.CopiesDue.{copy-carried, copy-there, found-of}

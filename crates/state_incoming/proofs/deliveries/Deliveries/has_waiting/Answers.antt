@@ -2,9 +2,9 @@ use Rattle.std.proofs.Common.{◌∙◌, bytes_eq}
 use Rattle.trace_events.specs.Incoming.{address_of}
 use Rattle.trace_events.specs.Waiting.{is_waiting}
 use Rattle.number_groups.specs.OctetGroups.{is_member}
+use Rattle.state_tables.specs.LetGo.{is_let_go}
 use Rattle.state_incoming.specs.Held.{says_waiting}
 use Rattle.state_incoming.specs.HeldTables.{held_in}
-use Rattle.state_incoming.specs.LetGo.{is_let_go}
 use Rattle.state_incoming.proofs.FateSteps.{waiting-fate}
 use Rattle.state_incoming.proofs.HeldAnswers.{waiting-kept}
 use Rattle.state_incoming.proofs.GroupAnswers.{judged-of, any-is, address-at}

@@ -1,8 +1,8 @@
 use Rattle.std.proofs.Common.{sym, subst, Option, IfSome, ◌∙◌, nat_eq}
 use Rattle.trace_values.specs.View.{link_view}
 use Rattle.number_groups.specs.Groups.{numbers}
+use Rattle.state_tables.specs.LetGo.{is_let_go}
 use Rattle.state_incoming.specs.HeldTables.{held_in}
-use Rattle.state_incoming.specs.LetGo.{is_let_go}
 use Rattle.state_incoming.proofs.ArrivingKnown.{progress-is}
 use Rattle.state_incoming.proofs.GroupAnswers.{judged-of}
 use Rattle.trace_events.specs.Event.{Incoming}

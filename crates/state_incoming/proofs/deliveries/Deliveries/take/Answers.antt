@@ -5,10 +5,10 @@ use Rattle.trace_events.specs.Words.{or_else}
 use Rattle.trace_events.specs.History.{history}
 use Rattle.trace_events.proofs.Judged.{AreJudged, history-judged}
 use Rattle.trace_values.specs.View.{event_view, link_view}
+use Rattle.state_tables.specs.LetGo.{is_let_go}
 use Rattle.state_incoming.specs.Held.{Held, address_behind, held_begun, is_begun_served}
 use Rattle.state_incoming.specs.HeldTouched.{is_touched}
 use Rattle.state_incoming.specs.HeldTables.{held_in, kept_at}
-use Rattle.state_incoming.specs.LetGo.{is_let_go}
 use Rattle.state_incoming.proofs.EndedKnown.{are-ended, ended-of}
 use Rattle.state_incoming.proofs.OverKnown.{over-before}
 use Rattle.state_incoming.proofs.OverLasts.{over-lasts}

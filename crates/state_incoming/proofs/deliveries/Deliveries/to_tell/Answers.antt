@@ -1,9 +1,9 @@
 use Rattle.std.proofs.Common.{sym, subst, Option, IfSome, refl, ◌∙◌}
 use Rattle.trace_events.specs.Waiting.{is_undecided}
 use Rattle.number_groups.specs.Groups.{is_member, numbers}
+use Rattle.state_tables.specs.LetGo.{is_let_go}
 use Rattle.state_incoming.specs.Grouped.{has_id}
 use Rattle.state_incoming.specs.HeldTables.{held_in}
-use Rattle.state_incoming.specs.LetGo.{is_let_go}
 use Rattle.number_groups.specs.Ids.{same_id}
 use Rattle.number_groups.specs.declared.id_on.IdOn.{IdOn}
 use Rattle.state_incoming.proofs.HeldAnswers.{undecided-kept}

@@ -1,9 +1,9 @@
 use Rattle.std.proofs.Common.{refl, ◌∙◌, nat_eq}
 use Rattle.trace_events.specs.Waiting.{is_undecided}
 use Rattle.number_groups.specs.Groups.{is_member, numbers}
+use Rattle.state_tables.specs.LetGo.{is_let_go}
 use Rattle.state_incoming.specs.Grouped.{is_of_link}
 use Rattle.state_incoming.specs.HeldTables.{held_in}
-use Rattle.state_incoming.specs.LetGo.{is_let_go}
 use Rattle.state_incoming.proofs.HeldAnswers.{undecided-kept}
 use Rattle.state_incoming.proofs.GroupAnswers.{judged-of, count-is}
 use Rattle.state_incoming.proofs.OverKnown.{undecided-there}

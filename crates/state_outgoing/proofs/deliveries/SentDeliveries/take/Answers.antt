@@ -6,10 +6,11 @@ use Rattle.trace_events.specs.History.{history}
 use Rattle.trace_events.specs.Incoming.{incoming_at}
 use Rattle.trace_events.proofs.Judged.{AreJudged, history-judged}
 use Rattle.trace_values.specs.View.{event_view, link_view}
+use Rattle.state_tables.specs.LetGo.{is_let_go, names_let_go}
 use Rattle.state_outgoing.specs.Carriers.{carriers_in}
 use Rattle.state_outgoing.specs.Given.{gives, says}
 use Rattle.state_outgoing.specs.LastBegun.{carrier_numbers, last_number}
-use Rattle.state_outgoing.specs.LetGo.{is_let_go, names_let_go, kept_at}
+use Rattle.state_outgoing.specs.LetGo.{kept_at}
 use Rattle.state_outgoing.specs.Sent.{Sent, sent_begun}
 use Rattle.state_outgoing.specs.SentTouched.{touches}
 use Rattle.state_outgoing.specs.SentTables.{sent_in}

@@ -11,7 +11,8 @@ use Rattle.trace_values.specs.View.{event_view, link_view}
 use Rattle.trace_values.specs.declared.event.Link.{Link}
 use Rattle.trace_clauses.specs.BestVerdict.{is_same_outcome}
 use Rattle.state_tables.specs.EndedLinks.{views}
-use Rattle.state_verdicts.specs.Verdicts.{awaits_at, awaits_in, comes_now, is_given, is_let_go, is_taken, is_verdict_of, verdict_at}
+use Rattle.state_tables.specs.LetGo.{is_let_go}
+use Rattle.state_verdicts.specs.Verdicts.{awaits_at, awaits_in, comes_now, is_given, is_taken, is_verdict_of, verdict_at}
 use Rattle.state_verdicts.proofs.Refused.{grown}
 use Rattle.state_verdicts.proofs.TableSteps.{any-map}
 use Rattle.state_verdicts.proofs.VerdictsNext.{awaits-next, had-next, modified_at, taken_as}
