@@ -243,7 +243,7 @@ impl Lists {
 }
 
 /// The delivery that the event completes.
-fn completed<'a>(event: &Event<'a, '_>) -> Option<Incoming<'a>>
+fn completed<'a>(event: &Event<'a, '_, '_>) -> Option<Incoming<'a>>
     ensures completes { IfSome (option_map incoming_view result) (λ d. completes d (event_view event.now) ≡ true) }
     ensures found { (d : law.Incoming) → (event_view event.now).incoming ≡ Some d → completes d (event_view event.now) ≡ true → option_map incoming_view result ≡ Some d }
 {

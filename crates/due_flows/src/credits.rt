@@ -174,7 +174,7 @@ fn place_of(link: &Link) -> LinkKey
 }
 
 /// The producer's link that the event opens.
-fn producer_opened<'a>(event: &Event<'a, '_>) -> Option<Link<'a>>
+fn producer_opened<'a>(event: &Event<'a, '_, '_>) -> Option<Link<'a>>
     ensures { option_map link_view result ≡ where_passes is_producer (own_link (event_view event.now)) }
 {
     match event.link {
@@ -222,7 +222,7 @@ fn settled_session(event: &Event) -> Option<u64>
 }
 
 /// The address of the consumer's link that the event opens, where it has none yet.
-fn served<'a>(event: &Event<'a, '_>, before: &LentTables<'_>) -> Option<&'a [u8]>
+fn served<'a>(event: &Event<'a, '_, '_>, before: &LentTables<'_>) -> Option<&'a [u8]>
     ensures { (rules : RuleSet) (past : Events) → TellsOf rules before.now past → (l : law.Link) → consumer_opened (event_view event.now) ≡ Some l →
         addresses.has_consumer l.address past ≡ false → option_map (λ octets. octets.now) result ≡ Some l.address }
 {

@@ -41,7 +41,7 @@ pub struct Picks {
 }
 
 /// The consumer's link that the event opens.
-fn opened<'a>(event: &Event<'a, '_>) -> Option<Link<'a>>
+fn opened<'a>(event: &Event<'a, '_, '_>) -> Option<Link<'a>>
     ensures { option_map link_view result ≡ where_passes is_consumer (own_link (event_view event.now)) }
 {
     match event.link {
@@ -51,7 +51,7 @@ fn opened<'a>(event: &Event<'a, '_>) -> Option<Link<'a>>
 }
 
 /// The address that an attach of the router names for a link on which it sends; an address that is no text is empty.
-fn named_source<'a>(event: &Event<'_, 'a>) -> &'a str
+fn named_source<'a>(event: &Event<'_, '_, 'a>) -> &'a str
     ensures { result.now ≡ named_source (event_view event.now) }
 {
     let Some(attach) = event.out_attach() else {

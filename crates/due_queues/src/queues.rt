@@ -34,7 +34,7 @@ pub struct Queues {
 }
 
 /// The delivery that the event completes, which is for this address, if it goes to one consumer.
-fn completed<'a>(rules: &RuleSet, event: &Event<'a, '_>, address: &[u8]) -> Option<Incoming<'a>>
+fn completed<'a>(rules: &RuleSet, event: &Event<'a, '_, '_>, address: &[u8]) -> Option<Incoming<'a>>
     ensures { option_map incoming_view result ≡ where_passes (λ d. not (addresses.has_multicast rules.now address.now)) (completed_by (event_view event.now)) }
 {
     match event.completed_by() {

@@ -167,7 +167,7 @@ fn is_flow(event: &Event) -> bool
 }
 
 /// The address of the consumer's link that a flow of the client names.
-fn credited<'a>(event: &Event<'a, '_>) -> Option<&'a [u8]>
+fn credited<'a>(event: &Event<'a, '_, '_>) -> Option<&'a [u8]>
     ensures { (l : law.Link) → (event_view event.now).link ≡ Some l → is_consumer l ≡ true → grants_window (event_view event.now) ≡ true →
         option_map (λ octets. octets.now) result ≡ Some l.address }
 {
@@ -190,7 +190,7 @@ fn goes_on(event: &Event) -> bool
 }
 
 /// The address of the link on which the event ends a delivery.
-fn freed<'a>(event: &Event<'a, '_>) -> Option<&'a [u8]>
+fn freed<'a>(event: &Event<'a, '_, '_>) -> Option<&'a [u8]>
     ensures { (j : law.Outgoing) → (event_view event.now).outgoing ≡ Some j → goes_on (event_view event.now) ≡ false →
         option_map (λ octets. octets.now) result ≡ Some j.link.address }
 {

@@ -73,7 +73,7 @@ impl BySession {
 }
 
 /// The link of a consumer that the event opens.
-fn opened<'a>(event: &Event<'a, '_>) -> Option<Link<'a>>
+fn opened<'a>(event: &Event<'a, '_, '_>) -> Option<Link<'a>>
     ensures { option_map link_view result ≡ where_passes is_consumer (own_link (event_view event.now)) }
 {
     match event.link {

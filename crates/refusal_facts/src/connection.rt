@@ -41,7 +41,7 @@ pub struct WritingFacts {
 }
 
 /// The frame that the router wrote.
-fn out_frame<'a>(event: &Event<'_, 'a>) -> Option<Frame<'a>>
+fn out_frame<'a>(event: &Event<'_, '_, 'a>) -> Option<Frame<'a>>
     ensures { option_map frame_view result ≡ said.out_frame (event_view event.now).moment }
 {
     match event.moment {
@@ -65,7 +65,7 @@ fn is_of_connection(performative: &Performative) -> bool
 }
 
 /// L1, of a frame that is no performative.
-pub(crate) fn frame_facts<'a>(event: &Event<'_, 'a>) -> Option<FrameFacts<'a>>
+pub(crate) fn frame_facts<'a>(event: &Event<'_, '_, 'a>) -> Option<FrameFacts<'a>>
     ensures facts { IfSome result (IsFrame (event_view event.now)) }
     ensures there { is_some result ≡ (is_some (said.out_frame (event_view event.now).moment) && is_none (out_spoken (event_view event.now))) }
 {

@@ -49,7 +49,7 @@ fn is_detach_owed<'a, P: Openings<'a>>(past: &P, session: Option<Session>, handl
 /// A detach.
 pub(crate) fn detach_facts<'a, P: Openings<'a>>(
     past: &P,
-    event: &Event<'a, 'a>,
+    event: &Event<'a, '_, 'a>,
 ) -> Option<DetachFacts<'a>>
     ensures facts { (rules : RuleSet) (history : Events) → P.stands_for past.now rules history → StandsLive (event_view event.now) history → IfSome result (AreDetach (event_view event.now) history) }
     ensures there { is_some result ≡ is_some (said.out_detach (event_view event.now)) }

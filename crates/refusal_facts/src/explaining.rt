@@ -36,7 +36,7 @@ pub fn explain<'a, P: Questions<'a>, C: Payloads<'a>>(
     past: &P,
     contents: &C,
     rules: &RuleSet,
-    event: &Event<'a, 'a>,
+    event: &Event<'a, '_, 'a>,
 ) -> Option<Reason<'a>>
     requires few { P.is_short past.now }
     // There is a reason just where a clause is broken, and it names the first one.
@@ -69,7 +69,7 @@ fn facts_of<'a, P: Questions<'a>, C: Payloads<'a>>(
     past: &P,
     contents: &C,
     rules: &RuleSet,
-    event: &Event<'a, 'a>,
+    event: &Event<'a, '_, 'a>,
     clause: Clause,
 ) -> Facts<'a>
     requires few { P.is_short past.now }
@@ -92,7 +92,7 @@ fn facts_by<'a, P: Questions<'a>, C: Payloads<'a>>(
     past: &P,
     contents: &C,
     rules: &RuleSet,
-    event: &Event<'a, 'a>,
+    event: &Event<'a, '_, 'a>,
     clause: Clause,
 ) -> Option<Facts<'a>>
     requires few { P.is_short past.now }
@@ -123,7 +123,7 @@ fn facts_by<'a, P: Questions<'a>, C: Payloads<'a>>(
 }
 
 /// L1: a frame that is no performative, or one that is.
-fn frame_or_writing<'a, P: Questions<'a>>(past: &P, event: &Event<'a, 'a>) -> Option<Facts<'a>>
+fn frame_or_writing<'a, P: Questions<'a>>(past: &P, event: &Event<'a, '_, 'a>) -> Option<Facts<'a>>
     ensures facts { (rules : RuleSet) (history : Events) → P.stands_for past.now rules history → IfSome result (AreFacts rules (λ n. P.knows_number past.now n history) (event_view event.now) history) }
     ensures kind { is_some (law_events.out_frame (event_view event.now).moment) ≡ true → is_some_and result (is_of clauses.L1) ≡ true }
 {
@@ -134,7 +134,7 @@ fn frame_or_writing<'a, P: Questions<'a>>(past: &P, event: &Event<'a, 'a>) -> Op
 }
 
 /// L13: a detach, or an end.
-fn detach_or_end<'a, P: Questions<'a>>(past: &P, event: &Event<'a, 'a>) -> Option<Facts<'a>>
+fn detach_or_end<'a, P: Questions<'a>>(past: &P, event: &Event<'a, '_, 'a>) -> Option<Facts<'a>>
     ensures facts { (rules : RuleSet) (history : Events) → P.stands_for past.now rules history → StandsLive (event_view event.now) history → IfSome result (AreFacts rules (λ n. P.knows_number past.now n history) (event_view event.now) history) }
     ensures kind { (is_some (said.out_detach (event_view event.now)) || said.is_out_end (event_view event.now)) ≡ true → is_some_and result (is_of clauses.L13) ≡ true }
 {

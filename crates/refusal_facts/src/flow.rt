@@ -173,7 +173,7 @@ fn link_numbers<'a, 'l, P: Inputs<'a> + Counts>(
     past: &P,
     rules: &RuleSet,
     handle: Option<u32>,
-    event: &Event<'l, 'l>,
+    event: &Event<'l, '_, 'l>,
 ) -> FlowLink<'l>
     requires few { P.is_short past.now }
     ensures { (history : Events) → P.stands_for past.now rules.now history → NamesLive (event_view event.now) history → IsFlowLink rules.now (event_view event.now) history handle result }
@@ -194,7 +194,7 @@ fn link_numbers<'a, 'l, P: Inputs<'a> + Counts>(
 pub(crate) fn flow_facts<'a, P: Inputs<'a> + Counts>(
     past: &P,
     rules: &RuleSet,
-    event: &Event<'a, 'a>,
+    event: &Event<'a, '_, 'a>,
 ) -> Option<FlowFacts<'a>>
     requires few { P.is_short past.now }
     ensures facts { (history : Events) → P.stands_for past.now rules.now history → StandsLive (event_view event.now) history → NamesLive (event_view event.now) history → IfSome result (AreFlow rules.now (event_view event.now) history) }

@@ -105,7 +105,7 @@ fn is_without_address(target: &Option<Target>) -> bool
 /// L3.
 pub(crate) fn attach_facts<'a, P: Openings<'a>>(
     past: &P,
-    event: &Event<'a, 'a>,
+    event: &Event<'a, '_, 'a>,
 ) -> Option<AttachFacts<'a>>
     ensures facts { (rules : RuleSet) (history : Events) → P.stands_for past.now rules history → StandsLive (event_view event.now) history → IfSome result (AreAttach (event_view event.now) history) }
     ensures there { is_some result ≡ is_some (said.out_attach (event_view event.now)) }

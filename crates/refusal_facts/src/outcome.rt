@@ -186,7 +186,7 @@ pub(crate) fn outcome_facts<'a, P: Outcomes<'a>, C: Payloads<'a>>(
     past: &P,
     contents: &C,
     rules: &RuleSet,
-    event: &Event<'a, 'a>,
+    event: &Event<'a, '_, 'a>,
 ) -> Option<OutcomeFacts<'a>>
     requires few { P.is_short past.now }
     ensures facts { (history : Events) → P.stands_for past.now rules.now history → C.tells_of contents.now rules.now history → ((d : law_events.Incoming) → P.knows_incoming past.now d history → C.knows contents.now d) → IfSome (event_view event.now).told (λ n. P.knows_number past.now n history) → IfSome result (AreOutcome rules.now (event_view event.now) history) }

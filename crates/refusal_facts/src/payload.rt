@@ -98,7 +98,7 @@ pub(crate) fn payload_facts<'a, P: Questions<'a>, C: Payloads<'a>>(
     past: &P,
     contents: &C,
     rules: &RuleSet,
-    event: &Event<'a, 'a>,
+    event: &Event<'a, '_, 'a>,
 ) -> Option<PayloadFacts<'a>>
     ensures facts { (history : Events) → P.stands_for past.now rules.now history → P.is_whole past.now → C.tells_of contents.now rules.now history → ((d : law_events.Incoming) → P.knows_incoming past.now d history → C.knows contents.now d) →
         IfSome (event_view event.now).outgoing (λ j. C.knows_sent contents.now j history) → IfSome result (ArePayload rules.now (event_view event.now) history) }

@@ -143,7 +143,7 @@ fn next_id_on<P: Counts>(past: &P, session: Option<Session>) -> Option<u32>
 /// L4.
 pub(crate) fn sending_facts<'a, P: Counts>(
     past: &P,
-    event: &Event<'a, 'a>,
+    event: &Event<'a, '_, 'a>,
 ) -> Option<SendingFacts<'a>>
     ensures facts { (rules : RuleSet) (history : Events) → P.stands_for past.now rules history → StandsLive (event_view event.now) history → IfSome result (AreSending (event_view event.now) history) }
     ensures there { is_some result ≡ is_some (said.out_transfer (event_view event.now)) }
@@ -163,7 +163,7 @@ pub(crate) fn sending_facts<'a, P: Counts>(
 /// L5.
 pub(crate) fn beginning_facts<'a, P: Counts>(
     past: &P,
-    event: &Event<'a, 'a>,
+    event: &Event<'a, '_, 'a>,
 ) -> Option<BeginningFacts<'a>>
     ensures facts { (rules : RuleSet) (history : Events) → P.stands_for past.now rules history → NamesLive (event_view event.now) history → IfSome result (AreBeginning (event_view event.now) history) }
     ensures there { is_some result ≡ (is_some (said.out_transfer (event_view event.now)) && is_some (event_view event.now).link) }
@@ -180,7 +180,7 @@ pub(crate) fn beginning_facts<'a, P: Counts>(
 }
 
 /// L6.
-pub(crate) fn going_on_facts<'a>(event: &Event<'a, 'a>) -> Option<GoingOnFacts<'a>>
+pub(crate) fn going_on_facts<'a>(event: &Event<'a, '_, 'a>) -> Option<GoingOnFacts<'a>>
     ensures facts { IfSome result (AreGoingOn (event_view event.now)) }
     ensures there { is_some result ≡ is_some (said.out_transfer (event_view event.now)) }
 {
@@ -249,7 +249,7 @@ pub(crate) fn carrying_facts<'a, P: Outcomes<'a> + Carriage<'a>, C: Payloads<'a>
     past: &P,
     contents: &C,
     rules: &RuleSet,
-    event: &Event<'a, 'a>,
+    event: &Event<'a, '_, 'a>,
 ) -> Option<CarryingFacts<'a>>
     ensures facts { (history : Events) → P.stands_for past.now rules.now history → P.is_whole past.now → C.tells_of contents.now rules.now history → ((d : law_events.Incoming) → P.knows_incoming past.now d history → C.knows contents.now d) →
         IfSome result (AreCarrying rules.now (λ n. P.knows_number past.now n history) (event_view event.now) history) }
@@ -299,7 +299,7 @@ pub(crate) fn order_facts<'a, P: Questions<'a>, C: Payloads<'a>>(
     past: &P,
     contents: &C,
     rules: &RuleSet,
-    event: &Event<'a, 'a>,
+    event: &Event<'a, '_, 'a>,
 ) -> Option<OrderFacts<'a>>
     requires few { P.is_short past.now }
     ensures facts { (history : Events) → P.stands_for past.now rules.now history → P.is_whole past.now → C.tells_of contents.now rules.now history → ((d : law_events.Incoming) → P.knows_incoming past.now d history → C.knows contents.now d) →

@@ -16,7 +16,7 @@ use trace_values::ReadRecord;
 pub fn explain_refused<'a>(
     ledger: &'a Ledger,
     rules: &RuleSet,
-    entry: &'a ReadRecord<'a>,
+    entry: &ReadRecord<'a>,
 ) -> Option<Reason<'a>>
     // There is a reason just where the record breaks a clause behind those of the ledger, and it names the first one.
     ensures clause { (records : List Record) → Stands rules.now ledger.now records → option_map (λ reason. reason.clause) result ≡ broken_behind rules.now records entry.now }

@@ -245,7 +245,7 @@ fn body_answer<'p, 'a, P: Inputs<'p> + Openings<'p> + Counts>(
 fn moment_answer<'p, 'a, P: Inputs<'p> + Openings<'p> + Counts>(
     past: &P,
     rules: &RuleSet,
-    event: &Event<'_, 'a>,
+    event: &Event<'_, '_, 'a>,
 ) -> Answer<'a>
     ensures says { (history : Events) → P.stands_for past.now rules.now history → IsAnswerable rules.now (event_view event.now) history →
         answer_view result ≡ duties.answer rules.now (event_view event.now) history }
@@ -274,7 +274,7 @@ pub fn owes_nothing(event: &Event) -> bool
 pub fn answer_to<'p, 'a, P: Inputs<'p> + Openings<'p> + Counts>(
     past: &P,
     rules: &RuleSet,
-    event: &Event<'_, 'a>,
+    event: &Event<'_, '_, 'a>,
 ) -> Answer<'a>
     // They are exactly those that are owed.
     ensures says { (history : Events) (c : ℕ) (m : law.Moment) → IsReady rules.now history → IsTrue (may_happen c m history) →

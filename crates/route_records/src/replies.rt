@@ -69,7 +69,7 @@ fn answer_by<'m>(
     looked: &LentTables<'_>,
     rules: &RuleSet,
     held: &HeldEvent,
-    entry: &'m ReadRecord<'m>,
+    entry: &ReadRecord<'m>,
 ) -> Answer<'m>
     requires answerable { IsAnswerable rules.now (held_event_view held.now (moment_of entry.now.what)) }
     ensures says { IsAnswerOf rules.now looked.now (held_event_view held.now (moment_of entry.now.what)) (answer_view result) }

@@ -30,7 +30,7 @@ impl Drop for Consumers {
 }
 
 /// The consumer's link that the event opens.
-pub(crate) fn opened<'a>(event: &Event<'a, '_>) -> Option<Link<'a>>
+pub(crate) fn opened<'a>(event: &Event<'a, '_, '_>) -> Option<Link<'a>>
     ensures { option_map link_view result ≡ where_passes is_consumer (own_link (event_view event.now)) }
 {
     match event.link {

@@ -49,7 +49,7 @@ impl Drop for Copies {
 /// The delivery that the event completes, where the address that it is for is of multicast.
 pub(crate) fn copied<'a>(
     rules: &RuleSet,
-    event: &Event<'a, '_>,
+    event: &Event<'a, '_, '_>,
     address: &[u8],
 ) -> Option<Incoming<'a>>
     ensures { option_map incoming_view result ≡ copied_by rules.now address.now (event_view event.now) }

@@ -56,7 +56,7 @@ fn cut_address<'e>(before: &[u8], last: &[u8]) -> CompletedAddress<'e>
 impl Deliveries {
     /// The address of the delivery that the event completes, which follows those of the table. What an event completes is for
     /// its link's address, or on a link without one for that in its message, of which earlier parts are kept.
-    pub fn completed_for<'e>(&self, event: &Event<'e, '_>) -> CompletedAddress<'e>
+    pub fn completed_for<'e>(&self, event: &Event<'e, '_, '_>) -> CompletedAddress<'e>
         ensures addressed { (rules : RuleSet) (records : List Record) (r : Record) → IsLawfulNext rules records r (event_view event.now) →
             IsTable rules self.now (history rules records) → IsAddressed (event_view event.now) (history rules records) (octets_of result) }
     {

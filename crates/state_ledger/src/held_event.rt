@@ -87,7 +87,7 @@ impl HeldEvent {
     }
 
     /// The event, with the moment of this record, and with the addresses lent.
-    pub fn event<'e, 'm>(&'e self, entry: &'m ReadRecord<'m>) -> Event<'e, 'm>
+    pub fn event<'e, 'r, 'm>(&'e self, entry: &'r ReadRecord<'m>) -> Event<'e, 'r, 'm>
         ensures { event_view result ≡ held_event_view self.now (moment_of entry.now.what) }
     {
         let facts = &self.facts;

@@ -27,7 +27,7 @@ pub fn hold_next<'a, 'm: 'a, P: Questions<'a>>(
     past: &P,
     rules: &RuleSet,
     number: u64,
-    entry: &'m ReadRecord<'m>,
+    entry: &ReadRecord<'m>,
 ) -> Result<(), NotEntered>
     requires few { P.is_short past.now }
     ensures answer { (history : Events) → P.stands_for past.now rules.now history → P.is_whole past.now → number ≡ length history →

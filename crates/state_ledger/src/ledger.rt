@@ -131,7 +131,7 @@ fn hold_event<'a, 'm: 'a>(
     tables: &'a Tables,
     rules: &RuleSet,
     number: u64,
-    entry: &'m ReadRecord<'m>,
+    entry: &ReadRecord<'m>,
 ) -> Result<(), NotEntered>
     ensures lawful { OnOk result ((records : List Record) → AreTables rules.now tables.now (history rules.now records) → AreWhole tables.now → number ≡ length (history rules.now records) →
         IsLawfulNext rules.now records entry.now (held_event_view held.new (moment_of entry.now.what))) }

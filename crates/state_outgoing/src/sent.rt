@@ -319,7 +319,7 @@ impl SentDelivery {
 }
 
 /// What stands behind the transfer that the event is.
-fn payload_of<'a>(event: &Event<'_, 'a>) -> &'a [u8]
+fn payload_of<'a>(event: &Event<'_, '_, 'a>) -> &'a [u8]
     ensures { result.now ≡ received.part_payload (out_spoken (event_view event.now)) }
 {
     match event.out_spoken() {

@@ -172,7 +172,7 @@ fn answers_live<'a, P: Openings<'a>>(past: &P, event: &Event, attach: &Attach) -
 fn broken_by_spoken<'a, 'm: 'a, P: Questions<'a>>(
     past: &P,
     rules: &RuleSet,
-    event: &Event<'_, 'm>,
+    event: &Event<'_, '_, 'm>,
     frame: &Frame,
     spoken: &Spoken<'m>,
 ) -> Option<Clause>
@@ -206,7 +206,7 @@ fn broken_by_spoken<'a, 'm: 'a, P: Questions<'a>>(
 pub fn broken_clause<'a, 'm: 'a, P: Questions<'a>>(
     past: &P,
     rules: &RuleSet,
-    event: &Event<'_, 'm>,
+    event: &Event<'_, '_, 'm>,
 ) -> Option<Clause>
     requires few { P.is_short past.now }
     ensures { (history : Events) → P.stands_for past.now rules.now history → P.is_whole past.now → StandsLive (event_view event.now) history → NamesLive (event_view event.now) history →

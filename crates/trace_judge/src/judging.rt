@@ -57,7 +57,7 @@ fn link_of<'a, P: Inputs<'a>>(
 /// The delivery in progress on a producer's link, or one that begins.
 fn incoming_part<'a, P: Inputs<'a>>(
     past: &P,
-    event: &Event<'a, '_>,
+    event: &Event<'a, '_, '_>,
     spoken: &Spoken,
 ) -> Option<Incoming<'a>>
     ensures { (rules : RuleSet) (history : Events) → P.stands_for past.now rules history → NamesLive (event_view event.now) history →
@@ -77,7 +77,7 @@ fn incoming_part<'a, P: Inputs<'a>>(
 }
 
 /// The delivery of a transfer that is heard and without fault.
-fn incoming_by<'a, P: Inputs<'a>>(past: &P, event: &Event<'a, '_>) -> Option<Incoming<'a>>
+fn incoming_by<'a, P: Inputs<'a>>(past: &P, event: &Event<'a, '_, '_>) -> Option<Incoming<'a>>
     ensures { (rules : RuleSet) (history : Events) → P.stands_for past.now rules history → NamesLive (event_view event.now) history →
         (option_map incoming_view result ≡ law.incoming_by (event_view event.now) (event_view event.now).moment history) }
 {
@@ -92,7 +92,7 @@ fn incoming_by<'a, P: Inputs<'a>>(past: &P, event: &Event<'a, '_>) -> Option<Inc
 /// The delivery in progress on a consumer's link, or one that begins.
 fn outgoing_part<'a, P: Carriage<'a>>(
     past: &P,
-    event: &Event<'a, '_>,
+    event: &Event<'a, '_, '_>,
     spoken: &Spoken,
 ) -> Option<Outgoing<'a>>
     ensures { (rules : RuleSet) (history : Events) → P.stands_for past.now rules history → NamesLive (event_view event.now) history →
@@ -111,7 +111,7 @@ fn outgoing_part<'a, P: Carriage<'a>>(
     }
 }
 
-fn outgoing_by<'a, P: Carriage<'a>>(past: &P, event: &Event<'a, '_>) -> Option<Outgoing<'a>>
+fn outgoing_by<'a, P: Carriage<'a>>(past: &P, event: &Event<'a, '_, '_>) -> Option<Outgoing<'a>>
     ensures { (rules : RuleSet) (history : Events) → P.stands_for past.now rules history → NamesLive (event_view event.now) history →
         (option_map outgoing_view result ≡ law.outgoing_by (event_view event.now) (event_view event.now).moment history) }
 {
@@ -203,7 +203,7 @@ fn opened_session<'a, P: Openings<'a>>(past: &P, event: &Event) -> Option<Sessio
 }
 
 /// The link that an Out attach with source and target opens on a live session.
-fn opened_link<'a, 'm: 'a, P: Openings<'a>>(past: &P, event: &Event<'a, 'm>) -> Option<Link<'a>>
+fn opened_link<'a, 'm: 'a, P: Openings<'a>>(past: &P, event: &Event<'a, '_, 'm>) -> Option<Link<'a>>
     ensures { (rules : RuleSet) (history : Events) → P.stands_for past.now rules history → StandsLive (event_view event.now) history →
         OpensKnown (λ c channel. P.knows_begin past.now c channel history) (λ s handle. P.knows_attach past.now s handle history) (event_view event.now) →
         (option_map link_view result ≡ law.opened_link (event_view event.now) history) }
@@ -220,13 +220,13 @@ fn opened_link<'a, 'm: 'a, P: Openings<'a>>(past: &P, event: &Event<'a, 'm>) -> 
 // In five steps: where the record stands, whether it is heard, its fault, the deliveries that it is of, and what it
 // opens. Each fills in its fields of the event, which is large.
 
-fn placed<'a, 'm, P: Inputs<'a>>(
+fn placed<'a, 'r, 'm, P: Inputs<'a>>(
     past: &P,
     number: u64,
     connection: u32,
-    moment: &'m Moment<'m>,
+    moment: &'r Moment<'m>,
     note: Note,
-) -> Event<'a, 'm>
+) -> Event<'a, 'r, 'm>
     ensures { (rules : RuleSet) (history : Events) → P.stands_for past.now rules history → number ≡ length history →
         (event_view result ≡ law.placed history connection (moment_view moment.now) note) }
 {
@@ -257,7 +257,7 @@ fn heard_by<'a, P: Inputs<'a>>(past: &P, event: &Event) -> bool
     }
 }
 
-fn hear<'a, P: Inputs<'a>>(past: &P, event: &mut Event<'a, '_>)
+fn hear<'a, P: Inputs<'a>>(past: &P, event: &mut Event<'a, '_, '_>)
     ensures { (rules : RuleSet) (history : Events) → P.stands_for past.now rules history → StandsLive (event_view event.old) history →
         (event_view event.new ≡ law.heard history (event_view event.old)) }
 {
@@ -274,7 +274,7 @@ fn fault_by<'a, P: Inputs<'a>>(past: &P, rules: &RuleSet, event: &Event) -> Opti
     }
 }
 
-fn find_fault<'a, P: Inputs<'a>>(past: &P, rules: &RuleSet, event: &mut Event<'a, '_>)
+fn find_fault<'a, P: Inputs<'a>>(past: &P, rules: &RuleSet, event: &mut Event<'a, '_, '_>)
     ensures { (history : Events) → P.stands_for past.now rules.now history → StandsLive (event_view event.old) history → NamesLive (event_view event.old) history →
         (event_view event.new ≡ law.faulted rules.now history (event_view event.old)) }
 {
@@ -284,7 +284,7 @@ fn find_fault<'a, P: Inputs<'a>>(past: &P, rules: &RuleSet, event: &mut Event<'a
 fn find_deliveries<'a, P: Inputs<'a> + Outcomes<'a> + Carriage<'a>>(
     past: &P,
     rules: &RuleSet,
-    event: &mut Event<'a, '_>,
+    event: &mut Event<'a, '_, '_>,
 )
     ensures { (history : Events) → P.stands_for past.now rules.now history → StandsLive (event_view event.old) history → NamesLive (event_view event.old) history →
         (event_view event.new ≡ law.delivered rules.now history (event_view event.old)) }
@@ -301,7 +301,7 @@ fn find_deliveries<'a, P: Inputs<'a> + Outcomes<'a> + Carriage<'a>>(
 
 /// Fills in what the event opens: an Out begin stands on its own session, and an Out attach names its own link; any other
 /// event stays as it was.
-pub fn open<'a, 'm: 'a, P: Openings<'a>>(past: &P, event: &mut Event<'a, 'm>)
+pub fn open<'a, 'm: 'a, P: Openings<'a>>(past: &P, event: &mut Event<'a, '_, 'm>)
     ensures { (rules : RuleSet) (history : Events) → P.stands_for past.now rules history → StandsLive (event_view event.old) history →
         OpensKnown (λ c channel. P.knows_begin past.now c channel history) (λ s handle. P.knows_attach past.now s handle history) (event_view event.old) →
         (event_view event.new ≡ law.opened history (event_view event.old)) }
@@ -319,12 +319,12 @@ pub fn open<'a, 'm: 'a, P: Openings<'a>>(past: &P, event: &mut Event<'a, 'm>)
 }
 
 /// A record, with its note, as the event of this number, but for what it opens: the law can be asked here.
-pub fn judge_unopened<'a, 'm, P: Inputs<'a> + Outcomes<'a> + Carriage<'a>>(
+pub fn judge_unopened<'a, 'r, 'm, P: Inputs<'a> + Outcomes<'a> + Carriage<'a>>(
     past: &P,
     rules: &RuleSet,
     number: u64,
-    entry: &'m ReadRecord<'m>,
-) -> Event<'a, 'm>
+    entry: &'r ReadRecord<'m>,
+) -> Event<'a, 'r, 'm>
     ensures { (history : Events) → P.stands_for past.now rules.now history → number ≡ length history →
         (event_view result ≡ law.judge_unopened rules.now history entry.now.connection (law.moment_of entry.now.what) entry.now.note) }
 {
@@ -342,12 +342,12 @@ pub fn judge_unopened<'a, 'm, P: Inputs<'a> + Outcomes<'a> + Carriage<'a>>(
 }
 
 /// The record of this number in its place.
-pub fn judge<'a, 'm: 'a, P: Inputs<'a> + Outcomes<'a> + Openings<'a> + Carriage<'a>>(
+pub fn judge<'a, 'r, 'm: 'a, P: Inputs<'a> + Outcomes<'a> + Openings<'a> + Carriage<'a>>(
     past: &P,
     rules: &RuleSet,
     number: u64,
-    entry: &'m ReadRecord<'m>,
-) -> Event<'a, 'm>
+    entry: &'r ReadRecord<'m>,
+) -> Event<'a, 'r, 'm>
     ensures { (history : Events) → P.stands_for past.now rules.now history → number ≡ length history →
         OpensKnown (λ c channel. P.knows_begin past.now c channel history) (λ s handle. P.knows_attach past.now s handle history)
         (law.judge_unopened rules.now history entry.now.connection (law.moment_of entry.now.what) entry.now.note) →

@@ -16,7 +16,7 @@ impl<'p, 'a> Past<'p, 'a> {
     ghost use Rattle.trace_values.specs.View.{asking_view, link_view, event_view};
 
     /// The client's last attach of the handle on the session that was heard.
-    pub(crate) fn last_in_attach(&self, session: Session, handle: u32) -> Option<Event<'a, 'a>>
+    pub(crate) fn last_in_attach(&self, session: Session, handle: u32) -> Option<Event<'a, 'p, 'a>>
         ensures { option_map event_view result ≡ law.last_in_attach session handle (events self.now) }
     {
         let mut rest = self;
@@ -104,7 +104,11 @@ impl<'p, 'a> Past<'p, 'a> {
     }
 
     /// The client's last heard attach of the handle, if no Out attach of it stands since.
-    pub(crate) fn unanswered_attach(&self, session: Session, handle: u32) -> Option<Event<'a, 'a>>
+    pub(crate) fn unanswered_attach(
+        &self,
+        session: Session,
+        handle: u32,
+    ) -> Option<Event<'a, 'p, 'a>>
         ensures { option_map event_view result ≡ unanswered_attach session handle (events self.now) }
     {
         let mut rest = self;

@@ -6,5 +6,5 @@ use trace_values::Event;
 #[derive(Clone, Copy)]
 pub(crate) enum Past<'p, 'a> {
     Start,
-    After(Event<'a, 'a>, &'p Past<'p, 'a>),
+    After(Event<'a, 'p, 'a>, &'p Past<'p, 'a>),
 }

@@ -279,12 +279,12 @@ impl<'p, 'a> Past<'p, 'a> {
 
     /// The record of this number in its place.
     #[tactic(auto, using(crate::proofs::KnownAll::opens_all))]
-    pub(crate) fn judge(
+    pub(crate) fn judge<'r>(
         &self,
         rules: &RuleSet,
         number: u64,
-        entry: &'a ReadRecord<'a>,
-    ) -> Event<'a, 'a>
+        entry: &'r ReadRecord<'a>,
+    ) -> Event<'a, 'r, 'a>
         requires numbered { number ≡ length (events self.now) }
         ensures { event_view result ≡ judge rules.now (events self.now) entry.now }
     {

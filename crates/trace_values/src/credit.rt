@@ -14,7 +14,7 @@ pub enum LinkEvent {
     Begun,
 }
 
-impl<'a, 'm> Event<'a, 'm> {
+impl<'a, 'r, 'm> Event<'a, 'r, 'm> {
     ghost use Rattle.std.specs.Prelude.{◌≡◌, option_map, if◌then◌else◌, None};
     ghost use Rattle.trace_events.specs.Event.{is_on_link};
     ghost use Rattle.trace_events.specs.Credit as law;

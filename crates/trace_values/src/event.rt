@@ -57,13 +57,14 @@ pub enum Moment<'a> {
     Broken,
 }
 
-/// A record in its place. Addresses are lent by whoever tells of the records before it, and the octets of its frame by the record.
+/// A record in its place. Addresses are lent by whoever tells of the records before it, what happened by whoever read the record,
+/// and the octets of its frame by the record.
 #[derive(Clone, Copy)]
-pub struct Event<'a, 'm> {
+pub struct Event<'a, 'r, 'm> {
     /// Its place in the capture, from 0.
     pub number: u64,
     /// What happened.
-    pub moment: &'m Moment<'m>,
+    pub moment: &'r Moment<'m>,
     /// The live session on which a frame stands; an Out begin's own.
     pub session: Option<Session>,
     /// The live link whose handle a flow, transfer or detach names; an Out attach's own.

@@ -22,7 +22,7 @@ fn is_last_part(transfer: &Transfer) -> bool
     !transfer.has_more() && !transfer.is_aborted()
 }
 
-impl<'a, 'm> Event<'a, 'm> {
+impl<'a, 'r, 'm> Event<'a, 'r, 'm> {
     ghost use Rattle.std.specs.Prelude.{◌≡◌, ◌&&◌, option_map};
     ghost use Rattle.amqp_perf.specs.Meaning.{flag};
     ghost use Rattle.trace_events.specs.Words.{is_some_and};

@@ -129,7 +129,7 @@ impl<'a> Link<'a> {
     }
 }
 
-impl<'a, 'm> Event<'a, 'm> {
+impl<'a, 'r, 'm> Event<'a, 'r, 'm> {
     ghost use Rattle.std.specs.Prelude.{◌≡◌};
     ghost use Rattle.trace_events.specs.Link.{attaches_in, attaches_out, detaches_in, detaches_out};
     ghost use Rattle.trace_events.specs.Ends.{replaces_link, ends_link};

@@ -18,7 +18,7 @@ pub fn names(number: u64, note: Note) -> bool
     }
 }
 
-impl<'a, 'm> Event<'a, 'm> {
+impl<'a, 'r, 'm> Event<'a, 'r, 'm> {
     ghost use Rattle.std.specs.Prelude.{◌≡◌, ◌&&◌, option_map, is_some, not};
     ghost use Rattle.amqp_perf.specs.Meaning.{flag};
     ghost use Rattle.amqp_perf.specs.View.{disposition_fields};

@@ -78,7 +78,7 @@ impl<'a> Moment<'a> {
     }
 }
 
-impl<'a, 'm> Event<'a, 'm> {
+impl<'a, 'r, 'm> Event<'a, 'r, 'm> {
     ghost use Rattle.std.specs.Prelude.{◌≡◌, option_map};
     ghost use Rattle.amqp_perf.specs.View.{open_fields, attach_fields, transfer_fields, disposition_fields, detach_fields};
     ghost use Rattle.trace_events.specs.Event.{is_on_channel, is_on_session, is_on_link};

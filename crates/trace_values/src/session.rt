@@ -3,7 +3,7 @@
 use crate::event::Event;
 use trace_events::Session;
 
-impl<'a, 'm> Event<'a, 'm> {
+impl<'a, 'r, 'm> Event<'a, 'r, 'm> {
     ghost use Rattle.std.specs.Prelude.{◌≡◌};
     ghost use Rattle.trace_events.specs.Session.{begins_in, begins_out, ends_in, ends_out};
     ghost use Rattle.trace_events.specs.Ends.{ends_session};

@@ -33,7 +33,7 @@ impl<'a> Moment<'a> {
     }
 }
 
-impl<'a, 'm> Event<'a, 'm> {
+impl<'a, 'r, 'm> Event<'a, 'r, 'm> {
     ghost use Rattle.std.specs.Prelude.{◌≡◌, if◌then◌else◌, None};
     ghost use Rattle.trace_events.specs.Event.{is_on_session};
     ghost use Rattle.trace_events.specs.Window.{window_event};

@@ -115,7 +115,7 @@ impl<'p, 'a> Past<'p, 'a> {
     }
 
     /// A disposition that answers the delivery and decides it, while the link lives.
-    fn deciding(&self, delivery: &Outgoing, event: &Event<'a, 'a>) -> Option<Disposition<'a>>
+    fn deciding(&self, delivery: &Outgoing, event: &Event<'a, '_, 'a>) -> Option<Disposition<'a>>
         ensures { option_map disposition_fields result
             ≡ law.deciding (outgoing_view delivery.now) (event_view event.now) (events self.now) }
     {

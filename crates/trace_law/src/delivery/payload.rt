@@ -25,7 +25,7 @@ impl Delivery {
     ghost use Rattle.trace_values.specs.View.{event_view};
 
     /// What an event adds to the delivery's payload.
-    pub(crate) fn part<'a>(self, event: &Event<'a, 'a>) -> &'a [u8]
+    pub(crate) fn part<'a>(self, event: &Event<'a, '_, 'a>) -> &'a [u8]
         ensures { result.now ≡ part_of self (event_view event.now) }
     {
         let spoken = match (self, event.incoming, event.outgoing) {
