@@ -57,7 +57,6 @@ impl CountedSession {
     }
 
     /// With one more of its events.
-    #[tactic(auto, using(crate::proofs::SessionSteps::counted_next))]
     pub fn after(self, event: &Event) -> CountedSession
         ensures moved { result ≡ moved_by (event_view event.now) self }
         ensures known { (history : Events) → self ≡ counted self.session history → is_on_session self.session (event_view event.now) ≡ true →
