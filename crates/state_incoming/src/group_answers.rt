@@ -1,7 +1,9 @@
 //! What the groups of the table answer, of all the deliveries so far.
 
-ghost use Rattle.std.specs.Prelude.{◌≡◌, List, IfSome, option_and_then, option_map};
+ghost use Rattle.std.specs.Prelude.{◌≡◌, List, Some, true, IfSome, option_and_then, option_map};
+ghost use Rattle.number_groups.specs.OctetGroups as octets;
 ghost use Rattle.capture_form.specs.Rules.{RuleSet};
+ghost use Rattle.trace_events.specs.Event as law;
 ghost use Rattle.trace_events.specs.Fault as faults;
 ghost use Rattle.trace_events.specs.Incoming as received;
 ghost use Rattle.trace_events.specs.Link.{IsLiveLink};
@@ -13,7 +15,7 @@ ghost use Rattle.state_incoming.specs.HeldTables.{AreHeld, IsHistory, IsTable, h
 ghost use Rattle.state_incoming.specs.WaitingCount as counts;
 
 use crate::deliveries::Deliveries;
-use number_groups::IdOn;
+use number_groups::{IdOn, OctetGroups};
 use trace_events::Session;
 use trace_values::{Incoming, Link};
 
@@ -24,6 +26,15 @@ impl Deliveries {
             result ≡ waiting.has_waiting rules address.now history }
     {
         !self.groups.waiting.is_empty(address)
+    }
+
+    /// The numbers of the deliveries that wait, by their address.
+    pub fn waiting(&self) -> &OctetGroups
+        ensures { (rules : RuleSet) (history : Events) → IsHistory rules history → IsTable rules self.now history →
+            (d : law.Incoming) → received.incoming_at d.number history ≡ Some d → waiting.is_waiting rules d history ≡ true →
+            octets.is_member result.now (received.address_of d history) d.number ≡ true }
+    {
+        &self.groups.waiting
     }
 
     /// How many deliveries wait at the address.
