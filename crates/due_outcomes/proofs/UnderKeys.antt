@@ -1,11 +1,7 @@
--- Facts of options and of truth values, and what stays where a number leaves a group.
-use Rattle.std.proofs.Common.{◌≡◌, refl, sym, ap, ◌∙◌, ℕ, Bool, true, false, ◌&&◌, ◌||◌, not, Option, Some, None, IfSome, ◌==◌}
+-- Facts of truth values, and what stays where a number leaves a group.
+use Rattle.std.proofs.Common.{◌≡◌, refl, sym, ap, ◌∙◌, ℕ, Bool, true, false, ◌&&◌, ◌||◌, not, ◌==◌}
 use Rattle.number_groups.specs.Groups.{Left, is_member}
 use Rattle.number_groups.specs.declared.groups.Groups.{Groups}
-
-pub if-such : {A : Type 0} (P Q : A → Type 0) (o : Option A) → ((x : A) → P x → Q x) → IfSome o P → IfSome o Q
-if-such P Q None so h = tt
-if-such P Q (Some x) so h = so x h
 
 pub or-last : (a b : Bool) → b ≡ true → a || b ≡ true
 or-last true b is = refl

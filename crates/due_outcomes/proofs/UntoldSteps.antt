@@ -1,6 +1,6 @@
 -- The deliveries of which an outcome is to be told, behind one more event: each was so before, or is one that the event
 -- completes, that waits where it leaves no consumer, whose carrier it answers, or that it gives its last verdict.
-use Rattle.std.proofs.Common.{◌≡◌, refl, sym, ap, subst, ◌∙◌, inl, inr, ℕ, Bool, true, false, ◌&&◌, ◌||◌, not, List, [], ◌∷◌, length, Option, Some, None, IfSome, is_some, find, ◌==◌, eqb-true, eq-eqb, arith, if◌then◌else◌}
+use Rattle.std.proofs.Common.{◌≡◌, refl, sym, ap, subst, ◌∙◌, inl, inr, ℕ, Bool, true, false, ◌&&◌, ◌||◌, not, List, [], ◌∷◌, length, Option, Some, None, IfSome, is_some, find, ◌==◌, eqb-true, eq-eqb, arith}
 use Rattle.std.specs.Prelude.{Contains}
 use Rattle.std.specs.List.{list_any}
 use Rattle.amqp_perf.specs.Meaning.{DispositionFields, flag}
@@ -9,21 +9,20 @@ use Rattle.pairing_cert.specs.declared.note.Note.{Note}
 use Rattle.pairing_cert.specs.declared.note.Note.TheVariants as notes
 use Rattle.trace_events.specs.Words.{is_some_and}
 use Rattle.trace_events.specs.Event.{Event, Incoming, Link, Outgoing}
-use Rattle.trace_events.specs.Said.{in_transfer, out_transfer}
+use Rattle.trace_events.specs.Said.{out_transfer}
 use Rattle.trace_events.specs.Link.{is_live, IsLiveLink}
 use Rattle.trace_events.specs.Ends.{ends_link}
 use Rattle.trace_events.specs.Address.{has_consumer, has_multicast}
 use Rattle.trace_events.specs.Disposition.{is_decisive}
-use Rattle.trace_events.specs.Incoming.{address_of, completed_by, completes, incoming_at, incoming_begun, incoming_deliveries, is_complete, is_last_part}
+use Rattle.trace_events.specs.Incoming.{address_of, completed_by, completes, incoming_at, incoming_begun, incoming_deliveries, is_complete}
 use Rattle.trace_events.specs.Outgoing.{answering, decision, is_part, is_settled_by_consumer, is_settled_by_router, is_paired, names, noted, outgoing_begun, outgoing_deliveries, pairing}
-use Rattle.trace_events.specs.Queue.{pairs, stays}
+use Rattle.trace_events.specs.Queue.{pairs}
 use Rattle.trace_events.specs.Settling.{is_closed}
 use Rattle.trace_events.specs.Waiting.{always_had_consumer, is_gone, is_of_multicast, is_unpaired, is_waiting}
 use Rattle.trace_events.specs.Work.{closes_incoming, decides_now}
 use Rattle.trace_events.proofs.Judged.{AreJudged, judged-number}
 use Rattle.trace_events.proofs.Links.{passing}
 use Rattle.trace_events.proofs.OutgoingSteps.{pairing-same, pairing-another}
-use Rattle.trace_events.proofs.QueueSteps.{is_waiting-step}
 use Rattle.trace_events.proofs.SettlingSteps.{is_closed-step}
 use Rattle.trace_clauses.specs.BestVerdict.{has_all_verdicts}
 use Rattle.trace_clauses.specs.Clauses.{first_broken}
@@ -46,7 +45,7 @@ use Rattle.state_outgoing.specs.Sent.{is_left_unsettled}
 use Rattle.state_outgoing.proofs.SentDecided.{judged-decided}
 use Rattle.state_verdicts.specs.Verdicts.{awaits_at}
 use Rattle.due_outcomes.specs.Candidates.{Grows}
-use Rattle.due_outcomes.specs.Untold.{HasUntold, IsOn, KeepsOn, waits_in}
+use Rattle.due_outcomes.specs.Untold.{HasUntold, IsOn, KeepsOn}
 use Rattle.due_outcomes.specs.declared.untold.Untold.{Untold}
 use Rattle.due_outcomes.proofs.LastVerdicts.{IsLast, IsSpokenOf, last-verdict}
 use Rattle.state_outgoing.proofs.SentKept.{contained-at}
@@ -82,11 +81,8 @@ some-passes test (Some x) is = (x, refl, is)
 -- what a list does where the event follows
 pub record IsFollowed (rules : RuleSet) (e : Event) (past : List Event) (earlier later : Untold) : Type 0 where
   pub grown : Grows earlier.candidates later.candidates
-  -- what the event completes is a candidate, and found where it waits
+  -- what the event completes is a candidate
   pub completed : (d : Incoming) → completes d e ≡ true → has later.candidates d.number ≡ true
-  pub waits : IfSome (completed_by e) (λ d. is_of_multicast rules d (e ∷ past) ≡ false → pairs d e ≡ false → waits_in later (address_of d (e ∷ past)) d.number ≡ true)
-  -- what the event doesn't pair is still found
-  pub stay : (address : List ℕ) (n : ℕ) → is_some_and (outgoing_begun e) (λ j. names n j.note) ≡ false → waits_in earlier address n ≡ true → waits_in later address n ≡ true
   -- what it carries a part of is a candidate, and found by its carrier
   pub named : (n : ℕ) → is_some_and e.outgoing (λ j. names n j.note) ≡ true → has later.candidates n ≡ true
   pub begun : IfSome (outgoing_begun e) (λ j. (n : ℕ) → names n j.note ≡ true → has_multicast rules j.link.address ≡ false → IsOn later.carried j n)
@@ -96,7 +92,9 @@ pub record IsFollowed (rules : RuleSet) (e : Event) (past : List Event) (earlier
   -- what is carried by one of which its consumer speaks, and what awaits a verdict on a link that it ends
   pub spoken : (j : Outgoing) → Contains (outgoing_deliveries past) j → is_left_unsettled past j ≡ true → is_some (answering j e) ≡ true → (n : ℕ) → names n j.note ≡ true → has later.candidates n ≡ true
   pub awaited : (l : Link) (n : ℕ) → IsLiveLink l past → ends_link l e ≡ true → awaits_at rules past l.number n ≡ true → has later.candidates n ≡ true
-  pub lost : (address : List ℕ) (n : ℕ) → has_consumer address past ≡ true → has_consumer address (e ∷ past) ≡ false → waits_in later address n ≡ true → has later.candidates n ≡ true
+  -- and what waits where it leaves no consumer
+  pub lost : (d : Incoming) → Contains (incoming_deliveries past) d → is_waiting rules d past ≡ true → has_consumer (address_of d past) past ≡ true → has_consumer (address_of d past) (e ∷ past) ≡ false
+      → has later.candidates d.number ≡ true
 
 had-now : (d : Incoming) (past : List Event) → always_had_consumer d past ≡ true → has_consumer (address_of d past) past ≡ true
 had-now d [] is = absurd cc
@@ -298,9 +296,8 @@ module _ (rules : RuleSet) (e : Event) (past : List Event) (are : AreJudged rule
             | inr loses ↦ let parts = and-both (is_waiting rules d past && none) (not (pairs d e)) loses in
                 let both = and-both (is_waiting rules d past) none parts.0 in
                 let same = address_stays rules e past are d (waits-complete rules d past both.0) in
-                f.lost (address_of d past) d.number (had-now d past (and-both (is_unpaired rules d past) (always_had_consumer d past) both.0).1)
+                f.lost d there both.0 (had-now d past (and-both (is_unpaired rules d past) (always_had_consumer d past) both.0).1)
                 (sym (ap (λ a. has_consumer a (e ∷ past)) same) ∙ not-true (has_consumer (address_of d (e ∷ past)) (e ∷ past)) both.1)
-                (f.stay (address_of d past) d.number (not-true (pairs d e) parts.1) (was.waiting d there both.0))
           ]
           | inr answers ↦ by-begun anycast opens (outgoing_begun e) refl answers
         ]
@@ -337,40 +334,7 @@ module _ (rules : RuleSet) (e : Event) (past : List Event) (are : AreJudged rule
       ap (has_multicast rules) (c.address ∙ (sym (address_stays rules e past are c.delivery c.complete) ∙ ap (λ (x : Incoming). address_of x (e ∷ past)) same)) ∙ anycast in
       subst (λ (o : Option Outgoing). IfSome o (λ i. (n : ℕ) → names n i.note ≡ true → has_multicast rules i.link.address ≡ false → IsOn later.carried i n)) begun f.begun d.number names_it address
 
-  -- ---- what waits
-
-  waits-completed : (d x : Incoming) → completed_by e ≡ Some x → x ≡ d → is_of_multicast rules d (e ∷ past) ≡ false → pairs d e ≡ false
-      → waits_in later (address_of d (e ∷ past)) d.number ≡ true
-  waits-completed d x at same anycast apart =
-      subst (λ (o : Option Incoming). IfSome o (λ y. is_of_multicast rules y (e ∷ past) ≡ false → pairs y e ≡ false → waits_in later (address_of y (e ∷ past)) y.number ≡ true)) (at ∙ ap Some same) f.waits anycast apart
-
-  completed-incoming : (x : Incoming) → completed_by e ≡ Some x → e.incoming ≡ Some x
-  completed-incoming x = by (is_some_and (in_transfer e) is_last_part)
-    where
-      by : (b : Bool) → (if b then e.incoming else None) ≡ Some x → e.incoming ≡ Some x
-      by true is = is
-      by false is = absurd cc
-
-  -- a delivery that waits behind the event is completed by it, or waited before and isn't paired
-  by-completion : (d : Incoming) (now : Bool) → completes d e ≡ now → is_waiting rules d (e ∷ past) ≡ true
-      → (now ≡ true → is_of_multicast rules d (e ∷ past) ≡ false → pairs d e ≡ false → waits_in later (address_of d (e ∷ past)) d.number ≡ true)
-      → (is_waiting rules d past ≡ true → pairs d e ≡ false → waits_in later (address_of d (e ∷ past)) d.number ≡ true) → waits_in later (address_of d (e ∷ past)) d.number ≡ true
-  by-completion d true now is begins stays_on =
-      let parts = and-both (not (is_of_multicast rules d (e ∷ past)) && not (is_paired d past)) (stays e past d)
-      (sym (ap (λ b. (if b then not (is_of_multicast rules d (e ∷ past)) && not (is_paired d past) else is_waiting rules d past) && stays e past d) now) ∙ (sym (is_waiting-step rules d e past) ∙ is)) in
-      begins refl (not-true (is_of_multicast rules d (e ∷ past)) (and-both (not (is_of_multicast rules d (e ∷ past))) (not (is_paired d past)) parts.0).0)
-      (not-true (pairs d e) (and-both (has_consumer (address_of d (e ∷ past)) (e ∷ past)) (not (pairs d e)) parts.1).1)
-  by-completion d false now is begins stays_on =
-      let parts = and-both (is_waiting rules d past) (stays e past d)
-      (sym (ap (λ b. (if b then not (is_of_multicast rules d (e ∷ past)) && not (is_paired d past) else is_waiting rules d past) && stays e past d) now) ∙ (sym (is_waiting-step rules d e past) ∙ is)) in
-      stays_on parts.0 (not-true (pairs d e) (and-both (has_consumer (address_of d (e ∷ past)) (e ∷ past)) (not (pairs d e)) parts.1).1)
-
-  waiting-old : (d : Incoming) → Contains (incoming_deliveries past) d → is_waiting rules d (e ∷ past) ≡ true → waits_in later (address_of d (e ∷ past)) d.number ≡ true
-  waiting-old d there is =
-      by-completion d (completes d e) refl is
-      (λ now anycast apart. let part = some-passes (λ (x : Incoming). x.number == d.number) (completed_by e) now in
-      waits-completed d part.0 part.1 (incoming-same d part.0 (incoming-kept d there) (completed-incoming part.0 part.1) part.2) anycast apart)
-      (λ so apart. ap (λ a. waits_in later a d.number) (address_stays rules e past are d (waits-complete rules d past so)) ∙ f.stay (address_of d past) d.number apart (was.waiting d there so))
+  -- ---- what begins
 
   -- one that begins with the event is complete only by it
   fresh-incomplete : (d : Incoming) → incoming_begun e ≡ Some d → is_complete d past ≡ false
@@ -378,15 +342,6 @@ module _ (rules : RuleSet) (e : Event) (past : List Event) (are : AreJudged rule
       let own = passing (λ (x : Incoming). x.number == e.number) e.incoming d begun in
       let number : d.number ≡ length past = eqb-true d.number e.number own.1 ∙ judged-number rules e past are in
       (judged-sound rules past are.1).fresh d (omega (arith, number))
-
-  waiting-new : (d : Incoming) → incoming_begun e ≡ Some d → is_waiting rules d (e ∷ past) ≡ true → waits_in later (address_of d (e ∷ past)) d.number ≡ true
-  waiting-new d begun is =
-      by-completion d (completes d e) refl is
-      (λ now anycast apart. let part = some-passes (λ (x : Incoming). x.number == d.number) (completed_by e) now in
-      let own = passing (λ (x : Incoming). x.number == e.number) e.incoming d begun in
-      waits-completed d part.0 part.1 (same_some part.0 d (sym (completed-incoming part.0 part.1) ∙ own.0)) anycast apart)
-      (λ so apart. let never : true ≡ false = sym (waits-complete rules d past so) ∙ fresh-incomplete d begun in
-      absurd cc)
 
   -- ---- all of it
 
@@ -408,10 +363,6 @@ module _ (rules : RuleSet) (e : Event) (past : List Event) (are : AreJudged rule
     due = λ d there is. elim (first-or-earlier (incoming_begun e) (incoming_deliveries past) d there) [
       | inl new ↦ due-new d new is
       | inr old ↦ due-old d old is
-    ];
-    waiting = λ d there is. elim (first-or-earlier (incoming_begun e) (incoming_deliveries past) d there) [
-      | inl new ↦ waiting-new d new is
-      | inr old ↦ waiting-old d old is
     ];
     carried = λ j there d at anycast opens. elim (first-or-earlier (outgoing_begun e) (outgoing_deliveries past) j there) [
       | inl new ↦ carried-new j new d at anycast

@@ -16,14 +16,12 @@ ghost use Rattle.trace_events.specs.Words.{is_number, is_some_and};
 ghost use Rattle.trace_judge.specs.Told.{told_view};
 ghost use Rattle.trace_values.specs.View.{event_view, incoming_view, link_view, outgoing_view};
 ghost use Rattle.state_incoming.specs.EntryAnswers.{is_shut};
-ghost use Rattle.state_incoming.specs.Held.{says_waiting};
 ghost use Rattle.state_incoming.specs.HeldTables.{held_in};
-ghost use Rattle.state_addresses.specs.Addressed.{IsAddressed};
 ghost use Rattle.state_tables.specs.Connections.{IsLawfulNext};
 ghost use Rattle.number_groups.specs.Ascending.{count_of, has};
 ghost use Rattle.state_answers.specs.Tables.{TellsOf};
 ghost use Rattle.due_outcomes.specs.DueOutcomes.{IsDueOutcome};
-ghost use Rattle.due_outcomes.specs.Untold.{HasUntold, IsOn, KeepsOn, waits_in};
+ghost use Rattle.due_outcomes.specs.Untold.{HasUntold, IsOn, KeepsOn};
 
 use crate::candidates::{add, add_all, add_of_links};
 use crate::outcome::{DueOutcome, outcome_of};
@@ -41,8 +39,6 @@ use trace_values::{Event, Link, Outgoing, has_multicast};
 pub struct Untold {
     alloc: Global,
     candidates: Ascending,
-    /// Those that wait, by their address.
-    waiting: OctetGroups,
     /// Those of anycast that went to a consumer, by the number of the link that they went over.
     carried: Groups<u64>,
 }
@@ -70,6 +66,31 @@ fn add_left(candidates: &mut Ascending, groups: &OctetGroups, link: &Link) -> Re
         add_group(candidates, groups, link.address)?;
     }
     Ok(())
+}
+
+/// What waits at the addresses of these links' consumers becomes a candidate.
+fn add_waiting(
+    candidates: &mut Ascending,
+    groups: &OctetGroups,
+    ended: &[Link],
+) -> Result<(), AllocError>
+    ensures { OnOk result ((n : ℕ) → has candidates.new n
+        ≡ (has candidates.old n || list_any (λ l. is_consumer (link_view l) && octets.is_member groups.now (link_view l).address n) ended.now)) }
+{
+    for link in ended {
+        add_left(candidates, groups, link)?;
+    }
+    Ok(())
+}
+
+/// The number of the delivery from a client that the event completes.
+fn completed_number(event: &Event) -> Option<u64>
+    ensures { (n : ℕ) → is_number result n ≡ is_some_and (completed_by (event_view event.now)) (λ d. d.number == n) }
+{
+    match event.completed_by() {
+        Some(delivery) => Some(delivery.number),
+        None => None,
+    }
 }
 
 /// The number of the delivery from a client that the one carries of which the event is a part.
@@ -106,14 +127,12 @@ impl Untold {
         Untold {
             alloc,
             candidates: Ascending::new(alloc),
-            waiting: OctetGroups::new(alloc),
             carried: Groups::new(alloc),
         }
     }
 
-    /// The event follows; what it completes is for this address, and `before` are the tables without it. It takes the time of
-    /// the deliveries of which a consumer speaks with it, of those that went over the links that it ends or have a copy due
-    /// there, and of those that wait at the addresses of these.
+    /// The event follows; `before` are the tables without it. It takes the time of the deliveries of which a consumer speaks with
+    /// it, of those that went over the links that it ends or have a copy due there, and of those that wait at the addresses of these.
     ///
     /// # Errors
     ///
@@ -122,15 +141,13 @@ impl Untold {
         &mut self,
         rules: &RuleSet,
         event: &Event,
-        address: &[u8],
         before: &LentTables<'_>,
     ) -> Result<(), AllocError>
         ensures { OnOk result ((records : List Record) (r : Record) → IsLawfulNext rules.now records r (event_view event.now) →
-            IsAddressed (event_view event.now) (history rules.now records) address.now →
             TellsOf rules.now before.now (history rules.now records) →
             HasUntold rules.now self.old (history rules.now records) → HasUntold rules.now self.new (event_view event.now ∷ history rules.now records)) }
     {
-        self.complete(rules, event, address)?;
+        add(&mut self.candidates, completed_number(event))?;
         self.pair(rules, event)?;
         add(&mut self.candidates, carried_number(event))?;
         let answered = before.sent.answered(self.alloc, event)?;
@@ -138,7 +155,7 @@ impl Untold {
         let ended = before.links.ended(self.alloc, event)?;
         add_of_links(&mut self.candidates, &self.carried, &ended)?;
         add_of_links(&mut self.candidates, before.verdicts.on_link(), &ended)?;
-        self.add_waiting(&ended)?;
+        add_waiting(&mut self.candidates, before.deliveries.waiting(), &ended)?;
         Ok(())
     }
 
@@ -165,32 +182,11 @@ impl Untold {
         None
     }
 
-    /// What the event completes is a candidate, and found by this address, its own, while it may wait.
-    fn complete(&mut self, rules: &RuleSet, event: &Event, address: &[u8]) -> Result<(), AllocError>
-        ensures completed { OnOk result ((n : ℕ) → has self.new.candidates n
-            ≡ (has self.old.candidates n || is_some_and (completed_by (event_view event.now)) (λ d. d.number == n))) }
-        ensures waits { OnOk result (IfSome (completed_by (event_view event.now)) (λ d. has_multicast rules.now address.now ≡ false →
-            waits_in self.new address.now d.number ≡ true)) }
-        ensures kept { OnOk result ((a : List ℕ) (n : ℕ) → waits_in self.old a n ≡ true → waits_in self.new a n ≡ true) }
-        ensures same { self.new.carried ≡ self.old.carried }
-    {
-        let Some(delivery) = event.completed_by() else {
-            return Ok(());
-        };
-        self.candidates.insert(delivery.number)?;
-        if !has_multicast(rules, address) {
-            self.waiting.insert(address, delivery.number)?;
-        }
-        Ok(())
-    }
-
-    /// What goes to a consumer with the event waits no more, and if it is of anycast, it is found by the link that it goes over.
+    /// What goes to a consumer with the event is found by the link that it goes over, if it is of anycast.
     fn pair(&mut self, rules: &RuleSet, event: &Event) -> Result<(), AllocError>
         ensures begun { OnOk result (IfSome (outgoing_begun (event_view event.now)) (λ j. (n : ℕ) → names n j.note ≡ true →
             has_multicast rules.now j.link.address ≡ false → IsOn self.new.carried j n)) }
         ensures kept { OnOk result (KeepsOn self.old.carried self.new.carried) }
-        ensures stay { OnOk result ((address : List ℕ) (n : ℕ) → is_some_and (outgoing_begun (event_view event.now)) (λ j. names n j.note) ≡ false →
-            waits_in self.old address n ≡ true → waits_in self.new address n ≡ true) }
         ensures same { self.new.candidates ≡ self.old.candidates }
     {
         let Some(delivery) = event.outgoing_begun() else {
@@ -199,22 +195,8 @@ impl Untold {
         let Note::Pair(number) = delivery.note else {
             return Ok(());
         };
-        self.waiting.remove(delivery.link.address, number);
         if !has_multicast(rules, delivery.link.address) {
             put_under(&mut self.carried, &delivery, number)?;
-        }
-        Ok(())
-    }
-
-    /// What waits at the addresses of these links' consumers becomes a candidate.
-    fn add_waiting(&mut self, ended: &[Link]) -> Result<(), AllocError>
-        ensures added { OnOk result ((n : ℕ) → has self.new.candidates n
-            ≡ (has self.old.candidates n || list_any (λ l. is_consumer (link_view l) && waits_in self.old (link_view l).address n) ended.now)) }
-        ensures carried { self.new.carried ≡ self.old.carried }
-        ensures waiting { self.new.waiting ≡ self.old.waiting }
-    {
-        for link in ended {
-            add_left(&mut self.candidates, &self.waiting, link)?;
         }
         Ok(())
     }
@@ -224,27 +206,12 @@ impl Untold {
     fn forget(&mut self, looked: &LentTables<'_>, number: u64)
         ensures left { (n : ℕ) → has self.new.candidates n ≡ (has self.old.candidates n && not (number == n)) }
         ensures shorter { has self.old.candidates number ≡ true → count_of self.new.candidates < count_of self.old.candidates }
-        ensures waiting { (address : List ℕ) (n : ℕ) → (number == n) ≡ false → waits_in self.old address n ≡ true → waits_in self.new address n ≡ true }
-        ensures waits { is_some_and (held_in looked.now.deliveries.now number) (λ x. says_waiting x.fate) ≡ true → self.new.waiting ≡ self.old.waiting }
         ensures carried { (j : events.Outgoing) (n : ℕ) → (number == n) ≡ false → IsOn self.old.carried j n → IsOn self.new.carried j n }
         ensures opens { is_shut (held_in looked.now.deliveries.now number) ≡ false → self.new.carried ≡ self.old.carried }
     {
         self.candidates.remove(number);
         if let Some(held) = looked.deliveries.get(number) {
-            self.stop_waiting(held, number);
             self.stop_carrying(looked, held, number);
-        }
-    }
-
-    /// It is not found by its address, if it doesn't wait.
-    fn stop_waiting(&mut self, held: &HeldDelivery, number: u64)
-        ensures waiting { (address : List ℕ) (n : ℕ) → (number == n) ≡ false → waits_in self.old address n ≡ true → waits_in self.new address n ≡ true }
-        ensures waits { says_waiting held.now.fate ≡ true → self.new.waiting ≡ self.old.waiting }
-        ensures candidates { self.new.candidates ≡ self.old.candidates }
-        ensures carried { self.new.carried ≡ self.old.carried }
-    {
-        if !held.is_waiting() {
-            self.waiting.remove(held.address(), number);
         }
     }
 
@@ -253,7 +220,6 @@ impl Untold {
         ensures carried { (j : events.Outgoing) (n : ℕ) → (number == n) ≡ false → IsOn self.old.carried j n → IsOn self.new.carried j n }
         ensures opens { held.now.is_closed ≡ false → self.new.carried ≡ self.old.carried }
         ensures candidates { self.new.candidates ≡ self.old.candidates }
-        ensures waiting { self.new.waiting ≡ self.old.waiting }
     {
         if !held.is_closed() {
             return;

@@ -7,7 +7,6 @@ ghost use Rattle.capture_form.specs.declared.records.Record.{Record};
 ghost use Rattle.trace_events.specs.History.{history};
 ghost use Rattle.trace_values.specs.View.{event_view};
 ghost use Rattle.state_tables.specs.Connections.{IsLawfulNext};
-ghost use Rattle.state_addresses.specs.Addressed.{IsAddressed};
 ghost use Rattle.state_answers.specs.Tables.{TellsOf};
 ghost use Rattle.route_work.specs.Dues.{IsDue, is_in_turn};
 ghost use Rattle.route_work.specs.Work.{HasTelling, IsAllTold};
@@ -45,7 +44,7 @@ impl Telling {
         Telling { untold, unsettled }
     }
 
-    /// The event follows; what it completes is for this address, and `before` are the tables without it.
+    /// The event follows; `before` are the tables without it.
     ///
     /// # Errors
     ///
@@ -54,15 +53,13 @@ impl Telling {
         &mut self,
         rules: &RuleSet,
         event: &Event,
-        address: &[u8],
         before: &LentTables<'_>,
     ) -> Result<(), AllocError>
         ensures { OnOk result ((records : List Record) (r : Record) → IsLawfulNext rules.now records r (event_view event.now) →
-            IsAddressed (event_view event.now) (history rules.now records) address.now →
             TellsOf rules.now before.now (history rules.now records) → HasTelling rules.now self.old (history rules.now records) →
             HasTelling rules.now self.new (event_view event.now ∷ history rules.now records)) }
     {
-        self.untold.follow(rules, event, address, before)?;
+        self.untold.follow(rules, event, before)?;
         self.unsettled.follow(event, before)?;
         Ok(())
     }

@@ -52,7 +52,7 @@ impl Dues for Work {
         address: &[u8],
         before: &LentTables<'_>,
     ) -> Result<(), AllocError> {
-        self.telling.follow(rules, event, address, before)?;
+        self.telling.follow(rules, event, before)?;
         self.sending.follow(rules, event, address, before)?;
         self.flowing.follow(event, before)?;
         Ok(())

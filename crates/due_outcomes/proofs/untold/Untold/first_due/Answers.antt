@@ -7,7 +7,7 @@ pub loop-number-preserved : goal.loop-number-preserved
 loop-number-preserved c = λ records stands was.
     forgotten c.args.rules.now (history c.args.rules.now records) c.args.looked.now stands c.loop-number.self c.forget.new.self c.in-Some.number
     (c.in_default-outcome_of.ensures.none refl records stands) (c.loop-number.invariant records stands was)
-    c.forget.ensures.left c.forget.ensures.waiting c.forget.ensures.waits c.forget.ensures.carried c.forget.ensures.opens
+    c.forget.ensures.left c.forget.ensures.carried c.forget.ensures.opens
 
 pub returns-clause-quiet : goal.returns-clause-quiet
 returns-clause-quiet c = λ none records stands was.

@@ -1,7 +1,8 @@
-use Rattle.std.proofs.Common.{ap, ◌∙◌, ◌∷◌, ◌&&◌, ◌||◌, ℕ, nat_eq}
+use Rattle.std.proofs.Common.{refl, ap, ◌∙◌, ◌∷◌, ◌&&◌, ◌||◌, ℕ, nat_eq}
 use Rattle.std.specs.List.{list_any}
 use Rattle.number_groups.specs.Groups.{is_member}
 use Rattle.number_groups.specs.Numbers.{is_among}
+use Rattle.number_groups.specs.OctetGroups as octets
 use Rattle.number_groups.specs.declared.groups.Groups.{Groups}
 use Rattle.trace_events.specs.History.{history}
 use Rattle.trace_events.specs.Link.{is_consumer}
@@ -9,27 +10,27 @@ use Rattle.trace_events.proofs.Judged.{AreJudged, history-judged}
 use Rattle.trace_values.specs.View.{event_view, link_view}
 use Rattle.state_tables.specs.EndedLinks.{views}
 use Rattle.number_groups.specs.Ascending.{has}
-use Rattle.due_outcomes.specs.Untold.{waits_in}
 use Rattle.due_outcomes.proofs.GroupLists.{any-map}
 use Rattle.due_outcomes.proofs.UntoldFollowed.{followed}
 use Rattle.due_outcomes.proofs.UntoldSteps.{untold-next}
 use Rattle.due_outcomes.proofs.untold.Untold.follow.Goals as goal
 
 pub returns : goal.returns
-returns c = λ records r next addressed stands was.
+returns c = λ records r next stands was.
     let rules = c.args.rules.now in
     let e = event_view c.args.event.now in
     let past = history rules records in
     let are : AreJudged rules (e ∷ past) = ((r, next.0), history-judged rules records) in
     let u2 = c.pair.new.self in
+    let waiting = c.waiting.result.now in
     let items = c.in_ok-ended.ended.items in
-    untold-next rules e past are next.1 c.args.self.now c.add_waiting.new.self was
-    (followed rules e past are c.args.self.now c.complete.new.self u2 c.add_waiting.new.self
-    c.add.new.candidates c.add_all.new.candidates c.add_of_links.new.candidates c.add_of_links-2.new.candidates
-    c.deref.result.now c.on_link.result.now (views items) c.carried_number.result c.args.address.now addressed
-    c.in_ok-complete.ensures.completed c.in_ok-complete.ensures.waits c.in_ok-complete.ensures.kept c.in_ok-complete.ensures.same
-    c.in_ok-pair.ensures.begun c.in_ok-pair.ensures.kept c.in_ok-pair.ensures.stay c.in_ok-pair.ensures.same
-    c.in_ok-add.ensures c.carried_number.ensures
+    untold-next rules e past are next.1 c.args.self.now (record u2 { candidates = c.add_waiting.new.candidates }) was
+    (followed rules e past are c.args.self.now u2
+    c.add.new.candidates c.add-2.new.candidates c.add_all.new.candidates c.add_of_links.new.candidates c.add_of_links-2.new.candidates c.add_waiting.new.candidates
+    c.completed_number.result c.carried_number.result c.deref.result.now c.on_link.result.now waiting (views items)
+    c.in_ok-add.ensures c.completed_number.ensures
+    c.in_ok-pair.ensures.begun c.in_ok-pair.ensures.kept c.in_ok-pair.ensures.same
+    c.in_ok-add-2.ensures c.carried_number.ensures
     c.in_ok-add_all.ensures
     (λ j begun opens speaks n named. ap (λ xs. is_among xs n) c.deref.ensures.value ∙ c.in_ok-answered.ensures rules records stands.1.1.1.1.1.1.1.1.0 j begun opens speaks n named)
     (λ n. c.in_ok-add_of_links.ensures n
@@ -39,8 +40,8 @@ returns c = λ records r next addressed stands was.
     ∙ (ap (λ links. has c.add_of_links.new.candidates n || list_any (λ l. is_member nat_eq c.on_link.result.now (link_view l).number n) links) c.deref-3.ensures.value
     ∙ ap (λ b. has c.add_of_links.new.candidates n || b) (any-map link_view (λ l. is_member nat_eq c.on_link.result.now l.number n) items)))
     (λ link n. ap (λ (groups : Groups ℕ). is_member nat_eq groups link n) c.on_link.ensures ∙ stands.1.1.1.1.1.1.1.1.1.0.awaits link n)
-    (λ n. c.in_ok-add_waiting.ensures.added n
-    ∙ (ap (λ links. has c.add_of_links-2.new.candidates n || list_any (λ l. is_consumer (link_view l) && waits_in u2 (link_view l).address n) links) c.deref-4.ensures.value
-    ∙ ap (λ b. has c.add_of_links-2.new.candidates n || b) (any-map link_view (λ l. is_consumer l && waits_in u2 l.address n) items)))
-    c.in_ok-add_waiting.ensures.carried c.in_ok-add_waiting.ensures.waiting
+    (λ n. c.in_ok-add_waiting.ensures n
+    ∙ (ap (λ links. has c.add_of_links-2.new.candidates n || list_any (λ l. is_consumer (link_view l) && octets.is_member waiting (link_view l).address n) links) c.deref-4.ensures.value
+    ∙ ap (λ b. has c.add_of_links-2.new.candidates n || b) (any-map link_view (λ l. is_consumer l && octets.is_member waiting l.address n) items)))
+    (c.waiting.ensures rules past (records, refl) stands.1.1.1.1.0)
     (c.in_ok-ended.ensures rules records r next.0 stands.1.1.0))

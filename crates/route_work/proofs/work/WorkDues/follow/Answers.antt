@@ -2,7 +2,7 @@ use Rattle.route_work.proofs.work.WorkDues.follow.Goals as goal
 
 pub returns : goal.returns
 returns c = λ records r next addressed tell has. record {
-  telling = c.in_ok-follow.ensures records r next addressed tell has.telling;
+  telling = c.in_ok-follow.ensures records r next tell has.telling;
   sending = c.in_ok-follow-2.ensures records r next addressed tell has.sending;
   flowing = c.in_ok-follow-3.ensures c.args.rules.now records r next tell has.flowing;
 }
