@@ -13,11 +13,13 @@ ghost use Rattle.trace_values.specs.View.{Events, event_view, incoming_view, lin
 ghost use Rattle.state_tables.specs.Connections.{IsLawfulNext};
 ghost use Rattle.state_addresses.specs.Addressed.{IsAddressed};
 ghost use Rattle.state_answers.specs.Tables.{TellsOf};
+ghost use Rattle.event_effects.specs.Effects.{AreEffects};
 ghost use Rattle.due_copies.specs.Copies.{HasUnsent, IsDueCopy, IsKnownCopy, IsReady, IsUnsentOn};
 
 use crate::lists::Lists;
 use capture_form::RuleSet;
 use due_flows::DueBegin;
+use event_effects::EventEffects;
 use pairing_cert::Note;
 use state_addresses::{Copies, receivers_of};
 use state_answers::LentTables;
@@ -49,7 +51,7 @@ impl UnsentCopies {
         }
     }
 
-    /// The event follows; what it completes is for this address, and `before` are the tables without it.
+    /// The event follows, with these effects; what it completes is for this address, and `before` are the tables without it.
     ///
     /// # Errors
     ///
@@ -60,13 +62,15 @@ impl UnsentCopies {
         event: &Event,
         address: &[u8],
         before: &LentTables<'_>,
+        effects: &EventEffects<'_>,
     ) -> Result<(), AllocError>
         ensures { OnOk result ((records : List Record) (r : Record) → IsLawfulNext rules.now records r (event_view event.now) →
             IsAddressed (event_view event.now) (history rules.now records) address.now →
-            TellsOf rules.now before.now (history rules.now records) → HasUnsent rules.now self.old (history rules.now records) →
+            TellsOf rules.now before.now (history rules.now records) → AreEffects (event_view event.now) (history rules.now records) effects.now →
+            HasUnsent rules.now self.old (history rules.now records) →
             HasUnsent rules.now self.new (event_view event.now ∷ history rules.now records)) }
     {
-        let ended = before.links.ended(self.alloc, event)?;
+        let ended = effects.ended();
         let receivers = receivers_of(
             self.alloc,
             rules,
@@ -76,8 +80,8 @@ impl UnsentCopies {
             before.consumer_links,
             before.links,
         )?;
-        self.copies.take(rules, event, address, &ended, &receivers)?;
-        self.lists.end(&ended);
+        self.copies.take(rules, event, address, ended, &receivers)?;
+        self.lists.end(ended);
         self.lists.send(event);
         self.lists
             .come(event, &receivers, before.consumer_links, &self.copies)?;

@@ -18,6 +18,7 @@ ghost use Rattle.state_tables.specs.Connections.{IsLawfulNext};
 ghost use Rattle.state_tables.specs.EndedLinks.{views};
 ghost use Rattle.state_addresses.specs.ConsumerLinks.{has_number};
 ghost use Rattle.state_answers.specs.Tables.{TellsOf};
+ghost use Rattle.event_effects.specs.Effects.{AreEffects};
 ghost use Rattle.due_flows.specs.Topping.{IsToppable, consumer_opened, settles};
 ghost use Rattle.due_flows.specs.Credits.{HasCredits, AreEndedIn, AreFreedIn, AreOpenedIn, AreTouchedIn, AreWokenIn, has_waited, place_of};
 ghost use Rattle.trace_values.specs.View.{Events, event_view, link_view};
@@ -26,6 +27,7 @@ use crate::candidates::Candidates;
 use crate::numbers::Numbers;
 use amqp_perf::Role;
 use capture_form::RuleSet;
+use event_effects::EventEffects;
 use number_groups::{Groups, OctetGroups};
 use pairing_cert::Note;
 use state_answers::LentTables;
@@ -44,7 +46,6 @@ pub struct LinkKey {
 /// The links of producers.
 #[derive(Drop)]
 pub struct Credits {
-    alloc: Global,
     /// Where each is found, by its number.
     places: Candidates<LinkKey>,
     /// All of them, by their sessions and by their addresses.
@@ -60,7 +61,6 @@ impl Credits {
         ensures { (rules : RuleSet) → HasCredits rules result [] }
     {
         Credits {
-            alloc,
             places: Candidates::new(alloc),
             of_session: Groups::new(alloc),
             of_address: OctetGroups::new(alloc),
@@ -68,22 +68,26 @@ impl Credits {
         }
     }
 
-    /// The event follows; `before` are the tables without it.
+    /// The event follows, with these effects; `before` are the tables without it.
     ///
     /// # Errors
     ///
     /// Memory was refused; then a link that may be given more credit may not be found.
-    pub fn follow(&mut self, event: &Event, before: &LentTables<'_>) -> Result<(), AllocError>
+    pub fn follow(
+        &mut self,
+        event: &Event,
+        before: &LentTables<'_>,
+        effects: &EventEffects<'_>,
+    ) -> Result<(), AllocError>
         ensures { OnOk result ((rules : RuleSet) (records : List Record) (r : Record) → IsLawfulNext rules records r (event_view event.now) →
-            TellsOf rules before.now (history rules records) → HasCredits rules self.old (history rules records) →
+            TellsOf rules before.now (history rules records) → AreEffects (event_view event.now) (history rules records) effects.now → HasCredits rules self.old (history rules records) →
             HasCredits rules self.new (event_view event.now ∷ history rules records)) }
     {
-        let ended = before.links.ended(self.alloc, event)?;
-        self.end(&ended);
+        self.end(effects.ended());
         self.open(event)?;
         self.touch(event, before)?;
         self.wake(event, before)?;
-        self.free(&ended, before)?;
+        self.free(effects.ended(), before)?;
         Ok(())
     }
 

@@ -11,6 +11,7 @@ ghost use Rattle.state_tables.specs.Connections.{IsLawfulNext};
 ghost use Rattle.state_tables.specs.EndedLinks.{views};
 ghost use Rattle.state_addresses.specs.ConsumerLinks.{has_number};
 ghost use Rattle.state_answers.specs.Tables.{TellsOf};
+ghost use Rattle.event_effects.specs.Effects.{AreEffects};
 ghost use Rattle.due_flows.specs.Draining.{IsDrainable, asks_drain, writes_part};
 ghost use Rattle.due_flows.specs.Drains.{HasDrains, stands, waits};
 ghost use Rattle.trace_events.specs.Link.{IsLiveLink};
@@ -19,6 +20,7 @@ ghost use Rattle.trace_values.specs.View.{Events, event_view, link_view};
 use crate::numbers::Numbers;
 use amqp_perf::Performative;
 use capture_form::RuleSet;
+use event_effects::EventEffects;
 use number_groups::OctetGroups;
 use state_answers::LentTables;
 use std::alloc::{AllocError, Global};
@@ -28,7 +30,6 @@ use trace_values::{Event, Link};
 /// The links of consumers that drain.
 #[derive(Drop)]
 pub struct Drains {
-    alloc: Global,
     /// All that do, by their addresses.
     of_address: OctetGroups,
     /// Those whose drain may be answered.
@@ -41,24 +42,22 @@ impl Drains {
         ensures { (rules : RuleSet) → HasDrains rules result [] }
     {
         Drains {
-            alloc,
             of_address: OctetGroups::new(alloc),
             links: Numbers::new(alloc),
         }
     }
 
-    /// The event follows; `before` are the tables without it.
+    /// The event follows, with these effects.
     ///
     /// # Errors
     ///
     /// Memory was refused; then a drain that may be answered may not be found.
-    pub fn follow(&mut self, event: &Event, before: &LentTables<'_>) -> Result<(), AllocError>
+    pub fn follow(&mut self, event: &Event, effects: &EventEffects<'_>) -> Result<(), AllocError>
         ensures { OnOk result ((rules : RuleSet) (records : List Record) (r : Record) → IsLawfulNext rules records r (event_view event.now) →
-            TellsOf rules before.now (history rules records) → HasDrains rules self.old (history rules records) →
+            AreEffects (event_view event.now) (history rules records) effects.now → HasDrains rules self.old (history rules records) →
             HasDrains rules self.new (event_view event.now ∷ history rules records)) }
     {
-        let ended = before.links.ended(self.alloc, event)?;
-        self.end(&ended);
+        self.end(effects.ended());
         self.ask(event)?;
         self.wake(event)?;
         Ok(())

@@ -14,11 +14,13 @@ ghost use Rattle.state_tables.specs.Connections.{IsLawfulNext};
 ghost use Rattle.state_tables.specs.EndedLinks.{views};
 ghost use Rattle.state_addresses.specs.ConsumerLinks.{has_number};
 ghost use Rattle.state_answers.specs.Tables.{TellsOf};
+ghost use Rattle.event_effects.specs.Effects.{AreEffects};
 ghost use Rattle.due_flows.specs.Standing.{IsStill, goes_on, grants_window};
 ghost use Rattle.due_flows.specs.Parts.{HasParts, IsDuePart, stands, waits};
 ghost use Rattle.trace_values.specs.View.{Events, event_view};
 
 use crate::numbers::Numbers;
+use event_effects::EventEffects;
 use flow_counts::WindowEvent;
 use number_groups::Groups;
 use pairing_cert::Note;
@@ -38,7 +40,6 @@ pub struct DuePart<'t> {
 /// The deliveries in progress, by the links on which they are.
 #[derive(Drop)]
 pub struct DeliveriesInProgress {
-    alloc: Global,
     /// All links with one, by their sessions.
     of_session: Groups<u64>,
     /// Those on which it may go on.
@@ -51,24 +52,22 @@ impl DeliveriesInProgress {
         ensures { HasParts result [] }
     {
         DeliveriesInProgress {
-            alloc,
             of_session: Groups::new(alloc),
             links: Numbers::new(alloc),
         }
     }
 
-    /// The event follows; `before` are the tables without it.
+    /// The event follows, with these effects.
     ///
     /// # Errors
     ///
     /// Memory was refused; then a delivery that may go on may not be found.
-    pub fn follow(&mut self, event: &Event, before: &LentTables<'_>) -> Result<(), AllocError>
+    pub fn follow(&mut self, event: &Event, effects: &EventEffects<'_>) -> Result<(), AllocError>
         ensures { OnOk result ((rules : RuleSet) (records : List Record) (r : Record) → IsLawfulNext rules records r (event_view event.now) →
-            TellsOf rules before.now (history rules records) → HasParts self.old (history rules records) →
+            AreEffects (event_view event.now) (history rules records) effects.now → HasParts self.old (history rules records) →
             HasParts self.new (event_view event.now ∷ history rules records)) }
     {
-        let ended = before.links.ended(self.alloc, event)?;
-        self.end(&ended);
+        self.end(effects.ended());
         self.go_on(event)?;
         self.wake(event)?;
         Ok(())

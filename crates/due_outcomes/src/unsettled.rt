@@ -20,6 +20,7 @@ ghost use Rattle.state_tables.specs.Connections.{IsLawfulNext};
 ghost use Rattle.state_tables.specs.EndedLinks.{views};
 ghost use Rattle.number_groups.specs.Ascending.{has};
 ghost use Rattle.state_answers.specs.Tables.{TellsOf};
+ghost use Rattle.event_effects.specs.Effects.{AreEffects};
 ghost use Rattle.due_outcomes.specs.Candidates.{Grows};
 ghost use Rattle.due_outcomes.specs.Closings as law;
 ghost use Rattle.due_outcomes.specs.Parked.{IsLeft, is_parked};
@@ -29,6 +30,7 @@ ghost use Rattle.due_outcomes.specs.Unsettled.{HasUnsettled, IsParked};
 use crate::candidates::add_set;
 use crate::parked::Parked;
 use amqp_perf::{Disposition, Role};
+use event_effects::EventEffects;
 use number_groups::{Ascending, NumberTest};
 use pairing_cert::Note;
 use state_answers::LentTables;
@@ -57,22 +59,26 @@ impl Unsettled {
         }
     }
 
-    /// The event follows; `before` are the tables without it. It takes the time of the unsettled deliveries of which their
-    /// consumer speaks with it, of the links that it ends, and of the deliveries that carry what it tells; where a producer
-    /// settles ids or its link ends, of all that are parked.
+    /// The event follows, with these effects; `before` are the tables without it. It takes the time of the unsettled deliveries
+    /// of which their consumer speaks with it, of the links that it ends, and of the deliveries that carry what it tells; where
+    /// a producer settles ids or its link ends, of all that are parked.
     ///
     /// # Errors
     ///
     /// Memory was refused; then the list may agree with no records any more.
-    pub fn follow(&mut self, event: &Event, before: &LentTables<'_>) -> Result<(), AllocError>
+    pub fn follow(
+        &mut self,
+        event: &Event,
+        before: &LentTables<'_>,
+        effects: &EventEffects<'_>,
+    ) -> Result<(), AllocError>
         ensures { OnOk result ((rules : RuleSet) (records : List Record) (r : Record) → IsLawfulNext rules records r (event_view event.now) →
-            TellsOf rules before.now (history rules records) →
+            TellsOf rules before.now (history rules records) → AreEffects (event_view event.now) (history rules records) effects.now →
             HasUnsettled self.old (history rules records) → HasUnsettled self.new (event_view event.now ∷ history rules records)) }
     {
         let spoken = before.sent.spoken_of(self.alloc, event)?;
         add_set(&mut self.candidates, spoken)?;
-        let ended = before.links.ended(self.alloc, event)?;
-        self.release(event, &ended)?;
+        self.release(event, effects.ended())?;
         Ok(())
     }
 

@@ -20,12 +20,14 @@ ghost use Rattle.state_incoming.specs.HeldTables.{held_in};
 ghost use Rattle.state_tables.specs.Connections.{IsLawfulNext};
 ghost use Rattle.number_groups.specs.Ascending.{count_of, has};
 ghost use Rattle.state_answers.specs.Tables.{TellsOf};
+ghost use Rattle.event_effects.specs.Effects.{AreEffects};
 ghost use Rattle.due_outcomes.specs.DueOutcomes.{IsDueOutcome};
 ghost use Rattle.due_outcomes.specs.Untold.{HasUntold, IsOn, KeepsOn};
 
 use crate::candidates::{add, add_all, add_of_links};
 use crate::outcome::{DueOutcome, outcome_of};
 use capture_form::RuleSet;
+use event_effects::EventEffects;
 use number_groups::{Ascending, Groups, OctetGroups};
 use pairing_cert::Note;
 use state_answers::LentTables;
@@ -131,8 +133,9 @@ impl Untold {
         }
     }
 
-    /// The event follows; `before` are the tables without it. It takes the time of the deliveries of which a consumer speaks with
-    /// it, of those that went over the links that it ends or have a copy due there, and of those that wait at the addresses of these.
+    /// The event follows, with these effects; `before` are the tables without it. It takes the time of the deliveries of which a
+    /// consumer speaks with it, of those that went over the links that it ends or have a copy due there, and of those that wait at
+    /// the addresses of these.
     ///
     /// # Errors
     ///
@@ -142,9 +145,10 @@ impl Untold {
         rules: &RuleSet,
         event: &Event,
         before: &LentTables<'_>,
+        effects: &EventEffects<'_>,
     ) -> Result<(), AllocError>
         ensures { OnOk result ((records : List Record) (r : Record) → IsLawfulNext rules.now records r (event_view event.now) →
-            TellsOf rules.now before.now (history rules.now records) →
+            TellsOf rules.now before.now (history rules.now records) → AreEffects (event_view event.now) (history rules.now records) effects.now →
             HasUntold rules.now self.old (history rules.now records) → HasUntold rules.now self.new (event_view event.now ∷ history rules.now records)) }
     {
         add(&mut self.candidates, completed_number(event))?;
@@ -152,10 +156,10 @@ impl Untold {
         add(&mut self.candidates, carried_number(event))?;
         let answered = before.sent.answered(self.alloc, event)?;
         add_all(&mut self.candidates, &answered)?;
-        let ended = before.links.ended(self.alloc, event)?;
-        add_of_links(&mut self.candidates, &self.carried, &ended)?;
-        add_of_links(&mut self.candidates, before.verdicts.on_link(), &ended)?;
-        add_waiting(&mut self.candidates, before.deliveries.waiting(), &ended)?;
+        let ended = effects.ended();
+        add_of_links(&mut self.candidates, &self.carried, ended)?;
+        add_of_links(&mut self.candidates, before.verdicts.on_link(), ended)?;
+        add_waiting(&mut self.candidates, before.deliveries.waiting(), ended)?;
         Ok(())
     }
 

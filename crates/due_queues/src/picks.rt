@@ -20,12 +20,14 @@ ghost use Rattle.state_addresses.specs.ConsumerLinks.{consumer_at};
 ghost use Rattle.state_outgoing.specs.SentTables.{sent_in};
 ghost use Rattle.state_outgoing.specs.SentViews.{sent_view};
 ghost use Rattle.state_answers.specs.Tables.{TellsOf};
+ghost use Rattle.event_effects.specs.Effects.{AreEffects};
 ghost use Rattle.due_queues.specs.AddressCounts.{AreFew, CountsMore, HasNamedSource, decided_on, detached_all, named_source};
 ghost use Rattle.due_queues.specs.Picks.{ArePicks, DecidesAll, decided_link, decides};
 
 use address_table::Table;
 use amqp_perf::{Address, Role};
 use capture_form::{RuleSet, distribution_of};
+use event_effects::EventEffects;
 use state_answers::LentTables;
 use state_outgoing::SentDelivery;
 use state_tables::Links;
@@ -125,9 +127,10 @@ impl Picks {
         }
     }
 
-    /// The event follows those so far; `before` are the tables without it. The rules say only at which addresses picks are to
-    /// be fast. It takes the time of the links that the event ends and of the unsettled deliveries of which a consumer speaks
-    /// with it; where one of these is of a balanced address, or begins there, also that of the links of the address.
+    /// The event follows those so far, with these effects; `before` are the tables without it. The rules say only at which
+    /// addresses picks are to be fast. It takes the time of the links that the event ends and of the unsettled deliveries of
+    /// which a consumer speaks with it; where one of these is of a balanced address, or begins there, also that of the links of
+    /// the address.
     ///
     /// # Errors
     ///
@@ -137,16 +140,16 @@ impl Picks {
         rules: &RuleSet,
         event: &Event,
         before: &LentTables<'_>,
+        effects: &EventEffects<'_>,
     ) -> Result<(), AllocError>
         ensures { OnOk result ((rules : RuleSet) (records : List Record) (r : Record) → IsLawfulNext rules records r (event_view event.now) →
-            TellsOf rules before.now (history rules records) →
+            TellsOf rules before.now (history rules records) → AreEffects (event_view event.now) (history rules records) effects.now →
             ArePicks self.old (history rules records) → ArePicks self.new (event_view event.now ∷ history rules records)) }
     {
-        let ended = before.links.ended(self.alloc, event)?;
         self.attach(rules, event)?;
         self.begin(event);
         self.decide(event, before)?;
-        self.detach(ended);
+        self.detach(effects.ended());
         Ok(())
     }
 
@@ -237,14 +240,15 @@ impl Picks {
     }
 
     /// The links of consumers that end are detached.
-    fn detach(&mut self, ended: Vec<Link>)
-        ensures { CountsMore (detached_all (views ended.entry.items)) self.old.table self.new.table }
+    fn detach(&mut self, ended: &[Link])
+        ensures { CountsMore (detached_all (views ended.now)) self.old.table self.new.table }
     {
         let mut left = ended;
-        while let Some(link) = left.pop() {
+        while let Some((link, others)) = left.split_last() {
             if link.is_consumer() {
                 self.table.detach(link.number);
             }
+            left = others;
         }
     }
 }

@@ -11,6 +11,7 @@ ghost use Rattle.state_addresses.specs.Addressed.{IsAddressed};
 ghost use Rattle.state_tables.specs.Connections.{IsLawfulNext};
 ghost use Rattle.state_incoming.specs.EntryAnswers.{Knows};
 ghost use Rattle.state_answers.specs.Tables.{TellsOf};
+ghost use Rattle.event_effects.specs.Effects.{AreEffects};
 ghost use Rattle.due_queues.specs.Picks.{ArePicks};
 ghost use Rattle.due_queues.specs.Queues.{HaveQueues};
 ghost use Rattle.due_waiting.specs.AddressesToTry.{count_of, is_among_first};
@@ -21,6 +22,7 @@ use crate::by_session::BySession;
 use capture_form::RuleSet;
 use due_flows::DueBegin;
 use due_queues::{Picks, Queues};
+use event_effects::EventEffects;
 use state_answers::LentTables;
 use std::alloc::{AllocError, Global};
 use trace_values::{Event, Incoming, Link};
@@ -28,7 +30,6 @@ use trace_values::{Event, Incoming, Link};
 /// The anycast deliveries that wait.
 #[derive(Drop)]
 pub struct Waiting {
-    alloc: Global,
     /// The link that each would go to.
     picks: Picks,
     /// Those of each address, in the order in which they were completed.
@@ -45,7 +46,6 @@ impl Waiting {
         ensures { (rules : RuleSet) → HasWaiting rules result [] }
     {
         Waiting {
-            alloc,
             picks: Picks::new(alloc),
             queues: Queues::new(alloc),
             links: BySession::new(alloc),
@@ -53,7 +53,7 @@ impl Waiting {
         }
     }
 
-    /// The event follows; what it completes is for this address, and `before` are the tables without it.
+    /// The event follows, with these effects; what it completes is for this address, and `before` are the tables without it.
     ///
     /// # Errors
     ///
@@ -64,17 +64,18 @@ impl Waiting {
         event: &Event,
         address: &[u8],
         before: &LentTables<'_>,
+        effects: &EventEffects<'_>,
     ) -> Result<(), AllocError>
         ensures { OnOk result ((records : List Record) (r : Record) → IsLawfulNext rules.now records r (event_view event.now) →
             IsAddressed (event_view event.now) (history rules.now records) address.now →
-            TellsOf rules.now before.now (history rules.now records) → HasWaiting rules.now self.old (history rules.now records) →
+            TellsOf rules.now before.now (history rules.now records) → AreEffects (event_view event.now) (history rules.now records) effects.now →
+            HasWaiting rules.now self.old (history rules.now records) →
             HasWaiting rules.now self.new (event_view event.now ∷ history rules.now records)) }
     {
-        let ended = before.links.ended(self.alloc, event)?;
-        self.picks.follow(rules, event, before)?;
+        self.picks.follow(rules, event, before, effects)?;
         self.queues.follow(rules, event, address)?;
         self.awake.wake(event, address, &self.links, before)?;
-        self.links.end(&ended);
+        self.links.end(effects.ended());
         self.links.open(event)?;
         Ok(())
     }

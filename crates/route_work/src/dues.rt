@@ -9,10 +9,12 @@ ghost use Rattle.state_addresses.specs.Addressed.{IsAddressed};
 ghost use Rattle.trace_duties.specs.Quiet.{is_quiet};
 ghost use Rattle.trace_values.specs.View.{Events, event_view};
 ghost use Rattle.state_answers.specs.Tables.{TellsOf};
+ghost use Rattle.event_effects.specs.Effects.{AreEffects};
 ghost use Rattle.route_work.specs.Dues.{IsDue, is_in_turn};
 
 use crate::Due;
 use capture_form::RuleSet;
+use event_effects::EventEffects;
 use state_answers::LentTables;
 use std::alloc::{AllocError, Global};
 use trace_values::Event;
@@ -27,7 +29,8 @@ pub trait Dues {
     fn new(alloc: Global) -> Self
         ensures { (rules : RuleSet) → has_all result rules [] };
 
-    /// The event follows those so far, of which the tables that are lent tell; what it completes is for this address.
+    /// The event follows those so far, of which the tables that are lent tell, with these effects; what it completes is
+    /// for this address.
     ///
     /// # Errors
     ///
@@ -38,11 +41,12 @@ pub trait Dues {
         event: &Event,
         address: &[u8],
         before: &LentTables<'_>,
+        effects: &EventEffects<'_>,
     ) -> Result<(), AllocError>
         ensures { OnOk result ((records : List Record) (r : Record) → IsLawfulNext rules.now records r (event_view event.now) →
             IsAddressed (event_view event.now) (history rules.now records) address.now →
-            TellsOf rules.now before.now (history rules.now records) → has_all self.old rules.now (history rules.now records) →
-            has_all self.new rules.now (event_view event.now ∷ history rules.now records)) };
+            TellsOf rules.now before.now (history rules.now records) → AreEffects (event_view event.now) (history rules.now records) effects.now →
+            has_all self.old rules.now (history rules.now records) → has_all self.new rules.now (event_view event.now ∷ history rules.now records)) };
 
     /// What is due next, by the tables of the events so far; `None` where nothing is.
     fn next_due<'t>(&mut self, rules: &RuleSet, looked: &LentTables<'t>) -> Option<Due<'t>>

@@ -8,12 +8,14 @@ ghost use Rattle.trace_events.specs.History.{history};
 ghost use Rattle.trace_values.specs.View.{event_view};
 ghost use Rattle.state_tables.specs.Connections.{IsLawfulNext};
 ghost use Rattle.state_answers.specs.Tables.{TellsOf};
+ghost use Rattle.event_effects.specs.Effects.{AreEffects};
 ghost use Rattle.route_work.specs.Dues.{IsDue, is_in_turn};
 ghost use Rattle.route_work.specs.Work.{HasFlowing, IsAllGiven, IsAllSent, IsAllTold};
 
 use crate::Due;
 use capture_form::RuleSet;
 use due_flows::{Credits, Drains, Windows};
+use event_effects::EventEffects;
 use state_answers::LentTables;
 use std::alloc::{AllocError, Global};
 use trace_values::Event;
@@ -51,7 +53,7 @@ impl Flowing {
         }
     }
 
-    /// The event follows; `before` are the tables without it.
+    /// The event follows, with these effects; `before` are the tables without it.
     ///
     /// # Errors
     ///
@@ -60,13 +62,14 @@ impl Flowing {
         &mut self,
         event: &Event,
         before: &LentTables<'_>,
+        effects: &EventEffects<'_>,
     ) -> Result<(), AllocError>
         ensures { OnOk result ((rules : RuleSet) (records : List Record) (r : Record) → IsLawfulNext rules records r (event_view event.now) →
-            TellsOf rules before.now (history rules records) → HasFlowing rules self.old (history rules records) →
+            TellsOf rules before.now (history rules records) → AreEffects (event_view event.now) (history rules records) effects.now → HasFlowing rules self.old (history rules records) →
             HasFlowing rules self.new (event_view event.now ∷ history rules records)) }
     {
-        self.drains.follow(event, before)?;
-        self.credits.follow(event, before)?;
+        self.drains.follow(event, effects)?;
+        self.credits.follow(event, before, effects)?;
         self.windows.follow(event, before)?;
         Ok(())
     }

@@ -17,6 +17,7 @@ ghost use Rattle.trace_values.specs.View.{Events, event_view};
 use crate::dues::Dues;
 use crate::record_of;
 use capture_form::{Record, RuleSet};
+use event_effects::EventEffects;
 use state_answers::{LentTables, Tables};
 use state_ledger::HeldEvent;
 use std::alloc::{AllocError, Global};
@@ -110,7 +111,9 @@ impl<D: Dues> RouterState<D> {
         let looked = self.tables.looked();
         let completed = looked.deliveries.completed_for(event);
         let address = completed.octets();
-        self.dues.follow(rules, event, address, &looked)?;
+        let effects = EventEffects::of(self.alloc, event, &looked)?;
+        self.dues.follow(rules, event, address, &looked, &effects)?;
+        drop(effects);
         self.tables.take_addressed(rules, event, address)?;
         Ok(())
     }

@@ -11,6 +11,7 @@ ghost use Rattle.trace_values.specs.View.{Events, event_view, incoming_view};
 ghost use Rattle.state_tables.specs.Connections.{IsLawfulNext};
 ghost use Rattle.state_addresses.specs.Addressed.{IsAddressed};
 ghost use Rattle.state_answers.specs.Tables.{TellsOf};
+ghost use Rattle.event_effects.specs.Effects.{AreEffects};
 ghost use Rattle.due_copies.specs.Copies.{IsDueCopy};
 ghost use Rattle.due_waiting.specs.Waiting.{IsDueWaiting};
 ghost use Rattle.route_work.specs.Dues.{IsDue, is_in_turn};
@@ -21,6 +22,7 @@ use capture_form::RuleSet;
 use due_copies::UnsentCopies;
 use due_flows::{DeliveriesInProgress, DueBegin};
 use due_waiting::Waiting;
+use event_effects::EventEffects;
 use state_answers::LentTables;
 use std::alloc::{AllocError, Global};
 use trace_values::Event;
@@ -58,7 +60,7 @@ impl Sending {
         }
     }
 
-    /// The event follows; what it completes is for this address, and `before` are the tables without it.
+    /// The event follows, with these effects; what it completes is for this address, and `before` are the tables without it.
     ///
     /// # Errors
     ///
@@ -69,15 +71,16 @@ impl Sending {
         event: &Event,
         address: &[u8],
         before: &LentTables<'_>,
+        effects: &EventEffects<'_>,
     ) -> Result<(), AllocError>
         ensures { OnOk result ((records : List Record) (r : Record) → IsLawfulNext rules.now records r (event_view event.now) →
             IsAddressed (event_view event.now) (history rules.now records) address.now →
-            TellsOf rules.now before.now (history rules.now records) → HasSending rules.now self.old (history rules.now records) →
-            HasSending rules.now self.new (event_view event.now ∷ history rules.now records)) }
+            TellsOf rules.now before.now (history rules.now records) → AreEffects (event_view event.now) (history rules.now records) effects.now →
+            HasSending rules.now self.old (history rules.now records) → HasSending rules.now self.new (event_view event.now ∷ history rules.now records)) }
     {
-        self.parts.follow(event, before)?;
-        self.waiting.follow(rules, event, address, before)?;
-        self.copies.follow(rules, event, address, before)?;
+        self.parts.follow(event, effects)?;
+        self.waiting.follow(rules, event, address, before, effects)?;
+        self.copies.follow(rules, event, address, before, effects)?;
         Ok(())
     }
 

@@ -8,12 +8,14 @@ ghost use Rattle.trace_events.specs.History.{history};
 ghost use Rattle.trace_values.specs.View.{event_view};
 ghost use Rattle.state_tables.specs.Connections.{IsLawfulNext};
 ghost use Rattle.state_answers.specs.Tables.{TellsOf};
+ghost use Rattle.event_effects.specs.Effects.{AreEffects};
 ghost use Rattle.route_work.specs.Dues.{IsDue, is_in_turn};
 ghost use Rattle.route_work.specs.Work.{HasTelling, IsAllTold};
 
 use crate::Due;
 use capture_form::RuleSet;
 use due_outcomes::{Unsettled, Untold};
+use event_effects::EventEffects;
 use state_answers::LentTables;
 use std::alloc::{AllocError, Global};
 use trace_values::Event;
@@ -44,7 +46,7 @@ impl Telling {
         Telling { untold, unsettled }
     }
 
-    /// The event follows; `before` are the tables without it.
+    /// The event follows, with these effects; `before` are the tables without it.
     ///
     /// # Errors
     ///
@@ -54,13 +56,14 @@ impl Telling {
         rules: &RuleSet,
         event: &Event,
         before: &LentTables<'_>,
+        effects: &EventEffects<'_>,
     ) -> Result<(), AllocError>
         ensures { OnOk result ((records : List Record) (r : Record) → IsLawfulNext rules.now records r (event_view event.now) →
-            TellsOf rules.now before.now (history rules.now records) → HasTelling rules.now self.old (history rules.now records) →
-            HasTelling rules.now self.new (event_view event.now ∷ history rules.now records)) }
+            TellsOf rules.now before.now (history rules.now records) → AreEffects (event_view event.now) (history rules.now records) effects.now →
+            HasTelling rules.now self.old (history rules.now records) → HasTelling rules.now self.new (event_view event.now ∷ history rules.now records)) }
     {
-        self.untold.follow(rules, event, before)?;
-        self.unsettled.follow(event, before)?;
+        self.untold.follow(rules, event, before, effects)?;
+        self.unsettled.follow(event, before, effects)?;
         Ok(())
     }
 

@@ -8,6 +8,7 @@ use crate::sending::Sending;
 use crate::telling::Telling;
 use crate::{Due, Dues};
 use capture_form::RuleSet;
+use event_effects::EventEffects;
 use state_answers::LentTables;
 use std::alloc::{AllocError, Global};
 use trace_values::Event;
@@ -51,10 +52,11 @@ impl Dues for Work {
         event: &Event,
         address: &[u8],
         before: &LentTables<'_>,
+        effects: &EventEffects<'_>,
     ) -> Result<(), AllocError> {
-        self.telling.follow(rules, event, before)?;
-        self.sending.follow(rules, event, address, before)?;
-        self.flowing.follow(event, before)?;
+        self.telling.follow(rules, event, before, effects)?;
+        self.sending.follow(rules, event, address, before, effects)?;
+        self.flowing.follow(event, before, effects)?;
         Ok(())
     }
 

@@ -18,25 +18,25 @@ use Rattle.due_copies.proofs.CopiesDue.{have-of}
 use Rattle.due_copies.proofs.copies.UnsentCopies.follow.Goals as goal
 
 pub returns : goal.returns
-returns c = λ records r next addressed tables first.
+returns c = λ records r next addressed tables does first.
     let rules = c.args.rules.now in
     let e = event_view c.args.event.now in
     let past = history rules records in
     let address = c.args.address.now in
     let Ended : List Link → Type 0 = λ links. AreEnded e past (views links) in
     let Given : List Receiver → Type 0 = λ receivers. AreReceivers rules address e past receivers in
-    let ends = c.in_ok-ended.ensures rules records r next.0 tables.1.1.0 in
+    let ended = subst Ended (sym c.ended-ended.ensures) does.ended in
     let given = c.in_ok-receivers.ensures.known records tables.1.1.1.0 tables.1.1.1.1.1.0 tables.1.1.0 in
-    let copies : AreCopies rules c.take.new.self (e ∷ past) = c.in_ok-take.ensures.kept records r next first.are (subst Ended (sym c.deref.ensures.value) ends) addressed (subst Given (sym c.deref-2.ensures.value) given) in
+    let copies : AreCopies rules c.take.new.self (e ∷ past) = c.in_ok-take.ensures.kept records r next first.are ended addressed (subst Given (sym c.deref.ensures.value) given) in
     let Unsent : law.Link → law.Incoming → List Event → Type 0 = λ l d events. IsUnsentOn rules l d events in
     let on : e ∷ past ≡ history rules (records ++ r ∷ []) = ap (λ (x : Event). x ∷ past) next.0 ∙ sym (history-push rules records r) in
-    let came : (l : law.Link) (d : law.Incoming) → e.incoming ≡ Some d → completes d e ≡ true → receives c.deref-4.result.now l.number ≡ true → consumer_at l.number past ≡ Some l → IsUnsentOn rules l d (e ∷ past) → IsIn c.come.new.self l.session.number l.number e.number d.number =
+    let came : (l : law.Link) (d : law.Incoming) → e.incoming ≡ Some d → completes d e ≡ true → receives c.deref-2.result.now l.number ≡ true → consumer_at l.number past ≡ Some l → IsUnsentOn rules l d (e ∷ past) → IsIn c.come.new.self l.session.number l.number e.number d.number =
     λ l d part whole receives at h.
     let there = subst (Unsent l d) on h in
     c.in_ok-come.ensures.came rules (records ++ r ∷ []) (subst (AreCopies rules c.take.new.self) on copies) l d part whole receives
     (tables.1.1.1.1.1.0 l.number ∙ at) there.live there.found there.unsent in
     let have = have-copies rules e past ((r, next.0), history-judged rules records) next.1
-    (views c.deref-3.result.now) (subst Ended (sym c.deref-3.ensures.value) ends) address addressed c.deref-4.result.now (subst Given (sym c.deref-4.ensures.value) given)
+    (views c.ended-ended.result.now) ended address addressed c.deref-2.result.now (subst Given (sym c.deref-2.ensures.value) given)
     c.args.self.now.lists c.end.new.self c.send.new.self c.come.new.self c.touch.new.self c.wake.new.self
     c.end.ensures.listed c.end.ensures.only c.end.ensures.stood c.end.ensures.waited
     c.send.ensures.listed c.send.ensures.only c.send.ensures.stood c.send.ensures.waited

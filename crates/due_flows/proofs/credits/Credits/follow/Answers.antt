@@ -9,11 +9,11 @@ use Rattle.due_flows.proofs.CreditsFollowed.{have-credits}
 use Rattle.due_flows.proofs.credits.Credits.follow.Goals as goal
 
 pub returns : goal.returns
-returns c = λ rules records r next are has.
+returns c = λ rules records r next are does has.
     let e = event_view c.args.event.now in
     let past = history rules records in
     let Ended : List Link → Type 0 = λ links. AreEnded e past (views links) in
-    let ended = subst Ended (sym c.deref.ensures.value) (c.in_ok-ended.ensures rules records r next.0 are.1.1.0) in
-    have-credits rules e past ((r, next.0), history-judged rules records) next.1 c.args.before.now are (views c.deref.result.now) ended
+    let ended = subst Ended (sym c.ended.ensures) does.ended in
+    have-credits rules e past ((r, next.0), history-judged rules records) next.1 c.args.before.now are (views c.ended.result.now) ended
     c.args.self.now c.end.new.self c.open.new.self c.touch.new.self c.wake.new.self c.free.new.self c.end.ensures c.in_ok-open.ensures c.in_ok-touch.ensures c.in_ok-wake.ensures
-    (subst (λ links. AreFreedIn (views links) c.args.before.now c.wake.new.self c.free.new.self) (c.deref-2.ensures.value ∙ sym c.deref.ensures.value) c.in_ok-free.ensures) has
+    (subst (λ links. AreFreedIn (views links) c.args.before.now c.wake.new.self c.free.new.self) (c.ended-2.ensures ∙ sym c.ended.ensures) c.in_ok-free.ensures) has

@@ -9,12 +9,12 @@ use Rattle.due_flows.proofs.PartsFollowed.{have-parts}
 use Rattle.due_flows.proofs.parts.DeliveriesInProgress.follow.Goals as goal
 
 pub returns : goal.returns
-returns c = λ rules records r next are has.
+returns c = λ rules records r next does has.
     let e = event_view c.args.event.now in
     let past = history rules records in
     let Ended : List Link → Type 0 = λ links. AreEnded e past (views links) in
-    let ended = subst Ended (sym c.deref.ensures.value) (c.in_ok-ended.ensures rules records r next.0 are.1.1.0) in
-    have-parts rules e past ((r, next.0), history-judged rules records) next.1 (views c.deref.result.now) ended
+    let ended = subst Ended (sym c.ended.ensures) does.ended in
+    have-parts rules e past ((r, next.0), history-judged rules records) next.1 (views c.ended.result.now) ended
     (stands c.args.self.now) (stands c.end.new.self) (stands c.go_on.new.self) (stands c.wake.new.self)
     (waits c.args.self.now) (waits c.end.new.self) (waits c.go_on.new.self) (waits c.wake.new.self)
     c.end.ensures.stood c.end.ensures.waiting c.in_ok-go_on.ensures.part c.in_ok-go_on.ensures.stood c.in_ok-go_on.ensures.waiting

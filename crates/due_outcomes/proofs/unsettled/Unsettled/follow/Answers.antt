@@ -11,15 +11,15 @@ use Rattle.due_outcomes.proofs.UnsettledSteps.{unsettled-next}
 use Rattle.due_outcomes.proofs.unsettled.Unsettled.follow.Goals as goal
 
 pub returns : goal.returns
-returns c = λ rules records r next stands was.
+returns c = λ rules records r next stands does was.
     let e = event_view c.args.event.now in
     let past = history rules records in
     let are : AreJudged rules (e ∷ past) = ((r, next.0), history-judged rules records) in
     let first = c.args.self.now.candidates in
     let spoken = c.in_ok-spoken.spoken in
-    unsettled-next rules e past are stands.1.1.1.1.1.1.1.0 (views c.in_ok-ended.ended.items) (c.in_ok-ended.ensures rules records r next.0 stands.1.1.0) c.args.self.now c.release.new.self was
+    unsettled-next rules e past are stands.1.1.1.1.1.1.1.0 (views c.args.effects.now.ended.items) does.ended c.args.self.now c.release.new.self was
     (λ n there. c.in_ok-release.ensures.grown n (c.in_ok-add_set.ensures n ∙ or-first (has first n) (is_among spoken n) there))
     (λ j there opens speaks. c.in_ok-release.ensures.grown j.number (c.in_ok-add_set.ensures j.number
     ∙ or-last (has first j.number) (is_among spoken j.number) (c.in_ok-spoken.ensures.known rules records stands.1.1.1.1.1.1.1.1.0 j there opens speaks)))
-    (λ n m closes parked. c.in_ok-release.ensures.released n m (ap (λ links. may_close e links n) (ap views c.deref.ensures.value) ∙ closes) parked)
+    (λ n m closes parked. c.in_ok-release.ensures.released n m (ap (λ links. may_close e links n) (ap views c.ended.ensures) ∙ closes) parked)
     c.in_ok-release.ensures.left

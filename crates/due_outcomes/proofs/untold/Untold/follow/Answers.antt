@@ -16,14 +16,14 @@ use Rattle.due_outcomes.proofs.UntoldSteps.{untold-next}
 use Rattle.due_outcomes.proofs.untold.Untold.follow.Goals as goal
 
 pub returns : goal.returns
-returns c = λ records r next stands was.
+returns c = λ records r next stands does was.
     let rules = c.args.rules.now in
     let e = event_view c.args.event.now in
     let past = history rules records in
     let are : AreJudged rules (e ∷ past) = ((r, next.0), history-judged rules records) in
     let u2 = c.pair.new.self in
     let waiting = c.waiting.result.now in
-    let items = c.in_ok-ended.ended.items in
+    let items = c.args.effects.now.ended.items in
     untold-next rules e past are next.1 c.args.self.now (record u2 { candidates = c.add_waiting.new.candidates }) was
     (followed rules e past are c.args.self.now u2
     c.add.new.candidates c.add-2.new.candidates c.add_all.new.candidates c.add_of_links.new.candidates c.add_of_links-2.new.candidates c.add_waiting.new.candidates
@@ -34,14 +34,14 @@ returns c = λ records r next stands was.
     c.in_ok-add_all.ensures
     (λ j begun opens speaks n named. ap (λ xs. is_among xs n) c.deref.ensures.value ∙ c.in_ok-answered.ensures rules records stands.1.1.1.1.1.1.1.1.0 j begun opens speaks n named)
     (λ n. c.in_ok-add_of_links.ensures n
-    ∙ (ap (λ links. has c.add_all.new.candidates n || list_any (λ l. is_member nat_eq u2.carried (link_view l).number n) links) c.deref-2.ensures.value
+    ∙ (ap (λ links. has c.add_all.new.candidates n || list_any (λ l. is_member nat_eq u2.carried (link_view l).number n) links) c.ended-ended.ensures
     ∙ ap (λ b. has c.add_all.new.candidates n || b) (any-map link_view (λ l. is_member nat_eq u2.carried l.number n) items)))
     (λ n. c.in_ok-add_of_links-2.ensures n
-    ∙ (ap (λ links. has c.add_of_links.new.candidates n || list_any (λ l. is_member nat_eq c.on_link.result.now (link_view l).number n) links) c.deref-3.ensures.value
+    ∙ (ap (λ links. has c.add_of_links.new.candidates n || list_any (λ l. is_member nat_eq c.on_link.result.now (link_view l).number n) links) c.ended-ended.ensures
     ∙ ap (λ b. has c.add_of_links.new.candidates n || b) (any-map link_view (λ l. is_member nat_eq c.on_link.result.now l.number n) items)))
     (λ link n. ap (λ (groups : Groups ℕ). is_member nat_eq groups link n) c.on_link.ensures ∙ stands.1.1.1.1.1.1.1.1.1.0.awaits link n)
     (λ n. c.in_ok-add_waiting.ensures n
-    ∙ (ap (λ links. has c.add_of_links-2.new.candidates n || list_any (λ l. is_consumer (link_view l) && octets.is_member waiting (link_view l).address n) links) c.deref-4.ensures.value
+    ∙ (ap (λ links. has c.add_of_links-2.new.candidates n || list_any (λ l. is_consumer (link_view l) && octets.is_member waiting (link_view l).address n) links) c.ended-ended.ensures
     ∙ ap (λ b. has c.add_of_links-2.new.candidates n || b) (any-map link_view (λ l. is_consumer l && octets.is_member waiting l.address n) items)))
     (c.waiting.ensures rules past (records, refl) stands.1.1.1.1.0)
-    (c.in_ok-ended.ensures rules records r next.0 stands.1.1.0))
+    does.ended)

@@ -5,7 +5,7 @@ use Rattle.due_queues.specs.AddressCounts.{CountsMore, detached_all}
 use Rattle.due_queues.proofs.picks.Picks.detach.Given as goal
 
 abbrev pub invariant-loop-link : goal.invariant-loop-link
-invariant-loop-link l = (gone : List Link) × (l.initial.left.items ≡ l.left.items ++ gone) × CountsMore (detached_all (views gone)) l.fn.self.table l.self.table
+invariant-loop-link l = (gone : List Link) × (l.initial.left ≡ l.left ++ gone) × CountsMore (detached_all (views gone)) l.fn.self.table l.self.table
 
 abbrev pub decreases-loop-link : goal.decreases-loop-link
-decreases-loop-link l = length l.left.items
+decreases-loop-link l = length l.left

@@ -1,4 +1,4 @@
-use Rattle.std.proofs.Common.{◌∷◌, ◌++◌, List, subst}
+use Rattle.std.proofs.Common.{◌∷◌, ◌++◌, List, subst, sym}
 use Rattle.std.specs.List.{filter_map}
 use Rattle.flow_counts.specs.Picks.{AddressEvent}
 use Rattle.address_table.specs.Links.{IsCount}
@@ -6,9 +6,10 @@ use Rattle.trace_events.specs.Link.{own_link}
 use Rattle.trace_events.specs.History.{history}
 use Rattle.trace_events.proofs.Judged.{AreJudged, history-judged}
 use Rattle.trace_values.specs.View.{event_view}
+use Rattle.trace_values.specs.declared.event.Link.{Link}
 use Rattle.trace_duties.specs.Consumers.{attached_as, begun_by, address_events}
 use Rattle.state_outgoing.specs.SentTables.{sent_in}
-use Rattle.state_tables.specs.EndedLinks.{views}
+use Rattle.state_tables.specs.EndedLinks.{AreEnded, views}
 use Rattle.due_queues.specs.AddressCounts.{detached_all}
 use Rattle.due_queues.specs.Picks.{decided_link}
 use Rattle.due_queues.proofs.Begins.{are-few}
@@ -20,17 +21,17 @@ use Rattle.due_queues.proofs.SentKnown.{known-in}
 use Rattle.due_queues.proofs.picks.Picks.follow.Goals as goal
 
 pub returns : goal.returns
-returns c = λ rules records r next tables picks.
+returns c = λ rules records r next tables does picks.
     let e = event_view c.args.event.now in
     let past = history rules records in
     let were : AreJudged rules past = history-judged rules records in
     let are : AreJudged rules (e ∷ past) = ((r, next.0), were) in
-    let linked = tables.1.1.0 in
     let sent = tables.1.1.1.1.1.1.1.1.0 in
     let kept = sent_in c.args.before.now.sent.now in
     let known = known-in c.args.before.now.sent.now past sent in
-    let links = views c.in_ok-ended.ended.items in
-    let ended = c.in_ok-ended.ensures rules records r next.0 linked in
+    let Ended : List Link → Type 0 = λ links. AreEnded e past (views links) in
+    let links = views c.ended.result.now in
+    let ended = subst Ended (sym c.ended.ensures) does.ended in
     let decided = c.in_ok-decide.ensures rules records tables in
     let before : List AddressEvent = begun_by e ++ (attached_as (own_link e) ++ address_events past) in
     let attached = c.in_ok-attach.ensures (named-source rules e past are) (address_events past) picks in

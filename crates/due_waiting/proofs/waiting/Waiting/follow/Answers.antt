@@ -11,18 +11,17 @@ use Rattle.due_waiting.proofs.WaitingFollowed.{completed-wakes, have-waiting}
 use Rattle.due_waiting.proofs.waiting.Waiting.follow.Goals as goal
 
 pub returns : goal.returns
-returns c = λ records r next own tables has.
+returns c = λ records r next own tables does has.
     let rules = c.args.rules.now in
     let e = event_view c.args.event.now in
     let past = history rules records in
     let Ended : List Link → Type 0 = λ links. AreEnded e past (views links) in
-    let ends = c.in_ok-ended.ensures rules records r next.0 tables.1.1.0 in
-    let have = have-waiting rules e past ((r, next.0), history-judged rules records) next.1 (views c.deref.result.now) (subst Ended (sym c.deref.ensures.value) ends)
+    let have = have-waiting rules e past ((r, next.0), history-judged rules records) next.1 (views c.ended.result.now) (subst Ended (sym c.ended.ensures) does.ended)
     (stands c.args.self.now.links) (stands c.end.new.self) (stands c.open.new.self) (is_awake c.args.self.now.awake) (is_awake c.wake.new.self)
     (completed-wakes (is_awake c.wake.new.self) (e ∷ past) c.args.address.now (completed_by e) own c.in_ok-wake.ensures.completed) c.in_ok-wake.ensures.credited c.in_ok-wake.ensures.freed (λ l. c.in_ok-wake.ensures.granted rules past tables l) c.in_ok-wake.ensures.kept
     c.end.ensures c.in_ok-open.ensures.opened c.in_ok-open.ensures.stood (record { stands = has.stands; awake = has.awake }) in
     record {
-      picks = c.in_ok-follow.ensures rules records r next tables has.picks;
+      picks = c.in_ok-follow.ensures rules records r next tables does has.picks;
       queues = c.in_ok-follow-2.ensures records r next own has.queues;
       stands = have.stands;
       awake = have.awake;

@@ -14,9 +14,10 @@ returns g c = λ records r next stand.
     let lent = c.looked-looked.ensures.stand rules past stand.tables in
     let e = event_view c.args.event.now in
     let addressed = subst (IsAddressed e past) (sym c.octets-address.ensures) (c.completed_for-completed.ensures.addressed rules records r next lent.1.1.1.1.0) in
+    let does = c.in_ok-effects.ensures rules records r next lent in
     record {
       tables = longer rules records r (AreTables rules c.take_addressed.new.self) e next.0 (c.in_ok-take_addressed.ensures.stand records r next addressed stand.tables);
       counted = longer rules records r (λ (p : List Event). c.take_addressed.new.self.completed ≡ completed_by_all p) e next.0
           (c.in_ok-take_addressed.ensures.counted ∙ ap (completed_with e) stand.counted);
-      listed = longer rules records r (g.D.Dues.has_all c.follow.new.self rules) e next.0 (c.in_ok-follow.ensures records r next addressed lent stand.listed);
+      listed = longer rules records r (g.D.Dues.has_all c.follow.new.self rules) e next.0 (c.in_ok-follow.ensures records r next addressed lent does stand.listed);
     }

@@ -1,0 +1,47 @@
+//! What an event does, asked of the tables before they take it.
+
+ghost use Rattle.std.specs.Prelude.{◌≡◌, List, IfOk};
+ghost use Rattle.capture_form.specs.Rules.{RuleSet};
+ghost use Rattle.capture_form.specs.declared.records.Record.{Record};
+ghost use Rattle.trace_events.specs.History.{history};
+ghost use Rattle.trace_values.specs.View.{event_view};
+ghost use Rattle.state_tables.specs.Connections.{IsLawfulNext};
+ghost use Rattle.state_answers.specs.Tables.{TellsOf};
+ghost use Rattle.event_effects.specs.Effects.{AreEffects};
+
+use state_answers::LentTables;
+use std::alloc::{AllocError, Global};
+use trace_values::{Event, Link};
+
+/// What an event does to links.
+#[derive(Drop)]
+pub struct EventEffects<'t> {
+    ended: Vec<Link<'t>>,
+}
+
+impl<'t> EventEffects<'t> {
+    /// What this event does, which follows those of which the tables tell. It takes time and memory by what ends alone.
+    ///
+    /// # Errors
+    ///
+    /// Memory was refused.
+    #[inline(always)]
+    pub fn of(
+        alloc: Global,
+        event: &Event,
+        before: &LentTables<'t>,
+    ) -> Result<EventEffects<'t>, AllocError>
+        ensures { IfOk result (λ effects. (rules : RuleSet) (records : List Record) (r : Record) → IsLawfulNext rules records r (event_view event.now) →
+            TellsOf rules before.now (history rules records) → AreEffects (event_view event.now) (history rules records) effects) }
+    {
+        let ended = before.links.ended(alloc, event)?;
+        Ok(EventEffects { ended })
+    }
+
+    /// The links that live before the event and end with it.
+    pub fn ended(&self) -> &[Link<'t>]
+        ensures { result.now ≡ self.now.ended.items }
+    {
+        &self.ended
+    }
+}
