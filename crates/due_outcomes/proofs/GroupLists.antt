@@ -1,8 +1,8 @@
 -- The numbers of a group come in one after the other.
-use Rattle.std.proofs.Common.{◌≡◌, refl, sym, ap, ◌∙◌, ◌<◌, ◌≤◌, ◌+◌, ◌++◌, ℕ, Bool, true, false, ◌||◌, List, [], ◌∷◌, length, map, take, get_or, Option, nat_eq, arith, ◌==◌, eqb-true, eq-eqb}
+use Rattle.std.proofs.Common.{◌≡◌, refl, sym, ap, ◌∙◌, ◌<◌, ◌≤◌, ◌+◌, ℕ, Bool, true, false, ◌||◌, List, [], ◌∷◌, length, map, take, get_or, Option, nat_eq, ◌==◌, eqb-true, eq-eqb}
 use Rattle.std.specs.List.{list_any, slice_get}
 use Rattle.std.proofs.lemmas.List.{take_all}
-use Rattle.std.proofs.lemmas.List.Folds.{list_any_more, list_any-append}
+use Rattle.std.proofs.lemmas.List.Folds.{list_any_more}
 use Rattle.std.proofs.lemmas.Option.{slice_get-get_or}
 use Rattle.trace_events.specs.Words.{is_number}
 
@@ -51,22 +51,3 @@ one-more xs i n first now next lt was o at added =
 
 pub all-in : (xs : List ℕ) (i n : ℕ) (first now : Bool) → length xs ≤ i → now ≡ first || list_any (nat_eq n) (take i xs) → now ≡ first || list_any (nat_eq n) xs
 all-in xs i n first now le was = was ∙ ap (λ ys. first || list_any (nat_eq n) ys) (take_all i xs le)
-
--- ---- a set is taken apart, from the end
-
-shuffled : (before own left : Bool) → (before || own) || left ≡ before || (left || (own || false))
-shuffled true own left = refl
-shuffled false true true = refl
-shuffled false true false = refl
-shuffled false false true = refl
-shuffled false false false = refl
-
-pub one-taken : (xs left : List ℕ) (x n : ℕ) → xs ≡ left ++ x ∷ [] → (before now all : Bool) → now ≡ before || x == n → before || list_any (nat_eq n) xs ≡ all → now || list_any (nat_eq n) left ≡ all
-one-taken xs left x n is before now all more was =
-    ap (λ b. b || list_any (nat_eq n) left) (more ∙ ap (λ b. before || b) (sym (swapped n x)))
-    ∙ (shuffled before (nat_eq n x) (list_any (nat_eq n) left)
-    ∙ (sym (ap (λ b. before || b) (ap (list_any (nat_eq n)) is ∙ list_any-append (nat_eq n) left (x ∷ []))) ∙ was))
-
-pub none-to-take : (xs : List ℕ) (n : ℕ) → (0 < length xs → false ≡ true) → (now all : Bool) → now || list_any (nat_eq n) xs ≡ all → now ≡ all
-none-to-take [] n empty now all was = or_false now ∙ was
-none-to-take (x ∷ xs) n empty now all was = let never : false ≡ true = empty (omega arith) in absurd cc

@@ -8,6 +8,7 @@ mod LastVerdicts
 mod ProducerLinks
 mod Closings
 mod ParkedSteps
+mod SpokenCarried
 mod UntoldFollowed
 mod OutcomesDue
 mod OutcomeTables

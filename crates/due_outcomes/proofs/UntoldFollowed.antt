@@ -3,7 +3,6 @@ use Rattle.std.proofs.Common.{◌≡◌, ap, ◌∙◌, ℕ, Bool, true, false, 
 use Rattle.std.specs.Prelude.{Contains}
 use Rattle.std.specs.List.{list_any}
 use Rattle.number_groups.specs.Groups.{is_member}
-use Rattle.number_groups.specs.Numbers.{is_among}
 use Rattle.number_groups.specs.OctetGroups as octets
 use Rattle.number_groups.specs.declared.groups.Groups.{Groups}
 use Rattle.number_groups.specs.declared.octet_groups.OctetGroups.{OctetGroups}
@@ -31,13 +30,13 @@ use Rattle.due_outcomes.proofs.LostConsumers.{lost-link}
 use Rattle.due_outcomes.proofs.UnderKeys.{or-first, or-last}
 use Rattle.due_outcomes.proofs.UntoldSteps.{IsFollowed}
 
-module _ (rules : RuleSet) (e : Event) (past : List Event) (are : AreJudged rules (e ∷ past)) (u0 u2 : Untold) (c1 c3 c5 c6 c7 c8 : Ascending) (completed carried : Option ℕ) (spoken : List ℕ) (on_link : Groups ℕ) (waiting : OctetGroups) (ended : List Link)
+module _ (rules : RuleSet) (e : Event) (past : List Event) (are : AreJudged rules (e ∷ past)) (u0 u2 : Untold) (c1 c3 c5 c6 c7 c8 : Ascending) (completed carried : Option ℕ) (told : ℕ → Bool) (on_link : Groups ℕ) (waiting : OctetGroups) (ended : List Link)
     (add1 : (n : ℕ) → has c1 n ≡ (has u0.candidates n || is_number completed n)) (names1 : (n : ℕ) → is_number completed n ≡ is_some_and (completed_by e) (λ d. d.number == n))
     (begun2 : IfSome (outgoing_begun e) (λ j. (n : ℕ) → names n j.note ≡ true → has_multicast rules j.link.address ≡ false → IsOn u2.carried j n))
     (kept2 : KeepsOn u0.carried u2.carried) (same2 : u2.candidates ≡ c1)
     (add3 : (n : ℕ) → has c3 n ≡ (has u2.candidates n || is_number carried n)) (names3 : (n : ℕ) → is_number carried n ≡ is_some_and e.outgoing (λ j. names n j.note))
-    (add5 : (n : ℕ) → has c5 n ≡ (has c3 n || is_among spoken n))
-    (spoken5 : (j : Outgoing) → Contains (outgoing_deliveries past) j → is_left_unsettled past j ≡ true → is_some (answering j e) ≡ true → (n : ℕ) → names n j.note ≡ true → is_among spoken n ≡ true)
+    (add5 : (n : ℕ) → has c5 n ≡ (has c3 n || told n))
+    (spoken5 : (j : Outgoing) → Contains (outgoing_deliveries past) j → is_left_unsettled past j ≡ true → is_some (answering j e) ≡ true → (n : ℕ) → names n j.note ≡ true → told n ≡ true)
     (add6 : (n : ℕ) → has c6 n ≡ (has c5 n || list_any (λ l. is_member nat_eq u2.carried l.number n) ended))
     (add7 : (n : ℕ) → has c7 n ≡ (has c6 n || list_any (λ l. is_member nat_eq on_link l.number n) ended))
     (awaited7 : (link n : ℕ) → is_member nat_eq on_link link n ≡ awaits_at rules past link n)
@@ -58,7 +57,7 @@ module _ (rules : RuleSet) (e : Event) (past : List Event) (are : AreJudged rule
   from5 n is = from6 n (add6 n ∙ or-first (has c5 n) (list_any (λ l. is_member nat_eq u2.carried l.number n) ended) is)
 
   from3 : (n : ℕ) → has c3 n ≡ true → has c8 n ≡ true
-  from3 n is = from5 n (add5 n ∙ or-first (has c3 n) (is_among spoken n) is)
+  from3 n is = from5 n (add5 n ∙ or-first (has c3 n) (told n) is)
 
   from1 : (n : ℕ) → has c1 n ≡ true → has c8 n ≡ true
   from1 n is = from3 n (add3 n ∙ or-first (has u2.candidates n) (is_number carried n) (ap (λ c. has c n) same2 ∙ is))
@@ -78,7 +77,7 @@ module _ (rules : RuleSet) (e : Event) (past : List Event) (are : AreJudged rule
     kept = kept2;
     over = λ j n is lives ends. from6 n (add6 n ∙ or-last (has c5 n) (list_any (λ l. is_member nat_eq u2.carried l.number n) ended)
         (contained-any (λ (l : Link). is_member nat_eq u2.carried l.number n) ended j.link ((over j.link).1 (lives, ends)) is));
-    spoken = λ j begun opens speaks n named. from5 n (add5 n ∙ or-last (has c3 n) (is_among spoken n) (spoken5 j begun opens speaks n named));
+    spoken = λ j begun opens speaks n named. from5 n (add5 n ∙ or-last (has c3 n) (told n) (spoken5 j begun opens speaks n named));
     awaited = λ l n lives ends awaits. from7 n (add7 n ∙ or-last (has c6 n) (list_any (λ m. is_member nat_eq on_link m.number n) ended)
         (contained-any (λ (m : Link). is_member nat_eq on_link m.number n) ended l ((over l).1 (lives, ends)) (awaited7 l.number n ∙ awaits)));
     lost = λ d there so had none. let l = lost-link rules e past are (address_of d past) had none in

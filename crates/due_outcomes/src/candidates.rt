@@ -8,7 +8,7 @@ ghost use Rattle.number_groups.specs.Numbers.{is_among};
 ghost use Rattle.trace_events.specs.Words.{is_number};
 ghost use Rattle.trace_values.specs.View.{link_view};
 
-use number_groups::{Ascending, Groups, NumberSet};
+use number_groups::{Ascending, Groups};
 use std::alloc::AllocError;
 use trace_values::Link;
 
@@ -28,16 +28,6 @@ pub(crate) fn add_all(candidates: &mut Ascending, numbers: &[u64]) -> Result<(),
 {
     for number in numbers {
         candidates.insert(*number)?;
-    }
-    Ok(())
-}
-
-/// Those of the set do.
-pub(crate) fn add_set(candidates: &mut Ascending, mut numbers: NumberSet) -> Result<(), AllocError>
-    ensures { OnOk result ((n : ℕ) → has candidates.new n ≡ (has candidates.old n || is_among numbers n)) }
-{
-    while let Some(number) = numbers.pop() {
-        candidates.insert(number)?;
     }
     Ok(())
 }

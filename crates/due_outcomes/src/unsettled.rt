@@ -27,7 +27,7 @@ ghost use Rattle.due_outcomes.specs.Parked.{IsLeft, is_parked};
 ghost use Rattle.due_outcomes.specs.Settlings.{IsDueSettling, due_in, waits_in};
 ghost use Rattle.due_outcomes.specs.Unsettled.{HasUnsettled, IsParked};
 
-use crate::candidates::add_set;
+use crate::candidates::add_all;
 use crate::parked::Parked;
 use amqp_perf::{Disposition, Role};
 use event_effects::EventEffects;
@@ -41,7 +41,6 @@ use trace_values::{Event, Link, Outgoing};
 /// The deliveries to settle with their consumers, among those that are decided and still unsettled.
 #[derive(Drop)]
 pub struct Unsettled {
-    alloc: Global,
     candidates: Ascending,
     /// Those that wait until nothing more is to be told of what they carry.
     parked: Parked,
@@ -53,31 +52,24 @@ impl Unsettled {
         ensures { HasUnsettled result [] }
     {
         Unsettled {
-            alloc,
             candidates: Ascending::new(alloc),
             parked: Parked::new(alloc),
         }
     }
 
-    /// The event follows, with these effects; `before` are the tables without it. It takes the time of the unsettled deliveries
-    /// of which their consumer speaks with it, of the links that it ends, and of the deliveries that carry what it tells; where
-    /// a producer settles ids or its link ends, of all that are parked.
+    /// The event follows, with these effects. It takes the time of the unsettled deliveries of which their consumer speaks with
+    /// it, of the links that it ends, and of the deliveries that carry what it tells; where a producer settles ids or its link
+    /// ends, of all that are parked.
     ///
     /// # Errors
     ///
     /// Memory was refused; then the list may agree with no records any more.
-    pub fn follow(
-        &mut self,
-        event: &Event,
-        before: &LentTables<'_>,
-        effects: &EventEffects<'_>,
-    ) -> Result<(), AllocError>
+    pub fn follow(&mut self, event: &Event, effects: &EventEffects<'_>) -> Result<(), AllocError>
         ensures { OnOk result ((rules : RuleSet) (records : List Record) (r : Record) → IsLawfulNext rules records r (event_view event.now) →
-            TellsOf rules before.now (history rules records) → AreEffects (event_view event.now) (history rules records) effects.now →
+            AreEffects (event_view event.now) (history rules records) effects.now →
             HasUnsettled self.old (history rules records) → HasUnsettled self.new (event_view event.now ∷ history rules records)) }
     {
-        let spoken = before.sent.spoken_of(self.alloc, event)?;
-        add_set(&mut self.candidates, spoken)?;
+        add_all(&mut self.candidates, effects.spoken())?;
         self.release(event, effects.ended())?;
         Ok(())
     }

@@ -17,6 +17,8 @@ ghost use Rattle.trace_judge.specs.Told.{told_view};
 ghost use Rattle.trace_values.specs.View.{event_view, incoming_view, link_view, outgoing_view};
 ghost use Rattle.state_incoming.specs.EntryAnswers.{is_shut};
 ghost use Rattle.state_incoming.specs.HeldTables.{held_in};
+ghost use Rattle.state_outgoing.specs.SentAnswers.{carried};
+ghost use Rattle.state_outgoing.specs.SentTables.{sent_in};
 ghost use Rattle.state_tables.specs.Connections.{IsLawfulNext};
 ghost use Rattle.number_groups.specs.Ascending.{count_of, has};
 ghost use Rattle.state_answers.specs.Tables.{TellsOf};
@@ -24,7 +26,7 @@ ghost use Rattle.event_effects.specs.Effects.{AreEffects};
 ghost use Rattle.due_outcomes.specs.DueOutcomes.{IsDueOutcome};
 ghost use Rattle.due_outcomes.specs.Untold.{HasUntold, IsOn, KeepsOn};
 
-use crate::candidates::{add, add_all, add_of_links};
+use crate::candidates::{add, add_of_links};
 use crate::outcome::{DueOutcome, outcome_of};
 use capture_form::RuleSet;
 use event_effects::EventEffects;
@@ -32,6 +34,7 @@ use number_groups::{Ascending, Groups, OctetGroups};
 use pairing_cert::Note;
 use state_answers::LentTables;
 use state_incoming::HeldDelivery;
+use state_outgoing::SentDeliveries;
 use std::alloc::{AllocError, Global};
 use trace_judge::Outcomes;
 use trace_values::{Event, Link, Outgoing, has_multicast};
@@ -39,7 +42,6 @@ use trace_values::{Event, Link, Outgoing, has_multicast};
 /// The outcomes to tell.
 #[derive(Drop)]
 pub struct Untold {
-    alloc: Global,
     candidates: Ascending,
     /// Those of anycast that went to a consumer, by the number of the link that they went over.
     carried: Groups<u64>,
@@ -81,6 +83,31 @@ fn add_waiting(
 {
     for link in ended {
         add_left(candidates, groups, link)?;
+    }
+    Ok(())
+}
+
+/// The number of the delivery from a client that the one of this number carries.
+fn carried_by(sent: &SentDeliveries, number: u64) -> Option<u64>
+    ensures { result ≡ carried (sent_in sent.now number) }
+{
+    match sent.get(number)?.delivery().note {
+        Note::Pair(carried) => Some(carried),
+        Note::None | Note::Told(_) => None,
+    }
+}
+
+/// What the deliveries of these numbers carry becomes a candidate.
+fn add_carried(
+    candidates: &mut Ascending,
+    sent: &SentDeliveries,
+    numbers: &[u64],
+) -> Result<(), AllocError>
+    ensures { OnOk result ((n : ℕ) → has candidates.new n
+        ≡ (has candidates.old n || list_any (λ m. is_number (carried (sent_in sent.now m)) n) numbers.now)) }
+{
+    for number in numbers {
+        add(candidates, carried_by(sent, *number))?;
     }
     Ok(())
 }
@@ -127,7 +154,6 @@ impl Untold {
         ensures { (rules : RuleSet) → HasUntold rules result [] }
     {
         Untold {
-            alloc,
             candidates: Ascending::new(alloc),
             carried: Groups::new(alloc),
         }
@@ -154,8 +180,7 @@ impl Untold {
         add(&mut self.candidates, completed_number(event))?;
         self.pair(rules, event)?;
         add(&mut self.candidates, carried_number(event))?;
-        let answered = before.sent.answered(self.alloc, event)?;
-        add_all(&mut self.candidates, &answered)?;
+        add_carried(&mut self.candidates, before.sent, effects.spoken())?;
         let ended = effects.ended();
         add_of_links(&mut self.candidates, &self.carried, ended)?;
         add_of_links(&mut self.candidates, before.verdicts.on_link(), ended)?;

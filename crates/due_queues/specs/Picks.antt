@@ -1,17 +1,13 @@
 -- What is kept of the links of consumers for picks (own rules, after the message routing of the Qpid Dispatch Router).
-use Rattle.std.specs.Prelude.{◌≡◌, ℕ, Bool, true, ◌&&◌, List, [], ◌∷◌, ◌++◌, Option, Some, None, Contains, is_none, is_some, option_and_then, nat_eq, if◌then◌else◌}
-use Rattle.std.specs.List.{IsDistinct}
+use Rattle.std.specs.Prelude.{ℕ, Bool, ◌&&◌, List, [], ◌∷◌, ◌++◌, Option, Some, None, is_none, option_and_then, if◌then◌else◌}
 use Rattle.flow_counts.specs.Picks.{AddressEvent}
 use Rattle.address_table.specs.Links.{IsCount}
-use Rattle.address_table.specs.declared.table.Table.{Table}
-use Rattle.number_groups.specs.Numbers.{is_among}
-use Rattle.trace_events.specs.Event.{Event, Outgoing}
+use Rattle.trace_events.specs.Event.{Event}
 use Rattle.trace_events.specs.Link.{is_live}
-use Rattle.trace_events.specs.Outgoing.{answering, outgoing_deliveries}
 use Rattle.trace_events.specs.Work.{decides_now}
-use Rattle.state_outgoing.specs.Sent.{Sent, is_left_unsettled}
+use Rattle.state_outgoing.specs.Sent.{Sent}
 use Rattle.trace_duties.specs.Consumers.{address_events}
-use Rattle.due_queues.specs.AddressCounts.{CountsMore, decided_on}
+use Rattle.due_queues.specs.AddressCounts.{decided_on}
 use Rattle.due_queues.specs.declared.picks.Picks.{Picks}
 
 -- the table has counted what happened to the links of consumers
@@ -32,11 +28,3 @@ decided_link e past o = option_and_then (λ x. if decides e past x then Some x.d
 abbrev pub decided_among : Event → List Event → (ℕ → Option Sent) → List ℕ → List AddressEvent
 decided_among e past kept [] = []
 decided_among e past kept (n ∷ ns) = decided_on (decided_link e past (kept n)) ++ decided_among e past kept ns
-
--- the table has counted, once each, all that the event decides: those of some numbers, among which is each delivery that is left
--- unsettled and of which the event's consumer speaks
-pub record DecidesAll (e : Event) (past : List Event) (kept : ℕ → Option Sent) (earlier later : Table) : Type 0 where
-  pub listed : List ℕ
-  pub distinct : IsDistinct nat_eq listed
-  pub spoken : (j : Outgoing) → Contains (outgoing_deliveries past) j → is_left_unsettled past j ≡ true → is_some (answering j e) ≡ true → is_among listed j.number ≡ true
-  pub counted : CountsMore (decided_among e past kept listed) earlier later

@@ -1,6 +1,6 @@
 //! The consumer's link that a delivery of an address goes to.
 
-ghost use Rattle.std.specs.Prelude.{◌≡◌, ◌<◌, ◌^◌, ◌&&◌, ◌==◌, ◌∷◌, ◌++◌, ℕ, List, [], false, Some, IfSome, MatchOption, OnOk, is_some, option_map};
+ghost use Rattle.std.specs.Prelude.{◌≡◌, ◌<◌, ◌^◌, ◌&&◌, ◌==◌, ◌∷◌, ◌++◌, ℕ, List, [], false, Some, IfSome, MatchOption, OnOk, option_map};
 ghost use Rattle.std.specs.Str.{is_utf8};
 ghost use Rattle.flow_counts.specs.Picks.{AddressEvent};
 ghost use Rattle.capture_form.specs.Rules.{RuleSet};
@@ -22,7 +22,7 @@ ghost use Rattle.state_outgoing.specs.SentViews.{sent_view};
 ghost use Rattle.state_answers.specs.Tables.{TellsOf};
 ghost use Rattle.event_effects.specs.Effects.{AreEffects};
 ghost use Rattle.due_queues.specs.AddressCounts.{AreFew, CountsMore, HasNamedSource, decided_on, detached_all, named_source};
-ghost use Rattle.due_queues.specs.Picks.{ArePicks, DecidesAll, decided_link, decides};
+ghost use Rattle.due_queues.specs.Picks.{ArePicks, decided_among, decided_link, decides};
 
 use address_table::Table;
 use amqp_perf::{Address, Role};
@@ -38,7 +38,6 @@ use trace_values::{Event, Link, is_decisive};
 /// The links of consumers, as picks see them, moved forward by one event after the other.
 #[derive(Drop)]
 pub struct Picks {
-    alloc: Global,
     table: Table,
 }
 
@@ -122,7 +121,6 @@ impl Picks {
         ensures { ArePicks result [] }
     {
         Picks {
-            alloc,
             table: Table::new(alloc),
         }
     }
@@ -148,7 +146,7 @@ impl Picks {
     {
         self.attach(rules, event)?;
         self.begin(event);
-        self.decide(event, before)?;
+        self.decide(event, before, effects.spoken());
         self.detach(effects.ended());
         Ok(())
     }
@@ -210,16 +208,16 @@ impl Picks {
         }
     }
 
-    /// The deliveries that the event decides are decided.
-    fn decide(&mut self, event: &Event, before: &LentTables<'_>) -> Result<(), AllocError>
-        ensures { OnOk result ((rules : RuleSet) (records : List Record) → TellsOf rules before.now (history rules records) →
-            DecidesAll (event_view event.now) (history rules records) (sent_in before.now.sent.now) self.old.table self.new.table) }
+    /// Those of these deliveries that the event decides are decided.
+    fn decide(&mut self, event: &Event, before: &LentTables<'_>, spoken: &[u64])
+        ensures { (history : Events) → AreLinked before.now.links.now history →
+            CountsMore (decided_among (event_view event.now) history (sent_in before.now.sent.now) spoken.now) self.old.table self.new.table }
     {
-        let mut spoken = before.sent.spoken_of(self.alloc, event)?;
-        while let Some(number) = spoken.pop() {
-            self.decide_one(number, event, before);
+        let mut left = spoken;
+        while let Some((number, others)) = left.split_last() {
+            self.decide_one(*number, event, before);
+            left = others;
         }
-        Ok(())
     }
 
     /// The delivery of this number is decided, if the event decides it.

@@ -9,18 +9,21 @@ ghost use Rattle.state_tables.specs.Connections.{IsLawfulNext};
 ghost use Rattle.state_answers.specs.Tables.{TellsOf};
 ghost use Rattle.event_effects.specs.Effects.{AreEffects};
 
+use crate::listed::listed;
 use state_answers::LentTables;
 use std::alloc::{AllocError, Global};
 use trace_values::{Event, Link};
 
-/// What an event does to links.
+/// What an event does to links and deliveries.
 #[derive(Drop)]
 pub struct EventEffects<'t> {
     ended: Vec<Link<'t>>,
+    spoken: Vec<u64>,
 }
 
 impl<'t> EventEffects<'t> {
-    /// What this event does, which follows those of which the tables tell. It takes time and memory by what ends alone.
+    /// What this event does, which follows those of which the tables tell. It takes time and memory by what ends with it, and
+    /// by the unsettled deliveries of which a consumer speaks with it.
     ///
     /// # Errors
     ///
@@ -35,7 +38,9 @@ impl<'t> EventEffects<'t> {
             TellsOf rules before.now (history rules records) → AreEffects (event_view event.now) (history rules records) effects) }
     {
         let ended = before.links.ended(alloc, event)?;
-        Ok(EventEffects { ended })
+        let found = before.sent.spoken_of(alloc, event)?;
+        let spoken = listed(alloc, found)?;
+        Ok(EventEffects { ended, spoken })
     }
 
     /// The links that live before the event and end with it.
@@ -43,5 +48,12 @@ impl<'t> EventEffects<'t> {
         ensures { result.now ≡ self.now.ended.items }
     {
         &self.ended
+    }
+
+    /// The numbers of the unsettled deliveries of which the event's consumer speaks, each once.
+    pub fn spoken(&self) -> &[u64]
+        ensures { result.now ≡ self.now.spoken.items }
+    {
+        &self.spoken
     }
 }

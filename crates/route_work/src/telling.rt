@@ -63,7 +63,7 @@ impl Telling {
             HasTelling rules.now self.old (history rules.now records) → HasTelling rules.now self.new (event_view event.now ∷ history rules.now records)) }
     {
         self.untold.follow(rules, event, before, effects)?;
-        self.unsettled.follow(event, before, effects)?;
+        self.unsettled.follow(event, effects)?;
         Ok(())
     }
 

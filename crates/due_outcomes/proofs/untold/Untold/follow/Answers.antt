@@ -1,16 +1,19 @@
-use Rattle.std.proofs.Common.{refl, ap, ◌∙◌, ◌∷◌, ◌&&◌, ◌||◌, ℕ, nat_eq}
+use Rattle.std.proofs.Common.{refl, ap, ◌∙◌, ◌∷◌, ◌&&◌, ◌||◌, ℕ, Bool, List, nat_eq}
 use Rattle.std.specs.List.{list_any}
 use Rattle.number_groups.specs.Groups.{is_member}
-use Rattle.number_groups.specs.Numbers.{is_among}
 use Rattle.number_groups.specs.OctetGroups as octets
 use Rattle.number_groups.specs.declared.groups.Groups.{Groups}
 use Rattle.trace_events.specs.History.{history}
 use Rattle.trace_events.specs.Link.{is_consumer}
+use Rattle.trace_events.specs.Words.{is_number}
 use Rattle.trace_events.proofs.Judged.{AreJudged, history-judged}
 use Rattle.trace_values.specs.View.{event_view, link_view}
+use Rattle.state_outgoing.specs.SentAnswers.{carried}
+use Rattle.state_outgoing.specs.SentTables.{sent_in}
 use Rattle.state_tables.specs.EndedLinks.{views}
 use Rattle.number_groups.specs.Ascending.{has}
 use Rattle.due_outcomes.proofs.GroupLists.{any-map}
+use Rattle.due_outcomes.proofs.SpokenCarried.{spoken-carried}
 use Rattle.due_outcomes.proofs.UntoldFollowed.{followed}
 use Rattle.due_outcomes.proofs.UntoldSteps.{untold-next}
 use Rattle.due_outcomes.proofs.untold.Untold.follow.Goals as goal
@@ -24,18 +27,21 @@ returns c = λ records r next stands does was.
     let u2 = c.pair.new.self in
     let waiting = c.waiting.result.now in
     let items = c.args.effects.now.ended.items in
+    let sent = c.args.before.now.sent.now in
+    let spoken = c.args.effects.now.spoken.items in
+    let told : ℕ → Bool = λ n. list_any (λ m. is_number (carried (sent_in sent m)) n) spoken in
     untold-next rules e past are next.1 c.args.self.now (record u2 { candidates = c.add_waiting.new.candidates }) was
     (followed rules e past are c.args.self.now u2
-    c.add.new.candidates c.add-2.new.candidates c.add_all.new.candidates c.add_of_links.new.candidates c.add_of_links-2.new.candidates c.add_waiting.new.candidates
-    c.completed_number.result c.carried_number.result c.deref.result.now c.on_link.result.now waiting (views items)
+    c.add.new.candidates c.add-2.new.candidates c.add_carried.new.candidates c.add_of_links.new.candidates c.add_of_links-2.new.candidates c.add_waiting.new.candidates
+    c.completed_number.result c.carried_number.result told c.on_link.result.now waiting (views items)
     c.in_ok-add.ensures c.completed_number.ensures
     c.in_ok-pair.ensures.begun c.in_ok-pair.ensures.kept c.in_ok-pair.ensures.same
     c.in_ok-add-2.ensures c.carried_number.ensures
-    c.in_ok-add_all.ensures
-    (λ j begun opens speaks n named. ap (λ xs. is_among xs n) c.deref.ensures.value ∙ c.in_ok-answered.ensures rules records stands.1.1.1.1.1.1.1.1.0 j begun opens speaks n named)
+    (λ n. c.in_ok-add_carried.ensures n ∙ ap (λ (numbers : List ℕ). has c.add-2.new.candidates n || list_any (λ m. is_number (carried (sent_in sent m)) n) numbers) c.spoken.ensures)
+    (λ j begun opens speaks. spoken-carried rules past (history-judged rules records) sent stands.1.1.1.1.1.1.1.1.0 spoken j begun opens (does.spoken j begun opens speaks))
     (λ n. c.in_ok-add_of_links.ensures n
-    ∙ (ap (λ links. has c.add_all.new.candidates n || list_any (λ l. is_member nat_eq u2.carried (link_view l).number n) links) c.ended-ended.ensures
-    ∙ ap (λ b. has c.add_all.new.candidates n || b) (any-map link_view (λ l. is_member nat_eq u2.carried l.number n) items)))
+    ∙ (ap (λ links. has c.add_carried.new.candidates n || list_any (λ l. is_member nat_eq u2.carried (link_view l).number n) links) c.ended-ended.ensures
+    ∙ ap (λ b. has c.add_carried.new.candidates n || b) (any-map link_view (λ l. is_member nat_eq u2.carried l.number n) items)))
     (λ n. c.in_ok-add_of_links-2.ensures n
     ∙ (ap (λ links. has c.add_of_links.new.candidates n || list_any (λ l. is_member nat_eq c.on_link.result.now (link_view l).number n) links) c.ended-ended.ensures
     ∙ ap (λ b. has c.add_of_links.new.candidates n || b) (any-map link_view (λ l. is_member nat_eq c.on_link.result.now l.number n) items)))

@@ -1,4 +1,4 @@
-use Rattle.std.proofs.Common.{◌∷◌, ◌++◌, List, subst, sym}
+use Rattle.std.proofs.Common.{◌∷◌, ◌++◌, ℕ, List, subst, sym}
 use Rattle.std.specs.List.{filter_map}
 use Rattle.flow_counts.specs.Picks.{AddressEvent}
 use Rattle.address_table.specs.Links.{IsCount}
@@ -10,8 +10,8 @@ use Rattle.trace_values.specs.declared.event.Link.{Link}
 use Rattle.trace_duties.specs.Consumers.{attached_as, begun_by, address_events}
 use Rattle.state_outgoing.specs.SentTables.{sent_in}
 use Rattle.state_tables.specs.EndedLinks.{AreEnded, views}
-use Rattle.due_queues.specs.AddressCounts.{detached_all}
-use Rattle.due_queues.specs.Picks.{decided_link}
+use Rattle.due_queues.specs.AddressCounts.{CountsMore, detached_all}
+use Rattle.due_queues.specs.Picks.{decided_among, decided_link}
 use Rattle.due_queues.proofs.Begins.{are-few}
 use Rattle.due_queues.proofs.Sources.{named-source}
 use Rattle.due_queues.proofs.Counts.{counted-same}
@@ -32,13 +32,15 @@ returns c = λ rules records r next tables does picks.
     let Ended : List Link → Type 0 = λ links. AreEnded e past (views links) in
     let links = views c.ended.result.now in
     let ended = subst Ended (sym c.ended.ensures) does.ended in
-    let decided = c.in_ok-decide.ensures rules records tables in
+    let listed = c.args.effects.now.spoken.items in
+    let Decides : List ℕ → Type 0 = λ ns. CountsMore (decided_among e past kept ns) c.begin.new.self.table c.decide.new.self.table in
+    let decided = subst Decides c.spoken.ensures (c.decide.ensures past tables.1.1.0) in
     let before : List AddressEvent = begun_by e ++ (attached_as (own_link e) ++ address_events past) in
     let attached = c.in_ok-attach.ensures (named-source rules e past are) (address_events past) picks in
     let begun = c.begin.ensures.counted (attached_as (own_link e) ++ address_events past) (are-few rules e past are c.begin.ensures.number) attached in
-    let counted = c.detach.ensures _ (decided.counted before begun) in
-    let mapped = among-mapped e past kept decided.listed in
-    counted-same e past links (filter_map (λ n. decided_link e past (kept n)) decided.listed) (ended-same rules e past are links ended)
-    (λ n. as-many rules e past were kept known decided.listed decided.distinct decided.spoken n)
+    let counted = c.detach.ensures _ (decided before begun) in
+    let mapped = among-mapped e past kept listed in
+    counted-same e past links (filter_map (λ n. decided_link e past (kept n)) listed) (ended-same rules e past are links ended)
+    (λ n. as-many rules e past were kept known listed does.distinct does.spoken n)
     c.detach.new.self.table
     (subst (λ (events : List AddressEvent). IsCount c.detach.new.self.table (detached_all links ++ (events ++ before))) mapped counted)

@@ -1,0 +1,29 @@
+-- What a delivery to a client carries, of which its consumer speaks, is among what those carry of which one speaks.
+use Rattle.std.proofs.Common.{◌≡◌, ap, ◌∙◌, ℕ, true, List}
+use Rattle.std.specs.Prelude.{Contains}
+use Rattle.std.specs.List.{list_any}
+use Rattle.pairing_cert.specs.declared.note.Note.{Note}
+use Rattle.pairing_cert.specs.declared.note.Note.TheVariants as notes
+use Rattle.capture_form.specs.Rules.{RuleSet}
+use Rattle.number_groups.specs.Numbers.{is_among}
+use Rattle.trace_events.specs.Words.{is_number}
+use Rattle.trace_events.specs.Event.{Event, Outgoing}
+use Rattle.trace_events.specs.Outgoing.{names, noted_number, outgoing_deliveries}
+use Rattle.trace_events.proofs.Judged.{AreJudged}
+use Rattle.state_outgoing.specs.Sent.{is_left_unsettled}
+use Rattle.state_outgoing.specs.SentAnswers.{carried}
+use Rattle.state_outgoing.specs.SentTables.{IsTable, sent_in}
+use Rattle.state_outgoing.specs.declared.deliveries.SentDeliveries.{SentDeliveries}
+use Rattle.state_outgoing.proofs.SentKept.{contained-at, unfinished-entry, unsettled-unfinished}
+use Rattle.state_outgoing.proofs.VerdictsGiven.{any-at}
+
+named-number : (note : Note) (n : ℕ) → names n note ≡ true → is_number (noted_number note) n ≡ true
+named-number (notes.Pair m) n is = is
+named-number notes.None n is = absurd cc
+named-number (notes.Told why) n is = absurd cc
+
+pub spoken-carried : (rules : RuleSet) (past : List Event) → AreJudged rules past → (table : SentDeliveries) → IsTable table past → (spoken : List ℕ) (j : Outgoing) → Contains (outgoing_deliveries past) j
+    → is_left_unsettled past j ≡ true → is_among spoken j.number ≡ true → (n : ℕ) → names n j.note ≡ true → list_any (λ m. is_number (carried (sent_in table m)) n) spoken ≡ true
+spoken-carried rules past are table is_table spoken j has opens among n named =
+    let entry = unfinished-entry table past is_table j.number j (contained-at rules past are j has) (unsettled-unfinished past j opens) in
+    any-at (λ m. is_number (carried (sent_in table m)) n) j.number (ap (λ o. is_number (carried o) n) entry ∙ named-number j.note n named) spoken among
