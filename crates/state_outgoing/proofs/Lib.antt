@@ -23,7 +23,7 @@ mod SpokenNone
 mod SentFound
 mod SentTaken
 mod VerdictsGiven
-mod AnsweredCarried
+mod SpokenAmong
 mod SentExamples
 mod LetGoExamples
 mod LastExamples

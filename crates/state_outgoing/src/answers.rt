@@ -1,35 +1,28 @@
 //! What the table of deliveries to clients answers.
 
-ghost use Rattle.std.specs.Prelude.{◌≡◌, ℕ, Bool, List, [], Contains, IfOk, IfSome, Some, None, is_some, nat_eq, option_and_then, option_map, false, true};
-ghost use Rattle.std.specs.List.{list_any};
+ghost use Rattle.std.specs.Prelude.{◌≡◌, List, [], IfSome, Some, None, is_some, option_and_then, option_map, false};
 ghost use Rattle.capture_form.specs.Rules.{RuleSet};
 ghost use Rattle.capture_form.specs.declared.records.Record.{Record};
 ghost use Rattle.trace_clauses.specs.TransferClause as transfers;
-ghost use Rattle.number_groups.specs.Numbers.{is_among};
-ghost use Rattle.trace_events.specs.Words.{is_some_and};
 ghost use Rattle.trace_events.specs.Disposition.{terminal_state};
 ghost use Rattle.trace_events.specs.History.{history};
 ghost use Rattle.trace_events.specs.Incoming.{incoming_at};
-ghost use Rattle.trace_events.specs.Event as events;
 ghost use Rattle.trace_events.specs.Outgoing as law;
 ghost use Rattle.trace_events.specs.Settling as settling;
 ghost use Rattle.state_tables.specs.LetGo.{is_let_go};
-ghost use Rattle.state_outgoing.specs.Sent.{is_left_unsettled};
 ghost use Rattle.state_outgoing.specs.SentAnswers as entries;
 ghost use Rattle.state_outgoing.specs.SentAnswers.{AreClosings, Knows, KnowsOrBegins};
 ghost use Rattle.state_outgoing.specs.SentTables.{AreSent, IsTable, sent_in};
 ghost use Rattle.state_outgoing.specs.UnsettledCount as counts;
-ghost use Rattle.trace_values.specs.View.{decision_view, event_view, incoming_view, link_view, outgoing_view};
+ghost use Rattle.trace_values.specs.View.{decision_view, incoming_view, link_view, outgoing_view};
 
 use crate::closings::{Closings, Settleable};
 use crate::deliveries::SentDeliveries;
 use crate::earliest::least;
-use crate::listed::push_some;
-use number_groups::{IdOn, NumberSet};
+use number_groups::IdOn;
 use pairing_cert::Note;
-use std::alloc::{AllocError, Global};
 use trace_events::Session;
-use trace_values::{Decision, Event, Incoming, Link, Outgoing};
+use trace_values::{Decision, Incoming, Link, Outgoing};
 
 impl SentDeliveries {
     /// The delivery of a consumer's link whose last part isn't written yet.
@@ -116,33 +109,6 @@ impl SentDeliveries {
             closings,
         };
         self.given(least(self.of_id(), &at, &test))
-    }
-
-    /// The deliveries from clients that those carry of which the event's consumer speaks: all that may get their verdict with
-    /// it. It takes the time of those.
-    ///
-    /// # Errors
-    ///
-    /// Memory was refused.
-    pub fn answered(&self, alloc: Global, event: &Event) -> Result<Vec<u64>, AllocError>
-        ensures { IfOk result (λ numbers. (rules : RuleSet) (records : List Record) → IsTable self.now (history rules records) →
-            (j : events.Outgoing) → Contains (law.outgoing_deliveries (history rules records)) j → is_left_unsettled (history rules records) j ≡ true →
-            is_some (law.answering j (event_view event.now)) ≡ true → (n : ℕ) → law.names n j.note ≡ true → is_among numbers.items n ≡ true) }
-    {
-        let spoken = self.spoken_of(alloc, event)?;
-        self.all_carried(alloc, spoken)
-    }
-
-    /// The deliveries from clients that these carry.
-    fn all_carried(&self, alloc: Global, mut numbers: NumberSet) -> Result<Vec<u64>, AllocError>
-        ensures { IfOk result (λ carried. (test : ℕ → Bool) →
-            list_any test carried.items ≡ list_any (λ m. is_some_and (entries.carried (sent_in self.now m)) test) numbers) }
-    {
-        let mut carried = Vec::new(alloc);
-        while let Some(number) = numbers.pop() {
-            push_some(&mut carried, self.carried_by(Some(number)))?;
-        }
-        Ok(carried)
     }
 
     // What the entry of a number says, if there is one.

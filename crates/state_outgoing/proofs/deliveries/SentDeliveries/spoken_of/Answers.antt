@@ -3,7 +3,7 @@ use Rattle.number_groups.specs.Numbers.{is_among}
 use Rattle.trace_events.specs.History.{history}
 use Rattle.trace_events.proofs.Judged.{history-judged}
 use Rattle.trace_values.specs.View.{event_view}
-use Rattle.state_outgoing.proofs.AnsweredCarried.{speaks-among}
+use Rattle.state_outgoing.proofs.SpokenAmong.{speaks-among}
 use Rattle.state_outgoing.proofs.SpokenNone.{no-count, none-spoken}
 use Rattle.state_outgoing.proofs.deliveries.SentDeliveries.spoken_of.Goals as goal
 
