@@ -5,6 +5,7 @@ pub mod EndedConsumers
 pub mod SentKnown
 pub mod DecidedCounts
 pub mod Moves
+pub mod DetachedLinks
 pub mod Texts
 pub mod Eligible
 pub mod QueueLists

@@ -1,5 +1,6 @@
 -- What one event does to a table of the links of consumers (own rules, after the message routing of the Qpid Dispatch Router).
-use Rattle.std.specs.Prelude.{◌≡◌, ℕ, ◌<◌, ◌-◌, ◌^◌, true, List, [], ◌∷◌, ◌++◌, Option, Some, None, IfSome, filter, map}
+use Rattle.std.specs.Prelude.{◌≡◌, ℕ, Bool, ◌<◌, ◌-◌, ◌^◌, true, List, [], ◌∷◌, ◌++◌, Option, Some, None, IfSome, filter, map}
+use Rattle.std.specs.List.{list_any}
 use Rattle.amqp_perf.specs.Meaning.{AttachFields}
 use Rattle.flow_counts.specs.Picks.{AddressEvent, Detached, Decided, consumer, balanced_rank}
 use Rattle.address_table.specs.Links.{IsCount}
@@ -36,3 +37,9 @@ decided_on None = []
 -- consumers' links are detached
 abbrev pub detached_all : List Link → List AddressEvent
 detached_all ls = map (λ l. Detached l.number) (filter is_consumer ls)
+
+-- just these links are detached, in whatever order
+pub record DetachesAll (links : List Link) (earlier later : Table) : Type 0 where
+  pub detached : List Link
+  pub same : (test : Link → Bool) → list_any test detached ≡ list_any test links
+  pub counted : CountsMore (detached_all detached) earlier later

@@ -21,7 +21,7 @@ ghost use Rattle.state_outgoing.specs.SentTables.{sent_in};
 ghost use Rattle.state_outgoing.specs.SentViews.{sent_view};
 ghost use Rattle.state_answers.specs.Tables.{TellsOf};
 ghost use Rattle.event_effects.specs.Effects.{AreEffects};
-ghost use Rattle.due_queues.specs.AddressCounts.{AreFew, CountsMore, HasNamedSource, decided_on, detached_all, named_source};
+ghost use Rattle.due_queues.specs.AddressCounts.{AreFew, CountsMore, DetachesAll, HasNamedSource, decided_on, detached_all, named_source};
 ghost use Rattle.due_queues.specs.Picks.{ArePicks, decided_among, decided_link, decides};
 
 use address_table::Table;
@@ -239,14 +239,19 @@ impl Picks {
 
     /// The links of consumers that end are detached.
     fn detach(&mut self, ended: &[Link])
-        ensures { CountsMore (detached_all (views ended.now)) self.old.table self.new.table }
+        ensures { DetachesAll (views ended.now) self.old.table self.new.table }
     {
-        let mut left = ended;
-        while let Some((link, others)) = left.split_last() {
-            if link.is_consumer() {
-                self.table.detach(link.number);
-            }
-            left = others;
+        for link in ended {
+            self.detach_one(link);
+        }
+    }
+
+    /// The link is detached, if it is a consumer's.
+    fn detach_one(&mut self, link: &Link)
+        ensures { CountsMore (detached_all (link_view link.now ∷ [])) self.old.table self.new.table }
+    {
+        if link.is_consumer() {
+            self.table.detach(link.number);
         }
     }
 }

@@ -1,4 +1,4 @@
-use Rattle.std.proofs.Common.{◌∷◌, ◌++◌, ℕ, List, subst, sym}
+use Rattle.std.proofs.Common.{◌∷◌, ◌++◌, ℕ, List, subst, sym, ◌∙◌}
 use Rattle.std.specs.List.{filter_map}
 use Rattle.flow_counts.specs.Picks.{AddressEvent}
 use Rattle.address_table.specs.Links.{IsCount}
@@ -15,6 +15,7 @@ use Rattle.due_queues.specs.Picks.{decided_among, decided_link}
 use Rattle.due_queues.proofs.Begins.{are-few}
 use Rattle.due_queues.proofs.Sources.{named-source}
 use Rattle.due_queues.proofs.Counts.{counted-same}
+use Rattle.due_queues.proofs.DetachedLinks.{same-consumers}
 use Rattle.due_queues.proofs.EndedConsumers.{ended-same}
 use Rattle.due_queues.proofs.DecidedCounts.{among-mapped, as-many}
 use Rattle.due_queues.proofs.SentKnown.{known-in}
@@ -38,9 +39,10 @@ returns c = λ rules records r next tables does picks.
     let before : List AddressEvent = begun_by e ++ (attached_as (own_link e) ++ address_events past) in
     let attached = c.in_ok-attach.ensures (named-source rules e past are) (address_events past) picks in
     let begun = c.begin.ensures.counted (attached_as (own_link e) ++ address_events past) (are-few rules e past are c.begin.ensures.number) attached in
-    let counted = c.detach.ensures _ (decided before begun) in
+    let detached = c.detach.ensures in
+    let counted = detached.counted _ (decided before begun) in
     let mapped = among-mapped e past kept listed in
-    counted-same e past links (filter_map (λ n. decided_link e past (kept n)) listed) (ended-same rules e past are links ended)
+    counted-same e past detached.detached (filter_map (λ n. decided_link e past (kept n)) listed) (λ n. same-consumers detached.detached links detached.same n ∙ ended-same rules e past are links ended n)
     (λ n. as-many rules e past were kept known listed does.distinct does.spoken n)
     c.detach.new.self.table
-    (subst (λ (events : List AddressEvent). IsCount c.detach.new.self.table (detached_all links ++ (events ++ before))) mapped counted)
+    (subst (λ (events : List AddressEvent). IsCount c.detach.new.self.table (detached_all detached.detached ++ (events ++ before))) mapped counted)
