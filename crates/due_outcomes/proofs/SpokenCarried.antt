@@ -1,5 +1,5 @@
 -- What a delivery to a client carries, of which its consumer speaks, is among what those carry of which one speaks.
-use Rattle.std.proofs.Common.{◌≡◌, ap, ◌∙◌, ℕ, true, List}
+use Rattle.std.proofs.Common.{◌≡◌, refl, sym, ap, ◌∙◌, ℕ, Bool, true, false, ◌||◌, List, [], ◌∷◌, nat_eq, eqb-true}
 use Rattle.std.specs.Prelude.{Contains}
 use Rattle.std.specs.List.{list_any}
 use Rattle.pairing_cert.specs.declared.note.Note.{Note}
@@ -15,7 +15,15 @@ use Rattle.state_outgoing.specs.SentAnswers.{carried}
 use Rattle.state_outgoing.specs.SentTables.{IsTable, sent_in}
 use Rattle.state_outgoing.specs.declared.deliveries.SentDeliveries.{SentDeliveries}
 use Rattle.state_outgoing.proofs.SentKept.{contained-at, unfinished-entry, unsettled-unfinished}
-use Rattle.state_outgoing.proofs.VerdictsGiven.{any-at}
+use Rattle.due_outcomes.proofs.UnderKeys.{or-first, or-last}
+
+any-at : (test : ℕ → Bool) (k : ℕ) → test k ≡ true → (ms : List ℕ) → is_among ms k ≡ true → list_any test ms ≡ true
+any-at test k passes [] is = absurd cc
+any-at test k passes (m ∷ ms) is = by (nat_eq k m) refl (any-at test k passes ms) is
+  where
+    by : (b : Bool) → nat_eq k m ≡ b → (is_among ms k ≡ true → list_any test ms ≡ true) → b || is_among ms k ≡ true → test m || list_any test ms ≡ true
+    by true same later is = or-first (test m) (list_any test ms) (ap test (sym (eqb-true k m same)) ∙ passes)
+    by false other later is = or-last (test m) (list_any test ms) (later is)
 
 named-number : (note : Note) (n : ℕ) → names n note ≡ true → is_number (noted_number note) n ≡ true
 named-number (notes.Pair m) n is = is
