@@ -19,12 +19,12 @@ use Rattle.capture_form.specs.Rules.{RuleSet, RuleText, no_rules}
 use Rattle.trace_events.specs.Frame.{frame_read}
 use Rattle.trace_events.specs.Words.{is_some_and}
 use Rattle.trace_events.specs.Address.{has_consumer}
-use Rattle.trace_events.specs.Incoming.{incoming_at, message_address}
+use Rattle.trace_events.specs.Incoming.{incoming_at, message_address, aborts}
 use Rattle.trace_events.specs.History.{history, judge}
 use Rattle.trace_clauses.specs.Written.{spoken_octets}
 use Rattle.trace_clauses.proofs.Captures.{rule, unmarked}
 use Rattle.trace_clauses.proofs.Made.{from, from_with, to, join, consumer, terminus, bare, shows, carry, tell, gives, first, next, with_more, as_settled, disposes, accepted, released, detach_of, q, hi, pair, sent}
-use Rattle.state_incoming.specs.Held.{Held, held_at, gives_up, held_next, held_begun, begins_number, held_behind, stands_open, may_go, may_tell, comes_before}
+use Rattle.state_incoming.specs.Held.{Held, held_at, held_next, held_begun, begins_number, held_behind, stands_open, may_go, may_tell, comes_before}
 use Rattle.state_incoming.specs.HeldTouched.{is_touched, is_kept}
 use Rattle.state_incoming.specs.declared.held.Fate.{Fate}
 use Rattle.state_incoming.specs.declared.held.Fate.TheVariants.{Arriving, Waiting, Gone, Paired, Copied}
@@ -58,7 +58,7 @@ behind_in rules records r n =
 
 unfoldable gives_up_in : List RuleText → List Record → Record → ℕ → Bool
 unfolding frame_read whole_frame frame_at sized_frame headed_frame read digits spoken_octets frame_octets written
-gives_up_in rules records r n = let past = history (unmarked rules) records in is_some_and (incoming_at n past) (λ d. gives_up d (judge (unmarked rules) past r))
+gives_up_in rules records r n = let past = history (unmarked rules) records in is_some_and (incoming_at n past) (λ d. aborts d (judge (unmarked rules) past r))
 
 unfoldable begins_in : List RuleText → List Record → Record → ℕ → Bool
 unfolding frame_read whole_frame frame_at sized_frame headed_frame read digits spoken_octets frame_octets written
@@ -93,8 +93,8 @@ tells_released = tell 0 N (disposes Receiver 0 true released)
 abbrev aborting : TransferFields
 aborting = let fields = next false in record fields { aborted = Some true }
 
-abbrev aborts : Record
-aborts = from 0 (ATransfer aborting)
+abbrev gives_up : Record
+gives_up = from 0 (ATransfer aborting)
 
 -- a record that says nothing of deliveries
 abbrev gives_more : Record
@@ -142,7 +142,7 @@ paired_and_told : held_in [] (carried ++ (from 1 (ADisposition (disposes Receive
 unfolding held_in
 paired_and_told = refl
 
-given_up : held_in [] (begun ++ (aborts ∷ [])) 15 ≡ None
+given_up : held_in [] (begun ++ (gives_up ∷ [])) 15 ≡ None
 unfolding held_in
 given_up = refl
 
@@ -157,7 +157,7 @@ producer_left = refl
 
 -- ---- the event gives it up
 
-gives_it_up : gives_up_in [] begun aborts 15 ≡ true
+gives_it_up : gives_up_in [] begun gives_up 15 ≡ true
 unfolding gives_up_in
 gives_it_up = refl
 
@@ -165,7 +165,7 @@ goes_on : gives_up_in [] begun (from 0 (ATransfer (next true))) 15 ≡ false
 unfolding gives_up_in
 goes_on = refl
 
-gives_up_another : gives_up_in [] (sent ++ (from_with 0 (ATransfer (with_more (first 1))) hi ∷ [])) aborts 16 ≡ false
+gives_up_another : gives_up_in [] (sent ++ (from_with 0 (ATransfer (with_more (first 1))) hi ∷ [])) gives_up 16 ≡ false
 unfolding gives_up_in
 gives_up_another = refl
 
@@ -242,7 +242,7 @@ unfolding next_in
 stays_over = refl
 
 -- forgotten: given up, discarded, or gone and closed
-gives_up_now : next_in [] begun aborts true 15 ≡ None
+gives_up_now : next_in [] begun gives_up true 15 ≡ None
 unfolding next_in
 gives_up_now = refl
 

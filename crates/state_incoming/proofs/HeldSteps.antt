@@ -9,7 +9,7 @@ use Rattle.trace_events.specs.Said.{in_transfer}
 use Rattle.trace_events.specs.Link.{is_live, is_anonymous, link_at}
 use Rattle.trace_events.specs.Ends.{ends_link}
 use Rattle.trace_events.specs.Address.{has_consumer}
-use Rattle.trace_events.specs.Incoming.{address_of, message, message_address, payload, is_last_part, completed_by, completes, is_complete, is_aborted, completion, incoming_begun, incoming_at, is_settled, is_told}
+use Rattle.trace_events.specs.Incoming.{address_of, message, message_address, payload, is_last_part, completed_by, completes, is_complete, is_aborted, completion, incoming_begun, incoming_at, is_settled, is_told, aborts}
 use Rattle.trace_events.specs.Outgoing.{outgoing_begun, outgoing_deliveries, names, is_paired}
 use Rattle.trace_events.specs.Waiting.{is_of_multicast, always_had_consumer, is_unpaired, is_waiting, is_gone, is_undecided}
 use Rattle.trace_events.specs.Queue.{pairs}
@@ -33,7 +33,7 @@ use Rattle.trace_clauses.proofs.PartsGoOn.{MayGoOn, part-goes_on, unbegun-payloa
 use Rattle.trace_clauses.proofs.Undecided.{all_before}
 use Rattle.trace_clauses.proofs.WaitingQueue.{completed_once}
 use Rattle.state_addresses.specs.Addressed.{IsAddressed}
-use Rattle.state_incoming.specs.Held.{fate_of, fate_next, says_arriving, Held, held, is_held, held_at, gives_up, address_behind, moved, stays_with, stays, held_next, held_on, first_address, unbegun, held_behind, undecided_next}
+use Rattle.state_incoming.specs.Held.{fate_of, fate_next, says_arriving, Held, held, is_held, held_at, address_behind, moved, stays_with, stays, held_next, held_on, first_address, unbegun, held_behind, undecided_next}
 use Rattle.state_incoming.specs.declared.held.Fate.{Fate}
 use Rattle.state_incoming.specs.declared.held.Fate.TheVariants.{Arriving, Waiting, Gone, Paired, Copied}
 use Rattle.state_incoming.proofs.FateSteps.{fate_by, arriving-fate, unpaired-same, multicast-same, fate-moves}
@@ -103,7 +103,7 @@ stays_by up ended closed Waiting = true
 stays_by up ended closed Paired = true
 stays_by up ended closed Copied = true
 
-stays-is : (e : Event) (d : Incoming) (closed : Bool) (fate : Fate) → stays_with e d closed fate ≡ stays_by (gives_up d e) (ends_link d.link e) closed fate
+stays-is : (e : Event) (d : Incoming) (closed : Bool) (fate : Fate) → stays_with e d closed fate ≡ stays_by (aborts d e) (ends_link d.link e) closed fate
 stays-is e d closed Arriving = refl
 stays-is e d closed Gone = refl
 stays-is e d closed Waiting = refl
@@ -174,7 +174,7 @@ module _ (rules : RuleSet) (e : Event) (past : List Event) (to : List ℕ) (d : 
   held-stays was =
       ap (λ b. if is_complete d (e ∷ past) then not (is_gone rules d (e ∷ past) && is_closed (e ∷ past) d) else not (is_aborted d (e ∷ past)) && b) step.live
       ∙ (keep-bits (completes d e) (is_complete d past) (is_of_multicast rules d (e ∷ past)) (is_paired d (e ∷ past)) (always_had_consumer d (e ∷ past)) (is_closed (e ∷ past) d)
-      (gives_up d e) (is_aborted d past) (is_live past d.link) (ends_link d.link e) (not (is_gone rules d past && is_closed past d)) was
+      (aborts d e) (is_aborted d past) (is_live past d.link) (ends_link d.link e) (not (is_gone rules d past && is_closed past d)) was
       ∙ sym (stays-is e d (is_closed (e ∷ past) d) (fate_of rules d (e ∷ past))))
 
   gone_before : is_complete d past ≡ true → is_gone rules d past ≡ true → (is_paired d (e ∷ past) ≡ false) × (always_had_consumer d (e ∷ past) ≡ false)
@@ -204,7 +204,7 @@ module _ (rules : RuleSet) (e : Event) (past : List Event) (to : List ℕ) (d : 
   held-forgotten was =
       ap (λ b. if is_complete d (e ∷ past) then not (is_gone rules d (e ∷ past) && is_closed (e ∷ past) d) else not (is_aborted d (e ∷ past)) && b) step.live
       ∙ forget-bits (completes d e) (is_complete d past) (is_of_multicast rules d (e ∷ past)) (is_paired d past) (always_had_consumer d past) (is_closed past d)
-      (is_paired d (e ∷ past)) (always_had_consumer d (e ∷ past)) (is_closed (e ∷ past) d) (gives_up d e) (is_aborted d past) (is_live past d.link) (ends_link d.link e)
+      (is_paired d (e ∷ past)) (always_had_consumer d (e ∷ past)) (is_closed (e ∷ past) d) (aborts d e) (is_aborted d past) (is_live past d.link) (ends_link d.link e)
       step.once (λ completed. may-come (step.part completed)) (λ done gone. gone_before done (sym (ap (λ u. u && not (always_had_consumer d past)) same) ∙ gone)) closed_stays
       (ap (λ u. if is_complete d past then not ((u && not (always_had_consumer d past)) && is_closed past d) else not (is_aborted d past) && is_live past d.link) same ∙ was)
     where

@@ -7,10 +7,10 @@ use Rattle.trace_events.specs.Event.{Event, Incoming}
 use Rattle.trace_events.specs.Said.{in_spoken, in_transfer}
 use Rattle.trace_events.specs.Ends.{ends_link}
 use Rattle.trace_events.specs.Link.{is_anonymous}
-use Rattle.trace_events.specs.Incoming.{is_part, is_last_part, completes, settles_part, settles_id, part_payload}
+use Rattle.trace_events.specs.Incoming.{is_part, is_last_part, completes, settles_part, settles_id, part_payload, aborts}
 use Rattle.trace_events.specs.Work.{closes_incoming}
 use Rattle.trace_events.specs.Queue.{pairs}
-use Rattle.state_incoming.specs.Held.{Held, address_behind, gives_up, stays_with, stays, moved, closed_next, undecided_next, stands_open, fate_completed, fate_next, held_next, says_arriving, says_gone, says_waiting}
+use Rattle.state_incoming.specs.Held.{Held, address_behind, stays_with, stays, moved, closed_next, undecided_next, stands_open, fate_completed, fate_next, held_next, says_arriving, says_gone, says_waiting}
 use Rattle.state_incoming.specs.HeldTouched.{is_touched, is_kept}
 use Rattle.state_incoming.specs.declared.held.Fate.{Fate}
 use Rattle.state_incoming.specs.declared.held.Fate.TheVariants.{Arriving, Waiting, Gone, Paired, Copied}
@@ -38,7 +38,7 @@ record Apart (e : Event) (d : Incoming) (u : Bool) : Type 0 where
   pairs_it : pairs d e ≡ false
   shut : u && (settles_id d e || ends_link d.link e) ≡ false
   settles : settles_part d e ≡ false
-  gives : gives_up d e ≡ false
+  gives : aborts d e ≡ false
 
 apart : (e : Event) (d : Incoming) (u w : Bool) → is_part d e || is_number e.told d.number || pairs d e || u && (settles_id d e || ends_link d.link e) || w ≡ false → Apart e d u × (w ≡ false)
 apart e d u w is =
@@ -87,11 +87,11 @@ closed_same e d a false true is opens =
 closed_same e d a false false is opens = let never : false ≡ true = last_true (not a) false opens in absurd cc
 
 undecided_same : (e : Event) (d : Incoming) (f : Fate) (closed u : Bool) → Apart e d u → not u || stands_open f closed ≡ true
-    → not (ends_link d.link e) && not (gives_up d e) && u && stands_open f closed ≡ u
+    → not (ends_link d.link e) && not (aborts d e) && u && stands_open f closed ≡ u
 undecided_same e d f closed true is opens =
     let shut = or_none (settles_id d e) (ends_link d.link e) is.shut in
-    ap (λ b. not b && not (gives_up d e) && true && stands_open f closed) shut.1 ∙ (ap (λ b. not b && true && stands_open f closed) is.gives ∙ opens)
-undecided_same e d f closed false is opens = off (not (ends_link d.link e) && not (gives_up d e)) (stands_open f closed)
+    ap (λ b. not b && not (aborts d e) && true && stands_open f closed) shut.1 ∙ (ap (λ b. not b && true && stands_open f closed) is.gives ∙ opens)
+undecided_same e d f closed false is opens = off (not (ends_link d.link e) && not (aborts d e)) (stands_open f closed)
   where
     off : (b c : Bool) → b && false && c ≡ false
     off true c = refl

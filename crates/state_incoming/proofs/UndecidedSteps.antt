@@ -6,13 +6,13 @@ use Rattle.trace_events.specs.Event.{Event, Incoming}
 use Rattle.trace_events.specs.Ends.{ends_link}
 use Rattle.trace_events.specs.Link.{is_live}
 use Rattle.trace_events.specs.Address.{has_consumer}
-use Rattle.trace_events.specs.Incoming.{address_of, completes, is_complete, is_aborted, is_settled, is_told, settles_part, settles_id}
+use Rattle.trace_events.specs.Incoming.{address_of, completes, is_complete, is_aborted, is_settled, is_told, settles_part, settles_id, aborts}
 use Rattle.trace_events.specs.Outgoing.{is_paired}
 use Rattle.trace_events.specs.Queue.{pairs}
 use Rattle.trace_events.specs.Settling.{is_closed}
 use Rattle.trace_events.specs.Waiting.{is_of_multicast, always_had_consumer, is_waiting, is_undecided}
 use Rattle.trace_events.proofs.EveryStep.{is_paired-step}
-use Rattle.state_incoming.specs.Held.{fate_of, gives_up, says_arriving, undecided_next}
+use Rattle.state_incoming.specs.Held.{fate_of, says_arriving, undecided_next}
 use Rattle.state_incoming.proofs.FateSteps.{arriving-fate, waiting-fate, unpaired-same, multicast-same}
 
 -- k: the event completes it, b: it pairs it; c: it was complete, p: paired, a: its address always had a consumer; h: it has one
@@ -87,9 +87,9 @@ pub undecided-moves : (rules : RuleSet) (e : Event) (past : List Event) (d : Inc
     → is_undecided rules d (e ∷ past) ≡ undecided_next e d (fate_of rules d (e ∷ past)) (is_closed (e ∷ past) d) (is_undecided rules d past)
 undecided-moves rules e past d live once =
     let later = is_told d (e ∷ past) || is_settled d (e ∷ past) in
-    let on = not (ends_link d.link e) && not (gives_up d e) && is_undecided rules d past in
+    let on = not (ends_link d.link e) && not (aborts d e) && is_undecided rules d past in
     ap (λ b. b && not (is_aborted d (e ∷ past)) && (not (is_complete d (e ∷ past)) || is_waiting rules d (e ∷ past) || not (is_settled d (e ∷ past) || is_told d (e ∷ past)))) live
-    ∙ (undecided-bits (is_live past d.link) (ends_link d.link e) (gives_up d e) (is_aborted d past) (is_complete d past) (completes d e) (is_waiting rules d past) (is_waiting rules d (e ∷ past))
+    ∙ (undecided-bits (is_live past d.link) (ends_link d.link e) (aborts d e) (is_aborted d past) (is_complete d past) (completes d e) (is_waiting rules d past) (is_waiting rules d (e ∷ past))
     (is_settled d past) (is_told d past) (settles_part d e || settles_id d e) (is_number e.told d.number) once (waited rules e past d once)
     ∙ (ap (λ b. on && (not (is_complete d (e ∷ past)) || is_waiting rules d (e ∷ past) || not (later || not b))) (sym live)
     ∙ (ap (λ b. on && (b || is_waiting rules d (e ∷ past) || not (is_closed (e ∷ past) d))) (sym (arriving-fate rules d (e ∷ past)))

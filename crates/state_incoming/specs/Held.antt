@@ -1,17 +1,16 @@
 -- What the entry of a delivery from a client stands for, and what one event makes of it (own rules).
 use Rattle.std.specs.Prelude.{◌≡◌, ◌∷◌, ℕ, Bool, true, false, ◌&&◌, ◌||◌, not, List, [], ◌++◌, Option, Some, None, option_map, option_and_then, nat_lt, if◌then◌else◌, ◌==◌}
-use Rattle.amqp_perf.specs.Meaning.{flag}
 use Rattle.capture_form.specs.Rules.{RuleSet}
 use Rattle.capture_form.specs.declared.records.Record.{Record}
 use Rattle.trace_events.specs.Words.{is_some_and, where_passes}
 use Rattle.trace_events.specs.Event.{Event, Link, Incoming}
-use Rattle.trace_events.specs.Said.{in_spoken, in_transfer}
+use Rattle.trace_events.specs.Said.{in_spoken}
 use Rattle.trace_events.specs.Address.{has_multicast, has_consumer}
 use Rattle.trace_events.specs.History.{history}
 use Rattle.trace_events.specs.Link.{is_live, is_anonymous}
 use Rattle.trace_events.specs.Ends.{ends_link}
 use Rattle.trace_events.specs.Incoming as incoming
-use Rattle.trace_events.specs.Incoming.{address_of, is_part, part_payload, completes, is_complete, is_aborted, incoming_begun, incoming_at}
+use Rattle.trace_events.specs.Incoming.{address_of, is_part, part_payload, completes, is_complete, aborts, is_aborted, incoming_begun, incoming_at}
 use Rattle.trace_events.specs.Outgoing.{is_paired}
 use Rattle.trace_events.specs.Waiting.{is_of_multicast, always_had_consumer, is_gone, is_undecided}
 use Rattle.trace_events.specs.Queue.{pairs}
@@ -90,10 +89,6 @@ held_at rules n past = option_map (held rules past) (where_passes (is_held rules
 abbrev pub address_behind : Event → List ℕ → Held → List ℕ
 address_behind e to x = if is_anonymous x.delivery.link && (says_arriving x.fate && completes x.delivery e) then to else x.address
 
--- its producer gives it up (2.7.5)
-abbrev pub gives_up : Incoming → Event → Bool
-gives_up d e = is_part d e && is_some_and (in_transfer e) (λ fields. flag fields.aborted)
-
 -- one whose address is of multicast is copied; one of anycast waits where there is a consumer, and is gone where there is none
 abbrev pub fate_completed : RuleSet → List ℕ → Bool → Fate
 fate_completed rules address has = if has_multicast rules address then Copied else if has then Waiting else Gone
@@ -122,7 +117,7 @@ stands_open fate closed = says_arriving fate || says_waiting fate || not closed
 -- what has become of it, and whether nothing more is to be told of it, are those behind the event
 abbrev pub undecided_next : Event → Incoming → Fate → Bool → Bool → Bool
 undecided_next e d fate closed undecided =
-    not (ends_link d.link e) && not (gives_up d e) && undecided && stands_open fate closed
+    not (ends_link d.link e) && not (aborts d e) && undecided && stands_open fate closed
 
 abbrev pub moved : RuleSet → Event → List ℕ → Bool → Held → Held
 moved rules e to has x =
@@ -140,7 +135,7 @@ moved rules e to has x =
 
 -- whether it is kept behind the event, by what has become of it
 abbrev pub stays_with : Event → Incoming → Bool → Fate → Bool
-stays_with e d over Arriving = not (gives_up d e) && not (ends_link d.link e)
+stays_with e d over Arriving = not (aborts d e) && not (ends_link d.link e)
 stays_with e d over Gone = not over
 stays_with e d over Waiting = true
 stays_with e d over Paired = true

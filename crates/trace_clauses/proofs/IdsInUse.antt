@@ -12,13 +12,13 @@ use Rattle.trace_events.specs.Event.{Event, Link, Incoming}
 use Rattle.trace_events.specs.declared.session.Session.{Session}
 use Rattle.trace_events.specs.Said.{in_spoken, in_transfer}
 use Rattle.trace_events.specs.Link.{is_live}
-use Rattle.trace_events.specs.Incoming.{in_progress, part_payload, incoming_at, incoming_begun, incoming_deliveries, is_part, is_complete, is_aborted, is_settled, is_told}
+use Rattle.trace_events.specs.Incoming.{in_progress, part_payload, incoming_at, incoming_begun, incoming_deliveries, is_part, is_complete, is_aborted, is_settled, is_told, aborts}
 use Rattle.trace_events.specs.Waiting.{is_waiting, is_undecided, is_undecided_of}
 use Rattle.trace_events.specs.Fault.{is_id_in_use}
 use Rattle.trace_events.specs.Parts.{parts_on, parts_of, frees, freed_id, freed_ids, part_events, partial_of}
 use Rattle.trace_events.specs.History.{judge, history, new_incoming}
 use Rattle.trace_events.proofs.Along.{along}
-use Rattle.trace_events.proofs.IncomingSteps.{aborts, is_aborted-same, is_aborted-here}
+use Rattle.trace_events.proofs.IncomingSteps.{is_aborted-same, is_aborted-here}
 use Rattle.trace_clauses.proofs.Parts.{IsPart, record_part, each_such, holds_some, kept_still, progress_holds, IsKept, AreKept, kept_step, none_kept, AllOf, all_such, each_delivery}
 use Rattle.trace_clauses.proofs.PartsCounted.{equal_turned, IsOf, IsCounted, counted_step, link_is_of}
 use Rattle.trace_clauses.proofs.Undecided.{AreWhole, whole_step, part_whole, part_link, part_undecided}

@@ -4,10 +4,9 @@ use Rattle.std.specs.List.{cons_option}
 use Rattle.trace_events.specs.Words.{is_some_and, is_number, or_else, where_passes}
 use Rattle.trace_events.specs.Event.{Event, Link, Incoming, Outgoing}
 use Rattle.trace_events.specs.Link.{is_live}
-use Rattle.trace_events.specs.Incoming.{completes, is_complete, completion, is_aborted, incoming_begun, incoming_deliveries, incoming_at, settles_id, settles_part, is_settled, is_told}
+use Rattle.trace_events.specs.Incoming.{completes, is_complete, completion, is_aborted, incoming_begun, incoming_deliveries, incoming_at, settles_id, settles_part, is_settled, is_told, aborts}
 use Rattle.trace_events.specs.Outgoing.{is_sent, outgoing_begun, outgoing_deliveries, names, pairing, is_paired, is_named_on, deciding, first_deciding, decision, is_settled_by_consumer, is_settled_by_router}
 use Rattle.trace_events.specs.Queue.{pairs}
-use Rattle.trace_events.proofs.IncomingSteps.{aborts}
 use Rattle.trace_events.proofs.OutgoingSteps.{ends_delivery, names_on, settles_answering}
 
 -- the first that passes: the new one, or the first of before

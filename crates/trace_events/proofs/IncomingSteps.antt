@@ -7,15 +7,12 @@ use Rattle.trace_events.specs.Words.{is_some_and, is_number}
 use Rattle.trace_events.specs.Event.{Event, Link, Incoming}
 use Rattle.trace_events.specs.Link.{is_anonymous}
 use Rattle.trace_events.specs.Said.{in_spoken, in_transfer}
-use Rattle.trace_events.specs.Incoming.{goes_on, in_progress, is_part, part_payload, payload, completes, is_complete, message, message_address, address_of, completion, is_aborted, incoming_begun, incoming_deliveries, incoming_at, settles_id, settles_part, is_settled, is_told}
+use Rattle.trace_events.specs.Incoming.{goes_on, in_progress, is_part, part_payload, payload, completes, is_complete, message, message_address, address_of, completion, aborts, is_aborted, incoming_begun, incoming_deliveries, incoming_at, settles_id, settles_part, is_settled, is_told}
 use Rattle.trace_events.proofs.StepWords.{or-true}
 
--- the event is a part of a delivery of the link; it gives the delivery up
+-- the event is a part of a delivery of the link
 abbrev pub is_part_on : Link → Event → Bool
 is_part_on l e = is_some_and e.incoming (λ d. d.link.number == l.number)
-
-abbrev pub aborts : Incoming → Event → Bool
-aborts d e = is_part d e && is_some_and (in_transfer e) (λ fields. flag fields.aborted)
 
 pub aborts-is : (d : Incoming) (e : Event) (fields : TransferFields) → is_part d e ≡ true → in_transfer e ≡ Some fields → (b : Bool) → flag fields.aborted ≡ b → aborts d e ≡ b
 aborts-is d e fields part says b aborted = ap (λ b. b && is_some_and (in_transfer e) (λ fields. flag fields.aborted)) part ∙ (ap (λ o. is_some_and o (λ (fields : TransferFields). flag fields.aborted)) says ∙ aborted)

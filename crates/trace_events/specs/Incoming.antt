@@ -74,9 +74,13 @@ completion d past = option_map (λ e. e.number) (find (completes d) past)
 abbrev pub completed_before : Incoming → Incoming → List Event → Bool
 completed_before a b past = is_some_and (completion a past) (λ m. is_some_and (completion b past) (λ n. nat_lt m n))
 
--- its producer gave it up (2.7.5)
+-- with this event its producer gives it up (2.7.5)
+abbrev pub aborts : Incoming → Event → Bool
+aborts d e = is_part d e && is_some_and (in_transfer e) (λ fields. flag fields.aborted)
+
+-- it was given up
 abbrev pub is_aborted : Incoming → List Event → Bool
-is_aborted d past = list_any (λ e. is_part d e && is_some_and (in_transfer e) (λ fields. flag fields.aborted)) past
+is_aborted d past = list_any (aborts d) past
 
 -- ---- the deliveries of a capture
 
