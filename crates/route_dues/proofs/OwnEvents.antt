@@ -13,7 +13,7 @@ use Rattle.flow_counts.specs.Window as counts
 use Rattle.trace_events.specs.Words.{is_some_and, is_number}
 use Rattle.trace_events.specs.Event.{Event, Link, Incoming, Outgoing, is_on_session, is_on_link}
 use Rattle.trace_events.specs.declared.session.Session.{Session}
-use Rattle.trace_events.specs.Session.{own_session}
+use Rattle.trace_events.specs.Session.{own_session, sessions_begun}
 use Rattle.trace_events.specs.Link.{is_producer, is_consumer, links, link_at, own_link}
 use Rattle.trace_events.specs.Window.{session_window, window_event, window_events}
 use Rattle.trace_events.specs.Credit.{link_credit, given_credit, link_event, link_events}
@@ -25,7 +25,7 @@ use Rattle.trace_events.proofs.LinkNumbers.{links-found}
 use Rattle.trace_events.proofs.Links.{IsKnown}
 use Rattle.trace_clauses.proofs.WaitingQueue.{contains_none, contains_cases, in_filter}
 use Rattle.trace_duties.specs.Quiet.{lacks_window}
-use Rattle.route_dues.specs.Work.{sessions, to_consumers, from_producers, sendable, lacking, drainable, grantable, untold, unsettled}
+use Rattle.route_dues.specs.Work.{to_consumers, from_producers, sendable, lacking, drainable, grantable, untold, unsettled}
 use Rattle.route_dues.proofs.OwnCounts.{IsOurs, IsOurCredit, window-most, window-less, lacks, lacks-most, lacks-less, credit-most, credit-less, short-most, short-less}
 use Rattle.route_dues.proofs.Sums.{sum-most, sum-less, absent-most, absent-less, no_more}
 
@@ -59,43 +59,43 @@ on-known rules past are e m is known l there on =
 module _ (e : Event) (past : List Event) (own : IsOwn e) where
   -- ---- sessions
 
-  window-kept : (s : Session) → Contains (sessions past) s → session_window s (e ∷ past) ≤ session_window s past
+  window-kept : (s : Session) → Contains (sessions_begun past) s → session_window s (e ∷ past) ≤ session_window s past
   window-kept s there = window-most s.our_first_id s.their_window (window_event e.moment) (window_events s past) own.windows (is_on_session s e)
 
-  same_sendable : sendable (e ∷ past) ≡ sum_by (λ s. session_window s (e ∷ past)) (sessions past)
-  same_sendable = ap (λ o. sum_by (λ s. session_window s (e ∷ past)) (cons_option o (sessions past))) own.no_session
+  same_sendable : sendable (e ∷ past) ≡ sum_by (λ s. session_window s (e ∷ past)) (sessions_begun past)
+  same_sendable = ap (λ o. sum_by (λ s. session_window s (e ∷ past)) (cons_option o (sessions_begun past))) own.no_session
 
   pub sendable-most : sendable (e ∷ past) ≤ sendable past
   sendable-most =
       subst (λ n. n ≤ sendable past) (sym same_sendable)
-      (sum-most (λ s. session_window s (e ∷ past)) (λ s. session_window s past) (sessions past) window-kept)
+      (sum-most (λ s. session_window s (e ∷ past)) (λ s. session_window s past) (sessions_begun past) window-kept)
 
   -- a transfer takes one of its session's window
-  pub sendable-less : window_event e.moment ≡ Some windows.Sent → (s : Session) → Contains (sessions past) s → is_on_session s e ≡ true → 1 ≤ session_window s past
+  pub sendable-less : window_event e.moment ≡ Some windows.Sent → (s : Session) → Contains (sessions_begun past) s → is_on_session s e ≡ true → 1 ≤ session_window s past
       → sendable (e ∷ past) < sendable past
   sendable-less sends s there on has =
       subst (λ n. n < sendable past) (sym same_sendable)
-      (sum-less (λ s. session_window s (e ∷ past)) (λ s. session_window s past) (sessions past) window-kept s there
+      (sum-less (λ s. session_window s (e ∷ past)) (λ s. session_window s past) (sessions_begun past) window-kept s there
       (subst (λ o. counts.window s.our_first_id s.their_window (cons_option (if is_on_session s e then o else None) (window_events s past)) < session_window s past) (sym sends)
       (window-less s.our_first_id s.their_window (window_events s past) (is_on_session s e) on has)))
 
-  lacks-kept : (s : Session) → Contains (sessions past) s → cond (lacks_window (e ∷ past) s) 1 0 ≤ cond (lacks_window past s) 1 0
+  lacks-kept : (s : Session) → Contains (sessions_begun past) s → cond (lacks_window (e ∷ past) s) 1 0 ≤ cond (lacks_window past s) 1 0
   lacks-kept s there = lacks-most (window_event e.moment) (window_events s past) own.windows (is_on_session s e)
 
-  same_lacking : lacking (e ∷ past) ≡ count_by (lacks_window (e ∷ past)) (sessions past)
-  same_lacking = ap (λ o. count_by (lacks_window (e ∷ past)) (cons_option o (sessions past))) own.no_session
+  same_lacking : lacking (e ∷ past) ≡ count_by (lacks_window (e ∷ past)) (sessions_begun past)
+  same_lacking = ap (λ o. count_by (lacks_window (e ∷ past)) (cons_option o (sessions_begun past))) own.no_session
 
   pub lacking-most : lacking (e ∷ past) ≤ lacking past
   lacking-most =
       subst (λ n. n ≤ lacking past) (sym same_lacking)
-      (sum-most (λ s. cond (lacks_window (e ∷ past) s) 1 0) (λ s. cond (lacks_window past s) 1 0) (sessions past) lacks-kept)
+      (sum-most (λ s. cond (lacks_window (e ∷ past) s) 1 0) (λ s. cond (lacks_window past s) 1 0) (sessions_begun past) lacks-kept)
 
   -- a flow gives its session the window anew
-  pub lacking-less : window_event e.moment ≡ Some windows.OurFlow → (s : Session) → Contains (sessions past) s → is_on_session s e ≡ true → lacks_window past s ≡ true
+  pub lacking-less : window_event e.moment ≡ Some windows.OurFlow → (s : Session) → Contains (sessions_begun past) s → is_on_session s e ≡ true → lacks_window past s ≡ true
       → lacking (e ∷ past) < lacking past
   lacking-less flows s there on low =
       subst (λ n. n < lacking past) (sym same_lacking)
-      (sum-less (λ s. cond (lacks_window (e ∷ past) s) 1 0) (λ s. cond (lacks_window past s) 1 0) (sessions past) lacks-kept s there
+      (sum-less (λ s. cond (lacks_window (e ∷ past) s) 1 0) (λ s. cond (lacks_window past s) 1 0) (sessions_begun past) lacks-kept s there
       (subst (λ o. cond (lacks (cons_option (if is_on_session s e then o else None) (window_events s past))) 1 0 < cond (lacks_window past s) 1 0) (sym flows)
       (lacks-less (window_events s past) (is_on_session s e) on low)))
 

@@ -5,7 +5,7 @@ use Rattle.capture_form.specs.Rules.{RuleSet}
 use Rattle.trace_events.specs.Event.{Event, Link}
 use Rattle.trace_events.specs.declared.session.Session.{Session}
 use Rattle.trace_events.specs.Connection.{is_over}
-use Rattle.trace_events.specs.Session.{live_session, last_session}
+use Rattle.trace_events.specs.Session.{live_session, last_session, sessions_begun}
 use Rattle.trace_events.specs.Link.{links, session_link}
 use Rattle.trace_events.proofs.Along.{and_then_some}
 use Rattle.trace_events.proofs.Judged.{AreJudged}
@@ -15,7 +15,6 @@ use Rattle.trace_events.proofs.SessionNumbers.{last_session-known}
 use Rattle.trace_events.proofs.Sessions as known_sessions
 use Rattle.trace_clauses.proofs.Undecided.{link_of_session}
 use Rattle.trace_clauses.proofs.WaitingQueue.{find_has}
-use Rattle.route_dues.specs.Work.{sessions}
 
 last_of : (over : Bool) (last : Option Session) (s : Session) → (if over then None else last) ≡ Some s → last ≡ Some s
 last_of true last s is = absurd cc
@@ -25,8 +24,8 @@ module _ (rules : RuleSet) (past : List Event) (are : AreJudged rules past) wher
   pub session-known : (c channel : ℕ) (s : Session) → live_session c channel past ≡ Some s → known_sessions.IsKnown past s
   session-known c channel s is = last_session-known rules past are c channel s (last_of (is_over c past) (last_session c channel past) s is)
 
-  pub session-there : (c channel : ℕ) (s : Session) → live_session c channel past ≡ Some s → Contains (sessions past) s
-  session-there c channel s is = find_has (λ (t : Session). t.number == s.number) (sessions past) s (session-known c channel s is).at
+  pub session-there : (c channel : ℕ) (s : Session) → live_session c channel past ≡ Some s → Contains (sessions_begun past) s
+  session-there c channel s is = find_has (λ (t : Session). t.number == s.number) (sessions_begun past) s (session-known c channel s is).at
 
   pub link-known : (c channel : ℕ) (handle : Option ℕ) (l : Link) → option_and_then (λ s. option_and_then (λ h. session_link s h past) handle) (live_session c channel past) ≡ Some l
       → known_links.IsKnown past l

@@ -1,11 +1,10 @@
 -- What is left to be written while a step goes on, as a number (own rule): each frame that is due lessens it, so that a
 -- step ends.
-use Rattle.std.specs.Prelude.{ℕ, ◌+◌, ◌*◌, ◌-◌, not, List, filter, filter_map, count_by}
+use Rattle.std.specs.Prelude.{ℕ, ◌+◌, ◌*◌, ◌-◌, not, List, filter, count_by}
 use Rattle.std.specs.List.{sum_by}
 use Rattle.flow_counts.specs.declared.profile.TheConstants.{CAPACITY}
 use Rattle.trace_events.specs.Event.{Event, Link}
-use Rattle.trace_events.specs.declared.session.Session.{Session}
-use Rattle.trace_events.specs.Session.{own_session}
+use Rattle.trace_events.specs.Session.{sessions_begun}
 use Rattle.trace_events.specs.Link.{is_producer, is_consumer, links}
 use Rattle.trace_events.specs.Window.{session_window}
 use Rattle.trace_events.specs.Credit.{link_credit, given_credit}
@@ -15,9 +14,6 @@ use Rattle.trace_duties.specs.Quiet.{lacks_window}
 
 -- All sessions, links and deliveries are counted, also those that are over: what is left of them stays as it is.
 
-abbrev pub sessions : List Event → List Session
-sessions past = filter_map own_session past
-
 abbrev pub to_consumers : List Event → List Link
 to_consumers past = filter is_consumer (links past)
 
@@ -26,11 +22,11 @@ from_producers past = filter is_producer (links past)
 
 -- how many transfers may still go to clients, by the windows of their sessions
 abbrev pub sendable : List Event → ℕ
-sendable past = sum_by (λ s. session_window s past) (sessions past)
+sendable past = sum_by (λ s. session_window s past) (sessions_begun past)
 
 -- how many sessions are to be given their window anew
 abbrev pub lacking : List Event → ℕ
-lacking past = count_by (lacks_window past) (sessions past)
+lacking past = count_by (lacks_window past) (sessions_begun past)
 
 -- how much credit consumers have, which a drain answer uses up
 abbrev pub drainable : List Event → ℕ

@@ -1,19 +1,15 @@
 -- The sessions of a history by their numbers: those of the records that began them, each another's.
-use Rattle.std.proofs.Common.{◌≡◌, refl, sym, ap, subst, ◌∙◌, ℕ, ◌<◌, ◌≤◌, List, [], ◌∷◌, length, Option, Some, None, filter_map, find, if◌then◌else◌, ◌==◌, arith}
+use Rattle.std.proofs.Common.{◌≡◌, refl, sym, ap, subst, ◌∙◌, ℕ, ◌<◌, ◌≤◌, List, [], ◌∷◌, length, Option, Some, None, find, if◌then◌else◌, ◌==◌, arith}
 use Rattle.std.specs.List.{AllByRecursion, cons_option}
 use Rattle.std.proofs.lemmas.Bool.{eq-eqb, ne_eqb}
 use Rattle.capture_form.specs.Rules.{RuleSet}
 use Rattle.trace_events.specs.Event.{Event}
 use Rattle.trace_events.specs.declared.session.Session.{Session}
-use Rattle.trace_events.specs.Session.{own_session, session_at, last_session}
+use Rattle.trace_events.specs.Session.{own_session, sessions_begun, session_at, last_session}
 use Rattle.trace_events.proofs.Along.{if_some}
 use Rattle.trace_events.proofs.Judged.{AreJudged}
 use Rattle.trace_events.proofs.LinkLives.{judged-stands}
 use Rattle.trace_events.proofs.Sessions.{IsKnown, begun_number, event_known, known_still}
-
--- all sessions, the last begun first
-abbrev pub sessions_begun : List Event → List Session
-sessions_begun past = filter_map own_session past
 
 -- a session that an event begins has the number of events before it
 pub own_session-number : (rules : RuleSet) (e : Event) (past : List Event) (s : Session) → AreJudged rules (e ∷ past) → own_session e ≡ Some s → s.number ≡ length past

@@ -71,9 +71,13 @@ awaits_end c channel (e ∷ past) =
 abbrev pub own_session : Event → Option Session
 own_session e = if is_some (out_begin e) then e.session else None
 
--- the sessions that live, the last begun first
+-- all that have begun, the last first
+abbrev pub sessions_begun : List Event → List Session
+sessions_begun past = filter_map own_session past
+
+-- those that live
 abbrev pub live_sessions : List Event → List Session
-live_sessions past = filter (is_live_session past) (filter_map own_session past)
+live_sessions past = filter (is_live_session past) (sessions_begun past)
 
 -- since the channel's last Out begin a begin of the client stands there that was heard and had no fault
 abbrev pub has_unanswered_begin : ℕ → ℕ → List Event → Bool
@@ -92,7 +96,7 @@ owes_end c channel (e ∷ past) =
 
 -- the session that began in this record
 abbrev pub session_at : ℕ → List Event → Option Session
-session_at n past = find (λ s. s.number == n) (filter_map own_session past)
+session_at n past = find (λ s. s.number == n) (sessions_begun past)
 
 -- it is the live session of its channel
 abbrev pub IsLiveOn : Session → List Event → Type 0
