@@ -17,6 +17,7 @@ use Rattle.trace_events.specs.Outgoing.{in_progress}
 use Rattle.trace_events.specs.Window.{session_window}
 use Rattle.trace_events.proofs.Along.{and_first, and_last}
 use Rattle.trace_events.proofs.IncomingSteps.{completion-same, completion-here}
+use Rattle.trace_events.proofs.OutgoingSteps.{is_part_on}
 use Rattle.trace_events.proofs.Judged.{AreJudged, judged-number}
 use Rattle.trace_clauses.specs.Clauses.{first_broken}
 use Rattle.trace_clauses.proofs.UnsentCopies.{unsent_complete}
@@ -29,7 +30,7 @@ use Rattle.state_addresses.specs.declared.copies.Receiver.{Receiver}
 use Rattle.due_flows.specs.Standing.{grants_window}
 use Rattle.due_flows.proofs.DrainingLinks.{on-link}
 use Rattle.due_flows.proofs.PartsFollowed.{not-ended}
-use Rattle.due_flows.proofs.StandingParts.{is_part_of, window-before}
+use Rattle.due_flows.proofs.StandingParts.{window-before}
 use Rattle.due_copies.specs.Lists.{IsCompletion, IsIn, IsKept, IsKeptBut, IsOfBoth, Waits, copy_on, receives, stands, waits}
 use Rattle.due_copies.specs.declared.lists.Lists.{Lists}
 use Rattle.due_copies.specs.Copies.{IsUnsentOn}
@@ -171,7 +172,7 @@ module _ (rules : RuleSet) (e : Event) (past : List Event) (are : AreJudged rule
         idle : is_none (in_progress l (e ∷ past)) ≡ true
         idle = and_last (nat_lt 0 (link_credit l (e ∷ past)) && nat_lt 0 (session_window l.session (e ∷ past))) (is_none (in_progress l (e ∷ past))) takes
 
-        by-window : is_on_link l e ≡ false → is_part_of l e ≡ false → Waits new l.number
+        by-window : is_on_link l e ≡ false → is_part_on l e ≡ false → Waits new l.number
         by-window off apart =
             let credit = and_first (nat_lt 0 (link_credit l (e ∷ past))) (nat_lt 0 (session_window l.session (e ∷ past))) counts-now in
             let window = and_last (nat_lt 0 (link_credit l (e ∷ past))) (nat_lt 0 (session_window l.session (e ∷ past))) counts-now in
@@ -184,7 +185,7 @@ module _ (rules : RuleSet) (e : Event) (past : List Event) (are : AreJudged rule
               | inr had ↦ waits-on off (all-three (nat_lt 0 (link_credit l past)) (nat_lt 0 (session_window l.session past)) (is_none (in_progress l past)) credit_was had idle_was)
             ]
 
-        by-part : is_on_link l e ≡ false → (b : Bool) → is_part_of l e ≡ b → Waits new l.number
+        by-part : is_on_link l e ≡ false → (b : Bool) → is_part_on l e ≡ b → Waits new l.number
         by-part off true part = waits-later l.number (carrying l.number was_below.0 d.number part there₄)
         by-part off false apart = by-window off apart
 
@@ -192,7 +193,7 @@ module _ (rules : RuleSet) (e : Event) (past : List Event) (are : AreJudged rule
         by-link true on =
             waits-later l.number (own l.number was_below.0 d.number
             (ap (λ o. is_some_and o (λ (m : Link). m.number == l.number)) (on-link rules e past are l h.live on) ∙ eq-eqb l.number l.number refl) there₄)
-        by-link false off = by-part off (is_part_of l e) refl
+        by-link false off = by-part off (is_part_on l e) refl
 
     listed-by : (c : ℕ) → completion d (e ∷ past) ≡ Some c → (b : Bool) → completes d e ≡ b → copy_on new l.number c ≡ Some d.number
     listed-by c is true here = listed-now here c is

@@ -8,6 +8,7 @@ use Rattle.trace_events.specs.declared.session.Session.{Session}
 use Rattle.trace_events.specs.Ends.{ends_link}
 use Rattle.trace_events.specs.Link.{IsLiveLink, is_consumer, is_live, live_links, link_at}
 use Rattle.trace_events.specs.Outgoing.{in_progress}
+use Rattle.trace_events.proofs.OutgoingSteps.{is_part_on}
 use Rattle.trace_clauses.specs.Clauses.{first_broken}
 use Rattle.trace_events.proofs.Judged.{AreJudged}
 use Rattle.trace_clauses.proofs.LinkEnds.{is_live-next}
@@ -17,7 +18,7 @@ use Rattle.trace_duties.proofs.QuietLists.{all-each}
 use Rattle.state_addresses.specs.ConsumerLinks.{has_number}
 use Rattle.due_flows.specs.Standing.{IsGoing, IsStill, has_window, goes_on, grants_window}
 use Rattle.due_flows.proofs.LiveOnes.{link-found, link-lives, live_links-live}
-use Rattle.due_flows.proofs.StandingParts.{IsPartOn, is_part_of, going-before, window-before}
+use Rattle.due_flows.proofs.StandingParts.{IsPartOn, going-before, window-before}
 
 -- ---- links that an event ends
 
@@ -82,7 +83,7 @@ module _ (rules : RuleSet) (e : Event) (past : List Event) (are : AreJudged rule
         λ window. waited₃ l.number (ap (λ (m : Link). wait₂ m.number) (sym on.link) ∙ here.1),
       )
 
-  earlier : (l : Link) → IsGoing l (e ∷ past) → is_part_of l e ≡ false → IsGoing l past → (stand l.session.number l.number ≡ true) × (has_window l.session (e ∷ past) ≡ true → wait l.number ≡ true)
+  earlier : (l : Link) → IsGoing l (e ∷ past) → is_part_on l e ≡ false → IsGoing l past → (stand l.session.number l.number ≡ true) × (has_window l.session (e ∷ past) ≡ true → wait l.number ≡ true)
   earlier l now apart was =
       let h = has l was in
       let stands₂ = stood₂ l.session.number l.number apart (stood₁ l.session.number l.number (not-ended rules e past are ended all l was.live now.live) h.0) in (

@@ -12,6 +12,7 @@ use Rattle.trace_events.specs.Session.{IsLiveOn}
 use Rattle.trace_events.specs.Link.{own_link}
 use Rattle.trace_events.specs.Outgoing.{in_progress}
 use Rattle.trace_events.specs.Window.{window_event, window_events}
+use Rattle.trace_events.proofs.OutgoingSteps.{is_part_on}
 use Rattle.trace_clauses.specs.Clauses.{first_broken}
 use Rattle.trace_events.proofs.Along.{and_first}
 use Rattle.trace_events.proofs.Judged.{AreJudged}
@@ -53,11 +54,7 @@ module _ (rules : RuleSet) (e : Event) (past : List Event) (are : AreJudged rule
 
 -- ---- deliveries in progress
 
--- the event is a part of a delivery on the link
-abbrev pub is_part_of : Link → Event → Bool
-is_part_of l e = is_some_and e.outgoing (λ j. j.link.number == l.number)
-
--- and more follows
+-- the event is a part of a delivery on the link, and more follows
 pub record IsPartOn (e : Event) (l : Link) : Type 0 where
   pub delivery : Outgoing
   pub is : e.outgoing ≡ Some delivery
@@ -98,12 +95,12 @@ module _ (rules : RuleSet) (e : Event) (past : List Event) (are : AreJudged rule
   ]
 
   -- what is in progress was so before, or the event is a part of it
-  pub going-before : IsPartOn e l ⊎ ((is_part_of l e ≡ false) × IsGoing l past)
+  pub going-before : IsPartOn e l ⊎ ((is_part_on l e ≡ false) × IsGoing l past)
   going-before =
       let j = some-is (in_progress l (e ∷ past)) h.going in
-      by (is_part_of l e) refl j.0 j.1 j.1
+      by (is_part_on l e) refl j.0 j.1 j.1
     where
-      by : (b : Bool) → is_part_of l e ≡ b → (j : Outgoing) → in_progress l (e ∷ past) ≡ Some j → (if b then (if goes_on e then e.outgoing else None) else in_progress l past) ≡ Some j
-          → IsPartOn e l ⊎ ((is_part_of l e ≡ false) × IsGoing l past)
+      by : (b : Bool) → is_part_on l e ≡ b → (j : Outgoing) → in_progress l (e ∷ past) ≡ Some j → (if b then (if goes_on e then e.outgoing else None) else in_progress l past) ≡ Some j
+          → IsPartOn e l ⊎ ((is_part_on l e ≡ false) × IsGoing l past)
       by true on j going is = inl (going-part (goes_on e) refl j going is)
       by false apart j going is = inr (apart, earlier (ap is_some is))

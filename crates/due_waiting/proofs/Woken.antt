@@ -20,6 +20,7 @@ use Rattle.trace_events.specs.Queue.{stays}
 use Rattle.trace_events.specs.Waiting.{is_waiting, is_of_multicast, always_had_consumer}
 use Rattle.trace_events.proofs.Along.{and_first, and_last, some_passes}
 use Rattle.trace_events.proofs.IncomingSteps.{address_of-same}
+use Rattle.trace_events.proofs.OutgoingSteps.{is_part_on}
 use Rattle.trace_events.proofs.Judged.{AreJudged}
 use Rattle.trace_events.proofs.LinkNumbers.{own_link-number}
 use Rattle.trace_events.proofs.QueueSteps.{is_waiting-stays}
@@ -33,7 +34,7 @@ use Rattle.trace_clauses.proofs.Parts.{IsKept, holds_some}
 use Rattle.due_flows.specs.Standing.{goes_on, has_window, is_their_flow}
 use Rattle.due_flows.proofs.DrainingLinks.{event-link, link-unused, on-link}
 use Rattle.due_flows.proofs.LiveOnes.{link-before, link-found}
-use Rattle.due_flows.proofs.StandingParts.{is_part_of, window-before}
+use Rattle.due_flows.proofs.StandingParts.{window-before}
 use Rattle.due_waiting.specs.Waking.{MayBegin, IsCredited, IsFreed, IsGranted}
 
 same_some : {A : Type 0} (a b : A) → Some a ≡ Some b → a ≡ b
@@ -189,13 +190,13 @@ module _ (rules : RuleSet) (e : Event) (past : List Event) (are : AreJudged rule
 
     idle-before : IsFreed e l ⊎ (is_none (in_progress l past) ≡ true)
     idle-before =
-        by (is_part_of l e) refl (goes_on e) refl
+        by (is_part_on l e) refl (goes_on e) refl
         (and_last (nat_lt 0 (link_credit l (e ∷ past)) && nat_lt 0 (session_window l.session (e ∷ past))) (is_none (in_progress l (e ∷ past))) h.takes)
       where
-        part : is_part_of l e ≡ true → (j : Outgoing) × (e.outgoing ≡ Some j) × ((j.link.number == l.number) ≡ true)
+        part : is_part_on l e ≡ true → (j : Outgoing) × (e.outgoing ≡ Some j) × ((j.link.number == l.number) ≡ true)
         part on = some_passes (λ (j : Outgoing). j.link.number == l.number) e.outgoing on
 
-        by : (b : Bool) → is_part_of l e ≡ b → (m : Bool) → goes_on e ≡ m → is_none (if b then (if m then e.outgoing else None) else in_progress l past) ≡ true
+        by : (b : Bool) → is_part_on l e ≡ b → (m : Bool) → goes_on e ≡ m → is_none (if b then (if m then e.outgoing else None) else in_progress l past) ≡ true
             → IsFreed e l ⊎ (is_none (in_progress l past) ≡ true)
         by false apart m more idle = inr idle
         by true on true more idle = let never : false ≡ true = ap is_none (sym (part on).1) ∙ idle in absurd cc
