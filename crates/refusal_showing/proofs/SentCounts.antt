@@ -16,7 +16,6 @@ use Rattle.state_outgoing.specs.SentAnswers.{KnowsOrBegins}
 use Rattle.state_outgoing.specs.SentTables.{sent_count_in, sent_in}
 use Rattle.state_outgoing.specs.declared.deliveries.SentDeliveries.{SentDeliveries}
 use Rattle.state_outgoing.proofs.AnswersKnown.{told-entry}
-use Rattle.state_incoming.specs.HeldTables.{IsHistory}
 use Rattle.state_incoming.proofs.GroupAnswers.{judged-of}
 use Rattle.state_incoming.specs.declared.deliveries.Deliveries.{Deliveries}
 use Rattle.refusal_showing.specs.Contents.{TellOf}

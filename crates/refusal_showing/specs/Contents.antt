@@ -2,7 +2,8 @@
 use Rattle.std.specs.Prelude.{List}
 use Rattle.capture_form.specs.Rules.{RuleSet}
 use Rattle.trace_events.specs.Event.{Event}
-use Rattle.state_incoming.specs.HeldTables.{AreHeld, IsHistory}
+use Rattle.trace_events.specs.History.{IsHistory}
+use Rattle.state_incoming.specs.HeldTables.{AreHeld}
 use Rattle.state_incoming.specs.declared.deliveries.Deliveries.{Deliveries}
 use Rattle.state_outgoing.specs.SentTables.{AreSent}
 use Rattle.state_outgoing.specs.declared.deliveries.SentDeliveries.{SentDeliveries}

@@ -4,10 +4,10 @@ use Rattle.std.proofs.Common.{◌≡◌, ℕ, true, List, Option, Some, None, If
 use Rattle.pairing_cert.specs.declared.note.Note.{Note}
 use Rattle.capture_form.specs.Rules.{RuleSet}
 use Rattle.trace_events.specs.Event.{Event, Outgoing, Moment}
-use Rattle.trace_events.specs.History.{judge_unopened}
+use Rattle.trace_events.specs.History.{judge_unopened, IsHistory}
 use Rattle.trace_values.specs.Known.{CarriesKnown}
 use Rattle.state_incoming.specs.EntryAnswers.{has_number}
-use Rattle.state_incoming.specs.HeldTables.{IsHistory, IsTable}
+use Rattle.state_incoming.specs.HeldTables.{IsTable}
 use Rattle.state_incoming.specs.declared.deliveries.Deliveries.{Deliveries}
 use Rattle.state_answers.proofs.ToldKnown.{told-known}
 use Rattle.state_answers.proofs.OutgoingKnown.{BeginsOrGoesOn, outgoing-known}

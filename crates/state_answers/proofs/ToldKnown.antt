@@ -12,14 +12,14 @@ use Rattle.trace_events.specs.declared.session.Session.{Session}
 use Rattle.trace_events.specs.Incoming.{incoming_at, incoming_deliveries}
 use Rattle.trace_events.specs.Waiting.{is_undecided, is_undecided_of}
 use Rattle.trace_events.specs.Settling.{to_tell}
-use Rattle.trace_events.specs.History.{judge_unopened, placed, heard, faulted, told_by, told_part, told_by_role}
+use Rattle.trace_events.specs.History.{judge_unopened, placed, heard, faulted, told_by, told_part, told_by_role, IsHistory}
 use Rattle.trace_events.proofs.Along.{and_last}
 use Rattle.trace_events.proofs.Judged.{AreJudged}
 use Rattle.trace_clauses.proofs.IncomingProgress.{judged-kept}
 use Rattle.trace_clauses.proofs.Parts.{IsKept, each_delivery, found_holds}
 use Rattle.state_incoming.specs.EntryAnswers.{has_number}
 use Rattle.state_incoming.specs.Held.{held, is_held}
-use Rattle.state_incoming.specs.HeldTables.{IsHistory, IsTable}
+use Rattle.state_incoming.specs.HeldTables.{IsTable}
 use Rattle.state_incoming.specs.declared.deliveries.Deliveries.{Deliveries}
 use Rattle.state_incoming.proofs.GroupAnswers.{found-passes, judged-of}
 use Rattle.state_incoming.proofs.HeldAnswers.{undecided-kept}

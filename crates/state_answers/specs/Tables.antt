@@ -6,6 +6,7 @@ use Rattle.number_groups.specs.Groups.{is_member}
 use Rattle.trace_events.specs.Words.{is_some_and}
 use Rattle.trace_events.specs.Event.{Event}
 use Rattle.trace_events.specs.Incoming.{completed_by}
+use Rattle.trace_events.specs.History.{IsHistory}
 use Rattle.trace_clauses.specs.Clauses.{first_broken}
 use Rattle.state_tables.specs.Connections.{AreKept}
 use Rattle.state_tables.specs.Entries.{capped, entries_of_connections, entries_of_links}
@@ -16,7 +17,7 @@ use Rattle.state_addresses.specs.Consumers.{AreConsumers}
 use Rattle.state_addresses.specs.declared.consumers.Consumers.{Consumers}
 use Rattle.state_addresses.specs.ConsumerLinks.{AreConsumerLinks}
 use Rattle.state_addresses.specs.declared.consumer_links.ConsumerLinks.{ConsumerLinks}
-use Rattle.state_incoming.specs.HeldTables.{IsHistory, IsTable, count_of, held_in}
+use Rattle.state_incoming.specs.HeldTables.{IsTable, count_of, held_in}
 use Rattle.state_incoming.specs.LetGo.{is_spent}
 use Rattle.state_incoming.specs.declared.deliveries.Deliveries.{Deliveries}
 use Rattle.state_addresses.specs.Copies.{AreCopies}

@@ -7,6 +7,7 @@ use Rattle.trace_events.specs.Event.{Event, Incoming}
 use Rattle.trace_events.specs.declared.session.Session.{Session}
 use Rattle.trace_events.specs.Waiting.{is_undecided_of}
 use Rattle.trace_events.specs.Incoming.{address_of, incoming_at, incoming_deliveries}
+use Rattle.trace_events.specs.History.{IsHistory}
 use Rattle.trace_events.proofs.Along.{some_passes}
 use Rattle.trace_events.proofs.Judged.{AreJudged, history-judged}
 use Rattle.trace_clauses.proofs.IdsApart.{found_any, undecided_one}
@@ -14,7 +15,6 @@ use Rattle.trace_clauses.proofs.IncomingProgress.{judged-kept}
 use Rattle.trace_clauses.proofs.Parts.{AllOf, IsKept, each_delivery, found_holds}
 use Rattle.state_incoming.specs.Held.{Held, held, is_held, held_at}
 use Rattle.state_incoming.specs.Grouped.{is_for}
-use Rattle.state_incoming.specs.HeldTables.{IsHistory}
 use Rattle.state_incoming.proofs.HeldAnswers.{held-of, held-address}
 use Rattle.state_incoming.proofs.IncomingNumbers.{length-counted}
 use Rattle.state_incoming.proofs.OverKnown.{kept-law, kept-there}

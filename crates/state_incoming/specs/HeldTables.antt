@@ -2,10 +2,8 @@
 use Rattle.std.specs.Prelude.{◌≡◌, ◌⊎◌, ℕ, Bool, true, List, length, Option, None, option_and_then, option_map, is_some, nat_eq, slice_get, if◌then◌else◌, ◌==◌}
 use Rattle.indexmap.specs.IndexMap.{get, values}
 use Rattle.capture_form.specs.Rules.{RuleSet}
-use Rattle.capture_form.specs.declared.records.Record.{Record}
 use Rattle.trace_events.specs.Event.{Event, Link}
 use Rattle.trace_events.specs.Incoming.{incoming_begun}
-use Rattle.trace_events.specs.History.{history}
 use Rattle.state_tables.specs.LetGo.{is_let_go}
 use Rattle.state_incoming.specs.Grouped.{AreGrouped}
 use Rattle.state_incoming.specs.Held.{Held, held_at, held_on}
@@ -13,10 +11,6 @@ use Rattle.state_incoming.specs.HeldViews.{held_view}
 use Rattle.state_incoming.specs.LetGo.{IsOver}
 use Rattle.state_incoming.specs.Touched.{may_touch}
 use Rattle.state_incoming.specs.declared.deliveries.Deliveries.{Deliveries}
-
--- the events are those of some records
-abbrev pub IsHistory : RuleSet → List Event → Type 0
-IsHistory rules past = (records : List Record) × (past ≡ history rules records)
 
 -- what the table has of the delivery of this number
 abbrev pub held_in : Deliveries → ℕ → Option Held

@@ -7,11 +7,12 @@ ghost use Rattle.trace_events.specs.Event as law;
 ghost use Rattle.trace_events.specs.Fault as faults;
 ghost use Rattle.trace_events.specs.Incoming as received;
 ghost use Rattle.trace_events.specs.Link.{IsLiveLink};
+ghost use Rattle.trace_events.specs.History.{IsHistory};
 ghost use Rattle.trace_events.specs.Settling as settling;
 ghost use Rattle.trace_events.specs.Waiting as waiting;
 ghost use Rattle.trace_values.specs.View.{Events, incoming_view, link_view};
 ghost use Rattle.state_incoming.specs.EntryAnswers.{Knows};
-ghost use Rattle.state_incoming.specs.HeldTables.{AreHeld, IsHistory, IsTable, held_in};
+ghost use Rattle.state_incoming.specs.HeldTables.{AreHeld, IsTable, held_in};
 ghost use Rattle.state_incoming.specs.WaitingCount as counts;
 
 use crate::deliveries::Deliveries;

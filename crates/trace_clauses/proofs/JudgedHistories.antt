@@ -3,15 +3,12 @@ use Rattle.std.proofs.Common.{◌≡◌, refl, sym, ap, subst, ◌∙◌, List, 
 use Rattle.capture_form.specs.declared.records.Record.{Record}
 use Rattle.capture_form.specs.Rules.{RuleSet}
 use Rattle.trace_events.specs.Event.{Event}
-use Rattle.trace_events.specs.History.{judge, history}
+use Rattle.trace_events.specs.History.{judge, history, IsHistory}
 use Rattle.trace_events.proofs.Judged.{AreJudged}
 use Rattle.trace_clauses.specs.Clauses.{first_broken}
 use Rattle.trace_clauses.specs.Kept.{Keeps}
 use Rattle.trace_clauses.proofs.Lawful.{history-push}
 use Rattle.trace_clauses.proofs.Keeping.{lawful-keeps}
-
-abbrev pub IsHistory : RuleSet → List Event → Type 0
-IsHistory rules past = (records : List Record) × (past ≡ history rules records)
 
 pub judged-history : (rules : RuleSet) (past : List Event) → AreJudged rules past → IsHistory rules past
 judged-history rules [] are = ([], refl)

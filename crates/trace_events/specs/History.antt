@@ -1,5 +1,5 @@
 -- The events of a capture: each record in its place, by those before it.
-use Rattle.std.specs.Prelude.{ℕ, Bool, false, ◌&&◌, List, [], ◌∷◌, length, Option, Some, None, is_none, option_and_then, option_map, unwrap_or, if◌then◌else◌}
+use Rattle.std.specs.Prelude.{◌≡◌, ℕ, Bool, false, ◌&&◌, List, [], ◌∷◌, length, Option, Some, None, is_none, option_and_then, option_map, unwrap_or, if◌then◌else◌}
 use Rattle.amqp_perf.specs.declared.attach.Role.{Role}
 use Rattle.amqp_perf.specs.declared.attach.Role.TheVariants.{Sender, Receiver}
 use Rattle.amqp_perf.specs.Meaning.{Meaning, ATransfer, ADisposition, TransferFields, flag}
@@ -180,3 +180,7 @@ continued rules past (r ∷ rs) = continued rules (judge rules past r ∷ past) 
 -- the events of a capture's records, the newest first
 abbrev pub history : RuleSet → List Record → List Event
 history rules records = continued rules [] records
+
+-- the events are those of some records
+abbrev pub IsHistory : RuleSet → List Event → Type 0
+IsHistory rules past = (records : List Record) × (past ≡ history rules records)
