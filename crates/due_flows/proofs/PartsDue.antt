@@ -8,7 +8,7 @@ use Rattle.trace_events.specs.Link.{IsLiveLink, is_consumer, is_live, link_at}
 use Rattle.trace_events.specs.Incoming as incoming
 use Rattle.trace_events.specs.Incoming.{is_complete}
 use Rattle.trace_events.specs.Outgoing as outgoing
-use Rattle.trace_events.specs.Outgoing.{in_progress, noted}
+use Rattle.trace_events.specs.Outgoing.{in_progress, noted, outgoing_at}
 use Rattle.trace_events.specs.Waiting.{is_gone}
 use Rattle.trace_clauses.specs.Clauses.{first_broken}
 use Rattle.trace_clauses.specs.Kept.{AreFirst}
@@ -19,7 +19,7 @@ use Rattle.trace_clauses.proofs.OutgoingProgress.{judged-carrying, carrying-note
 use Rattle.state_tables.specs.LetGo.{names_let_go}
 use Rattle.state_addresses.specs.ConsumerLinks.{consumer_at, is_live_consumer}
 use Rattle.state_addresses.proofs.ConsumerLinkSteps.{consumer-lives}
-use Rattle.state_outgoing.specs.Sent.{Sent, outgoing_at}
+use Rattle.state_outgoing.specs.Sent.{Sent}
 use Rattle.state_incoming.specs.HeldTables.{AreOver}
 use Rattle.state_incoming.specs.declared.deliveries.Deliveries.{Deliveries}
 use Rattle.state_incoming.proofs.OverKnown.{carrier-kept}

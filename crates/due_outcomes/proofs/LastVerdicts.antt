@@ -15,7 +15,7 @@ use Rattle.trace_events.specs.Ends.{ends_link}
 use Rattle.trace_events.specs.Disposition.{is_decisive}
 use Rattle.trace_events.specs.Due.{is_due}
 use Rattle.trace_events.specs.Incoming.{completes}
-use Rattle.trace_events.specs.Outgoing.{answering, decision, is_on, is_part, names, outgoing_begun, outgoing_deliveries}
+use Rattle.trace_events.specs.Outgoing.{answering, decision, is_on, is_part, names, outgoing_begun, outgoing_deliveries, outgoing_at}
 use Rattle.trace_events.specs.Work.{comes_due}
 use Rattle.trace_events.proofs.Judged.{AreJudged}
 use Rattle.trace_events.proofs.LinkNumbers.{links-found}
@@ -25,7 +25,7 @@ use Rattle.trace_clauses.specs.Outcome.{is_sent_settled}
 use Rattle.trace_clauses.proofs.BegunDeliveries.{found-begun, kept-later}
 use Rattle.trace_clauses.proofs.ClausesMet.{lawful-past}
 use Rattle.trace_clauses.proofs.LinkEnds.{lives-live}
-use Rattle.trace_clauses.proofs.OutgoingProgress.{IsPartOf, outgoing_at, judged-carrying, judged-outgoing_part}
+use Rattle.trace_clauses.proofs.OutgoingProgress.{IsPartOf, judged-carrying, judged-outgoing_part}
 use Rattle.trace_clauses.proofs.Parts.{IsKept}
 use Rattle.trace_clauses.proofs.WaitingQueue.{find_has}
 use Rattle.trace_clauses.specs.CopyVerdict.{awaits_now, awaits_verdict, begun_verdict_by, copy_on, deciding_now, ends_settled, sent_verdict, verdict_by, verdict_on}

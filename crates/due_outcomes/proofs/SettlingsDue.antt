@@ -5,7 +5,7 @@ use Rattle.capture_form.specs.Rules.{RuleSet}
 use Rattle.trace_events.specs.Words.{is_some_and, where_passes}
 use Rattle.trace_events.specs.Event.{Event, Incoming, Outgoing}
 use Rattle.trace_events.specs.Disposition.{terminal_state}
-use Rattle.trace_events.specs.Outgoing.{decision, first_deciding, noted, noted_number, outgoing_deliveries}
+use Rattle.trace_events.specs.Outgoing.{decision, first_deciding, noted, noted_number, outgoing_deliveries, outgoing_at}
 use Rattle.trace_events.specs.Settling.{is_closed, is_to_settle}
 use Rattle.trace_events.specs.Work.{carries_closed, stands_unsettled}
 use Rattle.trace_events.proofs.Judged.{AreJudged}
@@ -18,7 +18,7 @@ use Rattle.state_incoming.specs.EntryAnswers.{is_shut}
 use Rattle.state_incoming.specs.HeldTables.{held_in}
 use Rattle.state_incoming.proofs.CarriedHeld.{IsCarried, carried-of, carried-shut}
 use Rattle.state_incoming.proofs.GroupAnswers.{judged-of}
-use Rattle.state_outgoing.specs.Sent.{Sent, sent, outgoing_at, is_left_unsettled, to_settle}
+use Rattle.state_outgoing.specs.Sent.{Sent, sent, is_left_unsettled, to_settle}
 use Rattle.state_outgoing.specs.SentAnswers.{carried, closes}
 use Rattle.state_outgoing.specs.SentTables.{sent_in}
 use Rattle.state_outgoing.proofs.SentKept.{contained-at, entry-law, unfinished-entry, unsettled-unfinished}

@@ -10,14 +10,14 @@ use Rattle.trace_events.specs.Words.{is_some_and}
 use Rattle.trace_events.specs.Event.{Event, Outgoing}
 use Rattle.trace_events.specs.Disposition.{is_decisive, terminal_state}
 use Rattle.trace_events.specs.Link.{is_live}
-use Rattle.trace_events.specs.Outgoing.{outgoing_deliveries, answering, decision}
+use Rattle.trace_events.specs.Outgoing.{outgoing_deliveries, outgoing_at, answering, decision}
 use Rattle.trace_events.specs.Work.{decides_now}
 use Rattle.trace_events.proofs.Judged.{AreJudged}
 use Rattle.trace_events.proofs.SettlingSteps.{is_decided-step}
 use Rattle.trace_clauses.proofs.WaitingQueue.{in_filter, filter_has}
 use Rattle.trace_duties.specs.Consumers.{decides_outgoing}
 use Rattle.trace_duties.proofs.ConsumersCounted.{decided_count}
-use Rattle.state_outgoing.specs.Sent.{Sent, sent, outgoing_at, is_left_unsettled}
+use Rattle.state_outgoing.specs.Sent.{Sent, sent, is_left_unsettled}
 use Rattle.state_outgoing.proofs.SentKept.{found-contained}
 use Rattle.due_queues.specs.AddressCounts.{decided_on}
 use Rattle.due_queues.specs.Picks.{decided_among, decided_link, decides}

@@ -6,11 +6,11 @@ use Rattle.trace_events.specs.Words.{is_some_and}
 use Rattle.trace_events.specs.Event.{Event, Outgoing}
 use Rattle.trace_events.specs.Disposition.{is_decisive, terminal_state}
 use Rattle.trace_events.specs.Link.{is_live}
-use Rattle.trace_events.specs.Outgoing.{answering, decision, is_settled_by_consumer, is_settled_by_router}
+use Rattle.trace_events.specs.Outgoing.{answering, decision, is_settled_by_consumer, is_settled_by_router, outgoing_at}
 use Rattle.trace_events.proofs.Judged.{AreJudged}
 use Rattle.state_tables.specs.LetGo.{names_let_go}
 use Rattle.state_outgoing.specs.LetGo.{is_finished, where_kept}
-use Rattle.state_outgoing.specs.Sent.{Sent, sent, sent_at, outgoing_at, is_left_unsettled}
+use Rattle.state_outgoing.specs.Sent.{Sent, sent, sent_at, is_left_unsettled}
 use Rattle.state_outgoing.specs.SentTables.{IsTable, sent_in}
 use Rattle.state_outgoing.specs.declared.deliveries.SentDeliveries.{SentDeliveries}
 use Rattle.state_outgoing.proofs.SentDecided.{judged-decided}

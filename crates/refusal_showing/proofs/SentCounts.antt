@@ -6,11 +6,11 @@ use Rattle.pairing_cert.specs.declared.note.Note.{Note}
 use Rattle.trace_events.specs.Words.{is_some_and}
 use Rattle.trace_events.specs.Event.{Event, Outgoing}
 use Rattle.trace_events.specs.Incoming.{part_payload}
-use Rattle.trace_events.specs.Outgoing.{outgoing_deliveries, payload}
+use Rattle.trace_events.specs.Outgoing.{outgoing_deliveries, outgoing_at, payload}
 use Rattle.trace_events.specs.Said.{out_spoken}
 use Rattle.trace_events.proofs.Judged.{AreBorn, AreJudged, IsBorn, history-judged, judged-born}
 use Rattle.trace_events.proofs.OutgoingSteps.{payload-same}
-use Rattle.state_outgoing.specs.Sent.{Sent, outgoing_at, sent, sent_at}
+use Rattle.state_outgoing.specs.Sent.{Sent, sent, sent_at}
 use Rattle.state_outgoing.specs.LetGo.{where_kept}
 use Rattle.state_outgoing.specs.SentAnswers.{KnowsOrBegins}
 use Rattle.state_outgoing.specs.SentTables.{sent_count_in, sent_in}

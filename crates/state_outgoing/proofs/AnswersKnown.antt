@@ -11,7 +11,7 @@ use Rattle.trace_events.specs.Event.{Event, Link, Incoming, Outgoing}
 use Rattle.trace_events.specs.Disposition.{terminal_state}
 use Rattle.trace_events.specs.Incoming.{incoming_at}
 use Rattle.trace_events.specs.Outgoing as law
-use Rattle.trace_events.specs.Outgoing.{first_deciding, noted, noted_number, pairing}
+use Rattle.trace_events.specs.Outgoing.{first_deciding, noted, noted_number, pairing, outgoing_at}
 use Rattle.trace_events.specs.Settling as settling
 use Rattle.trace_events.specs.Settling.{is_to_settle}
 use Rattle.trace_events.specs.Work.{carries_closed, stands_unsettled}
@@ -26,7 +26,7 @@ use Rattle.number_groups.specs.Ids.{same_id}
 use Rattle.state_outgoing.specs.Carriers.{carriers_in}
 use Rattle.state_outgoing.specs.LastBegun.{carrier_number, last_number}
 use Rattle.state_outgoing.specs.LetGo.{where_kept, kept_at, is_finished}
-use Rattle.state_outgoing.specs.Sent.{IsKnownTo, Sent, sent, outgoing_at, sent_at, is_left_unsettled}
+use Rattle.state_outgoing.specs.Sent.{IsKnownTo, Sent, sent, sent_at, is_left_unsettled}
 use Rattle.state_outgoing.specs.SentAnswers.{AreClosings, Knows, KnowsOrBegins, carried, closes, decided, delivery_in, is_settleable, says_sent, unsent}
 use Rattle.state_outgoing.specs.SentTables.{AreSent, IsTable, is_done_in, sent_in}
 use Rattle.state_outgoing.specs.declared.deliveries.SentDeliveries.{SentDeliveries}

@@ -8,13 +8,13 @@ use Rattle.pairing_cert.specs.declared.note.Note.TheVariants as notes
 use Rattle.capture_form.specs.Rules.{RuleSet}
 use Rattle.trace_events.specs.Words.{is_some_and}
 use Rattle.trace_events.specs.Event.{Event, Outgoing}
-use Rattle.trace_events.specs.Outgoing.{outgoing_begun, outgoing_deliveries, names}
+use Rattle.trace_events.specs.Outgoing.{outgoing_begun, outgoing_deliveries, outgoing_at, names}
 use Rattle.trace_events.proofs.Judged.{AreJudged}
 use Rattle.trace_clauses.proofs.WaitingQueue.{contains_cases, contains_first, contains_later, contains_none, filter_has, in_filter}
 use Rattle.state_tables.specs.LetGo.{is_let_go, names_let_go}
 use Rattle.state_outgoing.specs.LastBegun.{carrier, carrier_number, carrier_numbers, carriers, begins_carrier, carriers_next}
 use Rattle.state_outgoing.specs.LetGo.{where_kept, kept_at, is_done, is_finished}
-use Rattle.state_outgoing.specs.Sent.{Sent, sent, outgoing_at}
+use Rattle.state_outgoing.specs.Sent.{Sent, sent}
 use Rattle.state_outgoing.proofs.SentKept.{contained-at, stays-kept}
 use Rattle.state_outgoing.proofs.OutgoingNumbers.{begun-number, found-passes, found-entry}
 

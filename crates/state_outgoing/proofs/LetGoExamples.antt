@@ -14,13 +14,14 @@ use Rattle.capture_form.specs.declared.records.Record.{Record}
 use Rattle.capture_form.specs.Rules.{no_rules}
 use Rattle.trace_events.specs.Frame.{frame_read}
 use Rattle.trace_events.specs.Words.{is_some_and}
+use Rattle.trace_events.specs.Outgoing.{outgoing_at}
 use Rattle.trace_events.specs.History.{history}
 use Rattle.trace_clauses.specs.Written.{spoken_octets}
 use Rattle.trace_clauses.proofs.Made.{from, carry, gives, first, with_more, as_settled, disposes, detach_of, hi, q, consumer, sent, sent_by}
 use Rattle.state_tables.specs.LetGo.{is_let_go, names_let_go}
 use Rattle.state_outgoing.specs.LastBegun.{carriers, carrier_numbers}
 use Rattle.state_outgoing.specs.LetGo.{kept_at, is_finished, is_done}
-use Rattle.state_outgoing.specs.Sent.{outgoing_at, sent_at}
+use Rattle.state_outgoing.specs.Sent.{sent_at}
 
 unfoldable done_in : List Record → ℕ → Bool
 unfolding frame_read whole_frame frame_at sized_frame headed_frame read digits spoken_octets frame_octets written

@@ -7,10 +7,9 @@ use Rattle.std.proofs.lemmas.Map.Made.{length-from_same_keys}
 use Rattle.capture_form.specs.Rules.{RuleSet}
 use Rattle.trace_events.specs.Words.{is_some_and}
 use Rattle.trace_events.specs.Event.{Event, Outgoing}
-use Rattle.trace_events.specs.Outgoing.{outgoing_deliveries}
+use Rattle.trace_events.specs.Outgoing.{outgoing_deliveries, outgoing_at}
 use Rattle.trace_events.proofs.Judged.{AreJudged}
 use Rattle.trace_events.proofs.LinkNumbers.{same-sym}
-use Rattle.state_outgoing.specs.Sent.{outgoing_at}
 use Rattle.state_outgoing.proofs.GroupLists.{any-map}
 use Rattle.state_outgoing.proofs.OutgoingNumbers.{AreFalling, judged-falling}
 

@@ -4,11 +4,11 @@ use Rattle.std.specs.List.{cons_option}
 use Rattle.capture_form.specs.Rules.{RuleSet}
 use Rattle.trace_events.specs.Words.{is_some_and}
 use Rattle.trace_events.specs.Event.{Event, Outgoing}
-use Rattle.trace_events.specs.Outgoing.{outgoing_begun, outgoing_deliveries}
+use Rattle.trace_events.specs.Outgoing.{outgoing_begun, outgoing_deliveries, outgoing_at}
 use Rattle.trace_events.proofs.Judged.{AreJudged, judged-number}
 use Rattle.trace_events.proofs.Links.{passing}
 use Rattle.state_outgoing.specs.LetGo.{where_kept, kept_at}
-use Rattle.state_outgoing.specs.Sent.{Sent, sent, outgoing_at}
+use Rattle.state_outgoing.specs.Sent.{Sent, sent}
 
 -- ---- numbers that fall
 

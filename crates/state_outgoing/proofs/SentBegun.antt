@@ -12,7 +12,7 @@ use Rattle.trace_events.specs.Frame.{spoken_in}
 use Rattle.trace_events.specs.Event.{Event, Outgoing, Moment, Opened, In, Out, Lost, Broken}
 use Rattle.trace_events.specs.Link.{is_live}
 use Rattle.trace_events.specs.History.{placed, heard, faulted, moment_of, settled_by, settled_part, settled_by_role}
-use Rattle.trace_events.specs.Outgoing.{is_part, payload, outgoing_begun, outgoing_deliveries, answering, first_deciding, decision, noted, is_settled_by_consumer, is_settled_by_router}
+use Rattle.trace_events.specs.Outgoing.{is_part, payload, outgoing_begun, outgoing_deliveries, outgoing_at, answering, first_deciding, decision, noted, is_settled_by_consumer, is_settled_by_router}
 use Rattle.trace_events.specs.Outgoing as law
 use Rattle.trace_events.specs.Settling.{to_settle, is_closed, is_to_settle}
 use Rattle.trace_events.specs.Disposition.{terminal_state}
@@ -22,7 +22,7 @@ use Rattle.trace_events.proofs.OutgoingLinks.{answering-before, first_deciding-b
 use Rattle.trace_events.proofs.OutgoingSteps.{payload-same, is_sent-no_part, is_settled_by_consumer-unanswered, is_settled_by_router-same}
 use Rattle.trace_clauses.proofs.Parts.{AllOf, all_such, found_holds}
 use Rattle.trace_clauses.proofs.WaitingQueue.{all_contained, find_has, in_reverse}
-use Rattle.state_outgoing.specs.Sent.{sent, outgoing_at, unsent, begins_number}
+use Rattle.state_outgoing.specs.Sent.{sent, unsent, begins_number}
 use Rattle.state_outgoing.proofs.SentSteps.{made-same}
 
 -- ---- deliveries that have begun are of earlier numbers

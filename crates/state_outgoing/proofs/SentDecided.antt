@@ -6,11 +6,11 @@ use Rattle.trace_events.specs.Words.{is_some_and, is_number, or_else, where_pass
 use Rattle.trace_events.specs.Event.{Event, Outgoing}
 use Rattle.trace_events.specs.Link.{is_live}
 use Rattle.trace_events.specs.Disposition.{is_decisive, terminal_state}
-use Rattle.trace_events.specs.Outgoing.{outgoing_begun, answering, first_deciding, decision, is_settled_by_consumer, is_settled_by_router}
+use Rattle.trace_events.specs.Outgoing.{outgoing_begun, answering, first_deciding, decision, is_settled_by_consumer, is_settled_by_router, outgoing_at}
 use Rattle.trace_events.specs.Work.{decides_now}
 use Rattle.trace_events.proofs.Judged.{AreJudged}
 use Rattle.trace_events.proofs.SettlingSteps.{is_decided-step}
-use Rattle.state_outgoing.specs.Sent.{outgoing_at, begins_number}
+use Rattle.state_outgoing.specs.Sent.{begins_number}
 use Rattle.state_outgoing.proofs.SentBegun.{IsDecidedIn, judged-settled, at-number, own-number, begun-once, at-step, by_router-none}
 use Rattle.state_outgoing.proofs.SentSteps.{IsDecided}
 

@@ -4,10 +4,10 @@ use Rattle.std.specs.List.{cons_option}
 use Rattle.capture_form.specs.Rules.{RuleSet}
 use Rattle.trace_events.specs.Words.{is_some_and}
 use Rattle.trace_events.specs.Event.{Event, Outgoing}
-use Rattle.trace_events.specs.Outgoing.{outgoing_begun, outgoing_deliveries, is_settled_by_router}
+use Rattle.trace_events.specs.Outgoing.{outgoing_begun, outgoing_deliveries, outgoing_at, is_settled_by_router}
 use Rattle.trace_events.proofs.Judged.{AreJudged, judged-born, judged-number}
 use Rattle.trace_events.proofs.Links.{passing}
-use Rattle.state_outgoing.specs.Sent.{Sent, sent, outgoing_at, sent_at, sent_next, sent_begun, sent_behind, unsent}
+use Rattle.state_outgoing.specs.Sent.{Sent, sent, sent_at, sent_next, sent_begun, sent_behind, unsent}
 use Rattle.state_outgoing.proofs.SentSteps.{IsDecided, sent-moves}
 use Rattle.state_outgoing.proofs.SentLinks.{begun-live, begun-lives, begun-number, found-lives}
 use Rattle.state_outgoing.proofs.SentBegun.{found-below, at-number, by_consumer-none, by_router-none, unsent-before}

@@ -5,13 +5,13 @@ use Rattle.trace_events.specs.Event.{Event, Outgoing}
 use Rattle.trace_events.specs.History.{history}
 use Rattle.trace_events.specs.Disposition.{terminal_state}
 use Rattle.trace_events.specs.Outgoing as law
-use Rattle.trace_events.specs.Outgoing.{first_deciding}
+use Rattle.trace_events.specs.Outgoing.{first_deciding, outgoing_at}
 use Rattle.trace_events.specs.Settling.{is_to_settle}
 use Rattle.trace_events.specs.Work.{stands_unsettled, carries_closed}
 use Rattle.trace_events.proofs.Judged.{AreJudged, history-judged}
 use Rattle.trace_events.proofs.SettlingSteps.{is_to_settle-parts}
 use Rattle.state_outgoing.specs.LetGo.{is_done, is_finished}
-use Rattle.state_outgoing.specs.Sent.{Sent, sent, outgoing_at, sent_at, sent_next, sent_begun, to_settle, is_left_unsettled, IsEntry, Follows, Begins}
+use Rattle.state_outgoing.specs.Sent.{Sent, sent, sent_at, sent_next, sent_begun, to_settle, is_left_unsettled, IsEntry, Follows, Begins}
 use Rattle.state_outgoing.proofs.SentBegun.{begun-once}
 use Rattle.state_outgoing.proofs.SentFollowed.{sent-behind, sent-first}
 

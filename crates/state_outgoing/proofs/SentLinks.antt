@@ -12,7 +12,7 @@ use Rattle.trace_events.specs.Said.{as_attach, out_transfer}
 use Rattle.trace_events.specs.Link as all
 use Rattle.trace_events.specs.Link.{own_link, link_at, session_link, is_live, IsLiveLink}
 use Rattle.trace_events.specs.Ends.{ends_link}
-use Rattle.trace_events.specs.Outgoing.{in_progress, outgoing_begun, outgoing_deliveries}
+use Rattle.trace_events.specs.Outgoing.{in_progress, outgoing_begun, outgoing_deliveries, outgoing_at}
 use Rattle.trace_events.specs.History.{judge, judge_unopened, moment_of}
 use Rattle.trace_events.proofs.Along.{standing}
 use Rattle.trace_events.proofs.Elsewhere.{if-some}
@@ -27,7 +27,6 @@ use Rattle.trace_clauses.proofs.LinkEnds.{is_live-next}
 use Rattle.trace_clauses.proofs.LiveLinks.{placed-names}
 use Rattle.trace_clauses.proofs.OutgoingProgress.{IsPartOf, judged-outgoing_part}
 use Rattle.trace_clauses.proofs.Parts.{AllOf, all_such, found_holds}
-use Rattle.state_outgoing.specs.Sent.{outgoing_at}
 
 known : {A : Type 0} (P : A → Type 0) (o : Option A) (x : A) → o ≡ Some x → IfSome o P → P x
 known P o x is h = subst (λ (p : Option _). IfSome p P) is h

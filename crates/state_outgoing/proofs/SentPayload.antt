@@ -18,7 +18,7 @@ use Rattle.trace_events.specs.History.{history}
 use Rattle.trace_events.specs.Incoming as incoming
 use Rattle.trace_events.specs.Incoming.{is_complete}
 use Rattle.trace_events.specs.Outgoing as law
-use Rattle.trace_events.specs.Outgoing.{is_part, outgoing_begun, outgoing_deliveries, noted}
+use Rattle.trace_events.specs.Outgoing.{is_part, outgoing_begun, outgoing_deliveries, outgoing_at, noted}
 use Rattle.trace_events.proofs.Along.{and_last, some_such}
 use Rattle.trace_events.proofs.Fates.{complete-stays}
 use Rattle.trace_events.proofs.Judged.{AreJudged, IsTransfer, judged-born, judged-number, judged-transfer, history-judged}
@@ -33,7 +33,7 @@ use Rattle.trace_clauses.proofs.JudgedHistories.{judged-keeps}
 use Rattle.trace_clauses.proofs.OutgoingProgress.{IsPartOf, judged-outgoing_part, judged-carrying, noted_pair}
 use Rattle.trace_values.specs.Known.{IsCarriedBy}
 use Rattle.trace_clauses.proofs.SameNotes.{by_note}
-use Rattle.state_outgoing.specs.Sent.{Sent, sent, outgoing_at, sent_at, IsEntry, IsKnownTo}
+use Rattle.state_outgoing.specs.Sent.{Sent, sent, sent_at, IsEntry, IsKnownTo}
 use Rattle.state_outgoing.specs.Sent as kept
 use Rattle.state_outgoing.proofs.SentBegun.{at-number, found-below, payload-none}
 use Rattle.state_outgoing.proofs.SentKnown.{sent-of}

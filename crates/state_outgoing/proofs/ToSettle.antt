@@ -5,11 +5,11 @@ use Rattle.capture_form.specs.Rules.{RuleSet}
 use Rattle.trace_events.specs.declared.session.Session.{Session}
 use Rattle.trace_events.specs.Words.{is_some_and, is_number, or_else}
 use Rattle.trace_events.specs.Event.{Event, Outgoing}
-use Rattle.trace_events.specs.Outgoing.{outgoing_deliveries}
+use Rattle.trace_events.specs.Outgoing.{outgoing_deliveries, outgoing_at}
 use Rattle.trace_events.specs.Settling.{is_to_settle, to_settle}
 use Rattle.trace_events.proofs.Judged.{AreJudged}
 use Rattle.trace_events.proofs.Earliest.{earliest, find-reverse}
-use Rattle.state_outgoing.specs.Sent.{Sent, sent, outgoing_at, sent_at}
+use Rattle.state_outgoing.specs.Sent.{Sent, sent, sent_at}
 use Rattle.state_outgoing.specs.Earliest.{least}
 use Rattle.state_outgoing.proofs.LeastNumbers.{least-is, least-none}
 use Rattle.state_outgoing.proofs.OutgoingNumbers.{AreFalling, judged-falling}

@@ -6,9 +6,9 @@ use Rattle.number_groups.specs.Groups.{is_member, numbers}
 use Rattle.number_groups.specs.declared.groups.Groups.{Groups}
 use Rattle.trace_events.specs.Words.{is_some_and}
 use Rattle.trace_events.specs.Event.{Event, Link, Outgoing}
-use Rattle.trace_events.specs.Outgoing.{is_on}
+use Rattle.trace_events.specs.Outgoing.{is_on, outgoing_at}
 use Rattle.trace_events.proofs.Judged.{AreJudged}
-use Rattle.state_outgoing.specs.Sent.{Sent, sent, outgoing_at, is_left_unsettled}
+use Rattle.state_outgoing.specs.Sent.{Sent, sent, is_left_unsettled}
 use Rattle.state_outgoing.specs.SentGrouped.{is_of_link}
 use Rattle.state_outgoing.specs.SentTables.{IsTable, sent_in}
 use Rattle.state_outgoing.specs.UnsettledCount.{unsettled_count}

@@ -10,7 +10,7 @@ use Rattle.trace_events.specs.Event.{Event, Link, Incoming, Outgoing}
 use Rattle.trace_events.specs.Disposition.{terminal_state}
 use Rattle.trace_events.specs.Incoming.{incoming_at, incoming_deliveries}
 use Rattle.trace_events.specs.Link.{link_at, links}
-use Rattle.trace_events.specs.Outgoing.{outgoing_deliveries, decision, names}
+use Rattle.trace_events.specs.Outgoing.{outgoing_deliveries, outgoing_at, decision, names}
 use Rattle.trace_events.proofs.Judged.{AreJudged}
 use Rattle.trace_clauses.specs.Clauses.{first_broken}
 use Rattle.trace_clauses.specs.Outcome.{is_sent_settled}
@@ -19,7 +19,7 @@ use Rattle.trace_clauses.specs.CopyVerdict.{awaits_now, begun_verdict, copy_on, 
 use Rattle.trace_clauses.proofs.OneCopy.{awaits-many, fresh-copy, one-copy}
 use Rattle.state_outgoing.specs.Given.{gives}
 use Rattle.state_outgoing.specs.LetGo.{where_kept, kept_at, is_finished}
-use Rattle.state_outgoing.specs.Sent.{Sent, outgoing_at, sent, sent_at, sent_begun, sent_next, verdict_of, verdict_said}
+use Rattle.state_outgoing.specs.Sent.{Sent, sent, sent_at, sent_begun, sent_next, verdict_of, verdict_said}
 use Rattle.state_outgoing.specs.SentTouched.{touches}
 use Rattle.state_outgoing.proofs.OutgoingNumbers.{begun-number, found-at, found-passes}
 use Rattle.state_outgoing.proofs.SentBegun.{at-number, begun-once, found-own}

@@ -1,5 +1,5 @@
 -- What the entry of a delivery to a client stands for, and what one event makes of it (own rules).
-use Rattle.std.specs.Prelude.{◌≡◌, ◌⊎◌, ℕ, ◌+◌, ◌%◌, ◌^◌, Bool, false, ◌&&◌, ◌||◌, not, List, ◌∷◌, length, drop, Option, None, Some, is_none, is_some, option_and_then, option_map, unwrap_or, find, if◌then◌else◌, ◌==◌}
+use Rattle.std.specs.Prelude.{◌≡◌, ◌⊎◌, ℕ, ◌+◌, ◌%◌, ◌^◌, Bool, false, ◌&&◌, ◌||◌, not, List, ◌∷◌, length, drop, Option, None, Some, is_none, is_some, option_and_then, option_map, unwrap_or, if◌then◌else◌, ◌==◌}
 use Rattle.amqp_perf.specs.declared.descriptor.Outcome.{Outcome}
 use Rattle.amqp_perf.specs.declared.descriptor.Outcome.TheVariants.{Accepted}
 use Rattle.amqp_perf.specs.Nested.{StateFields}
@@ -13,7 +13,7 @@ use Rattle.trace_events.specs.History.{judge, history}
 use Rattle.trace_events.specs.Disposition.{is_decisive, terminal_state}
 use Rattle.trace_events.specs.Incoming.{part_payload}
 use Rattle.trace_events.specs.Outgoing as law
-use Rattle.trace_events.specs.Outgoing.{is_part, outgoing_begun, outgoing_deliveries, answering}
+use Rattle.trace_events.specs.Outgoing.{is_part, outgoing_begun, outgoing_at, answering}
 use Rattle.trace_events.specs.Work.{stands_unsettled, keeps_unsettled}
 use Rattle.trace_clauses.specs.TransferClause as clause
 
@@ -40,10 +40,7 @@ sent past j = record {
   is_unsettled = is_left_unsettled past j;
 }
 
--- the delivery to a client that began in this record
-abbrev pub outgoing_at : ℕ → List Event → Option Outgoing
-outgoing_at n past = find (λ j. j.number == n) (outgoing_deliveries past)
-
+-- what is kept of the delivery that began in this record
 abbrev pub sent_at : ℕ → List Event → Option Sent
 sent_at n past = option_map (sent past) (outgoing_at n past)
 

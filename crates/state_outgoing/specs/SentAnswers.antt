@@ -5,9 +5,9 @@ use Rattle.pairing_cert.specs.declared.note.Note.{Note}
 use Rattle.pairing_cert.specs.declared.note.Note.TheVariants as notes
 use Rattle.trace_events.specs.Words.{is_some_and, where_passes}
 use Rattle.trace_events.specs.Event.{Event, Outgoing}
-use Rattle.trace_events.specs.Outgoing.{noted_number}
+use Rattle.trace_events.specs.Outgoing.{noted_number, outgoing_at}
 use Rattle.trace_events.specs.Work.{carries_closed}
-use Rattle.state_outgoing.specs.Sent.{Sent, outgoing_at, to_settle}
+use Rattle.state_outgoing.specs.Sent.{Sent, to_settle}
 use Rattle.state_outgoing.specs.SentTables.{sent_in}
 use Rattle.state_outgoing.specs.declared.deliveries.SentDeliveries.{SentDeliveries}
 

@@ -9,7 +9,7 @@ use Rattle.trace_events.specs.Words.{or_else}
 use Rattle.trace_events.specs.Event.{Event, Link, Incoming, Outgoing}
 use Rattle.trace_events.specs.Link.{is_live, link_at}
 use Rattle.trace_events.specs.Incoming.{completes, is_complete, incoming_at}
-use Rattle.trace_events.specs.Outgoing.{outgoing_begun, outgoing_deliveries, names, is_named_on}
+use Rattle.trace_events.specs.Outgoing.{outgoing_begun, outgoing_deliveries, outgoing_at, names, is_named_on}
 use Rattle.trace_events.specs.Waiting.{is_of_multicast}
 use Rattle.trace_events.specs.Due.{is_due}
 use Rattle.trace_events.specs.Work.{comes_due}
@@ -19,7 +19,6 @@ use Rattle.trace_events.proofs.Along.{and_first, and_last}
 use Rattle.trace_events.proofs.Judged.{AreJudged}
 use Rattle.trace_clauses.proofs.BegunDeliveries.{IsBegun, begun-linked, found-begun, kept-later}
 use Rattle.trace_clauses.proofs.ClausesMet.{lawful-past}
-use Rattle.trace_clauses.proofs.OutgoingProgress.{outgoing_at}
 use Rattle.trace_clauses.proofs.Parts.{IsKept}
 use Rattle.trace_clauses.proofs.VerdictSteps.{not_named_before}
 use Rattle.trace_clauses.proofs.AwaitedSteps.{completed-uncopied, due-many}

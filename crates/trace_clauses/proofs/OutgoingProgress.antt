@@ -17,7 +17,7 @@ use Rattle.trace_events.specs.Link.{is_consumer, link_at}
 use Rattle.trace_events.specs.Incoming as incoming
 use Rattle.trace_events.specs.Incoming.{address_of, incoming_at, is_complete, part_payload}
 use Rattle.trace_events.specs.Outgoing as outgoing
-use Rattle.trace_events.specs.Outgoing.{in_progress, is_part, outgoing_begun, outgoing_deliveries, names, noted, is_paired}
+use Rattle.trace_events.specs.Outgoing.{in_progress, is_part, outgoing_begun, outgoing_deliveries, outgoing_at, names, noted, is_paired}
 use Rattle.trace_events.specs.Waiting.{is_gone}
 use Rattle.trace_events.specs.History.{judge, judge_unopened, moment_of, outgoing_by, outgoing_part, new_outgoing}
 use Rattle.trace_clauses.specs.TransferClause.{goes_on_with, is_same_note}
@@ -92,10 +92,6 @@ judged-outgoing_part rules e past ((r, same), are) =
     subst (λ (x : Event). IfSome x.outgoing (IsPartOf x past)) (sym same) (moment_part rules past r (moment_of r.what) refl)
 
 -- ---- what a delivery in progress is
-
--- the delivery to a client that begins in this record
-abbrev pub outgoing_at : ℕ → List Event → Option Outgoing
-outgoing_at n past = find (λ j. j.number == n) (outgoing_deliveries past)
 
 -- it began before, on a link that was opened before, and carries the first octets of the delivery that its note names: of
 -- the link's address, complete and paired, so that it is not gone

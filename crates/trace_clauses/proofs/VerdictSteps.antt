@@ -18,7 +18,7 @@ use Rattle.trace_events.specs.Ends.{ends_link}
 use Rattle.trace_events.specs.Credit.{begins_outgoing}
 use Rattle.trace_events.specs.Disposition.{is_decisive}
 use Rattle.trace_events.specs.Incoming.{incoming_at, is_complete}
-use Rattle.trace_events.specs.Outgoing.{in_progress, is_part, is_sent, is_on, outgoing_begun, outgoing_deliveries, names, noted, is_paired, is_named_on, answering, first_deciding, decision}
+use Rattle.trace_events.specs.Outgoing.{in_progress, is_part, is_sent, is_on, outgoing_begun, outgoing_deliveries, outgoing_at, names, noted, is_paired, is_named_on, answering, first_deciding, decision}
 use Rattle.trace_events.specs.History.{judge, judge_unopened, moment_of}
 use Rattle.trace_events.specs.Waiting.{is_of_multicast, is_gone}
 use Rattle.trace_events.specs.Due.{is_due}
@@ -38,7 +38,7 @@ use Rattle.trace_clauses.proofs.ClausesMet.{met, lawful-past}
 use Rattle.trace_clauses.proofs.LinkEnds.{is_live-next}
 use Rattle.trace_clauses.proofs.LiveLinks.{placed-names}
 use Rattle.trace_clauses.proofs.OneConsumer.{some-and, passes-some, or-right}
-use Rattle.trace_clauses.proofs.OutgoingProgress.{IsPartOf, judged-outgoing_part, outgoing_at, judged-carrying, carrying-link}
+use Rattle.trace_clauses.proofs.OutgoingProgress.{IsPartOf, judged-outgoing_part, judged-carrying, carrying-link}
 use Rattle.trace_clauses.proofs.Parts.{IsKept, AllOf, all_such, found_holds}
 
 -- ---- a verdict that stands, or that comes

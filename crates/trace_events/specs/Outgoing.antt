@@ -45,6 +45,10 @@ outgoing_begun e = where_passes (λ j. j.number == e.number) e.outgoing
 abbrev pub outgoing_deliveries : List Event → List Outgoing
 outgoing_deliveries past = filter_map outgoing_begun past
 
+-- the one that begins in this record
+abbrev pub outgoing_at : ℕ → List Event → Option Outgoing
+outgoing_at n past = find (λ j. j.number == n) (outgoing_deliveries past)
+
 abbrev pub is_on : Link → Outgoing → Bool
 is_on l j = j.link.number == l.number
 
