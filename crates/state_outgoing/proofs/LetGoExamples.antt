@@ -17,9 +17,10 @@ use Rattle.trace_events.specs.Words.{is_some_and}
 use Rattle.trace_events.specs.Outgoing.{outgoing_at}
 use Rattle.trace_events.specs.History.{history}
 use Rattle.trace_clauses.specs.Written.{spoken_octets}
+use Rattle.trace_clauses.specs.Kept.{carriers}
 use Rattle.trace_clauses.proofs.Made.{from, carry, gives, first, with_more, as_settled, disposes, detach_of, hi, q, consumer, sent, sent_by}
 use Rattle.state_tables.specs.LetGo.{is_let_go, names_let_go}
-use Rattle.state_outgoing.specs.LastBegun.{carriers, carrier_numbers}
+use Rattle.state_outgoing.specs.LastBegun.{carrier_numbers}
 use Rattle.state_outgoing.specs.LetGo.{kept_at, is_finished, is_done}
 use Rattle.state_outgoing.specs.Sent.{sent_at}
 

@@ -11,10 +11,11 @@ use Rattle.trace_events.specs.Words.{is_some_and, where_passes}
 use Rattle.trace_events.specs.Event.{Event, Outgoing}
 use Rattle.trace_events.specs.Outgoing.{names, outgoing_deliveries, outgoing_at}
 use Rattle.trace_events.proofs.Judged.{AreJudged}
+use Rattle.trace_clauses.specs.Kept.{carriers}
 use Rattle.trace_clauses.proofs.WaitingQueue.{filter_has, in_filter}
 use Rattle.state_tables.specs.LetGo.{is_let_go, names_let_go}
 use Rattle.state_outgoing.specs.Carriers.{carriers_in}
-use Rattle.state_outgoing.specs.LastBegun.{carrier_numbers, carriers, last_number, last_on}
+use Rattle.state_outgoing.specs.LastBegun.{carrier_numbers, last_number, last_on}
 use Rattle.state_outgoing.specs.LetGo.{where_kept, kept_at, is_finished}
 use Rattle.state_outgoing.specs.Sent.{Sent, sent, is_left_unsettled}
 use Rattle.state_outgoing.specs.SentGrouped.{AreGrouped, is_of_link, is_of_session, has_id}

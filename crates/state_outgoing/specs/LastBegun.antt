@@ -1,8 +1,9 @@
 -- The last delivery to a client that began on a link, and those that carry a delivery from a client (own rules).
-use Rattle.std.specs.Prelude.{ℕ, Bool, not, List, ◌∷◌, Option, Some, option_map, map, filter, find, ◌==◌, if◌then◌else◌}
+use Rattle.std.specs.Prelude.{ℕ, Bool, not, List, ◌∷◌, Option, Some, option_map, map, find, ◌==◌, if◌then◌else◌}
 use Rattle.trace_events.specs.Words.{is_some_and, where_passes}
 use Rattle.trace_events.specs.Event.{Event, Outgoing}
 use Rattle.trace_events.specs.Outgoing.{outgoing_begun, outgoing_deliveries, names}
+use Rattle.trace_clauses.specs.Kept.{carriers}
 use Rattle.state_tables.specs.LetGo.{names_let_go}
 
 -- ---- on the link of a number
@@ -28,9 +29,6 @@ abbrev pub carrier_number : ℕ → List Event → Option ℕ
 carrier_number n past = option_map (λ j. j.number) (carrier n past)
 
 -- all of them, the last one first
-abbrev pub carriers : ℕ → List Event → List Outgoing
-carriers n past = filter (λ j. names n j.note) (outgoing_deliveries past)
-
 abbrev pub carrier_numbers : ℕ → List Event → List ℕ
 carrier_numbers n past = map (λ j. j.number) (carriers n past)
 

@@ -28,7 +28,7 @@ why_of (notes.Pair n) = None
 abbrev pub told_state : DispositionFields → Option (List ℕ)
 told_state fields = option_map (λ state. state.octets) fields.state
 
--- the deliveries to clients that carry the incoming one of this number
+-- the deliveries to clients that carry the incoming one of this number, the last one first
 abbrev pub carriers : ℕ → List Event → List Outgoing
 carriers n past = filter (λ j. names n j.note) (outgoing_deliveries past)
 
