@@ -60,10 +60,6 @@ pub record AreVerdicts (rules : RuleSet) (table : Verdicts) (past : List Event) 
 
 -- ---- what an event does to it
 
--- one of these links has this number
-abbrev pub is_ended : List Link → ℕ → Bool
-is_ended ended link = list_any (λ l. l.number == link) ended
-
 -- the event completes the delivery of number n, and this link is one of those that its copies come due to
 abbrev pub comes_now : Event → List ℕ → ℕ → ℕ → Bool
 comes_now e due link n = is_some_and (completed_by e) (λ d. d.number == n) && list_any (λ m. m == link) due
