@@ -1,7 +1,7 @@
 -- How the queue of an address moves with each event, and which delivery is the first of it.
 use Rattle.std.proofs.Common.{◌≡◌, refl, sym, ap, subst, ◌∙◌, inl, inr, ℕ, Bool, true, false, ◌&&◌, not, List, [], ◌∷◌, ◌++◌, filter, map, reverse, if◌then◌else◌}
 use Rattle.std.specs.Prelude.{Contains, bytes_eq}
-use Rattle.std.specs.List.{cons_option}
+use Rattle.std.specs.List.{cons_option, AllByRecursion}
 use Rattle.std.proofs.lemmas.List.{append_assoc, map-append, reverse-append}
 use Rattle.std.proofs.lemmas.List.Elements.{Contains-append_cases, Contains-append_left, Contains-append_right, filter-append}
 use Rattle.capture_form.specs.Rules.{RuleSet}
@@ -12,7 +12,7 @@ use Rattle.trace_events.specs.Queue.{stays, completed_deliveries, waiting_queue,
 use Rattle.trace_events.specs.Address.{has_multicast}
 use Rattle.trace_events.specs.Waiting.{is_of_multicast, is_waiting, always_had_consumer}
 use Rattle.trace_events.proofs.Judged.{AreJudged}
-use Rattle.trace_events.proofs.QueueSteps.{Each, completed-complete, each-map, filter-cons, filter-each, filter-reverse, is_waiting-stays, one-alone}
+use Rattle.trace_events.proofs.QueueSteps.{completed-complete, each-map, filter-cons, filter-each, filter-reverse, is_waiting-stays, one-alone}
 use Rattle.trace_events.proofs.StepWords.{filter-both}
 use Rattle.trace_clauses.proofs.WaitingQueue.{contains_cases, contains_first, contains_later, contains_none, address_stays, completed_once, in_filter, in_reverse}
 use Rattle.due_queues.specs.Queues.{is_of, completed_at, IsQueue}
@@ -61,7 +61,7 @@ completed_at-step rules address e past are =
     ∙ (ap (λ xs. reverse (filter test (completed_deliveries past)) ++ xs) (one-alone test (completed_by e))
     ∙ ap (λ xs. reverse xs ++ filter test (cons_option (completed_by e) [])) (of-stays rules address e past are)))
 
-each-in : {A : Type 0} (P : A → Type 0) (xs : List A) (x : A) → Each P xs → Contains xs x → P x
+each-in : {A : Type 0} (P : A → Type 0) (xs : List A) (x : A) → AllByRecursion P xs → Contains xs x → P x
 each-in P [] x each there = contains_none x there
 each-in P (y ∷ ys) x each there = elim (contains_cases y ys x there) [
   | inl same ↦ subst P same each.0

@@ -1,6 +1,6 @@
 -- What the groups answer of all the deliveries of a history.
 use Rattle.std.proofs.Common.{◌≡◌, refl, sym, ap, subst, ◌∙◌, ◌↔◌, ℕ, Bool, true, false, IsTrue, ◌&&◌, ◌||◌, not, List, [], ◌∷◌, Option, Some, None, option_map, if◌then◌else◌, ◌==◌, find, eqb-true, nat_eq, bytes_eq, length, count_by, option_and_then, eq-eqb}
-use Rattle.std.specs.List.{list_any, slice_get, IsDistinct}
+use Rattle.std.specs.List.{list_any, slice_get, IsDistinct, AllByRecursion}
 use Rattle.capture_form.specs.Rules.{RuleSet}
 use Rattle.trace_events.specs.Words.{is_some_and, where_passes}
 use Rattle.trace_events.specs.Event.{Event, Incoming}
@@ -12,7 +12,7 @@ use Rattle.trace_events.proofs.Along.{some_passes}
 use Rattle.trace_events.proofs.Judged.{AreJudged, history-judged}
 use Rattle.trace_clauses.proofs.IdsApart.{found_any, undecided_one}
 use Rattle.trace_clauses.proofs.IncomingProgress.{judged-kept}
-use Rattle.trace_clauses.proofs.Parts.{AllOf, IsKept, each_delivery, found_holds}
+use Rattle.trace_clauses.proofs.Parts.{IsKept, each_delivery, found_holds}
 use Rattle.state_incoming.specs.Held.{Held, held, is_held, held_at}
 use Rattle.state_incoming.specs.Grouped.{is_for}
 use Rattle.state_incoming.proofs.HeldAnswers.{held-of, held-address}
@@ -70,7 +70,7 @@ find-some {A = A} test xs is = by (find test xs) refl (find-none-any test xs)
     by (Some x) some off = (x, some)
 
 -- one of a list that passes
-one-of : {A : Type 0} (P : A → Type 0) (test : A → Bool) (xs : List A) → AllOf P xs → list_any test xs ≡ true → (x : A) × P x × (test x ≡ true)
+one-of : {A : Type 0} (P : A → Type 0) (test : A → Bool) (xs : List A) → AllByRecursion P xs → list_any test xs ≡ true → (x : A) × P x × (test x ≡ true)
 one-of P test [] all is = absurd cc
 one-of {A = A} P test (x ∷ xs) all is = by (test x) refl is (one-of P test xs all.1)
   where

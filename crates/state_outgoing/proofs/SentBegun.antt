@@ -1,6 +1,6 @@
 -- Of a delivery to a client nothing is known before it begins; and each is found by its number.
 use Rattle.std.proofs.Common.{◌≡◌, refl, sym, ap, subst, ◌∙◌, ℕ, suc, ◌%◌, ◌^◌, ◌<◌, ◌≤◌, Bool, true, false, ◌&&◌, not, List, [], ◌∷◌, length, Option, Some, None, IfSome, IsSomeAnd, is_some, find, reverse, option_map, if◌then◌else◌, ◌==◌, inl, inr, arith, eqb-true, eq-eqb, ne_eqb}
-use Rattle.std.specs.List.{cons_option}
+use Rattle.std.specs.List.{cons_option, AllByRecursion}
 use Rattle.amqp_perf.specs.declared.attach.Role.{Role}
 use Rattle.amqp_perf.specs.declared.attach.Role.TheVariants.{Sender, Receiver}
 use Rattle.amqp_perf.specs.Meaning.{Meaning, AnOpen, ABegin, AnAttach, AFlow, ATransfer, ADisposition, ADetach, AnEnd, AClose, DispositionFields}
@@ -20,7 +20,7 @@ use Rattle.trace_events.proofs.Judged.{AreJudged, AreBorn, IsBorn, judged-born, 
 use Rattle.trace_events.proofs.Links.{passing}
 use Rattle.trace_events.proofs.OutgoingLinks.{answering-before, first_deciding-before}
 use Rattle.trace_events.proofs.OutgoingSteps.{payload-same, is_sent-no_part, is_settled_by_consumer-unanswered, is_settled_by_router-same}
-use Rattle.trace_clauses.proofs.Parts.{AllOf, all_such, found_holds}
+use Rattle.trace_clauses.proofs.Parts.{all_such, found_holds}
 use Rattle.trace_clauses.proofs.WaitingQueue.{all_contained, find_has, in_reverse}
 use Rattle.state_outgoing.specs.Sent.{sent, unsent, begins_number}
 use Rattle.state_outgoing.proofs.SentSteps.{made-same}
@@ -39,14 +39,14 @@ born-below : (n : ℕ) (note : Note) (j : Outgoing) → IsBorn n note j → j.nu
 born-below n own j (inl lt) = omega (arith, lt)
 born-below n own j (inr (at, named)) = omega (arith, at)
 
-pub all-below : (past : List Event) → AreBorn past → AllOf (IsBelow (length past)) (outgoing_deliveries past)
+pub all-below : (past : List Event) → AreBorn past → AllByRecursion (IsBelow (length past)) (outgoing_deliveries past)
 all-below [] are = tt
 all-below (e ∷ past) are = by (outgoing_begun e) refl (all_such (IsBelow (length past)) (IsBelow (suc (length past))) (outgoing_deliveries past) (λ j lt. omega (arith, lt)) (all-below past are.1))
   where
     own : (o : Option Outgoing) (j : Outgoing) → o ≡ Some j → IfSome o (IsBorn (length past) e.note) → IsBorn (length past) e.note j
     own o j is born = subst (λ (p : Option Outgoing). IfSome p (IsBorn (length past) e.note)) is born
 
-    by : (o : Option Outgoing) → outgoing_begun e ≡ o → AllOf (IsBelow (suc (length past))) (outgoing_deliveries past) → AllOf (IsBelow (suc (length past))) (cons_option o (outgoing_deliveries past))
+    by : (o : Option Outgoing) → outgoing_begun e ≡ o → AllByRecursion (IsBelow (suc (length past))) (outgoing_deliveries past) → AllByRecursion (IsBelow (suc (length past))) (cons_option o (outgoing_deliveries past))
     by None is earlier = earlier
     by (Some j) is earlier =
         (born-below (length past) e.note j (own e.outgoing j (passing (λ (x : Outgoing). x.number == e.number) e.outgoing j is).0 are.0), earlier)
@@ -104,12 +104,12 @@ module _ (rules : RuleSet) (e : Event) (past : List Event) (are : AreJudged rule
 abbrev IsFound : List Event → Outgoing → Type 0
 IsFound past j = outgoing_at j.number past ≡ Some j
 
-pub all-found : (rules : RuleSet) (past : List Event) → AreJudged rules past → AllOf (IsFound past) (outgoing_deliveries past)
+pub all-found : (rules : RuleSet) (past : List Event) → AreJudged rules past → AllByRecursion (IsFound past) (outgoing_deliveries past)
 all-found rules [] are = tt
 all-found rules (e ∷ past) are =
     by (outgoing_begun e) refl (all_such (IsFound past) (IsFound (e ∷ past)) (outgoing_deliveries past) (λ j found. found-still rules e past are j.number j found) (all-found rules past are.1))
   where
-    by : (o : Option Outgoing) → outgoing_begun e ≡ o → AllOf (IsFound (e ∷ past)) (outgoing_deliveries past) → AllOf (IsFound (e ∷ past)) (cons_option o (outgoing_deliveries past))
+    by : (o : Option Outgoing) → outgoing_begun e ≡ o → AllByRecursion (IsFound (e ∷ past)) (outgoing_deliveries past) → AllByRecursion (IsFound (e ∷ past)) (cons_option o (outgoing_deliveries past))
     by None none earlier = earlier
     by (Some j) begun earlier = (found-own rules e past are j begun, earlier)
 

@@ -1,6 +1,6 @@
 -- A delivery to a client begins on a link that was opened before and lives, in every history that is judged.
 use Rattle.std.proofs.Common.{◌≡◌, refl, sym, ap, subst, ◌∙◌, ℕ, suc, ◌<◌, Bool, true, false, List, [], ◌∷◌, length, Option, Some, None, IfSome, option_and_then, option_map, find, if◌then◌else◌, ◌&&◌, ◌==◌, not, inl, inr, arith, eqb-true, eq-eqb}
-use Rattle.std.specs.List.{cons_option}
+use Rattle.std.specs.List.{cons_option, AllByRecursion}
 use Rattle.amqp_perf.specs.Meaning.{flag}
 use Rattle.capture_form.specs.Rules.{RuleSet}
 use Rattle.pairing_cert.specs.declared.note.Note.{Note}
@@ -26,7 +26,7 @@ use Rattle.trace_events.proofs.OutgoingLinks.{IsOnEarlier, judged-on_earlier}
 use Rattle.trace_clauses.proofs.LinkEnds.{is_live-next}
 use Rattle.trace_clauses.proofs.LiveLinks.{placed-names}
 use Rattle.trace_clauses.proofs.OutgoingProgress.{IsPartOf, judged-outgoing_part}
-use Rattle.trace_clauses.proofs.Parts.{AllOf, all_such, found_holds}
+use Rattle.trace_clauses.proofs.Parts.{all_such, found_holds}
 
 known : {A : Type 0} (P : A → Type 0) (o : Option A) (x : A) → o ≡ Some x → IfSome o P → P x
 known P o x is h = subst (λ (p : Option _). IfSome p P) is h
@@ -123,12 +123,12 @@ module _ (rules : RuleSet) (e : Event) (past : List Event) (are : AreJudged rule
 abbrev IsLinked : List Event → Outgoing → Type 0
 IsLinked past j = links.IsKnown past j.link
 
-pub all-linked : (rules : RuleSet) (past : List Event) → AreJudged rules past → AllOf (IsLinked past) (outgoing_deliveries past)
+pub all-linked : (rules : RuleSet) (past : List Event) → AreJudged rules past → AllByRecursion (IsLinked past) (outgoing_deliveries past)
 all-linked rules [] are = tt
 all-linked rules (e ∷ past) are =
     by (outgoing_begun e) refl (all_such (IsLinked past) (IsLinked (e ∷ past)) (outgoing_deliveries past) (λ j is. linked_still rules e past are j.link is) (all-linked rules past are.1))
   where
-    by : (o : Option Outgoing) → outgoing_begun e ≡ o → AllOf (IsLinked (e ∷ past)) (outgoing_deliveries past) → AllOf (IsLinked (e ∷ past)) (cons_option o (outgoing_deliveries past))
+    by : (o : Option Outgoing) → outgoing_begun e ≡ o → AllByRecursion (IsLinked (e ∷ past)) (outgoing_deliveries past) → AllByRecursion (IsLinked (e ∷ past)) (cons_option o (outgoing_deliveries past))
     by None none earlier = earlier
     by (Some j) begun earlier = (linked-now rules e past are j begun, earlier)
 

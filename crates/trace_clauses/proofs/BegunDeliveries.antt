@@ -1,7 +1,7 @@
 -- In a lawful capture each delivery to a client, in progress or not, is of a link that was opened before it, and carries a
 -- complete delivery of that link's address, which its note names, and which is named on the link from then on.
 use Rattle.std.proofs.Common.{◌≡◌, refl, sym, ap, subst, ◌∙◌, ◌<◌, Bool, true, false, List, [], ◌∷◌, length, Option, Some, None, IfSome, IsSomeAnd, find, option_and_then, option_map, is_some, if◌then◌else◌, ◌&&◌, ◌==◌, inl, inr, arith, eqb-true, eq-eqb}
-use Rattle.std.specs.List.{cons_option}
+use Rattle.std.specs.List.{cons_option, AllByRecursion}
 use Rattle.pairing_cert.specs.declared.note.Note.TheVariants as notes
 use Rattle.capture_form.specs.Rules.{RuleSet}
 use Rattle.trace_events.specs.Words.{is_some_and}
@@ -31,7 +31,7 @@ use Rattle.trace_clauses.proofs.IncomingProgress.{judged-kept}
 use Rattle.trace_clauses.proofs.JudgedHistories.{judged-keeps}
 use Rattle.trace_clauses.proofs.LiveLinks.{placed-names}
 use Rattle.trace_clauses.proofs.OutgoingProgress.{IsPartOf, judged-outgoing_part, judged-carrying, noted_pair}
-use Rattle.trace_clauses.proofs.Parts.{IsKept, AllOf, all_such, found_holds, kept_still, delivery_kept}
+use Rattle.trace_clauses.proofs.Parts.{IsKept, all_such, found_holds, kept_still, delivery_kept}
 use Rattle.trace_clauses.proofs.Undecided.{link_of_session}
 use Rattle.trace_clauses.proofs.WaitingQueue.{address_stays}
 
@@ -225,13 +225,13 @@ module _ (rules : RuleSet) (e : Event) (past : List Event) (are : AreJudged rule
 
 -- ---- all of them
 
-pub judged-begun : (rules : RuleSet) (past : List Event) → AreJudged rules past → first_broken rules past ≡ None → AllOf (IsBegun past) (outgoing_deliveries past)
+pub judged-begun : (rules : RuleSet) (past : List Event) → AreJudged rules past → first_broken rules past ≡ None → AllByRecursion (IsBegun past) (outgoing_deliveries past)
 judged-begun rules [] are lawful = tt
 judged-begun rules (e ∷ past) are lawful =
     by (outgoing_begun e) refl
     (all_such (IsBegun past) (IsBegun (e ∷ past)) (outgoing_deliveries past) (begun-later rules e past are) (judged-begun rules past are.1 (lawful-past rules e past lawful)))
   where
-    by : (o : Option Outgoing) → outgoing_begun e ≡ o → AllOf (IsBegun (e ∷ past)) (outgoing_deliveries past) → AllOf (IsBegun (e ∷ past)) (cons_option o (outgoing_deliveries past))
+    by : (o : Option Outgoing) → outgoing_begun e ≡ o → AllByRecursion (IsBegun (e ∷ past)) (outgoing_deliveries past) → AllByRecursion (IsBegun (e ∷ past)) (cons_option o (outgoing_deliveries past))
     by None is earlier = earlier
     by (Some j) is earlier = (begun-here rules e past are lawful j is, earlier)
 

@@ -1,7 +1,7 @@
 -- Of the deliveries of one session at most one of each id is undecided.
 use Rattle.std.proofs.Common.{◌≡◌, refl, sym, ap, ◌∙◌, ℕ, ◌⊎◌, inl, inr, List, [], ◌∷◌, length, Bool, true, false, ◌&&◌, ◌||◌, ◌==◌, Option, Some, None, find, arith, eqb-true}
 use Rattle.std.specs.Prelude.{if◌then◌else◌}
-use Rattle.std.specs.List.{list_any, cons_option}
+use Rattle.std.specs.List.{list_any, cons_option, AllByRecursion}
 use Rattle.capture_form.specs.declared.records.Record.{Record}
 use Rattle.capture_form.specs.Rules.{RuleSet}
 use Rattle.trace_events.specs.Words.{is_some_and, is_number}
@@ -12,7 +12,7 @@ use Rattle.trace_events.specs.Waiting.{is_undecided, is_undecided_of}
 use Rattle.trace_events.specs.History.{judge, history, new_incoming}
 use Rattle.trace_events.proofs.Along.{along, and_first, and_last}
 use Rattle.trace_events.proofs.Links.{passing}
-use Rattle.trace_clauses.proofs.Parts.{IsPart, record_part, first_free, IsFree, progress_holds, IsKept, AreKept, kept_step, none_kept, AllOf, all_such, each_delivery}
+use Rattle.trace_clauses.proofs.Parts.{IsPart, record_part, first_free, IsFree, progress_holds, IsKept, AreKept, kept_step, none_kept, all_such, each_delivery}
 use Rattle.trace_clauses.proofs.Undecided.{undecided_before}
 
 -- ---- on lists
@@ -26,7 +26,7 @@ AtMostOne test (x ∷ xs) = (test x ≡ true → list_any test xs ≡ false) × 
 abbrev pub Keeps : {A : Type 0} → (A → Bool) → (A → Bool) → A → Type 0
 Keeps first second x = second x ≡ true → first x ≡ true
 
-pub none_passes : {A : Type 0} (u v : A → Bool) (xs : List A) → AllOf (Keeps u v) xs → list_any u xs ≡ false → list_any v xs ≡ false
+pub none_passes : {A : Type 0} (u v : A → Bool) (xs : List A) → AllByRecursion (Keeps u v) xs → list_any u xs ≡ false → list_any v xs ≡ false
 none_passes u v [] keeps none = refl
 none_passes u v (x ∷ xs) keeps none = by (u x) (v x) refl refl (none_passes u v xs keeps.1) none
   where
@@ -35,7 +35,7 @@ none_passes u v (x ∷ xs) keeps none = by (u x) (v x) refl refl (none_passes u 
     by false true first second later none = let yes : u x ≡ true = keeps.0 second in absurd cc
     by false false first second later none = later none
 
-pub fewer : {A : Type 0} (u v : A → Bool) (xs : List A) → AllOf (Keeps u v) xs → AtMostOne u xs → AtMostOne v xs
+pub fewer : {A : Type 0} (u v : A → Bool) (xs : List A) → AllByRecursion (Keeps u v) xs → AtMostOne u xs → AtMostOne v xs
 fewer u v [] keeps one = tt
 fewer u v (x ∷ xs) keeps one = (λ passes. none_passes u v xs keeps.1 (one.0 (keeps.0 passes)), fewer u v xs keeps.1 one.1)
 
@@ -49,7 +49,7 @@ found_any u p (y ∷ ys) x found passes = by (p y) (u y) refl (λ later. found_a
     by false false is later found = later found
 
 -- one that passes the first test alone is the only one, so that none passes the second
-pub none_but : {A : Type 0} (u v p : A → Bool) (xs : List A) (x : A) → find p xs ≡ Some x → u x ≡ true → v x ≡ false → AtMostOne u xs → AllOf (Keeps u v) xs → list_any v xs ≡ false
+pub none_but : {A : Type 0} (u v p : A → Bool) (xs : List A) (x : A) → find p xs ≡ Some x → u x ≡ true → v x ≡ false → AtMostOne u xs → AllByRecursion (Keeps u v) xs → list_any v xs ≡ false
 none_but u v p [] x found passes fails one keeps = refl
 none_but u v p (y ∷ ys) x found passes fails one keeps = by (p y) (u y) (v y) refl refl (λ later. none_but u v p ys x later passes fails one.1 keeps.1) found
   where
@@ -98,7 +98,7 @@ of_before rules past r s id d all kept is =
     (undecided_before rules past r d all kept.link.before) is
 
 pub all_keep : (rules : RuleSet) (past : List Event) (r : Record) (s : Session) (id : ℕ) → AreKept rules past
-    → AllOf (Keeps (is_undecided_of rules s id past) (is_undecided_of rules s id (judge rules past r ∷ past))) (incoming_deliveries past)
+    → AllByRecursion (Keeps (is_undecided_of rules s id past) (is_undecided_of rules s id (judge rules past r ∷ past))) (incoming_deliveries past)
 all_keep rules past r s id all =
     all_such (IsKept past) (Keeps (is_undecided_of rules s id past) (is_undecided_of rules s id (judge rules past r ∷ past))) (incoming_deliveries past)
     (λ d kept. of_before rules past r s id d all kept) (each_delivery (IsKept past) past all.each)

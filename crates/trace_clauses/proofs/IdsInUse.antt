@@ -1,7 +1,7 @@
 -- The ids in use on a session are those counted over the parts of its deliveries.
 use Rattle.std.proofs.Common.{◌≡◌, refl, sym, ap, ◌∙◌, subst, ℕ, ◌⊎◌, inl, inr, List, [], ◌∷◌, ◌++◌, length, map, Bool, true, false, not, ◌&&◌, ◌||◌, ◌==◌, Option, Some, None, option_map, filter_map, arith, eqb-true, eq-eqb, ne_eqb}
 use Rattle.std.specs.Prelude.{if◌then◌else◌}
-use Rattle.std.specs.List.{list_any, cons_option}
+use Rattle.std.specs.List.{list_any, cons_option, AllByRecursion}
 use Rattle.amqp_perf.specs.Meaning.{TransferFields, flag}
 use Rattle.capture_form.specs.declared.records.Record.{Record}
 use Rattle.capture_form.specs.Rules.{RuleSet}
@@ -19,7 +19,7 @@ use Rattle.trace_events.specs.Parts.{parts_on, parts_of, frees, freed_id, freed_
 use Rattle.trace_events.specs.History.{judge, history, new_incoming}
 use Rattle.trace_events.proofs.Along.{along}
 use Rattle.trace_events.proofs.IncomingSteps.{is_aborted-same, is_aborted-here}
-use Rattle.trace_clauses.proofs.Parts.{IsPart, record_part, each_such, holds_some, kept_still, progress_holds, IsKept, AreKept, kept_step, none_kept, AllOf, all_such, each_delivery}
+use Rattle.trace_clauses.proofs.Parts.{IsPart, record_part, each_such, holds_some, kept_still, progress_holds, IsKept, AreKept, kept_step, none_kept, all_such, each_delivery}
 use Rattle.trace_clauses.proofs.PartsCounted.{equal_turned, IsOf, IsCounted, counted_step, link_is_of}
 use Rattle.trace_clauses.proofs.Undecided.{AreWhole, whole_step, part_whole, part_link, part_undecided}
 use Rattle.trace_clauses.proofs.IdsApart.{AtMostOne, Keeps, none_passes, none_but, of_before, all_keep, free_of, begun_free, AreApart, apart_step}
@@ -39,11 +39,11 @@ passed_before u v f x moves is = by (u x) (v x) (sym moves.freed ∙ is)
     by false c e = absurd cc
 
 -- of at most one that passes: it still passes unless it is freed
-one_left : {A : Type 0} (u v f : A → Bool) (xs : List A) → AllOf (Moves u v f) xs → AtMostOne u xs → not (list_any f xs) && list_any u xs ≡ list_any v xs
+one_left : {A : Type 0} (u v f : A → Bool) (xs : List A) → AllByRecursion (Moves u v f) xs → AtMostOne u xs → not (list_any f xs) && list_any u xs ≡ list_any v xs
 one_left u v f [] moves one = refl
 one_left u v f (x ∷ xs) moves one = by (u x) (v x) (f x) refl refl refl (one_left u v f xs moves.1 one.1)
   where
-    nothing : (g : _ → Bool) → AllOf (Keeps u g) xs → u x ≡ true → list_any g xs ≡ false
+    nothing : (g : _ → Bool) → AllByRecursion (Keeps u g) xs → u x ≡ true → list_any g xs ≡ false
     nothing g keeps passes = none_passes u g xs keeps (one.0 passes)
 
     by : (b c d : Bool) → u x ≡ b → v x ≡ c → f x ≡ d → not (list_any f xs) && list_any u xs ≡ list_any v xs → not (d || list_any f xs) && (b || list_any u xs) ≡ c || list_any v xs

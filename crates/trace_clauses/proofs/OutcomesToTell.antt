@@ -36,7 +36,7 @@ use Rattle.trace_events.proofs.Judged.{AreJudged, AreBorn, IsBorn, IsTransfer, j
 use Rattle.trace_events.proofs.Links.{passing}
 use Rattle.trace_events.proofs.OutgoingLinks.{answering-before, decision-begun}
 use Rattle.trace_events.proofs.OutgoingSteps.{ends_delivery, pairing-same, pairing-another, pairing-begun}
-use Rattle.trace_events.proofs.QueueSteps.{Each, filter-each, filter-reverse}
+use Rattle.trace_events.proofs.QueueSteps.{filter-each, filter-reverse}
 use Rattle.trace_events.proofs.SettlingSteps.{is_decided-step, is_closed-step}
 use Rattle.trace_clauses.proofs.AwaitedSteps.{has_all-stays}
 use Rattle.trace_clauses.proofs.BegunDeliveries.{IsBegun, begun-own, begun-carries, begun-linked, begun-live, found-begun}
@@ -46,7 +46,7 @@ use Rattle.trace_clauses.proofs.Incomings.{at-step, judged-part, judged-sound}
 use Rattle.trace_clauses.proofs.LinkEnds.{is_live-next}
 use Rattle.trace_clauses.proofs.OneConsumer.{some-and, passes-some, or-right}
 use Rattle.trace_clauses.proofs.Pairs.{paired-not_gone, pairing-stays}
-use Rattle.trace_clauses.proofs.Parts.{IsKept, AllOf, each_delivery}
+use Rattle.trace_clauses.proofs.Parts.{IsKept, each_delivery, all_such}
 use Rattle.trace_clauses.proofs.WaitingQueue.{completed_once, multicast_stays, in_filter, filter_has, in_reverse, reverse_has}
 
 same_some : {A : Type 0} (a b : A) → Some a ≡ Some b → a ≡ b
@@ -425,10 +425,6 @@ filter-last : {A : Type 0} (p : A → Bool) (o : Option A) (xs : List A) → fil
 filter-last p None xs = sym (append-nil (filter p (reverse xs)))
 filter-last p (Some x) xs = ap (filter p) (reverse-append (x ∷ []) xs) ∙ filter-append p (reverse xs) (x ∷ [])
 
-each_such : {A : Type 0} (P Q : A → Type 0) (xs : List A) → ((x : A) → P x → Q x) → AllOf P xs → Each Q xs
-each_such P Q [] more all = tt
-each_such P Q (x ∷ xs) more all = (more x all.0, each_such P Q xs more all.1)
-
 -- those that were to be told, and those that come, but for those that the event closes; and behind them the one that it
 -- begins, if that is to be told at once
 pub outcomes_to_tell_move : (rules : RuleSet) (e : Event) (past : List Event) → AreJudged rules (e ∷ past) → first_broken rules (e ∷ past) ≡ None
@@ -442,7 +438,7 @@ outcomes_to_tell_move rules e past are lawful =
     ∙ ap (λ xs. xs ++ filter (is_to_tell rules (e ∷ past)) (cons_option (incoming_begun e) []))
     (sym (filter-reverse (is_to_tell rules (e ∷ past)) ds)
     ∙ (ap reverse (filter-each (is_to_tell rules (e ∷ past)) were stays ds
-    (each_such (IsKept past) (λ d. is_to_tell rules (e ∷ past) d ≡ were d && stays d) ds (is_to_tell_moves rules e past are lawful) (each_delivery (IsKept past) past (judged-kept rules past are.1).each)))
+    (all_such (IsKept past) (λ d. is_to_tell rules (e ∷ past) d ≡ were d && stays d) ds (is_to_tell_moves rules e past are lawful) (each_delivery (IsKept past) past (judged-kept rules past are.1).each)))
     ∙ (filter-reverse stays (filter were ds) ∙ ap (filter stays) (filter-reverse were ds))))
 
 -- which deliveries they are

@@ -2,7 +2,7 @@
 -- every delivery of a history.
 use Rattle.std.proofs.Common.{◌≡◌, refl, sym, ap, ◌∙◌, subst, ℕ, ◌<◌, ◌⊎◌, inl, inr, List, [], ◌∷◌, length, Bool, true, false, not, ◌&&◌, ◌==◌, Option, Some, None, IfSome, is_some, option_and_then, option_map, arith}
 use Rattle.std.specs.Prelude.{is_none, find, if◌then◌else◌}
-use Rattle.std.specs.List.{cons_option}
+use Rattle.std.specs.List.{cons_option, AllByRecursion}
 use Rattle.amqp_perf.specs.Meaning.{Meaning, AnOpen, ABegin, AnAttach, AFlow, ATransfer, ADisposition, ADetach, AnEnd, AClose, TransferFields, flag}
 use Rattle.capture_form.specs.declared.records.Record.{Record}
 use Rattle.capture_form.specs.Rules.{RuleSet}
@@ -299,15 +299,11 @@ history_kept rules rs = along rules (AreKept rules) (none_kept rules) (kept_step
 
 -- ---- the deliveries themselves
 
-abbrev pub AllOf : {A : Type 0} → (A → Type 0) → List A → Type 0
-AllOf P [] = Unit {0}
-AllOf P (x ∷ xs) = P x × AllOf P xs
-
-pub all_such : {A : Type 0} (P Q : A → Type 0) (xs : List A) → ((x : A) → P x → Q x) → AllOf P xs → AllOf Q xs
+pub all_such : {A : Type 0} (P Q : A → Type 0) (xs : List A) → ((x : A) → P x → Q x) → AllByRecursion P xs → AllByRecursion Q xs
 all_such P Q [] more h = tt
 all_such P Q (x ∷ xs) more h = (more x h.0, all_such P Q xs more h.1)
 
-pub found_holds : {A : Type 0} (P : A → Type 0) (test : A → Bool) (xs : List A) (x : A) → AllOf P xs → find test xs ≡ Some x → P x
+pub found_holds : {A : Type 0} (P : A → Type 0) (test : A → Bool) (xs : List A) (x : A) → AllByRecursion P xs → find test xs ≡ Some x → P x
 found_holds P test [] x h found = absurd cc
 found_holds P test (y ∷ ys) x h found = by (test y) (found_holds P test ys x h.1) found
   where
@@ -315,11 +311,11 @@ found_holds P test (y ∷ ys) x h found = by (test y) (found_holds P test ys x h
     by true later found = let same : y ≡ x = cc in subst P same h.0
     by false later found = later found
 
-pub each_delivery : (P : Incoming → Type 0) (past : List Event) → EachPart P past → AllOf P (incoming_deliveries past)
+pub each_delivery : (P : Incoming → Type 0) (past : List Event) → EachPart P past → AllByRecursion P (incoming_deliveries past)
 each_delivery P [] each = tt
 each_delivery P (e ∷ past) each = by (incoming_begun e) refl (each_delivery P past each.1)
   where
-    by : (o : Option Incoming) → incoming_begun e ≡ o → AllOf P (incoming_deliveries past) → AllOf P (cons_option o (incoming_deliveries past))
+    by : (o : Option Incoming) → incoming_begun e ≡ o → AllByRecursion P (incoming_deliveries past) → AllByRecursion P (cons_option o (incoming_deliveries past))
     by None is earlier = earlier
     by (Some d) is earlier = (holds_some P e.incoming d (passing (λ (x : Incoming). x.number == e.number) e.incoming d is).0 each.0, earlier)
 

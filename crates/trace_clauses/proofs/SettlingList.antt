@@ -1,6 +1,7 @@
 -- The deliveries to settle, in a lawful history: how one event moves them, whatever it is.
 use Rattle.std.proofs.Common.{◌≡◌, refl, sym, ap, subst, ◌∙◌, Bool, true, false, not, ◌&&◌, ◌||◌, List, [], ◌∷◌, Option, Some, None, IfSome, is_some, filter, reverse, ◌==◌, eqb-true}
 use Rattle.std.specs.Prelude.{Contains}
+use Rattle.std.specs.List.{AllByRecursion}
 use Rattle.capture_form.specs.Rules.{RuleSet}
 use Rattle.trace_events.specs.Event.{Event, Incoming, Outgoing}
 use Rattle.trace_events.specs.Link.{is_live}
@@ -11,17 +12,12 @@ use Rattle.trace_events.specs.Work.{deliveries_to_settle, carries_closed, keeps_
 use Rattle.trace_events.proofs.Judged.{AreJudged}
 use Rattle.trace_events.proofs.Links.{passing}
 use Rattle.trace_events.proofs.OutgoingLinks.{decision-begun}
-use Rattle.trace_events.proofs.QueueSteps.{Each}
 use Rattle.trace_events.proofs.SettlingSteps.{StandsOn, is_to_settle-step, deliveries_to_settle-step, deliveries_to_settle-stay}
 use Rattle.trace_clauses.specs.Clauses.{first_broken}
+use Rattle.trace_clauses.proofs.Parts.{all_such}
 use Rattle.trace_clauses.proofs.BegunDeliveries.{IsBegun, begun-noted, begun-noted_later, judged-begun}
 use Rattle.trace_clauses.proofs.LinkEnds.{is_live-next}
-use Rattle.trace_clauses.proofs.Parts.{AllOf}
 use Rattle.trace_clauses.proofs.WaitingQueue.{in_filter, filter_has, in_reverse, reverse_has}
-
-each_such : {A : Type 0} (P Q : A → Type 0) (xs : List A) → ((x : A) → P x → Q x) → AllOf P xs → Each Q xs
-each_such P Q [] more all = tt
-each_such P Q (x ∷ xs) more all = (more x all.0, each_such P Q xs more all.1)
 
 never : (live by_consumer by_router closed : Bool) → live && false && by_consumer && by_router && closed ≡ false
 never true by_consumer by_router closed = refl
@@ -48,8 +44,8 @@ module _ (rules : RuleSet) (e : Event) (past : List Event) (are : AreJudged rule
       ap (λ o. is_live (e ∷ past) j.link && is_some o && not (is_settled_by_consumer j (e ∷ past)) && not (is_settled_by_router j (e ∷ past)) && carries_closed (e ∷ past) j) none
       ∙ never (is_live (e ∷ past) j.link) (not (is_settled_by_consumer j (e ∷ past))) (not (is_settled_by_router j (e ∷ past))) (carries_closed (e ∷ past) j)
 
-  stand_on : Each (StandsOn e past) (outgoing_deliveries past)
-  stand_on = each_such (IsBegun past) (StandsOn e past) (outgoing_deliveries past) begun-stands_on (judged-begun rules past are.1 lawful)
+  stand_on : AllByRecursion (StandsOn e past) (outgoing_deliveries past)
+  stand_on = all_such (IsBegun past) (StandsOn e past) (outgoing_deliveries past) begun-stands_on (judged-begun rules past are.1 lawful)
 
   -- one that was to be settled, or comes to be, and that the event leaves unsettled
   pub is_to_settle_moves : (j : Outgoing) → IsBegun past j → is_to_settle (e ∷ past) j ≡ (is_to_settle past j || comes_to_settle e past j) && keeps_unsettled e j
@@ -61,7 +57,7 @@ module _ (rules : RuleSet) (e : Event) (past : List Event) (are : AreJudged rule
   deliveries_to_settle_move = deliveries_to_settle-step e past stand_on begun-not_to_settle
 
   -- where none comes
-  pub deliveries_to_settle_stay : Each (λ j. comes_to_settle e past j ≡ false) (outgoing_deliveries past) → deliveries_to_settle (e ∷ past) ≡ filter (keeps_unsettled e) (deliveries_to_settle past)
+  pub deliveries_to_settle_stay : AllByRecursion (λ j. comes_to_settle e past j ≡ false) (outgoing_deliveries past) → deliveries_to_settle (e ∷ past) ≡ filter (keeps_unsettled e) (deliveries_to_settle past)
   deliveries_to_settle_stay none = deliveries_to_settle-stay e past stand_on begun-not_to_settle none
 
 -- ---- which deliveries they are

@@ -1,6 +1,6 @@
 -- The undecided deliveries of a producer's link are counted by steps.
 use Rattle.std.proofs.Common.{◌≡◌, refl, sym, ap, ◌∙◌, ℕ, ◌+◌, ◌-◌, List, [], ◌∷◌, Bool, true, false, cond, not, ◌&&◌, Option, Some, None, arith}
-use Rattle.std.specs.List.{cons_option, count_by}
+use Rattle.std.specs.List.{cons_option, count_by, AllByRecursion}
 use Rattle.std.proofs.lemmas.List.Sums.{sum_by-cons}
 use Rattle.capture_form.specs.declared.records.Record.{Record}
 use Rattle.capture_form.specs.Rules.{RuleSet}
@@ -10,7 +10,7 @@ use Rattle.trace_events.specs.Incoming.{incoming_begun, incoming_deliveries, is_
 use Rattle.trace_events.specs.Waiting.{is_undecided, undecided_count}
 use Rattle.trace_events.specs.Decided.{decided_count, begins_undecided}
 use Rattle.trace_events.specs.History.{judge}
-use Rattle.trace_clauses.proofs.Parts.{IsKept, AreKept, AllOf, all_such, each_delivery}
+use Rattle.trace_clauses.proofs.Parts.{IsKept, AreKept, all_such, each_delivery}
 use Rattle.trace_clauses.proofs.Undecided.{undecided_before}
 
 -- ---- counts of two tests
@@ -33,7 +33,7 @@ pairwise : (a b c m n k : ℕ) → a + b ≡ c → m + n ≡ k → (a + m) + (b 
 pairwise a b c m n k first rest = omega (arith, first, rest)
 
 -- those that are still so, and those that are no more, are those that were
-parts_count : {A : Type 0} (on now was : A → Bool) (xs : List A) → AllOf (λ x. now x ≡ true → was x ≡ true) xs
+parts_count : {A : Type 0} (on now was : A → Bool) (xs : List A) → AllByRecursion (λ x. now x ≡ true → was x ≡ true) xs
     → count_by (λ x. on x && now x) xs + count_by (λ x. on x && (was x && not (now x))) xs ≡ count_by (λ x. on x && was x) xs
 parts_count on now was [] still = refl
 parts_count on now was (x ∷ xs) still =
@@ -57,7 +57,7 @@ module _ (rules : RuleSet) (l : Link) (past : List Event) (r : Record) (all : Ar
   now = judge rules past r
 
   -- no delivery is undecided again
-  still : AllOf (λ d. is_undecided rules d (now ∷ past) ≡ true → is_undecided rules d past ≡ true) (incoming_deliveries past)
+  still : AllByRecursion (λ d. is_undecided rules d (now ∷ past) ≡ true → is_undecided rules d past ≡ true) (incoming_deliveries past)
   still =
       all_such (IsKept past) (λ d. is_undecided rules d (now ∷ past) ≡ true → is_undecided rules d past ≡ true) (incoming_deliveries past)
       (λ d kept. undecided_before rules past r d all kept.link.before) (each_delivery (IsKept past) past all.each)

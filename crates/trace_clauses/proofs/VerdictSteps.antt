@@ -1,6 +1,6 @@
 -- What one more event does to the verdict of a copy of a multicast delivery, in a lawful history, whatever the event.
 use Rattle.std.proofs.Common.{◌≡◌, refl, sym, ap, subst, ◌∙◌, ◌<◌, ◌≤◌, Bool, true, false, not, ◌&&◌, ◌||◌, ◌==◌, List, [], ◌∷◌, length, Option, Some, None, IfSome, find, is_none, option_and_then, option_map, if◌then◌else◌, inl, inr, arith, eqb-true, eq-eqb, ne_eqb}
-use Rattle.std.specs.List.{cons_option}
+use Rattle.std.specs.List.{cons_option, AllByRecursion}
 use Rattle.amqp_perf.specs.declared.descriptor.Outcome.{Outcome}
 use Rattle.amqp_perf.specs.declared.descriptor.Outcome.TheVariants.{Modified}
 use Rattle.amqp_perf.specs.Meaning.{DispositionFields, flag}
@@ -39,7 +39,7 @@ use Rattle.trace_clauses.proofs.LinkEnds.{is_live-next}
 use Rattle.trace_clauses.proofs.LiveLinks.{placed-names}
 use Rattle.trace_clauses.proofs.OneConsumer.{some-and, passes-some, or-right}
 use Rattle.trace_clauses.proofs.OutgoingProgress.{IsPartOf, judged-outgoing_part, judged-carrying, carrying-link}
-use Rattle.trace_clauses.proofs.Parts.{IsKept, AllOf, all_such, found_holds}
+use Rattle.trace_clauses.proofs.Parts.{IsKept, all_such, found_holds}
 
 -- ---- a verdict that stands, or that comes
 
@@ -110,7 +110,7 @@ record IsNumbered (past : List Event) (j : Outgoing) : Type 0 where
   below : j.number < length past
   at : outgoing_at j.number past ≡ Some j
 
-judged-numbered : (rules : RuleSet) (past : List Event) → AreJudged rules past → AllOf (IsNumbered past) (outgoing_deliveries past)
+judged-numbered : (rules : RuleSet) (past : List Event) → AreJudged rules past → AllByRecursion (IsNumbered past) (outgoing_deliveries past)
 judged-numbered rules [] are = tt
 judged-numbered rules (e ∷ past) are = by (outgoing_begun e) refl (judged-numbered rules past are.1)
   where
@@ -126,7 +126,7 @@ judged-numbered rules (e ∷ past) are = by (outgoing_begun e) refl (judged-numb
     later : (j : Outgoing) → IsNumbered past j → IsNumbered (e ∷ past) j
     later j h = let lt = h.below in record { below = omega (arith, lt); at = still (outgoing_begun e) own j h.below h.at }
 
-    by : (o : Option Outgoing) → outgoing_begun e ≡ o → AllOf (IsNumbered past) (outgoing_deliveries past) → AllOf (IsNumbered (e ∷ past)) (cons_option o (outgoing_deliveries past))
+    by : (o : Option Outgoing) → outgoing_begun e ≡ o → AllByRecursion (IsNumbered past) (outgoing_deliveries past) → AllByRecursion (IsNumbered (e ∷ past)) (cons_option o (outgoing_deliveries past))
     by None is earlier = all_such (IsNumbered past) (IsNumbered (e ∷ past)) (outgoing_deliveries past) later earlier
     by (Some k) is earlier =
         let n = own k is in (

@@ -2,7 +2,7 @@
 use Rattle.std.proofs.Common.{◌≡◌, refl, sym, ap, ◌∙◌, subst, ℕ, ◌<◌, ◌⊎◌, inl, inr, List, [], ◌∷◌, ◌++◌, Bool, true, false, not, ◌&&◌, ◌||◌, ◌==◌, Option, Some, None, filter, find, reverse, length, get_or, arith, eqb-true, eq-eqb, lt-ltb}
 use Rattle.std.specs.Prelude.{if◌then◌else◌, nat_lt, option_map, Contains, AllPairs}
 use Rattle.std.specs.Str.{bytes_eq}
-use Rattle.std.specs.List.{cons_option, list_any}
+use Rattle.std.specs.List.{cons_option, list_any, AllByRecursion}
 use Rattle.std.proofs.lemmas.List.{reverse-append}
 use Rattle.std.proofs.lemmas.List.Elements.{Contains-append_left, Contains-append_right, Contains-push, Contains-push_cases, Contains-append_cases, Contains-get_or}
 use Rattle.std.proofs.lemmas.List.Kept.{AllPairs-filter}
@@ -19,11 +19,11 @@ use Rattle.trace_events.specs.Waiting.{is_of_multicast, always_had_consumer}
 use Rattle.trace_events.specs.Queue.{stays, completed_deliveries, waits_at, waiting_queue}
 use Rattle.trace_events.specs.History.{history}
 use Rattle.trace_events.proofs.Judged.{AreJudged, judged-number, history-judged}
-use Rattle.trace_events.proofs.QueueSteps.{Each, completed-complete, filter-reverse, waiting_queue-step}
+use Rattle.trace_events.proofs.QueueSteps.{completed-complete, filter-reverse, waiting_queue-step}
 use Rattle.trace_events.proofs.IncomingSteps.{address_of-same, completion-same, completion-here}
 use Rattle.trace_clauses.proofs.OneConsumer.{some-and}
 use Rattle.trace_clauses.proofs.Incomings.{judged-part, judged-sound, not-again}
-use Rattle.trace_clauses.proofs.Parts.{EachPart, IsKept, AreKept, history_kept, AllOf, each_delivery, holds_some}
+use Rattle.trace_clauses.proofs.Parts.{EachPart, IsKept, AreKept, history_kept, each_delivery, holds_some}
 
 -- ---- how it moves
 
@@ -64,7 +64,7 @@ contains_cases y xs x h = elim (Contains-append_cases (y ∷ []) xs x h) [
   | inr later ↦ inr later
 ]
 
-pub all_contained : {A : Type 0} (P : A → Type 0) (xs : List A) (x : A) → AllOf P xs → Contains xs x → P x
+pub all_contained : {A : Type 0} (P : A → Type 0) (xs : List A) (x : A) → AllByRecursion P xs → Contains xs x → P x
 all_contained P [] x all h = contains_none x h
 all_contained P (y ∷ ys) x all h = elim (contains_cases y ys x h) [
   | inl same ↦ subst P same all.0
@@ -125,11 +125,11 @@ completed_part : (b : Bool) (o : Option Incoming) (d : Incoming) → (if b then 
 completed_part true o d is = is
 completed_part false o d is = absurd cc
 
-pub each_completed : (P : Incoming → Type 0) (past : List Event) → EachPart P past → AllOf P (completed_deliveries past)
+pub each_completed : (P : Incoming → Type 0) (past : List Event) → EachPart P past → AllByRecursion P (completed_deliveries past)
 each_completed P [] each = tt
 each_completed P (e ∷ past) each = by (completed_by e) refl (each_completed P past each.1)
   where
-    by : (o : Option Incoming) → completed_by e ≡ o → AllOf P (completed_deliveries past) → AllOf P (cons_option o (completed_deliveries past))
+    by : (o : Option Incoming) → completed_by e ≡ o → AllByRecursion P (completed_deliveries past) → AllByRecursion P (cons_option o (completed_deliveries past))
     by None is earlier = earlier
     by (Some d) is earlier = (holds_some P e.incoming d (completed_part (is_some_and (in_transfer e) is_last_part) e.incoming d is) each.0, earlier)
 
@@ -187,10 +187,6 @@ waiting_queue_has rules rs address d =
     (queued_waits rules address past (history_kept rules rs) d, waits_queued rules address past (history_kept rules rs) d)
 
 -- ---- in which order they stand
-
-each_all : {A : Type 0} (P : A → Type 0) (xs : List A) → Each P xs → AllOf P xs
-each_all P [] each = tt
-each_all P (x ∷ xs) each = (each.0, each_all P xs each.1)
 
 abbrev pub IsCompletedBelow : List Event → Incoming → Type 0
 IsCompletedBelow past d = (m : ℕ) × (completion d past ≡ Some m) × (m < length past)
@@ -255,7 +251,7 @@ order_step rules e past are older (Some d) is =
     (all_pairs_push (λ a b. completed_before a b (e ∷ past) ≡ true) (reverse (completed_deliveries past)) d older
     (λ k x within. let a = get_or (reverse (completed_deliveries past)) k x in
     before_new rules e past are a d
-    (all_contained (λ a. is_complete a past ≡ true) (completed_deliveries past) a (each_all (λ a. is_complete a past ≡ true) (completed_deliveries past) (completed-complete past))
+    (all_contained (λ a. is_complete a past ≡ true) (completed_deliveries past) a (completed-complete past)
     (in_reverse (completed_deliveries past) a (Contains-get_or (reverse (completed_deliveries past)) k x within))) is))
 
 pub completed_in_order : (rules : RuleSet) (past : List Event) → AreJudged rules past → AreInOrder past (reverse (completed_deliveries past))

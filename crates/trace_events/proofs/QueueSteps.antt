@@ -1,7 +1,7 @@
 -- What one more event does to the deliveries that wait, in one equation for every event.
 use Rattle.std.proofs.Common.{◌≡◌, refl, sym, ap, ◌∙◌, ℕ, Bool, true, false, not, ◌&&◌, ◌||◌, List, [], ◌∷◌, ◌++◌, Option, Some, None, filter, reverse, if◌then◌else◌, ◌==◌, eq-eqb}
 use Rattle.std.specs.Str.{bytes_eq}
-use Rattle.std.specs.List.{cons_option}
+use Rattle.std.specs.List.{cons_option, AllByRecursion}
 use Rattle.std.proofs.lemmas.List.{reverse-append, append-nil}
 use Rattle.std.proofs.lemmas.List.Elements.{filter-append}
 use Rattle.capture_form.specs.Rules.{RuleSet}
@@ -74,20 +74,15 @@ is_waiting-begins rules d e past here =
 
 -- ---- the queue of an address
 
--- each of them passes
-abbrev pub Each : {A : Type 0} → (A → Type 0) → List A → Type 0
-Each P [] = Unit {0}
-Each P (x ∷ xs) = P x × Each P xs
-
-pub each-map : {A : Type 0} (P Q : A → Type 0) → ((x : A) → P x → Q x) → (xs : List A) → Each P xs → Each Q xs
+pub each-map : {A : Type 0} (P Q : A → Type 0) → ((x : A) → P x → Q x) → (xs : List A) → AllByRecursion P xs → AllByRecursion Q xs
 each-map P Q f [] each = tt
 each-map P Q f (x ∷ xs) each = (f x each.0, each-map P Q f xs each.1)
 
-each-cons : {A : Type 0} (P : A → Type 0) (o : Option A) (xs : List A) → ((x : A) → o ≡ Some x → P x) → Each P xs → Each P (cons_option o xs)
+each-cons : {A : Type 0} (P : A → Type 0) (o : Option A) (xs : List A) → ((x : A) → o ≡ Some x → P x) → AllByRecursion P xs → AllByRecursion P (cons_option o xs)
 each-cons P None xs here each = each
 each-cons P (Some x) xs here each = (here x refl, each)
 
-pub filter-each : {A : Type 0} (p q r : A → Bool) (xs : List A) → Each (λ x. p x ≡ q x && r x) xs → filter p xs ≡ filter r (filter q xs)
+pub filter-each : {A : Type 0} (p q r : A → Bool) (xs : List A) → AllByRecursion (λ x. p x ≡ q x && r x) xs → filter p xs ≡ filter r (filter q xs)
 filter-each p q r [] each = refl
 filter-each p q r (x ∷ xs) each =
     ap (λ b. if b then x ∷ filter p xs else filter p xs) each.0 ∙ (ap (λ rest. if q x && r x then x ∷ rest else rest) (filter-each p q r xs each.1) ∙ by (q x))
@@ -123,7 +118,7 @@ completed-here : (e : Event) (past : List Event) (d : Incoming) → completed_by
 completed-here e past d is =
     ap (λ (o : Option Incoming). is_some_and o (λ other. other.number == d.number) || is_complete d past) is ∙ ap (λ b. b || is_complete d past) (eq-eqb d.number d.number refl)
 
-pub completed-complete : (past : List Event) → Each (λ d. is_complete d past ≡ true) (completed_deliveries past)
+pub completed-complete : (past : List Event) → AllByRecursion (λ d. is_complete d past ≡ true) (completed_deliveries past)
 completed-complete [] = tt
 completed-complete (e ∷ past) =
     each-cons (λ (d : Incoming). is_complete d (e ∷ past) ≡ true) (completed_by e) (completed_deliveries past) (completed-here e past)

@@ -1,6 +1,6 @@
 -- What one more event does to the deliveries that are to be settled with their consumers, in one equation for every event.
 use Rattle.std.proofs.Common.{◌≡◌, refl, sym, ap, ◌∙◌, ℕ, Bool, true, false, not, ◌&&◌, ◌||◌, List, [], ◌∷◌, Option, Some, None, IfSome, is_some, filter, find, reverse, if◌then◌else◌, ◌==◌}
-use Rattle.std.specs.List.{cons_option}
+use Rattle.std.specs.List.{cons_option, AllByRecursion}
 use Rattle.amqp_perf.specs.Meaning.{DispositionFields}
 use Rattle.trace_events.specs.Words.{is_some_and, is_number, or_else, where_passes}
 use Rattle.trace_events.specs.Event.{Event, Incoming, Outgoing}
@@ -13,7 +13,7 @@ use Rattle.trace_events.specs.Outgoing.{outgoing_begun, outgoing_deliveries, not
 use Rattle.trace_events.specs.Settling.{is_closed, is_to_settle, to_settle}
 use Rattle.trace_events.specs.Work.{deliveries_to_settle, stands_unsettled, carries_closed, keeps_unsettled, decides_now, closes_incoming, closes_carried, comes_to_settle}
 use Rattle.trace_events.proofs.OutgoingSteps.{settles_answering}
-use Rattle.trace_events.proofs.QueueSteps.{Each, each-map, filter-each, filter-reverse}
+use Rattle.trace_events.proofs.QueueSteps.{each-map, filter-each, filter-reverse}
 use Rattle.trace_events.proofs.StepWords.{or-false}
 
 -- ---- what is known of a delivery to a client
@@ -164,7 +164,7 @@ filter-old : {A : Type 0} (p : A → Bool) (o : Option A) (xs : List A) → ((x 
 filter-old p None xs fails = refl
 filter-old p (Some x) xs fails = ap (λ b. if b then x ∷ filter p xs else filter p xs) (fails x refl)
 
-filter-no_more : {A : Type 0} (p q : A → Bool) (xs : List A) → Each (λ x. q x ≡ false) xs → filter (λ x. p x || q x) xs ≡ filter p xs
+filter-no_more : {A : Type 0} (p q : A → Bool) (xs : List A) → AllByRecursion (λ x. q x ≡ false) xs → filter (λ x. p x || q x) xs ≡ filter p xs
 filter-no_more p q [] none = refl
 filter-no_more p q (x ∷ xs) none =
     ap (λ b. if p x || b then x ∷ filter (λ x. p x || q x) xs else filter (λ x. p x || q x) xs) none.0
@@ -181,7 +181,7 @@ find-both p q (x ∷ xs) = ap (λ o. if p x && q x then Some x else o) (find-bot
     by true false is = refl
     by false false is = refl
 
-module _ (e : Event) (past : List Event) (on : Each (StandsOn e past) (outgoing_deliveries past)) (begun : (j : Outgoing) → outgoing_begun e ≡ Some j → is_to_settle (e ∷ past) j ≡ false) where
+module _ (e : Event) (past : List Event) (on : AllByRecursion (StandsOn e past) (outgoing_deliveries past)) (begun : (j : Outgoing) → outgoing_begun e ≡ Some j → is_to_settle (e ∷ past) j ≡ false) where
   -- those that were, and those that come to be, but for those that the event settles
   pub deliveries_to_settle-step : deliveries_to_settle (e ∷ past)
       ≡ filter (keeps_unsettled e) (filter (λ j. is_to_settle past j || comes_to_settle e past j) (reverse (outgoing_deliveries past)))
@@ -194,7 +194,7 @@ module _ (e : Event) (past : List Event) (on : Each (StandsOn e past) (outgoing_
       ∙ (filter-reverse (keeps_unsettled e) (filter were js) ∙ ap (filter (keeps_unsettled e)) (filter-reverse were js)))
 
   -- where none comes
-  pub deliveries_to_settle-stay : Each (λ j. comes_to_settle e past j ≡ false) (outgoing_deliveries past)
+  pub deliveries_to_settle-stay : AllByRecursion (λ j. comes_to_settle e past j ≡ false) (outgoing_deliveries past)
       → deliveries_to_settle (e ∷ past) ≡ filter (keeps_unsettled e) (deliveries_to_settle past)
   deliveries_to_settle-stay none =
       deliveries_to_settle-step
