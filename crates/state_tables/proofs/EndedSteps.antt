@@ -11,17 +11,18 @@ use Rattle.state_tables.specs.Links.{attaches_out, detaches_in, detaches_out, ha
 
 -- ---- an event ends the link of the handle that it names, or of none
 
-abbrev about : Option Spoken → Option ℕ
+-- the handle that what was said is about; what it means; and whether that is an attach or a detach of the handle
+abbrev pub about : Option Spoken → Option ℕ
 about o = option_and_then (λ (spoken : Spoken). handle_about spoken.meaning) o
 
-abbrev meant : Option Spoken → Option Meaning
+abbrev pub meant : Option Spoken → Option Meaning
 meant o = option_map (λ (spoken : Spoken). spoken.meaning) o
 
 module _ (handle : ℕ) where
-  abbrev of_attach : Option Meaning → Bool
+  abbrev pub of_attach : Option Meaning → Bool
   of_attach o = is_some_and (option_and_then as_attach o) (λ (fields : AttachFields). fields.handle == handle)
 
-  abbrev of_detach : Option Meaning → Bool
+  abbrev pub of_detach : Option Meaning → Bool
   of_detach o = is_some_and (option_and_then as_detach o) (λ (fields : DetachFields). fields.handle == handle)
 
   abbrev attaches : Option Meaning → Bool

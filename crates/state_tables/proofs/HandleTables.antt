@@ -1,14 +1,15 @@
 -- What an event says nothing of stays as it was.
-use Rattle.std.proofs.Common.{◌≡◌, refl, ap, ℕ, Bool, true, false, ◌&&◌, ◌||◌, Option, Some, None, is_some, option_and_then, option_map, if◌then◌else◌, ◌==◌}
-use Rattle.amqp_perf.specs.Meaning.{Meaning, AnOpen, ABegin, AnAttach, AFlow, ATransfer, ADisposition, ADetach, AnEnd, AClose, AttachFields, DetachFields}
-use Rattle.trace_events.specs.Words.{is_number, is_some_and}
+use Rattle.std.proofs.Common.{◌≡◌, refl, ap, ℕ, Bool, true, false, ◌&&◌, ◌||◌, Option, Some, None, is_some, option_and_then, if◌then◌else◌, ◌==◌}
+use Rattle.amqp_perf.specs.Meaning.{Meaning, AnOpen, ABegin, AnAttach, AFlow, ATransfer, ADisposition, ADetach, AnEnd, AClose}
+use Rattle.trace_events.specs.Words.{is_number}
 use Rattle.trace_events.specs.Frame.{Spoken, spoken_in}
 use Rattle.trace_events.specs.Event.{Event, Moment, Opened, In, Out, Lost, Broken, channel_of, spoken_of}
 use Rattle.trace_events.specs.declared.session.Session.{Session}
 use Rattle.trace_events.specs.Connection.{is_final}
-use Rattle.trace_events.specs.Said.{as_attach, as_detach, handle_in, out_begin, is_in_end, is_out_end}
+use Rattle.trace_events.specs.Said.{handle_in, out_begin, is_in_end, is_out_end}
 use Rattle.trace_events.proofs.EventKinds.{in_said, out_said}
 use Rattle.state_tables.specs.Links.{Counted, Asked, HandleState, attaches_in, attaches_out, detaches_in, detaches_out, handle_about, handle_of, named_handle, nothing, says_of_handle, standing_behind, standing_next}
+use Rattle.state_tables.proofs.EndedSteps.{about, meant, of_attach, of_detach}
 
 abbrev made : Option Counted → Option Asked → Bool → Bool → Bool → HandleState
 made a b c d e = record { link = a; asked = b; owes_detach = c; awaits_detach = d; is_undetached = e }
@@ -16,20 +17,8 @@ made a b c d e = record { link = a; asked = b; owes_detach = c; awaits_detach = 
 made-same : (a a' : Option Counted) (b b' : Option Asked) (c c' d d' e e' : Bool) → a ≡ a' → b ≡ b' → c ≡ c' → d ≡ d' → e ≡ e' → made a b c d e ≡ made a' b' c' d' e'
 made-same a a' b b' c c' d d' e e' p q r s t = rw (p, q, r, s, t) refl
 
-abbrev about : Option Spoken → Option ℕ
-about o = option_and_then (λ (spoken : Spoken). handle_about spoken.meaning) o
-
-abbrev meant : Option Spoken → Option Meaning
-meant o = option_map (λ (spoken : Spoken). spoken.meaning) o
-
 module _ (handle : ℕ) where
-  abbrev is_attach : Option Meaning → Bool
-  is_attach o = is_some_and (option_and_then as_attach o) (λ (fields : AttachFields). fields.handle == handle)
-
-  abbrev is_detach : Option Meaning → Bool
-  is_detach o = is_some_and (option_and_then as_detach o) (λ (fields : DetachFields). fields.handle == handle)
-
-  meaning-attach : (m : Meaning) → is_number (handle_about m) handle ≡ false → is_attach (Some m) ≡ false
+  meaning-attach : (m : Meaning) → is_number (handle_about m) handle ≡ false → of_attach handle (Some m) ≡ false
   meaning-attach (AnAttach fields) off = off
   meaning-attach (AnOpen fields) off = refl
   meaning-attach (ABegin begin) off = refl
@@ -40,7 +29,7 @@ module _ (handle : ℕ) where
   meaning-attach (AnEnd error) off = refl
   meaning-attach (AClose error) off = refl
 
-  meaning-detach : (m : Meaning) → is_number (handle_about m) handle ≡ false → is_detach (Some m) ≡ false
+  meaning-detach : (m : Meaning) → is_number (handle_about m) handle ≡ false → of_detach handle (Some m) ≡ false
   meaning-detach (ADetach fields) off = off
   meaning-detach (AnOpen fields) off = refl
   meaning-detach (ABegin begin) off = refl
@@ -62,11 +51,11 @@ module _ (handle : ℕ) where
   meaning-named (AnEnd error) off = refl
   meaning-named (AClose error) off = refl
 
-  spoken-attach : (o : Option Spoken) → is_number (about o) handle ≡ false → is_attach (meant o) ≡ false
+  spoken-attach : (o : Option Spoken) → is_number (about o) handle ≡ false → of_attach handle (meant o) ≡ false
   spoken-attach None off = refl
   spoken-attach (Some spoken) off = meaning-attach spoken.meaning off
 
-  spoken-detach : (o : Option Spoken) → is_number (about o) handle ≡ false → is_detach (meant o) ≡ false
+  spoken-detach : (o : Option Spoken) → is_number (about o) handle ≡ false → of_detach handle (meant o) ≡ false
   spoken-detach None off = refl
   spoken-detach (Some spoken) off = meaning-detach spoken.meaning off
 
@@ -74,28 +63,28 @@ module _ (handle : ℕ) where
   spoken-named None off = refl
   spoken-named (Some spoken) off = meaning-named spoken.meaning off
 
-  in-attach : (m : Moment) → is_number (about (spoken_of m)) handle ≡ false → is_attach (in_said m) ≡ false
+  in-attach : (m : Moment) → is_number (about (spoken_of m)) handle ≡ false → of_attach handle (in_said m) ≡ false
   in-attach (In frame) off = spoken-attach (spoken_in frame.body) off
   in-attach (Out frame) off = refl
   in-attach Opened off = refl
   in-attach Lost off = refl
   in-attach Broken off = refl
 
-  in-detach : (m : Moment) → is_number (about (spoken_of m)) handle ≡ false → is_detach (in_said m) ≡ false
+  in-detach : (m : Moment) → is_number (about (spoken_of m)) handle ≡ false → of_detach handle (in_said m) ≡ false
   in-detach (In frame) off = spoken-detach (spoken_in frame.body) off
   in-detach (Out frame) off = refl
   in-detach Opened off = refl
   in-detach Lost off = refl
   in-detach Broken off = refl
 
-  out-attach : (m : Moment) → is_number (about (spoken_of m)) handle ≡ false → is_attach (out_said m) ≡ false
+  out-attach : (m : Moment) → is_number (about (spoken_of m)) handle ≡ false → of_attach handle (out_said m) ≡ false
   out-attach (Out frame) off = spoken-attach (spoken_in frame.body) off
   out-attach (In frame) off = refl
   out-attach Opened off = refl
   out-attach Lost off = refl
   out-attach Broken off = refl
 
-  out-detach : (m : Moment) → is_number (about (spoken_of m)) handle ≡ false → is_detach (out_said m) ≡ false
+  out-detach : (m : Moment) → is_number (about (spoken_of m)) handle ≡ false → of_detach handle (out_said m) ≡ false
   out-detach (Out frame) off = spoken-detach (spoken_in frame.body) off
   out-detach (In frame) off = refl
   out-detach Opened off = refl
