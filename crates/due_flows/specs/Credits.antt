@@ -8,7 +8,7 @@ use Rattle.trace_events.specs.declared.session.Session.{Session}
 use Rattle.trace_events.specs.Words.{is_some_and, where_passes}
 use Rattle.trace_events.specs.Event.{Event, Link, Incoming}
 use Rattle.trace_events.specs.Address.{has_consumer}
-use Rattle.trace_events.specs.Link.{is_consumer, is_producer, own_link}
+use Rattle.trace_events.specs.Link.{is_consumer, is_producer, own_link, opened_consumer}
 use Rattle.trace_events.specs.Outgoing.{carried_number}
 use Rattle.trace_events.specs.Waiting.{has_waiting}
 use Rattle.trace_clauses.specs.FlowClause.{may_be_topped_up}
@@ -18,7 +18,7 @@ use Rattle.state_answers.specs.declared.lent_tables.LentTables.{LentTables}
 use Rattle.state_answers.specs.Tables.{TellsOf}
 use Rattle.due_flows.specs.Candidates.{value_of}
 use Rattle.due_flows.specs.Numbers.{has}
-use Rattle.due_flows.specs.Topping.{IsProducing, consumer_opened, settles}
+use Rattle.due_flows.specs.Topping.{IsProducing, settles}
 use Rattle.due_flows.specs.declared.credits.Credits.{Credits}
 use Rattle.due_flows.specs.declared.credits.LinkKey.{LinkKey}
 
@@ -85,7 +85,7 @@ pub record AreTouchedIn (e : Event) (before : LentTables) (earlier later : Credi
 pub record AreWokenIn (e : Event) (before : LentTables) (earlier later : Credits) : Type 0 where
   pub more : HasMore earlier later
   pub settled : (session : ℕ) → settles e ≡ true → option_map (λ (s : Session). s.number) e.session ≡ Some session → (n : ℕ) → on_session earlier session n ≡ true → waits later n ≡ true
-  pub served : (rules : RuleSet) (past : List Event) → TellsOf rules before past → (l : Link) → consumer_opened e ≡ Some l → has_consumer l.address past ≡ false
+  pub served : (rules : RuleSet) (past : List Event) → TellsOf rules before past → (l : Link) → opened_consumer e ≡ Some l → has_consumer l.address past ≡ false
       → (n : ℕ) → at_address earlier l.address n ≡ true → waits later n ≡ true
 
 -- one of these links is a consumer's at whose address deliveries wait

@@ -2,13 +2,13 @@
 -- that may bring one there.
 use Rattle.std.specs.Prelude.{◌≡◌, ℕ, Bool, true, false, List, Option, Some}
 use Rattle.capture_form.specs.Rules.{RuleSet}
-use Rattle.trace_events.specs.Words.{is_some_and, where_passes}
+use Rattle.trace_events.specs.Words.{is_some_and}
 use Rattle.trace_events.specs.Event.{Event, Link, Incoming}
 use Rattle.trace_events.specs.Said.{in_disposition}
 use Rattle.trace_events.specs.Address.{has_consumer}
 use Rattle.trace_events.specs.Ends.{ends_link}
 use Rattle.trace_events.specs.Incoming.{incoming_at}
-use Rattle.trace_events.specs.Link.{IsLiveLink, is_consumer, is_producer, is_sender, own_link}
+use Rattle.trace_events.specs.Link.{IsLiveLink, is_consumer, is_producer, is_sender, opened_consumer}
 use Rattle.trace_events.specs.Waiting.{has_waiting, is_undecided}
 use Rattle.trace_clauses.specs.FlowClause.{may_be_topped_up}
 
@@ -27,10 +27,6 @@ pub record IsToppable (rules : RuleSet) (l : Link) (past : List Event) : Type 0 
 abbrev pub settles : Event → Bool
 settles e = is_some_and (in_disposition e) (λ fields. is_sender fields.role)
 
--- the consumer's link that the event opens
-abbrev pub consumer_opened : Event → Option Link
-consumer_opened e = where_passes is_consumer (own_link e)
-
 -- the event tells of, or carries, this undecided delivery of the link
 pub record IsDecidedOn (rules : RuleSet) (past : List Event) (l : Link) (number : Option ℕ) : Type 0 where
   pub delivery : Incoming
@@ -42,7 +38,7 @@ pub record IsDecidedOn (rules : RuleSet) (past : List Event) (l : Link) (number 
 -- the event opens the first consumer's link of the address
 pub record IsServedFirst (e : Event) (past : List Event) (l : Link) : Type 0 where
   pub consumer : Link
-  pub opened : consumer_opened e ≡ Some consumer
+  pub opened : opened_consumer e ≡ Some consumer
   pub address : consumer.address ≡ l.address
   pub unserved : has_consumer l.address past ≡ false
 

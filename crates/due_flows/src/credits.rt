@@ -8,7 +8,7 @@ ghost use Rattle.number_groups.specs.OctetGroups as octets;
 ghost use Rattle.trace_events.specs.Address as addresses;
 ghost use Rattle.trace_events.specs.Event as law;
 ghost use Rattle.trace_events.specs.History.{history};
-ghost use Rattle.trace_events.specs.Link.{is_consumer, is_producer, own_link};
+ghost use Rattle.trace_events.specs.Link.{is_consumer, is_producer, own_link, opened_consumer};
 ghost use Rattle.trace_events.specs.Outgoing.{carried_number};
 ghost use Rattle.trace_events.specs.Waiting.{has_waiting};
 ghost use Rattle.trace_events.specs.Words.{is_some_and, where_passes};
@@ -19,7 +19,7 @@ ghost use Rattle.state_tables.specs.EndedLinks.{views};
 ghost use Rattle.state_addresses.specs.ConsumerLinks.{has_number};
 ghost use Rattle.state_answers.specs.Tables.{TellsOf};
 ghost use Rattle.event_effects.specs.Effects.{AreEffects};
-ghost use Rattle.due_flows.specs.Topping.{IsToppable, consumer_opened, settles};
+ghost use Rattle.due_flows.specs.Topping.{IsToppable, settles};
 ghost use Rattle.due_flows.specs.Credits.{HasCredits, AreEndedIn, AreFreedIn, AreOpenedIn, AreTouchedIn, AreWokenIn, has_waited, place_of};
 ghost use Rattle.trace_values.specs.View.{Events, event_view, link_view};
 
@@ -227,7 +227,7 @@ fn settled_session(event: &Event) -> Option<u64>
 
 /// The address of the consumer's link that the event opens, where it has none yet.
 fn served<'a>(event: &Event<'a, '_, '_>, before: &LentTables<'_>) -> Option<&'a [u8]>
-    ensures { (rules : RuleSet) (past : Events) → TellsOf rules before.now past → (l : law.Link) → consumer_opened (event_view event.now) ≡ Some l →
+    ensures { (rules : RuleSet) (past : Events) → TellsOf rules before.now past → (l : law.Link) → opened_consumer (event_view event.now) ≡ Some l →
         addresses.has_consumer l.address past ≡ false → option_map (λ octets. octets.now) result ≡ Some l.address }
 {
     match event.link {

@@ -6,8 +6,8 @@ ghost use Rattle.flow_counts.specs.Picks.{AddressEvent};
 ghost use Rattle.capture_form.specs.Rules.{RuleSet};
 ghost use Rattle.capture_form.specs.declared.records.Record.{Record};
 ghost use Rattle.address_table.specs.Links.{IsCount};
-ghost use Rattle.trace_events.specs.Words.{is_some_and, where_passes};
-ghost use Rattle.trace_events.specs.Link.{IsLiveLink, is_consumer, link_at, own_link};
+ghost use Rattle.trace_events.specs.Words.{is_some_and};
+ghost use Rattle.trace_events.specs.Link.{IsLiveLink, link_at, own_link};
 ghost use Rattle.trace_events.specs.Outgoing as outgoing;
 ghost use Rattle.trace_events.specs.History.{history};
 ghost use Rattle.trace_duties.specs.Consumers.{attached_as, begun_by};
@@ -25,7 +25,7 @@ ghost use Rattle.due_queues.specs.AddressCounts.{AreFew, CountsMore, DetachesAll
 ghost use Rattle.due_queues.specs.Picks.{ArePicks, decided_among, decided_link, decides};
 
 use address_table::Table;
-use amqp_perf::{Address, Role};
+use amqp_perf::Address;
 use capture_form::{RuleSet, distribution_of};
 use event_effects::EventEffects;
 use state_answers::LentTables;
@@ -39,16 +39,6 @@ use trace_values::{Event, Link, is_decisive};
 #[derive(Drop)]
 pub struct Picks {
     table: Table,
-}
-
-/// The consumer's link that the event opens.
-fn opened<'a>(event: &Event<'a, '_, '_>) -> Option<Link<'a>>
-    ensures { option_map link_view result ≡ where_passes is_consumer (own_link (event_view event.now)) }
-{
-    match event.link {
-        Some(link) if link.number == event.number && link.role == Role::Sender => Some(link),
-        _ => None,
-    }
 }
 
 /// The address that an attach of the router names for a link on which it sends; an address that is no text is empty.
@@ -183,7 +173,7 @@ impl Picks {
     fn attach(&mut self, rules: &RuleSet, event: &Event) -> Result<(), AllocError>
         ensures { OnOk result (HasNamedSource (event_view event.now) → CountsMore (attached_as (own_link (event_view event.now))) self.old.table self.new.table) }
     {
-        let Some(link) = opened(event) else {
+        let Some(link) = event.opened_consumer() else {
             return Ok(());
         };
         let address = named_source(event);

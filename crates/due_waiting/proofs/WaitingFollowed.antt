@@ -7,7 +7,7 @@ use Rattle.trace_events.specs.Words.{where_passes}
 use Rattle.trace_events.specs.Event.{Event, Link, Incoming, Outgoing}
 use Rattle.trace_events.specs.Ends.{ends_link}
 use Rattle.trace_events.specs.Incoming.{address_of, completed_by, completes}
-use Rattle.trace_events.specs.Link.{IsLiveLink, is_consumer, own_link}
+use Rattle.trace_events.specs.Link.{IsLiveLink, is_consumer, opened_consumer}
 use Rattle.trace_events.proofs.IncomingSteps.{address_of-same}
 use Rattle.trace_events.proofs.Judged.{AreJudged}
 use Rattle.trace_clauses.specs.Clauses.{first_broken}
@@ -39,7 +39,7 @@ module _ (rules : RuleSet) (e : Event) (past : List Event) (are : AreJudged rule
     (granted : (l : Link) → IsGranted e past l → stood l.session.number l.number ≡ true → consumer_at l.number past ≡ Some l → awake l.address ≡ true)
     (kept : (address : List ℕ) → was_awake address ≡ true → awake address ≡ true)
     (stood₁ : (session n : ℕ) → has_number ended n ≡ false → stood session n ≡ true → stand₁ session n ≡ true)
-    (opened : (l : Link) → where_passes is_consumer (own_link e) ≡ Some l → stand l.session.number l.number ≡ true)
+    (opened : (l : Link) → opened_consumer e ≡ Some l → stand l.session.number l.number ≡ true)
     (stood₂ : (session n : ℕ) → stand₁ session n ≡ true → stand session n ≡ true)
     (has : Have rules stood was_awake past) where
   stands-on : (l : Link) → IsLiveLink l (e ∷ past) → is_consumer l ≡ true → stand l.session.number l.number ≡ true

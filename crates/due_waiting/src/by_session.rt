@@ -1,16 +1,14 @@
 //! The live links of consumers, by their sessions.
 
-ghost use Rattle.std.specs.Prelude.{◌≡◌, ℕ, Some, OnOk, false, length, nat_eq, option_map, slice_get, true};
+ghost use Rattle.std.specs.Prelude.{◌≡◌, ℕ, Some, OnOk, false, length, nat_eq, slice_get, true};
+ghost use Rattle.trace_events.specs.Link.{opened_consumer};
 ghost use Rattle.number_groups.specs.Groups.{numbers};
 ghost use Rattle.trace_events.specs.Event as law;
-ghost use Rattle.trace_events.specs.Link.{is_consumer, own_link};
-ghost use Rattle.trace_events.specs.Words.{where_passes};
-ghost use Rattle.trace_values.specs.View.{event_view, link_view};
+ghost use Rattle.trace_values.specs.View.{event_view};
 ghost use Rattle.state_tables.specs.EndedLinks.{views};
 ghost use Rattle.state_addresses.specs.ConsumerLinks.{has_number};
 ghost use Rattle.due_waiting.specs.BySession.{HasNone, stands};
 
-use amqp_perf::Role;
 use number_groups::Groups;
 use std::alloc::{AllocError, Global};
 use trace_values::{Event, Link};
@@ -46,11 +44,11 @@ impl BySession {
     ///
     /// Memory was refused; then all stays as it was.
     pub fn open(&mut self, event: &Event) -> Result<(), AllocError>
-        ensures opened { OnOk result ((l : law.Link) → where_passes is_consumer (own_link (event_view event.now)) ≡ Some l →
+        ensures opened { OnOk result ((l : law.Link) → opened_consumer (event_view event.now) ≡ Some l →
             stands self.new l.session.number l.number ≡ true) }
         ensures stood { OnOk result ((session n : ℕ) → stands self.old session n ≡ true → stands self.new session n ≡ true) }
     {
-        let Some(link) = opened(event) else {
+        let Some(link) = event.opened_consumer() else {
             return Ok(());
         };
         self.numbers.insert(link.session.number, link.number)?;
@@ -69,15 +67,5 @@ impl BySession {
         ensures { result ≡ slice_get (numbers nat_eq self.now.numbers session) index }
     {
         self.numbers.get(&session, index)
-    }
-}
-
-/// The link of a consumer that the event opens.
-fn opened<'a>(event: &Event<'a, '_, '_>) -> Option<Link<'a>>
-    ensures { option_map link_view result ≡ where_passes is_consumer (own_link (event_view event.now)) }
-{
-    match event.link {
-        Some(link) if link.number == event.number && link.role == Role::Sender => Some(link),
-        _ => None,
     }
 }

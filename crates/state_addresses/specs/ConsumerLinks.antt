@@ -4,7 +4,7 @@ use Rattle.std.specs.List.{list_any}
 use Rattle.indexmap.specs.IndexMap.{get}
 use Rattle.trace_events.specs.Words.{or_else, where_passes}
 use Rattle.trace_events.specs.Event.{Event, Link}
-use Rattle.trace_events.specs.Link.{is_consumer, is_live, link_at, own_link}
+use Rattle.trace_events.specs.Link.{is_consumer, is_live, link_at, opened_consumer}
 use Rattle.state_tables.specs.HeldViews.{held_link_view}
 use Rattle.state_addresses.specs.declared.consumer_links.ConsumerLinks.{ConsumerLinks}
 
@@ -30,7 +30,7 @@ AreSameLinks earlier later = (n : ℕ) → link_in later n ≡ link_in earlier n
 
 -- the consumer's link of this number that the event opens
 abbrev pub opened_at : ℕ → Event → Option Link
-opened_at n e = where_passes (λ l. l.number == n) (where_passes is_consumer (own_link e))
+opened_at n e = where_passes (λ l. l.number == n) (opened_consumer e)
 
 -- the event puts this under the number, where the other stood
 abbrev pub with_opened : ℕ → Event → Option Link → Option Link

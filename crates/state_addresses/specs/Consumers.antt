@@ -3,10 +3,10 @@ use Rattle.std.specs.Prelude.{◌≡◌, ℕ, Bool, true, false, ◌&&◌, List,
 use Rattle.std.specs.List.{list_any}
 use Rattle.number_groups.specs.Numbers.{is_among}
 use Rattle.number_groups.specs.OctetGroups.{numbers}
-use Rattle.trace_events.specs.Words.{is_some_and, where_passes}
+use Rattle.trace_events.specs.Words.{is_some_and}
 use Rattle.trace_events.specs.Event.{Event, Link}
 use Rattle.trace_events.specs.Address.{is_consumer_of}
-use Rattle.trace_events.specs.Link.{is_consumer, link_at, own_link}
+use Rattle.trace_events.specs.Link.{is_consumer, link_at, own_link, opened_consumer}
 use Rattle.state_addresses.specs.declared.consumers.Consumers.{Consumers}
 
 -- the numbers that the table has at the address, in their order
@@ -40,7 +40,7 @@ opens_for address n e = is_some_and (own_link e) (λ l. is_consumer l && bytes_e
 
 -- the event opens a consumer's link
 abbrev pub opens_consumer : Event → Bool
-opens_consumer e = is_some (where_passes is_consumer (own_link e))
+opens_consumer e = is_some (opened_consumer e)
 
 -- one of these links has the address and the number
 abbrev pub is_ended : List Link → List ℕ → ℕ → Bool

@@ -9,7 +9,6 @@ ghost use Rattle.state_addresses.specs.ConsumerLinks.{AreConsumerLinks, AreSameL
 ghost use Rattle.state_addresses.specs.Consumers.{opens_consumer};
 ghost use Rattle.trace_values.specs.View.{event_view, link_view};
 
-use crate::consumers::opened;
 use number_map::NumberMap;
 use state_tables::HeldLink;
 use std::alloc::{AllocError, Global};
@@ -65,7 +64,7 @@ impl ConsumerLinks {
         ensures unchanged { OnErr result (AreSameLinks self.old self.new) }
         ensures refused { OnErr result (opens_consumer (event_view event.now) ≡ true) }
     {
-        if let Some(link) = opened(event) {
+        if let Some(link) = event.opened_consumer() {
             let own = HeldLink::new(self.alloc, &link)?;
             self.entries.insert(link.number, own)?;
         }

@@ -1,18 +1,15 @@
 //! The live links of each address's consumers.
 
-ghost use Rattle.std.specs.Prelude.{◌≡◌, ◌||◌, ◌&&◌, ◌==◌, ℕ, List, [], ◌∷◌, OnOk, OnErr, length, not, option_map, slice_get, true};
+ghost use Rattle.std.specs.Prelude.{◌≡◌, ◌||◌, ◌&&◌, ◌==◌, ℕ, List, [], ◌∷◌, OnOk, OnErr, length, not, slice_get, true};
 ghost use Rattle.capture_form.specs.Rules.{RuleSet};
 ghost use Rattle.capture_form.specs.declared.records.Record.{Record};
 ghost use Rattle.trace_events.specs.Address as law;
 ghost use Rattle.trace_events.specs.History.{history, judge};
 ghost use Rattle.state_tables.specs.EndedLinks.{AreEnded, views};
 ghost use Rattle.state_addresses.specs.Consumers.{AreConsumers, AreSame, is_ended, is_served, numbers_at, opens_consumer, opens_for, stands};
-ghost use Rattle.trace_events.specs.Link.{is_consumer, own_link};
-ghost use Rattle.trace_events.specs.Words.{where_passes};
-ghost use Rattle.trace_values.specs.View.{event_view, link_view};
+ghost use Rattle.trace_values.specs.View.{event_view};
 
 use crate::addresses::Addresses;
-use amqp_perf::Role;
 use number_groups::OctetGroups;
 use std::alloc::{AllocError, Global};
 use trace_values::{Event, Link};
@@ -26,16 +23,6 @@ pub struct Consumers {
 impl Drop for Consumers {
     fn drop(self) {
         let Consumers { groups: _ } = self;
-    }
-}
-
-/// The consumer's link that the event opens.
-pub(crate) fn opened<'a>(event: &Event<'a, '_, '_>) -> Option<Link<'a>>
-    ensures { option_map link_view result ≡ where_passes is_consumer (own_link (event_view event.now)) }
-{
-    match event.link {
-        Some(link) if link.number == event.number && link.role == Role::Sender => Some(link),
-        _ => None,
     }
 }
 
@@ -72,7 +59,7 @@ impl Consumers {
         ensures unchanged { OnErr result (AreSame self.old self.new) }
         ensures refused { OnErr result (opens_consumer (event_view event.now) ≡ true) }
     {
-        if let Some(link) = opened(event) {
+        if let Some(link) = event.opened_consumer() {
             self.groups.insert(link.address, link.number)?;
         }
         Ok(())

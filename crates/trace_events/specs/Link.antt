@@ -134,6 +134,10 @@ awaits_detach s handle (e ∷ past) =
 abbrev pub own_link : Event → Option Link
 own_link e = where_passes (λ l. l.number == e.number) e.link
 
+-- where it is a consumer's
+abbrev pub opened_consumer : Event → Option Link
+opened_consumer e = where_passes is_consumer (own_link e)
+
 -- all links, the last attached first
 abbrev pub links : List Event → List Link
 links past = filter_map own_link past

@@ -23,10 +23,7 @@ fn is_last_part(transfer: &Transfer) -> bool
 }
 
 impl<'a, 'r, 'm> Event<'a, 'r, 'm> {
-    ghost use Rattle.std.specs.Prelude.{◌≡◌, ◌&&◌, option_map};
-    ghost use Rattle.amqp_perf.specs.Meaning.{flag};
-    ghost use Rattle.trace_events.specs.Words.{is_some_and};
-    ghost use Rattle.trace_events.specs.Said.{in_transfer};
+    ghost use Rattle.std.specs.Prelude.{◌≡◌, option_map};
     ghost use Rattle.trace_events.specs.Incoming as law;
     ghost use Rattle.trace_values.specs.View.{incoming_view, event_view};
 
@@ -62,8 +59,7 @@ impl<'a, 'r, 'm> Event<'a, 'r, 'm> {
 
     /// Its producer gives the delivery up (part 2, section 2.7.5).
     pub fn aborts(&self, delivery: &Incoming) -> bool
-        ensures { result ≡ (law.is_part (incoming_view delivery.now) (event_view self.now)
-            && is_some_and (in_transfer (event_view self.now)) (λ fields. flag fields.aborted)) }
+        ensures { result ≡ law.aborts (incoming_view delivery.now) (event_view self.now) }
     {
         match self.in_transfer() {
             Some(transfer) => transfer.is_aborted() && self.is_incoming_part(delivery),

@@ -130,8 +130,8 @@ impl<'a> Link<'a> {
 }
 
 impl<'a, 'r, 'm> Event<'a, 'r, 'm> {
-    ghost use Rattle.std.specs.Prelude.{◌≡◌};
-    ghost use Rattle.trace_events.specs.Link.{attaches_in, attaches_out, detaches_in, detaches_out};
+    ghost use Rattle.std.specs.Prelude.{◌≡◌, option_map};
+    ghost use Rattle.trace_events.specs.Link.{attaches_in, attaches_out, detaches_in, detaches_out, opened_consumer};
     ghost use Rattle.trace_events.specs.Ends.{replaces_link, ends_link};
     ghost use Rattle.trace_values.specs.View.{link_view, event_view};
 
@@ -172,6 +172,16 @@ impl<'a, 'r, 'm> Event<'a, 'r, 'm> {
         match self.out_detach() {
             Some(detach) => detach.handle == handle && self.is_on_session(session),
             None => false,
+        }
+    }
+
+    /// The consumer's link that it opens.
+    pub fn opened_consumer(&self) -> Option<Link<'a>>
+        ensures { option_map link_view result ≡ opened_consumer (event_view self.now) }
+    {
+        match self.link {
+            Some(link) if link.number == self.number && link.role == Role::Sender => Some(link),
+            _ => None,
         }
     }
 
