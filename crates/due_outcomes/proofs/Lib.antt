@@ -1,4 +1,3 @@
-mod GroupLists
 mod UnderKeys
 mod UnsettledSteps
 mod UntoldSteps

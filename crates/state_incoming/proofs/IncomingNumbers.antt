@@ -12,7 +12,7 @@ use Rattle.trace_events.specs.Incoming.{incoming_begun, incoming_at, incoming_de
 use Rattle.trace_events.proofs.Judged.{AreJudged, judged-number}
 use Rattle.trace_events.proofs.LinkNumbers.{same-sym}
 use Rattle.trace_events.proofs.Links.{passing}
-use Rattle.state_incoming.proofs.GroupLists.{any-map}
+use Rattle.state_tables.proofs.GroupLists.{any-map}
 
 length-map : {A B : Type 0} (f : A → B) (xs : List A) → length (map f xs) ≡ length xs
 length-map f [] = refl

@@ -14,7 +14,6 @@ mod LetGo
 mod LetGoExamples
 mod Regrouped
 mod GroupExamples
-mod GroupLists
 mod SomeTouched
 mod TouchedKnown
 mod EndedKnown

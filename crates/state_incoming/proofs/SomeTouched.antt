@@ -1,7 +1,6 @@
 -- Where an event names a delivery, or a group gives one for it, it may touch one.
-use Rattle.std.proofs.Common.{◌≡◌, refl, ap, ◌∙◌, ◌<◌, ℕ, Bool, true, false, ◌&&◌, ◌||◌, not, List, length, get_or, Option, Some, None, is_some, nat_eq, option_and_then, eq-eqb}
+use Rattle.std.proofs.Common.{◌≡◌, refl, ap, ◌∙◌, ◌<◌, ℕ, Bool, true, false, ◌&&◌, ◌||◌, not, List, Option, Some, None, is_some, nat_eq, option_and_then, eq-eqb}
 use Rattle.std.specs.List.{list_any}
-use Rattle.std.proofs.lemmas.List.Folds.{list_any_at}
 use Rattle.number_groups.specs.Groups.{is_member}
 use Rattle.number_groups.specs.OctetGroups as octets
 use Rattle.trace_events.specs.Words.{is_number, is_some_and}
@@ -12,10 +11,6 @@ use Rattle.capture_form.specs.Rules.{RuleSet}
 use Rattle.state_incoming.specs.Held.{Held, held_begun, held_next, unbegun}
 use Rattle.state_incoming.specs.Touched.{part_number, settled_session, is_left, may_touch}
 use Rattle.state_incoming.specs.declared.groups.HeldGroups.{HeldGroups}
-
--- a group with a number at an index has one
-pub some-in : (xs : List ℕ) (i : ℕ) → i < length xs → (n : ℕ) × (list_any (nat_eq n) xs ≡ true)
-some-in xs i below = let n = get_or xs i 0 in (n, list_any_at (nat_eq n) xs i 0 below (eq-eqb n n refl))
 
 some-number : (o : Option ℕ) → is_some o ≡ true → (n : ℕ) × (is_number o n ≡ true)
 some-number None is = absurd cc

@@ -1,44 +1,23 @@
 //! The deliveries that an event may touch.
 
-ghost use Rattle.std.specs.Prelude.{◌≡◌, ℕ, ◌||◌, IfOk, OnOk, OnErr, is_some, true, map, nat_eq};
+ghost use Rattle.std.specs.Prelude.{◌≡◌, ℕ, ◌||◌, IfOk, OnOk, OnErr, true, map, nat_eq};
 ghost use Rattle.std.specs.List.{list_any};
 ghost use Rattle.number_groups.specs.Numbers.{is_among};
 ghost use Rattle.number_groups.specs.Groups.{is_member};
 ghost use Rattle.number_groups.specs.OctetGroups as octets;
-ghost use Rattle.trace_events.specs.Words.{is_number, is_some_and};
+ghost use Rattle.trace_events.specs.Words.{is_some_and};
 ghost use Rattle.trace_events.specs.Outgoing as outgoing;
 ghost use Rattle.state_incoming.specs.Touched as law;
 ghost use Rattle.trace_values.specs.View.{event_view, link_view};
 
 use crate::groups::HeldGroups;
 use amqp_perf::Role;
-use number_groups::{Groups, NumberSet, OctetGroups};
+use number_groups::{NumberSet, OctetGroups};
 use pairing_cert::Note;
 use state_addresses::Addresses;
+use state_tables::{add_group, add_number};
 use std::alloc::{AllocError, Global};
 use trace_values::{Event, Link};
-
-/// The number comes in, if there is one.
-fn add(touched: &mut NumberSet, number: Option<u64>) -> Result<(), AllocError>
-    ensures added { OnOk result ((n : ℕ) → is_among touched.new n ≡ (is_among touched.old n || is_number number n)) }
-    ensures refused { OnErr result (is_some number ≡ true) }
-{
-    if let Some(number) = number {
-        touched.insert(number)?;
-    }
-    Ok(())
-}
-
-/// All numbers of the group come in.
-fn add_group(touched: &mut NumberSet, groups: &Groups<u64>, key: u64) -> Result<(), AllocError>
-    ensures added { OnOk result ((n : ℕ) → is_among touched.new n ≡ (is_among touched.old n || is_member nat_eq groups.now key n)) }
-    ensures refused { OnErr result ((n : ℕ) × (is_member nat_eq groups.now key n ≡ true)) }
-{
-    for index in 0..groups.count(&key) {
-        add(touched, groups.get(&key, index))?;
-    }
-    Ok(())
-}
 
 /// All numbers of the group of an address come in.
 fn add_waiting(
@@ -50,7 +29,7 @@ fn add_waiting(
     ensures refused { OnErr result ((n : ℕ) × (octets.is_member groups.now address.now n ≡ true)) }
 {
     for index in 0..groups.count(address) {
-        add(touched, groups.get(address, index))?;
+        add_number(touched, groups.get(address, index))?;
     }
     Ok(())
 }
@@ -152,9 +131,9 @@ impl HeldGroups {
             × (law.may_touch self.now (A.has_one addresses.now) (map link_view ended.now) (event_view event.now) n ≡ true)) }
     {
         let mut touched = NumberSet::new(alloc);
-        add(&mut touched, part_number(event))?;
-        add(&mut touched, event.told)?;
-        add(&mut touched, carried_number(event))?;
+        add_number(&mut touched, part_number(event))?;
+        add_number(&mut touched, event.told)?;
+        add_number(&mut touched, carried_number(event))?;
         self.add_settled(&mut touched, event)?;
         self.add_all_left(&mut touched, addresses, ended)?;
         Ok(touched)

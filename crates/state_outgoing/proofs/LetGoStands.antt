@@ -14,6 +14,7 @@ use Rattle.trace_events.proofs.Judged.{AreJudged}
 use Rattle.trace_clauses.specs.Kept.{carriers}
 use Rattle.trace_clauses.proofs.WaitingQueue.{filter_has, in_filter}
 use Rattle.state_tables.specs.LetGo.{is_let_go, names_let_go}
+use Rattle.state_tables.proofs.GroupLists.{swapped}
 use Rattle.state_outgoing.specs.Carriers.{carriers_in}
 use Rattle.state_outgoing.specs.LastBegun.{carrier_numbers, last_number, last_on}
 use Rattle.state_outgoing.specs.LetGo.{where_kept, kept_at, is_finished}
@@ -23,7 +24,6 @@ use Rattle.state_outgoing.specs.SentTables.{IsTable, last_without, sent_in}
 use Rattle.state_outgoing.specs.declared.deliveries.SentDeliveries.{SentDeliveries}
 use Rattle.state_outgoing.specs.declared.groups.SentGroups.{SentGroups}
 use Rattle.state_outgoing.proofs.CarriersKnown.{among-gives, among-has, named-gone}
-use Rattle.state_outgoing.proofs.GroupLists.{swapped}
 use Rattle.state_outgoing.proofs.OutgoingNumbers.{found-at, found-passes}
 use Rattle.state_outgoing.proofs.SentBegun.{at-number}
 use Rattle.state_outgoing.proofs.SentKept.{contained-at, entry-law, found-contained, none-kept, stays-kept}

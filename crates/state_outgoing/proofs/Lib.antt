@@ -14,7 +14,6 @@ mod CarriersKnown
 mod LeastNumbers
 mod ToSettle
 pub mod AnswersKnown
-mod GroupLists
 mod Removed
 mod SentRegrouped
 mod LeftLinks

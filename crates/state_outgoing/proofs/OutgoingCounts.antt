@@ -10,7 +10,7 @@ use Rattle.trace_events.specs.Event.{Event, Outgoing}
 use Rattle.trace_events.specs.Outgoing.{outgoing_deliveries, outgoing_at}
 use Rattle.trace_events.proofs.Judged.{AreJudged}
 use Rattle.trace_events.proofs.LinkNumbers.{same-sym}
-use Rattle.state_outgoing.proofs.GroupLists.{any-map}
+use Rattle.state_tables.proofs.GroupLists.{any-map}
 use Rattle.state_outgoing.proofs.OutgoingNumbers.{AreFalling, judged-falling}
 
 length-map : {A B : Type 0} (f : A → B) (xs : List A) → length (map f xs) ≡ length xs

@@ -2,7 +2,7 @@
 use Rattle.std.proofs.Common.{◌≡◌, refl, sym, ap, ◌∙◌, ℕ, Bool, true, false, ◌||◌, List, ◌∷◌, reverse, Option, None, nat_eq, ◌==◌, if◌then◌else◌}
 use Rattle.std.proofs.lemmas.List.Sorted.{IsPermutation-reverse, list_any-IsPermutation}
 use Rattle.number_groups.specs.Numbers.{is_among}
-use Rattle.state_outgoing.proofs.GroupLists.{swapped}
+use Rattle.state_tables.proofs.GroupLists.{swapped}
 
 pub with-first : {A : Type 0} (first : Option A) (m : ℕ) (xs : List ℕ) (n : ℕ) (now next : Option A) → now ≡ (if m == n then None else first) → next ≡ (if is_among xs n then None else now)
     → next ≡ (if is_among (m ∷ reverse xs) n then None else first)

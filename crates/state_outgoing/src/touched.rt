@@ -5,7 +5,7 @@ ghost use Rattle.std.specs.List.{list_any};
 ghost use Rattle.amqp_perf.specs.View.{disposition_fields};
 ghost use Rattle.number_groups.specs.Numbers.{is_among};
 ghost use Rattle.number_groups.specs.Groups.{is_member};
-ghost use Rattle.trace_events.specs.Words.{is_number, is_some_and};
+ghost use Rattle.trace_events.specs.Words.{is_some_and};
 ghost use Rattle.number_groups.specs.Ids.{same_id};
 ghost use Rattle.state_outgoing.specs.SentTouched as law;
 ghost use Rattle.trace_values.specs.View.{event_view, link_view};
@@ -13,28 +13,9 @@ ghost use Rattle.trace_values.specs.View.{event_view, link_view};
 use crate::groups::SentGroups;
 use amqp_perf::{Disposition, Role};
 use number_groups::{Groups, IdOn, NumberSet};
+use state_tables::{add_group, add_number};
 use std::alloc::{AllocError, Global};
 use trace_values::{Event, Link};
-
-/// The number comes in, if there is one.
-fn add(touched: &mut NumberSet, number: Option<u64>) -> Result<(), AllocError>
-    ensures { OnOk result ((n : ℕ) → is_among touched.new n ≡ (is_among touched.old n || is_number number n)) }
-{
-    if let Some(number) = number {
-        touched.insert(number)?;
-    }
-    Ok(())
-}
-
-/// All numbers of the group come in.
-fn add_group(touched: &mut NumberSet, groups: &Groups<u64>, key: u64) -> Result<(), AllocError>
-    ensures { OnOk result ((n : ℕ) → is_among touched.new n ≡ (is_among touched.old n || is_member nat_eq groups.now key n)) }
-{
-    for index in 0..groups.count(&key) {
-        add(touched, groups.get(&key, index))?;
-    }
-    Ok(())
-}
 
 /// All numbers of the group of an id come in.
 fn add_group_of_id(
@@ -45,7 +26,7 @@ fn add_group_of_id(
     ensures { OnOk result ((n : ℕ) → is_among touched.new n ≡ (is_among touched.old n || is_member same_id groups.now key n)) }
 {
     for index in 0..groups.count(&key) {
-        add(touched, groups.get(&key, index))?;
+        add_number(touched, groups.get(&key, index))?;
     }
     Ok(())
 }
@@ -174,8 +155,8 @@ impl SentGroups {
     {
         let mut touched = NumberSet::new(alloc);
         let id = answered_id(event);
-        add(&mut touched, part_number(event))?;
-        add(&mut touched, event.settled)?;
+        add_number(&mut touched, part_number(event))?;
+        add_number(&mut touched, event.settled)?;
         self.add_answered(&mut touched, id)?;
         self.add_session(&mut touched, answered_session(event))?;
         self.add_all_of(&mut touched, ended)?;

@@ -1,3 +1,4 @@
+pub mod GroupLists
 mod ConnectionSteps
 mod SeenSame
 mod UnansweredSteps

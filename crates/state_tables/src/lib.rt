@@ -9,6 +9,7 @@
 //! - `handle`: a handle of a live session, with its link (`counted_link`) and the client's attach (`held_attach`); `handles`:
 //!   those of a session; `channels`: those of a connection; `links`: all of them; `ended_links`: those that an event ends;
 //! - `held_link`: the link of a delivery that is kept;
+//! - `gathered`: numbers that come into a set, as those of the deliveries that an event may touch;
 //! - `answers`, `link_answers`: what they answer to the questions of `trace_judge`.
 //!
 //! `LetGo` in `specs/` is of the tables of deliveries, in the crates above: which deliveries from clients one has let go.
@@ -20,6 +21,7 @@ mod connection;
 mod connections;
 mod counted_link;
 mod ended_links;
+mod gathered;
 mod handle;
 mod handles;
 mod held_attach;
@@ -35,6 +37,7 @@ pub use channels::Channels;
 pub use connection::{Connection, ConnectionSummary};
 pub use connections::Connections;
 pub use counted_link::CountedLink;
+pub use gathered::{add_group, add_number};
 pub use handle::Handle;
 pub use handles::Handles;
 pub use held_attach::{HeldAddress, HeldAttach};

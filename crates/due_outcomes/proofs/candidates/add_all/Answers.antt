@@ -1,6 +1,6 @@
 use Rattle.std.proofs.Common.{◌∙◌, ap, sym, ◌||◌, nat_eq}
 use Rattle.number_groups.specs.Ascending.{has}
-use Rattle.due_outcomes.proofs.GroupLists.{each-in, each-more, nothing-yet, swapped}
+use Rattle.state_tables.proofs.GroupLists.{each-in, each-more, nothing-yet, swapped}
 use Rattle.due_outcomes.proofs.candidates.add_all.Goals as goal
 
 pub loop-number-init : goal.loop-number-init

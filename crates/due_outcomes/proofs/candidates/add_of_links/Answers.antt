@@ -2,7 +2,7 @@ use Rattle.std.proofs.Common.{nat_eq}
 use Rattle.number_groups.specs.Ascending.{has}
 use Rattle.number_groups.specs.Groups.{is_member}
 use Rattle.trace_values.specs.View.{link_view}
-use Rattle.due_outcomes.proofs.GroupLists.{nothing-yet, each-more, each-in}
+use Rattle.state_tables.proofs.GroupLists.{nothing-yet, each-more, each-in}
 use Rattle.due_outcomes.proofs.candidates.add_of_links.Goals as goal
 
 pub loop-link-init : goal.loop-link-init

@@ -1,9 +1,9 @@
 use Rattle.std.proofs.Common.{ap, ◌||◌, ◌∙◌, ℕ, Bool}
 use Rattle.number_groups.specs.Ascending.{has}
 use Rattle.trace_events.specs.Words.{is_number}
+use Rattle.state_tables.proofs.GroupLists.{nothing-yet, each-more, each-in}
 use Rattle.state_outgoing.specs.SentAnswers.{carried}
 use Rattle.state_outgoing.specs.SentTables.{sent_in}
-use Rattle.due_outcomes.proofs.GroupLists.{nothing-yet, each-more, each-in}
 use Rattle.due_outcomes.proofs.untold.add_carried.Goals as goal
 
 pub loop-number-init : goal.loop-number-init

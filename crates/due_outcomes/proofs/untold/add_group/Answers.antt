@@ -1,7 +1,7 @@
 use Rattle.std.proofs.Common.{subst, ◌<◌, ◌≤◌}
 use Rattle.number_groups.specs.OctetGroups.{numbers}
 use Rattle.number_groups.specs.Ascending.{has}
-use Rattle.due_outcomes.proofs.GroupLists.{none-yet, one-more, all-in}
+use Rattle.state_tables.proofs.GroupLists.{none-yet, one-more, all-in}
 use Rattle.due_outcomes.proofs.untold.add_group.Goals as goal
 
 pub loop-index-init : goal.loop-index-init

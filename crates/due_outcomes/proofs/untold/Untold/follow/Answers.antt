@@ -12,7 +12,7 @@ use Rattle.state_outgoing.specs.SentAnswers.{carried}
 use Rattle.state_outgoing.specs.SentTables.{sent_in}
 use Rattle.state_tables.specs.EndedLinks.{views}
 use Rattle.number_groups.specs.Ascending.{has}
-use Rattle.due_outcomes.proofs.GroupLists.{any-map}
+use Rattle.state_tables.proofs.GroupLists.{any-map}
 use Rattle.due_outcomes.proofs.SpokenCarried.{spoken-carried}
 use Rattle.due_outcomes.proofs.UntoldFollowed.{followed}
 use Rattle.due_outcomes.proofs.UntoldSteps.{untold-next}

@@ -2,7 +2,7 @@
 use Rattle.std.proofs.Common.{◌≡◌, refl, sym, ap, ◌∙◌, ◌<◌, ◌≤◌, ◌+◌, ℕ, Bool, true, false, ◌||◌, List, [], ◌∷◌, length, map, take, get_or, Option, nat_eq, ◌==◌, eqb-true, eq-eqb}
 use Rattle.std.specs.List.{list_any, slice_get}
 use Rattle.std.proofs.lemmas.List.{take_all}
-use Rattle.std.proofs.lemmas.List.Folds.{list_any_more}
+use Rattle.std.proofs.lemmas.List.Folds.{list_any_at, list_any_more}
 use Rattle.std.proofs.lemmas.Option.{slice_get-get_or}
 use Rattle.trace_events.specs.Words.{is_number}
 
@@ -51,6 +51,10 @@ one-more xs i n first now next lt was o at added =
 
 pub all-in : (xs : List ℕ) (i n : ℕ) (first now : Bool) → length xs ≤ i → now ≡ first || list_any (nat_eq n) (take i xs) → now ≡ first || list_any (nat_eq n) xs
 all-in xs i n first now le was = was ∙ ap (λ ys. first || list_any (nat_eq n) ys) (take_all i xs le)
+
+-- a group with a number at an index has one
+pub some-in : (xs : List ℕ) (i : ℕ) → i < length xs → (n : ℕ) × (list_any (nat_eq n) xs ≡ true)
+some-in xs i below = let n = get_or xs i 0 in (n, list_any_at (nat_eq n) xs i 0 below (eq-eqb n n refl))
 
 -- five sets of numbers, one after the other
 pub five-in : (none one two three four five p q r s t p' r' s' t' : Bool) → none ≡ false → one ≡ none || p → two ≡ one || q → three ≡ two || r → four ≡ three || s → five ≡ four || t
