@@ -1,6 +1,6 @@
 //! The numbers of the copies that may be unsent, and of the links on which they are.
 
-ghost use Rattle.std.specs.Prelude.{◌≡◌, ◌&&◌, ℕ, List, Some, None, IfSome, OnOk, true, false, option_map, if◌then◌else◌, ◌==◌, nat_eq, slice_get};
+ghost use Rattle.std.specs.Prelude.{◌≡◌, ◌&&◌, ℕ, List, Some, None, IfSome, OnOk, true, false, option_map, ◌==◌, nat_eq, slice_get};
 ghost use Rattle.capture_form.specs.Rules.{RuleSet};
 ghost use Rattle.capture_form.specs.declared.records.Record.{Record};
 ghost use Rattle.number_groups.specs.Groups.{numbers};
@@ -20,10 +20,9 @@ ghost use Rattle.due_copies.specs.Lists.{AreWith, IsIn, IsKept, IsKeptBut, IsOfB
 
 use crate::by_link::ByLink;
 use crate::candidates::Candidates;
-use flow_counts::WindowEvent;
+use due_flows::granted_session;
 use number_groups::Groups;
-use pairing_cert::Note;
-use state_addresses::{ConsumerLinks, Copies, Receiver};
+use state_addresses::{ConsumerLinks, Copies, Receiver, named_on_link};
 use std::alloc::{AllocError, Global};
 use trace_values::{Event, Incoming, Link};
 
@@ -70,7 +69,7 @@ impl Lists {
         ensures stood { (session n : ℕ) → stands self.new session n ≡ stands self.old session n }
         ensures waited { (c n : ℕ) → is_some_and (event_view event.now).link (λ l. l.number == n) ≡ false → waits self.old c n ≡ true → waits self.new c n ≡ true }
     {
-        if let Some((link, number)) = named(event) {
+        if let Some((link, number)) = named_on_link(event) {
             self.send_first(link, number);
         }
     }
@@ -204,7 +203,7 @@ impl Lists {
             (link c n : ℕ) → stands self.old s.number link ≡ true → copy_on self.new link c ≡ Some n → Waits self.new link) }
         ensures kept { OnOk result (IsKept self.old self.new) }
     {
-        match granted(event) {
+        match granted_session(event) {
             Some(session) => self.touch_session(session),
             None => Ok(()),
         }
@@ -249,30 +248,6 @@ fn completed<'a>(event: &Event<'a, '_, '_>) -> Option<Incoming<'a>>
 {
     match event.incoming {
         Some(delivery) if event.completes(&delivery) => Some(delivery),
-        _ => None,
-    }
-}
-
-/// The link on which a transfer to a client names a delivery, and that delivery, by their numbers.
-fn named(event: &Event) -> Option<(u64, u64)>
-    ensures names { (link n : ℕ) → is_some_and result (λ x. x.0 == link && (x.1 == n)) ≡ names_at link n (event_view event.now) }
-    ensures on { IfSome result (λ x. is_some_and (event_view event.now).link (λ l. l.number == x.0) ≡ true) }
-{
-    let Note::Pair(number) = event.note else {
-        return None;
-    };
-    match event.link {
-        Some(link) if event.out_transfer().is_some() => Some((link.number, number)),
-        _ => None,
-    }
-}
-
-/// The session to which the event may give window.
-fn granted(event: &Event) -> Option<u64>
-    ensures { result ≡ (if grants_window (event_view event.now) then option_map (λ (s : Session). s.number) (event_view event.now).session else None) }
-{
-    match event.moment.window_event() {
-        Some(WindowEvent::TheirFlow { .. }) => Some(event.session?.number),
         _ => None,
     }
 }

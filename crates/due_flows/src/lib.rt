@@ -27,5 +27,5 @@ mod windows;
 pub use begin::DueBegin;
 pub use credits::Credits;
 pub use drains::Drains;
-pub use parts::{DeliveriesInProgress, DuePart};
+pub use parts::{DeliveriesInProgress, DuePart, granted_session};
 pub use windows::Windows;

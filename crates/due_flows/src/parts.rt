@@ -111,7 +111,7 @@ impl DeliveriesInProgress {
         ensures woken { OnOk result ((s : Session) → (event_view event.now).session ≡ Some s → grants_window (event_view event.now) ≡ true →
             (n : ℕ) → stands self.old s.number n ≡ true → waits self.new n ≡ true) }
     {
-        if let Some(session) = granted(event) {
+        if let Some(session) = granted_session(event) {
             self.links.insert_group(&self.of_session, session)?;
         }
         Ok(())
@@ -145,7 +145,7 @@ fn goes_on(event: &Event) -> bool
 }
 
 /// The session to which the event may give window.
-fn granted(event: &Event) -> Option<u64>
+pub fn granted_session(event: &Event) -> Option<u64>
     ensures { result ≡ (if grants_window (event_view event.now) then option_map (λ (s : Session). s.number) (event_view event.now).session else None) }
 {
     match event.moment.window_event() {

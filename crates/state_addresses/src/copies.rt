@@ -1,6 +1,6 @@
 //! The copies of multicast deliveries that are still to be sent, by the link.
 
-ghost use Rattle.std.specs.Prelude.{◌≡◌, ◌≤◌, ◌-◌, ◌||◌, ◌&&◌, ◌==◌, ℕ, List, [], ◌∷◌, Some, true, false, IfOk, OnOk, OnErr, is_some, length, map, nat_eq, nat_lt, not, option_map};
+ghost use Rattle.std.specs.Prelude.{◌≡◌, ◌≤◌, ◌-◌, ◌||◌, ◌&&◌, ◌==◌, ℕ, List, [], ◌∷◌, Some, true, false, IfOk, IfSome, OnOk, OnErr, is_some, length, map, nat_eq, nat_lt, not, option_map};
 ghost use Rattle.std.specs.List.{IsDistinct, list_any};
 ghost use Rattle.capture_form.specs.Rules.{RuleSet};
 ghost use Rattle.capture_form.specs.declared.records.Record.{Record};
@@ -61,8 +61,9 @@ pub(crate) fn copied<'a>(
 }
 
 /// The link on which a transfer to a client names a delivery, and that delivery, by their numbers.
-fn named(event: &Event) -> Option<(u64, u64)>
-    ensures { (link n : ℕ) → is_some_and result (λ x. x.0 == link && (x.1 == n)) ≡ names_at link n (event_view event.now) }
+pub fn named_on_link(event: &Event) -> Option<(u64, u64)>
+    ensures names { (link n : ℕ) → is_some_and result (λ x. x.0 == link && (x.1 == n)) ≡ names_at link n (event_view event.now) }
+    ensures on { IfSome result (λ x. is_some_and (event_view event.now).link (λ l. l.number == x.0) ≡ true) }
 {
     let Note::Pair(number) = event.note else {
         return None;
@@ -196,7 +197,7 @@ impl Copies {
     fn send(&mut self, event: &Event)
         ensures { (link n : ℕ) → stands self.new link n ≡ (stands self.old link n && not (names_at link n (event_view event.now))) }
     {
-        if let Some((link, number)) = named(event) {
+        if let Some((link, number)) = named_on_link(event) {
             self.unsent.remove(&link, number);
         }
     }

@@ -16,5 +16,5 @@ mod receivers;
 pub use addresses::Addresses;
 pub use consumer_links::ConsumerLinks;
 pub use consumers::Consumers;
-pub use copies::{Copies, Receiver};
+pub use copies::{Copies, Receiver, named_on_link};
 pub use receivers::receivers_of;

@@ -14,6 +14,6 @@ returns-in-Some-clause-woken c =
     (λ touched s on grants link completion n there copy.
     let e = event_view c.args.event.now in
     let is : ◌≡◌ {A = Option ℕ} (Some c.in-Some.session) (Some s.number) =
-    sym c.in-Some.is ∙ (c.granted.ensures ∙ (ap (λ b. if b then option_map (λ (t : Session). t.number) e.session else None) grants ∙ ap (option_map (λ (t : Session). t.number)) on)) in
+    sym c.in-Some.is ∙ (c.granted_session.ensures ∙ (ap (λ b. if b then option_map (λ (t : Session). t.number) e.session else None) grants ∙ ap (option_map (λ (t : Session). t.number)) on)) in
     touched link completion n (subst (λ k. stands c.args.self.now k link ≡ true) (sym (same_some c.in-Some.session s.number is)) there) copy)
     c.touch_session.ensures.touched
