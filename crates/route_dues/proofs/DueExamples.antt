@@ -5,7 +5,6 @@ use Rattle.pairing_cert.specs.declared.note.Note.{Note}
 use Rattle.pairing_cert.specs.declared.note.Note.TheVariants as notes
 use Rattle.pairing_cert.specs.declared.note.Why.TheVariants.{M}
 use Rattle.capture_form.specs.declared.records.Record.{Record}
-use Rattle.capture_form.specs.declared.rules.Distribution.TheVariants.{Multicast}
 use Rattle.capture_form.specs.Rules.{RuleText}
 use Rattle.std.specs.Fmt.{digits}
 use Rattle.amqp_perf.proofs.Opened.{read, written}
@@ -24,8 +23,8 @@ use Rattle.trace_clauses.specs.Outcome.{bare_octets}
 use Rattle.amqp_perf.specs.declared.descriptor.Outcome.TheVariants.{Accepted}
 use Rattle.trace_clauses.specs.Written.{spoken_octets, written_transfer, first_part, next_part, written_credit, written_outcome}
 use Rattle.amqp_perf.specs.Meaning.{AFlow, ATransfer}
-use Rattle.trace_clauses.proofs.Captures.{rule, unmarked}
-use Rattle.trace_clauses.proofs.Made.{from, from_with, carry, gives, first, with_more, q, hi, pair, sent, sent_by}
+use Rattle.trace_clauses.proofs.Captures.{unmarked}
+use Rattle.trace_clauses.proofs.Made.{from, from_with, carry, gives, first, with_more, hi, pair, sent, multicast, two_sent_by}
 use Rattle.trace_duties.specs.Diligent.{moment_keeps}
 use Rattle.trace_duties.specs.Order.{is_earliest}
 use Rattle.route_dues.specs.Writing.{frame_of, writing}
@@ -148,27 +147,21 @@ unfolding kept_on
 rest_kept = refl
 
 -- of two copies that are due to a link the second, which begins in front of the first, breaks no clause and keeps the duties
-abbrev multicast : List RuleText
-multicast = rule Multicast q ∷ []
-
-abbrev two_copies : List Record
-two_copies = sent_by Settled ++ (from_with 0 (ATransfer (first 1)) hi ∷ [])
-
 abbrev copy_of : Link → List Event → Bool → Spoken
 copy_of l past more = written_transfer l (first_part l 0 0 more) hi
 
-second_lawful : broken_on multicast two_copies 13 (notes.Pair 17) (λ l past. copy_of l past false) ≡ Some None
+second_lawful : broken_on multicast (two_sent_by Settled) 13 (notes.Pair 17) (λ l past. copy_of l past false) ≡ Some None
 unfolding broken_on
 second_lawful = refl
 
-second_kept : kept_on multicast two_copies 13 (notes.Pair 17) (λ l past. copy_of l past false) ≡ Some true
+second_kept : kept_on multicast (two_sent_by Settled) 13 (notes.Pair 17) (λ l past. copy_of l past false) ≡ Some true
 unfolding kept_on
 second_kept = refl
 
-second_early : earliest_on multicast two_copies 13 (notes.Pair 17) (λ l past. copy_of l past false) ≡ Some false
+second_early : earliest_on multicast (two_sent_by Settled) 13 (notes.Pair 17) (λ l past. copy_of l past false) ≡ Some false
 unfolding earliest_on
 second_early = refl
 
-first_earliest : earliest_on multicast two_copies 13 (notes.Pair 16) (λ l past. copy_of l past false) ≡ Some true
+first_earliest : earliest_on multicast (two_sent_by Settled) 13 (notes.Pair 16) (λ l past. copy_of l past false) ≡ Some true
 unfolding earliest_on
 first_earliest = refl

@@ -13,7 +13,6 @@ use Rattle.amqp_frames.specs.Writing.{frame_octets}
 use Rattle.amqp_frames.specs.Reading.{whole_frame, frame_at, sized_frame, headed_frame}
 use Rattle.pairing_cert.specs.declared.note.Why.TheVariants.{C, N}
 use Rattle.capture_form.specs.declared.records.Record.{Record}
-use Rattle.capture_form.specs.declared.rules.Distribution.TheVariants.{Multicast}
 use Rattle.capture_form.specs.declared.rules.Form.TheVariants.{Two}
 use Rattle.capture_form.specs.Rules.{RuleSet, RuleText, no_rules}
 use Rattle.trace_events.specs.Frame.{frame_read}
@@ -22,8 +21,8 @@ use Rattle.trace_events.specs.Address.{has_consumer}
 use Rattle.trace_events.specs.Incoming.{incoming_at, message_address, aborts}
 use Rattle.trace_events.specs.History.{history, judge}
 use Rattle.trace_clauses.specs.Written.{spoken_octets}
-use Rattle.trace_clauses.proofs.Captures.{rule, unmarked}
-use Rattle.trace_clauses.proofs.Made.{from, from_with, to, join, consumer, terminus, bare, shows, carry, tell, gives, first, next, with_more, as_settled, disposes, accepted, released, detach_of, q, hi, pair, sent}
+use Rattle.trace_clauses.proofs.Captures.{unmarked}
+use Rattle.trace_clauses.proofs.Made.{from, from_with, to, join, consumer, terminus, bare, shows, tell, first, next, with_more, as_settled, disposes, accepted, released, detach_of, q, hi, pair, sent, whole, carried, consumer_leaves, gives_more, multicast, producer_settles, two_sent_by}
 use Rattle.state_incoming.specs.Held.{Held, held_at, held_next, held_begun, begins_number, held_behind, stands_open, may_go, may_tell, comes_before}
 use Rattle.state_incoming.specs.HeldTouched.{is_touched, is_kept}
 use Rattle.state_incoming.specs.declared.held.Fate.{Fate}
@@ -72,15 +71,6 @@ more = from_with 0 (ATransfer (with_more (first 0))) hi
 abbrev begun : List Record
 begun = pair ++ (more ∷ [])
 
-abbrev carries : Record
-carries = carry 1 16 (first 0) hi
-
-abbrev carried : List Record
-carried = sent ++ (carries ∷ [])
-
-abbrev consumer_leaves : Record
-consumer_leaves = from 1 (detach_of true)
-
 abbrev producer_leaves : Record
 producer_leaves = from 0 (detach_of true)
 
@@ -95,13 +85,6 @@ aborting = let fields = next false in record fields { aborted = Some true }
 
 abbrev gives_up : Record
 gives_up = from 0 (ATransfer aborting)
-
--- a record that says nothing of deliveries
-abbrev gives_more : Record
-gives_more = from 1 (AFlow (gives 0 0 20))
-
-abbrev to_all : List RuleText
-to_all = rule Multicast q ∷ []
 
 -- ---- what has become of it
 
@@ -121,7 +104,7 @@ is_paired : held_in [] carried 16 ≡ Some (hi, Some 16, false, true, Paired)
 unfolding held_in
 is_paired = refl
 
-is_copied : held_in to_all sent 16 ≡ Some (hi, Some 16, false, true, Copied)
+is_copied : held_in multicast sent 16 ≡ Some (hi, Some 16, false, true, Copied)
 unfolding held_in
 is_copied = refl
 
@@ -188,7 +171,7 @@ gone_at_once : next_in [] begun (from 0 (ATransfer (next false))) false 15 ≡ S
 unfolding next_in
 gone_at_once = refl
 
-comes_to_all : next_in to_all begun (from 0 (ATransfer (next false))) false 15 ≡ Some (hi, Some 16, false, true, Copied)
+comes_to_all : next_in multicast begun (from 0 (ATransfer (next false))) false 15 ≡ Some (hi, Some 16, false, true, Copied)
 unfolding next_in
 comes_to_all = refl
 
@@ -200,7 +183,7 @@ loses_consumers : next_in [] sent gives_more false 16 ≡ Some (hi, Some 16, fal
 unfolding next_in
 loses_consumers = refl
 
-is_sent : next_in [] sent carries true 16 ≡ Some (hi, Some 16, false, true, Paired)
+is_sent : next_in [] sent whole true 16 ≡ Some (hi, Some 16, false, true, Paired)
 unfolding next_in
 is_sent = refl
 
@@ -212,7 +195,7 @@ stays_paired : next_in [] carried gives_more false 16 ≡ Some (hi, Some 16, fal
 unfolding next_in
 stays_paired = refl
 
-stays_copied : next_in to_all sent gives_more false 16 ≡ Some (hi, Some 16, false, true, Copied)
+stays_copied : next_in multicast sent gives_more false 16 ≡ Some (hi, Some 16, false, true, Copied)
 unfolding next_in
 stays_copied = refl
 
@@ -312,14 +295,7 @@ unfoldable asks_both : List Record → ℕ → ℕ → Bool
 unfolding frame_read whole_frame frame_at sized_frame headed_frame read digits spoken_octets frame_octets written
 asks_both records n m = let past = history no_rules records in is_some_and (held_at no_rules n past) (λ x. is_some_and (held_at no_rules m past) (comes_before x))
 
--- its producer has settled it
-abbrev settled : Record
-settled = from 0 (ADisposition (disposes Sender 0 true None))
-
--- delivery 17 is complete behind delivery 16, or incomplete
-abbrev two : List Record
-two = sent ++ (from_with 0 (ATransfer (first 1)) hi ∷ [])
-
+-- delivery 17 is incomplete behind delivery 16
 abbrev second_begun : List Record
 second_begun = sent ++ (from_with 0 (ATransfer (with_more (first 1))) hi ∷ [])
 
@@ -327,7 +303,7 @@ closed_by_outcome : asks (λ (x : Held). x.is_closed) [] (carried ++ (from 1 (AD
 unfolding asks
 closed_by_outcome = refl
 
-closed_by_producer : asks (λ (x : Held). x.is_closed) [] (carried ++ (settled ∷ [])) 16 ≡ true
+closed_by_producer : asks (λ (x : Held). x.is_closed) [] (carried ++ (producer_settles ∷ [])) 16 ≡ true
 unfolding asks
 closed_by_producer = refl
 
@@ -359,15 +335,15 @@ told_not_yet : asks may_tell [] begun 15 ≡ false
 unfolding asks
 told_not_yet = refl
 
-told_no_more : asks may_tell [] (carried ++ (settled ∷ [])) 16 ≡ false
+told_no_more : asks may_tell [] (carried ++ (producer_settles ∷ [])) 16 ≡ false
 unfolding asks
 told_no_more = refl
 
-open_arriving : asks (λ (x : Held). x.is_undecided) [] (begun ++ (settled ∷ [])) 15 ≡ true
+open_arriving : asks (λ (x : Held). x.is_undecided) [] (begun ++ (producer_settles ∷ [])) 15 ≡ true
 unfolding asks
 open_arriving = refl
 
-open_waiting : asks (λ (x : Held). x.is_undecided) [] (sent ++ (settled ∷ [])) 16 ≡ true
+open_waiting : asks (λ (x : Held). x.is_undecided) [] (sent ++ (producer_settles ∷ [])) 16 ≡ true
 unfolding asks
 open_waiting = refl
 
@@ -375,7 +351,7 @@ open_untold : asks (λ (x : Held). x.is_undecided) [] carried 16 ≡ true
 unfolding asks
 open_untold = refl
 
-decided : asks (λ (x : Held). x.is_undecided) [] (carried ++ (settled ∷ [])) 16 ≡ false
+decided : asks (λ (x : Held). x.is_undecided) [] (carried ++ (producer_settles ∷ [])) 16 ≡ false
 unfolding asks
 decided = refl
 
@@ -383,11 +359,11 @@ link_over : asks (λ (x : Held). x.is_undecided) [] (sent ++ (producer_leaves �
 unfolding asks
 link_over = refl
 
-first_of_two : asks_both two 16 17 ≡ true
+first_of_two : asks_both (two_sent_by Mixed) 16 17 ≡ true
 unfolding asks_both
 first_of_two = refl
 
-second_of_two : asks_both two 17 16 ≡ false
+second_of_two : asks_both (two_sent_by Mixed) 17 16 ≡ false
 unfolding asks_both
 second_of_two = refl
 
@@ -427,11 +403,11 @@ touched_by_outcome : touches_in [] lost tells_released false 16 ≡ true
 unfolding touches_in
 touched_by_outcome = refl
 
-touched_by_carrier : touches_in [] sent carries true 16 ≡ true
+touched_by_carrier : touches_in [] sent whole true 16 ≡ true
 unfolding touches_in
 touched_by_carrier = refl
 
-touched_by_settling : touches_in [] carried settled true 16 ≡ true
+touched_by_settling : touches_in [] carried producer_settles true 16 ≡ true
 unfolding touches_in
 touched_by_settling = refl
 
@@ -453,11 +429,11 @@ unfolding touches_in
 untouched_by_loss = refl
 
 -- nor one that is decided when its link ends, or its producer settles it again
-untouched_by_end : touches_in [] (carried ++ (settled ∷ [])) producer_leaves true 16 ≡ false
+untouched_by_end : touches_in [] (carried ++ (producer_settles ∷ [])) producer_leaves true 16 ≡ false
 unfolding touches_in
 untouched_by_end = refl
 
-untouched_by_settling : touches_in [] (carried ++ (settled ∷ [])) settled true 16 ≡ false
+untouched_by_settling : touches_in [] (carried ++ (producer_settles ∷ [])) producer_settles true 16 ≡ false
 unfolding touches_in
 untouched_by_settling = refl
 

@@ -4,22 +4,22 @@ use Rattle.std.specs.Fmt.{digits}
 use Rattle.amqp_frames.specs.Writing.{frame_octets}
 use Rattle.amqp_frames.specs.Reading.{whole_frame, frame_at, sized_frame, headed_frame}
 use Rattle.amqp_perf.proofs.Opened.{read, written}
-use Rattle.amqp_perf.specs.declared.attach.Role.TheVariants.{Sender, Receiver}
-use Rattle.amqp_perf.specs.declared.attach.SenderSettleMode.TheVariants.{Settled, Unsettled}
-use Rattle.amqp_perf.specs.Meaning.{AFlow, ATransfer, ADisposition}
+use Rattle.amqp_perf.specs.declared.attach.Role.TheVariants.{Receiver}
+use Rattle.amqp_perf.specs.declared.attach.SenderSettleMode.TheVariants.{Settled}
+use Rattle.amqp_perf.specs.Meaning.{ADisposition}
 use Rattle.pairing_cert.specs.declared.note.Note.TheVariants as notes
 use Rattle.pairing_cert.specs.declared.note.Why.TheVariants.{C}
 use Rattle.capture_form.specs.declared.records.Record.{Record}
-use Rattle.capture_form.specs.declared.rules.Distribution.TheVariants.{Multicast}
-use Rattle.capture_form.specs.Rules.{RuleText, no_rules}
+use Rattle.capture_form.specs.Rules.{no_rules}
 use Rattle.trace_events.specs.Due.{is_unsent}
 use Rattle.trace_events.specs.Frame.{frame_read}
 use Rattle.trace_events.specs.History.{history}
 use Rattle.trace_events.specs.Incoming.{incoming_at}
 use Rattle.trace_events.specs.Link.{is_live, link_at}
 use Rattle.trace_clauses.specs.Written.{spoken_octets}
-use Rattle.trace_clauses.proofs.Captures.{outgoing_of, rule, unmarked}
-use Rattle.trace_clauses.proofs.Made.{from, from_with, to, carry, tell, gives, shows, first, with_more, as_settled, disposes, accepted, detach_of, producer, consumer, q, hi, sent, sent_by}
+use Rattle.trace_clauses.proofs.Captures.{outgoing_of, unmarked}
+use Rattle.trace_clauses.proofs.Made.{from, carry, first, with_more, as_settled, disposes, accepted, detach_of, hi, sent, sent_by, carried, finishes, accepts, tells, producer_settles, multicast}
+use Rattle.trace_clauses.proofs.Copies.{due, copy_to}
 use Rattle.state_tables.specs.LetGo.{is_let_go, names_let_go}
 use Rattle.state_incoming.specs.Held.{held_at}
 use Rattle.state_incoming.specs.LetGo.{is_finished, is_spent}
@@ -55,29 +55,14 @@ note_of_why = refl
 
 -- ---- what carries it: delivery 16, carried by delivery 17
 
-abbrev carried : List Record
-carried = sent ++ (carry 1 16 (first 0) hi ∷ [])
-
 abbrev part_carried : List Record
 part_carried = sent ++ (carry 1 16 (with_more (first 0)) hi ∷ [])
-
-abbrev settles : Record
-settles = from 1 (ADisposition (disposes Receiver 0 true accepted))
-
-abbrev accepts : Record
-accepts = from 1 (ADisposition (disposes Receiver 0 false accepted))
-
-abbrev tells : Record
-tells = tell 0 C (disposes Receiver 0 true accepted)
-
-abbrev producer_settles : Record
-producer_settles = from 0 (ADisposition (disposes Sender 0 true None))
 
 unfoldable finished_in : List Record → ℕ → Option Bool
 unfolding frame_read whole_frame frame_at sized_frame headed_frame read digits spoken_octets frame_octets written
 finished_in records n = let past = history no_rules records in option_map (is_finished past) (outgoing_of n past)
 
-is_done : finished_in (carried ++ (settles ∷ [])) 17 ≡ Some true
+is_done : finished_in (carried ++ (finishes ∷ [])) 17 ≡ Some true
 unfolding finished_in
 is_done = refl
 
@@ -85,7 +70,7 @@ stands_unsettled : finished_in (carried ++ (accepts ∷ [])) 17 ≡ Some false
 unfolding finished_in
 stands_unsettled = refl
 
-not_all_sent : finished_in (part_carried ++ (settles ∷ [])) 17 ≡ Some false
+not_all_sent : finished_in (part_carried ++ (finishes ∷ [])) 17 ≡ Some false
 unfolding finished_in
 not_all_sent = refl
 
@@ -119,35 +104,23 @@ still_waits = refl
 
 -- ---- one of multicast: delivery 24, of which copies are due to the links of records 13 and 20
 
-abbrev news : List RuleText
-news = rule Multicast q ∷ []
-
--- 25 records: a producer of q on connection 0, and consumers on connections 1 and 2, which give credit
-abbrev due : List Record
-due =
-    producer 0 q ++ consumer 1 Unsettled q ++ consumer 2 Unsettled q
-    ++ (to 0 (AFlow (shows 0 0 0 250)) ∷ from 1 (AFlow (gives 0 0 10)) ∷ from 2 (AFlow (gives 0 0 10)) ∷ from_with 0 (ATransfer (first 0)) hi ∷ [])
-
-abbrev copy_to : ℕ → Record
-copy_to c = carry c 24 (first 0) hi
-
 abbrev settled_by : ℕ → Record
 settled_by c = from c (ADisposition (disposes Receiver 0 true accepted))
 
 unfoldable spent_of_all : List Record → Option Bool
 unfolding frame_read whole_frame frame_at sized_frame headed_frame read digits spoken_octets frame_octets written
-spent_of_all records = option_map is_spent (held_at (unmarked news) 24 (history (unmarked news) records))
+spent_of_all records = option_map is_spent (held_at (unmarked multicast) 24 (history (unmarked multicast) records))
 
 -- a copy is still to begin on the link of this number
 unfoldable to_begin_in : List Record → ℕ → Option Bool
 unfolding frame_read whole_frame frame_at sized_frame headed_frame read digits spoken_octets frame_octets written
 to_begin_in records m =
-    let past = history (unmarked news) records in
-    option_and_then (λ d. option_map (λ l. is_live past l && is_unsent (unmarked news) d l past) (link_at m past)) (incoming_at 24 past)
+    let past = history (unmarked multicast) records in
+    option_and_then (λ d. option_map (λ l. is_live past l && is_unsent (unmarked multicast) d l past) (link_at m past)) (incoming_at 24 past)
 
 unfoldable finished_of_all : List Record → ℕ → Option Bool
 unfolding frame_read whole_frame frame_at sized_frame headed_frame read digits spoken_octets frame_octets written
-finished_of_all records n = let past = history (unmarked news) records in option_map (is_finished past) (outgoing_of n past)
+finished_of_all records n = let past = history (unmarked multicast) records in option_map (is_finished past) (outgoing_of n past)
 
 abbrev settled_by_both : List Record
 settled_by_both = due ++ (copy_to 1 ∷ copy_to 2 ∷ settled_by 1 ∷ settled_by 2 ∷ [])

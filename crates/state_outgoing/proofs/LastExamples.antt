@@ -11,7 +11,7 @@ use Rattle.capture_form.specs.Rules.{no_rules}
 use Rattle.trace_events.specs.Frame.{frame_read}
 use Rattle.trace_events.specs.History.{history, judge}
 use Rattle.trace_clauses.specs.Written.{spoken_octets}
-use Rattle.trace_clauses.proofs.Made.{from, from_with, carry, gives, first, next, with_more, hi, q, consumer, sent}
+use Rattle.trace_clauses.proofs.Made.{from, from_with, carry, gives, first, hi, q, consumer, sent, half, rest}
 use Rattle.state_outgoing.specs.LastBegun.{last_number, begins_on, carrier_number, carrier_numbers, begins_carrier, carriers_next}
 
 unfoldable last_in : List (ℕ × Unit {0}) → List Record → ℕ → Option ℕ
@@ -40,12 +40,6 @@ carries_in records r n = begins_carrier (judge no_rules (history no_rules record
 
 -- ---- captures: delivery 16 of the producer's link 6 goes to the consumer's link 13, in two parts, and delivery 17 too
 
-abbrev half : Record
-half = carry 1 16 (with_more (first 0)) (0x68 ∷ [])
-
-abbrev rest : Record
-rest = carry 1 16 (next false) (0x69 ∷ [])
-
 abbrev in_parts : List Record
 in_parts = sent ++ (half ∷ rest ∷ [])
 
@@ -61,7 +55,7 @@ abbrev elsewhere : List Record
 elsewhere = sent ++ consumer 2 Mixed q ++ (from 2 (AFlow (gives 0 0 10)) ∷ carry 2 16 (first 0) hi ∷ [])
 
 -- to both
-abbrev both : List Record
+abbrev pub both : List Record
 both = sent ++ consumer 2 Mixed q ++ (from 2 (AFlow (gives 0 0 10)) ∷ carry 1 16 (first 0) hi ∷ carry 2 16 (first 0) hi ∷ [])
 
 -- ---- on a link

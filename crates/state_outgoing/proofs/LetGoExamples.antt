@@ -3,8 +3,7 @@ use Rattle.std.specs.Prelude.{◌≡◌, ℕ, Bool, true, false, List, [], ◌�
 use Rattle.std.specs.Fmt.{digits}
 use Rattle.std.specs.List.{list_all}
 use Rattle.amqp_perf.specs.declared.attach.Role.TheVariants.{Receiver}
-use Rattle.amqp_perf.specs.declared.attach.SenderSettleMode.TheVariants as modes
-use Rattle.amqp_perf.specs.Meaning.{ADisposition, AFlow}
+use Rattle.amqp_perf.specs.Meaning.{ADisposition}
 use Rattle.amqp_perf.proofs.Opened.{read, written}
 use Rattle.amqp_frames.specs.Writing.{frame_octets}
 use Rattle.amqp_frames.specs.Reading.{whole_frame, frame_at, sized_frame, headed_frame}
@@ -18,11 +17,12 @@ use Rattle.trace_events.specs.Outgoing.{outgoing_at}
 use Rattle.trace_events.specs.History.{history}
 use Rattle.trace_clauses.specs.Written.{spoken_octets}
 use Rattle.trace_clauses.specs.Kept.{carriers}
-use Rattle.trace_clauses.proofs.Made.{from, carry, gives, first, with_more, as_settled, disposes, detach_of, hi, q, consumer, sent, sent_by}
+use Rattle.trace_clauses.proofs.Made.{from, disposes, sent, half_carried, carried, pre_settled, settles, consumer_leaves}
 use Rattle.state_tables.specs.LetGo.{is_let_go, names_let_go}
 use Rattle.state_outgoing.specs.LastBegun.{carrier_numbers}
 use Rattle.state_outgoing.specs.LetGo.{kept_at, is_finished, is_done}
 use Rattle.state_outgoing.specs.Sent.{sent_at}
+use Rattle.state_outgoing.proofs.LastExamples.{both}
 
 unfoldable done_in : List Record → ℕ → Bool
 unfolding frame_read whole_frame frame_at sized_frame headed_frame read digits spoken_octets frame_octets written
@@ -48,25 +48,7 @@ kept_in gone records n = is_some (kept_at gone n (history no_rules records))
 
 -- ---- captures: delivery 17 goes to the consumer, and carries delivery 16
 
-abbrev begun : List Record
-begun = sent ++ (carry 1 16 (with_more (first 0)) (0x68 ∷ []) ∷ [])
-
-abbrev carried : List Record
-carried = sent ++ (carry 1 16 (first 0) hi ∷ [])
-
-abbrev pre_settled : List Record
-pre_settled = sent_by modes.Settled ++ (carry 1 16 (as_settled (first 0)) hi ∷ [])
-
-abbrev settles : Record
-settles = from 1 (ADisposition (disposes Receiver 0 true None))
-
-abbrev consumer_leaves : Record
-consumer_leaves = from 1 (detach_of true)
-
--- it goes to two consumers: deliveries 25 and 26 carry it
-abbrev to_both : List Record
-to_both = sent ++ consumer 2 modes.Mixed q ++ (from 2 (AFlow (gives 0 0 10)) ∷ carry 1 16 (first 0) hi ∷ carry 2 16 (first 0) hi ∷ [])
-
+-- deliveries 25 and 26 carry it to two consumers, of which the second settles it
 abbrev other_settles : Record
 other_settles = from 2 (ADisposition (disposes Receiver 0 true None))
 
@@ -98,11 +80,11 @@ unfolding finished_in
 unsettled_unfinished = refl
 
 -- it is settled, and more of it follows
-more_follows : done_in (begun ++ (settles ∷ [])) 17 ≡ false
+more_follows : done_in (half_carried ++ (settles ∷ [])) 17 ≡ false
 unfolding done_in
 more_follows = refl
 
-more_unfinished : finished_in (begun ++ (settles ∷ [])) 17 ≡ false
+more_unfinished : finished_in (half_carried ++ (settles ∷ [])) 17 ≡ false
 unfolding finished_in
 more_unfinished = refl
 
@@ -112,24 +94,24 @@ none_carries : all_finished_in sent 16 ≡ true
 unfolding all_finished_in
 none_carries = refl
 
-both_finished : all_finished_in (to_both ++ (settles ∷ other_settles ∷ [])) 16 ≡ true
+both_finished : all_finished_in (both ++ (settles ∷ other_settles ∷ [])) 16 ≡ true
 unfolding all_finished_in
 both_finished = refl
 
-both_done : all_done_in (to_both ++ (settles ∷ other_settles ∷ [])) 16 ≡ true
+both_done : all_done_in (both ++ (settles ∷ other_settles ∷ [])) 16 ≡ true
 unfolding all_done_in
 both_done = refl
 
 -- one of them alone
-first_alone : all_finished_in (to_both ++ (settles ∷ [])) 16 ≡ false
+first_alone : all_finished_in (both ++ (settles ∷ [])) 16 ≡ false
 unfolding all_finished_in
 first_alone = refl
 
-last_alone : all_finished_in (to_both ++ (other_settles ∷ [])) 16 ≡ false
+last_alone : all_finished_in (both ++ (other_settles ∷ [])) 16 ≡ false
 unfolding all_finished_in
 last_alone = refl
 
-last_alone_done : all_done_in (to_both ++ (other_settles ∷ [])) 16 ≡ false
+last_alone_done : all_done_in (both ++ (other_settles ∷ [])) 16 ≡ false
 unfolding all_done_in
 last_alone_done = refl
 
@@ -170,10 +152,10 @@ unfolding kept_in
 of_another = refl
 
 -- so it is with each that carries it
-first_of_two : kept_in ((16, tt) ∷ []) to_both 25 ≡ false
+first_of_two : kept_in ((16, tt) ∷ []) both 25 ≡ false
 unfolding kept_in
 first_of_two = refl
 
-last_of_two : kept_in ((16, tt) ∷ []) to_both 26 ≡ false
+last_of_two : kept_in ((16, tt) ∷ []) both 26 ≡ false
 unfolding kept_in
 last_of_two = refl

@@ -4,11 +4,10 @@ use Rattle.std.specs.Fmt.{digits}
 use Rattle.amqp_perf.specs.declared.attach.Role.TheVariants.{Sender, Receiver}
 use Rattle.amqp_perf.specs.declared.attach.SenderSettleMode.TheVariants as modes
 use Rattle.amqp_perf.specs.Nested.{StateFields}
-use Rattle.amqp_perf.specs.Meaning.{AFlow, ADisposition}
+use Rattle.amqp_perf.specs.Meaning.{ADisposition}
 use Rattle.amqp_perf.proofs.Opened.{read, written}
 use Rattle.amqp_frames.specs.Writing.{frame_octets}
 use Rattle.amqp_frames.specs.Reading.{whole_frame, frame_at, sized_frame, headed_frame}
-use Rattle.pairing_cert.specs.declared.note.Why.TheVariants.{C}
 use Rattle.capture_form.specs.declared.records.Record.{Record}
 use Rattle.capture_form.specs.Rules.{no_rules}
 use Rattle.trace_events.specs.Frame.{frame_read}
@@ -16,7 +15,7 @@ use Rattle.trace_events.specs.Words.{is_some_and}
 use Rattle.trace_events.specs.Event.{Outgoing}
 use Rattle.trace_events.specs.History.{history, judge}
 use Rattle.trace_clauses.specs.Written.{spoken_octets}
-use Rattle.trace_clauses.proofs.Made.{from, to, carry, tell, gives, first, next, with_more, as_settled, disposes, accepted, released, detach_of, hi, sent, sent_by}
+use Rattle.trace_clauses.proofs.Made.{from, carry, first, next, as_settled, disposes, accepted, released, hi, sent, sent_by, half, rest, half_carried, whole, carried, pre_settled, accepts, settles, finishes, tells, router_settles, consumer_leaves, gives_more}
 use Rattle.state_outgoing.specs.Sent.{Sent, sent_at, sent_next, sent_begun, sent_behind, begins_number, ends_delivery, decided_with, takes_state, to_settle, goes_on_with}
 use Rattle.number_groups.specs.Ids.{same_id}
 use Rattle.state_outgoing.specs.SentGrouped.{is_of_link, is_of_session, has_id}
@@ -88,34 +87,7 @@ session_in records r n =
 
 -- ---- captures: delivery 17 goes to the consumer, in one part or in two
 
-abbrev half : Record
-half = carry 1 16 (with_more (first 0)) (0x68 ∷ [])
-
-abbrev rest : Record
-rest = carry 1 16 (next false) (0x69 ∷ [])
-
-abbrev begun : List Record
-begun = sent ++ (half ∷ [])
-
-abbrev whole : Record
-whole = carry 1 16 (first 0) hi
-
-abbrev carried : List Record
-carried = sent ++ (whole ∷ [])
-
-abbrev pre_settled : List Record
-pre_settled = sent_by modes.Settled ++ (carry 1 16 (as_settled (first 0)) hi ∷ [])
-
--- the consumer accepts it, settles it, or does both
-abbrev accepts : Record
-accepts = from 1 (ADisposition (disposes Receiver 0 false accepted))
-
-abbrev settles : Record
-settles = from 1 (ADisposition (disposes Receiver 0 true None))
-
-abbrev finishes : Record
-finishes = from 1 (ADisposition (disposes Receiver 0 true accepted))
-
+-- the consumer releases it
 abbrev releases : Record
 releases = from 1 (ADisposition (disposes Receiver 0 false released))
 
@@ -140,21 +112,8 @@ accepts_another = from 1 (ADisposition (disposes Receiver 1 true accepted))
 abbrev says_nothing : Record
 says_nothing = from 1 (ADisposition (disposes Receiver 0 false None))
 
-abbrev tells : Record
-tells = tell 0 C (disposes Receiver 0 true accepted)
-
-abbrev router_settles : Record
-router_settles = to 1 (ADisposition (disposes Sender 0 true None))
-
-abbrev consumer_leaves : Record
-consumer_leaves = from 1 (detach_of true)
-
 abbrev told : List Record
 told = carried ++ (accepts ∷ tells ∷ [])
-
--- a record that says nothing of deliveries
-abbrev gives_more : Record
-gives_more = from 1 (AFlow (gives 0 0 20))
 
 -- ---- what is said of it
 
@@ -162,11 +121,11 @@ of_another : sent_in carried 16 ≡ None
 unfolding sent_in
 of_another = refl
 
-half_sent : sent_in begun 17 ≡ Some (1, false, None, true)
+half_sent : sent_in half_carried 17 ≡ Some (1, false, None, true)
 unfolding sent_in
 half_sent = refl
 
-in_two_parts : sent_in (begun ++ (rest ∷ [])) 17 ≡ Some (2, true, None, true)
+in_two_parts : sent_in (half_carried ++ (rest ∷ [])) 17 ≡ Some (2, true, None, true)
 unfolding sent_in
 in_two_parts = refl
 
@@ -216,11 +175,11 @@ pre_settled_sent = refl
 
 -- ---- its last part
 
-last_part : ends_in begun rest 17 ≡ true
+last_part : ends_in half_carried rest 17 ≡ true
 unfolding ends_in
 last_part = refl
 
-not_last : ends_in begun (carry 1 16 (next true) (0x69 ∷ [])) 17 ≡ false
+not_last : ends_in half_carried (carry 1 16 (next true) (0x69 ∷ [])) 17 ≡ false
 unfolding ends_in
 not_last = refl
 
@@ -270,11 +229,11 @@ takes_over = refl
 
 -- ---- what one more record makes of it
 
-next_part : next_in begun rest 17 ≡ Some (2, true, None, true)
+next_part : next_in half_carried rest 17 ≡ Some (2, true, None, true)
 unfolding next_in
 next_part = refl
 
-next_other : next_in begun gives_more 17 ≡ Some (1, false, None, true)
+next_other : next_in half_carried gives_more 17 ≡ Some (1, false, None, true)
 unfolding next_in
 next_other = refl
 
@@ -321,7 +280,7 @@ begins_settled : begun_in (sent_by modes.Settled) (carry 1 16 (as_settled (first
 unfolding begun_in
 begins_settled = refl
 
-begins_none : begun_in begun rest ≡ None
+begins_none : begun_in half_carried rest ≡ None
 unfolding begun_in
 begins_none = refl
 
@@ -333,7 +292,7 @@ begins_another : begins_in sent half 16 ≡ false
 unfolding begins_in
 begins_another = refl
 
-goes_on : begins_in begun rest 17 ≡ false
+goes_on : begins_in half_carried rest 17 ≡ false
 unfolding begins_in
 goes_on = refl
 
@@ -351,7 +310,7 @@ behind_none = refl
 
 -- ---- what an event touches
 
-touches_part : touches_in begun rest 17 ≡ true
+touches_part : touches_in half_carried rest 17 ≡ true
 unfolding touches_in
 touches_part = refl
 
@@ -386,7 +345,7 @@ touches_another = refl
 
 -- ---- what finds those that an event touches
 
-part_of_it : part_in begun rest ≡ Some 17
+part_of_it : part_in half_carried rest ≡ Some 17
 unfolding part_in
 part_of_it = refl
 

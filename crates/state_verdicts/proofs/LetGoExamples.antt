@@ -4,12 +4,7 @@ use Rattle.std.specs.Fmt.{digits}
 use Rattle.amqp_frames.specs.Writing.{frame_octets}
 use Rattle.amqp_frames.specs.Reading.{whole_frame, frame_at, sized_frame, headed_frame}
 use Rattle.amqp_perf.proofs.Opened.{read, written}
-use Rattle.amqp_perf.specs.declared.attach.Role.TheVariants.{Receiver}
-use Rattle.amqp_perf.specs.declared.attach.SenderSettleMode.TheVariants.{Unsettled}
-use Rattle.amqp_perf.specs.Meaning.{AFlow, ATransfer, ADisposition}
-use Rattle.capture_form.specs.Rules.{RuleText}
 use Rattle.capture_form.specs.declared.records.Record.{Record}
-use Rattle.capture_form.specs.declared.rules.Distribution.TheVariants.{Multicast}
 use Rattle.trace_events.specs.Due.{is_unsent}
 use Rattle.trace_events.specs.Frame.{frame_read}
 use Rattle.trace_events.specs.History.{history}
@@ -17,8 +12,9 @@ use Rattle.trace_events.specs.Incoming.{incoming_at}
 use Rattle.trace_events.specs.Link.{link_at}
 use Rattle.trace_events.specs.Words.{is_some_and}
 use Rattle.trace_clauses.specs.Written.{spoken_octets}
-use Rattle.trace_clauses.proofs.Captures.{rule, unmarked}
-use Rattle.trace_clauses.proofs.Made.{from, from_with, to, carry, gives, shows, first, disposes, accepted, detach_of, producer, consumer, q, hi}
+use Rattle.trace_clauses.proofs.Captures.{unmarked}
+use Rattle.trace_clauses.proofs.Made.{from, detach_of, multicast, finishes}
+use Rattle.trace_clauses.proofs.Copies.{due, copy_to}
 use Rattle.state_tables.specs.LetGo.{is_let_go}
 use Rattle.state_verdicts.specs.Verdicts.{awaits_at}
 
@@ -41,43 +37,28 @@ none_is = refl
 
 -- ---- delivery 24, of which copies are due to the links of records 13 and 20
 
-abbrev news : List RuleText
-news = rule Multicast q ∷ []
-
--- 25 records: a producer of q on connection 0, and consumers on connections 1 and 2, which give credit
-abbrev due : List Record
-due =
-    producer 0 q ++ consumer 1 Unsettled q ++ consumer 2 Unsettled q
-    ++ (to 0 (AFlow (shows 0 0 0 250)) ∷ from 1 (AFlow (gives 0 0 10)) ∷ from 2 (AFlow (gives 0 0 10)) ∷ from_with 0 (ATransfer (first 0)) hi ∷ [])
-
-abbrev copy_goes : Record
-copy_goes = carry 1 24 (first 0) hi
-
-abbrev settles : Record
-settles = from 1 (ADisposition (disposes Receiver 0 true accepted))
-
 -- the copy on the link of this number awaits its verdict; and it is still to begin
 unfoldable stands_in : List Record → ℕ → Bool × Bool
 unfolding frame_read whole_frame frame_at sized_frame headed_frame read digits spoken_octets frame_octets written
 stands_in records m =
-    let past = history (unmarked news) records in (
-      awaits_at (unmarked news) past m 24,
-      is_some_and (link_at m past) (λ l. is_some_and (incoming_at 24 past) (λ d. is_unsent (unmarked news) d l past)),
+    let past = history (unmarked multicast) records in (
+      awaits_at (unmarked multicast) past m 24,
+      is_some_and (link_at m past) (λ l. is_some_and (incoming_at 24 past) (λ d. is_unsent (unmarked multicast) d l past)),
     )
 
 to_begin : stands_in due 13 ≡ (true, true)
 unfolding stands_in
 to_begin = refl
 
-has_begun : stands_in (due ++ (copy_goes ∷ [])) 13 ≡ (true, false)
+has_begun : stands_in (due ++ (copy_to 1 ∷ [])) 13 ≡ (true, false)
 unfolding stands_in
 has_begun = refl
 
-other_has_not : stands_in (due ++ (copy_goes ∷ [])) 20 ≡ (true, true)
+other_has_not : stands_in (due ++ (copy_to 1 ∷ [])) 20 ≡ (true, true)
 unfolding stands_in
 other_has_not = refl
 
-has_its_verdict : stands_in (due ++ (copy_goes ∷ settles ∷ [])) 13 ≡ (false, false)
+has_its_verdict : stands_in (due ++ (copy_to 1 ∷ finishes ∷ [])) 13 ≡ (false, false)
 unfolding stands_in
 has_its_verdict = refl
 

@@ -4,12 +4,12 @@ use Rattle.std.specs.Fmt.{digits}
 use Rattle.amqp_perf.proofs.Opened.{read, written}
 use Rattle.amqp_perf.specs.declared.attach.Role.TheVariants.{Receiver}
 use Rattle.amqp_perf.specs.declared.attach.SenderSettleMode.{SenderSettleMode}
+use Rattle.amqp_perf.specs.declared.attach.SenderSettleMode.TheVariants.{Unsettled}
 use Rattle.amqp_perf.specs.declared.descriptor.Outcome.{Outcome}
 use Rattle.amqp_perf.specs.Meaning.{AFlow, ATransfer, ADisposition}
 use Rattle.amqp_frames.specs.Writing.{frame_octets}
 use Rattle.amqp_frames.specs.Reading.{whole_frame, frame_at, sized_frame, headed_frame}
 use Rattle.capture_form.specs.declared.records.Record.{Record}
-use Rattle.capture_form.specs.declared.rules.Distribution.TheVariants.{Multicast}
 use Rattle.capture_form.specs.Rules.{RuleText, RuleSet}
 use Rattle.trace_events.specs.Words.{is_some_and}
 use Rattle.trace_events.specs.Frame.{frame_read}
@@ -17,13 +17,10 @@ use Rattle.trace_events.specs.History.{history, judge}
 use Rattle.trace_events.specs.Incoming.{incoming_at}
 use Rattle.trace_events.specs.Link.{link_at}
 use Rattle.trace_clauses.specs.Written.{spoken_octets}
-use Rattle.trace_clauses.proofs.Captures.{rule, unmarked}
+use Rattle.trace_clauses.proofs.Captures.{unmarked}
 use Rattle.trace_clauses.proofs.Made.{from, from_with, to, carry, gives, shows, first, disposes, detach_of, producer, consumer, q, hi}
 use Rattle.trace_clauses.specs.CopyVerdict.{copy_verdict, verdict_by, awaits_verdict, awaits_now}
 use Rattle.trace_clauses.specs.BestVerdict.{multicast_row}
-
-abbrev pub news : List RuleText
-news = rule Multicast q ∷ []
 
 -- 22 records: a producer of q on connection 0, and consumers on connections 1 and 2, whose links are those of records 13 and 20
 abbrev pub attached : SenderSettleMode → SenderSettleMode → List Record
@@ -33,6 +30,10 @@ attached one other = producer 0 q ++ consumer 1 one q ++ consumer 2 other q ++ (
 abbrev pub completed : SenderSettleMode → SenderSettleMode → List Record
 completed one other =
     attached one other ++ (from 1 (AFlow (gives 0 0 10)) ∷ from 2 (AFlow (gives 0 0 10)) ∷ from_with 0 (ATransfer (first 0)) hi ∷ [])
+
+-- each copy is to be settled
+abbrev pub due : List Record
+due = completed Unsettled Unsettled
 
 -- the copy goes to a consumer, whose id for it is 0, and the consumer says of it
 abbrev pub copy_to : ℕ → Record

@@ -52,6 +52,6 @@ mod PartsExamples
 mod EndExamples
 mod QueueExamples
 mod WorkExamples
-mod Copies
+pub mod Copies
 mod VerdictExamples
 mod RowExamples

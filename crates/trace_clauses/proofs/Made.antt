@@ -3,18 +3,21 @@ use Rattle.std.specs.Prelude.{ℕ, List, Bool, true, false, [], ◌∷◌, ◌++
 use Rattle.amqp_perf.specs.declared.attach.Role.{Role}
 use Rattle.amqp_perf.specs.declared.attach.Role.TheVariants.{Sender, Receiver}
 use Rattle.amqp_perf.specs.declared.attach.SenderSettleMode.{SenderSettleMode}
-use Rattle.amqp_perf.specs.declared.attach.SenderSettleMode.TheVariants.{Mixed}
+use Rattle.amqp_perf.specs.declared.attach.SenderSettleMode.TheVariants.{Mixed, Settled}
 use Rattle.amqp_perf.specs.declared.attach.ReceiverSettleMode.TheVariants.{First}
 use Rattle.amqp_perf.specs.declared.flow.Flow.{Flow}
 use Rattle.amqp_perf.specs.Nested.{AText, TerminusFields, ATerminus}
 use Rattle.amqp_perf.specs.Meaning.{Meaning, AnOpen, ABegin, AnAttach, AFlow, ATransfer, ADisposition, ADetach, AttachFields, TransferFields, DispositionFields}
 use Rattle.pairing_cert.specs.declared.note.Why.{Why}
+use Rattle.pairing_cert.specs.declared.note.Why.TheVariants.{C}
 use Rattle.capture_form.specs.declared.records.Record.{Record}
+use Rattle.capture_form.specs.declared.rules.Distribution.TheVariants.{Multicast}
+use Rattle.capture_form.specs.Rules.{RuleText}
 use Rattle.flow_counts.specs.declared.profile.TheConstants.{MAX_MESSAGE_SIZE}
 use Rattle.trace_events.specs.Frame.{Spoken}
 use Rattle.trace_clauses.specs.Written.{spoken_octets, says, state_of, written_open, written_begin}
 use Rattle.amqp_perf.specs.declared.attach.ReceiverSettleMode.{ReceiverSettleMode}
-use Rattle.trace_clauses.proofs.Captures.{opened, client, router, paired, told}
+use Rattle.trace_clauses.proofs.Captures.{opened, client, router, paired, told, rule}
 
 -- ---- who says it, on channel 0
 
@@ -233,3 +236,59 @@ sent_by mode = pair_by mode ++ (from 1 (AFlow (gives 0 0 10)) ∷ from_with 0 (A
 
 abbrev pub sent : List Record
 sent = sent_by Mixed
+
+-- the rules by which q is of multicast
+abbrev pub multicast : List RuleText
+multicast = rule Multicast q ∷ []
+
+-- 18 records: and a second delivery, in record 17
+abbrev pub two_sent_by : SenderSettleMode → List Record
+two_sent_by mode = sent_by mode ++ (from_with 0 (ATransfer (first 1)) hi ∷ [])
+
+-- ---- what comes of delivery 16
+
+-- it goes to the consumer, by delivery 17, whose id is 0: whole, or in two parts
+abbrev pub whole : Record
+whole = carry 1 16 (first 0) hi
+
+abbrev pub half : Record
+half = carry 1 16 (with_more (first 0)) (0x68 ∷ [])
+
+abbrev pub rest : Record
+rest = carry 1 16 (next false) (0x69 ∷ [])
+
+abbrev pub carried : List Record
+carried = sent ++ (whole ∷ [])
+
+abbrev pub half_carried : List Record
+half_carried = sent ++ (half ∷ [])
+
+abbrev pub pre_settled : List Record
+pre_settled = sent_by Settled ++ (carry 1 16 (as_settled (first 0)) hi ∷ [])
+
+-- the consumer accepts it, settles it, or does both; or leaves; or gives more credit
+abbrev pub accepts : Record
+accepts = from 1 (ADisposition (disposes Receiver 0 false accepted))
+
+abbrev pub settles : Record
+settles = from 1 (ADisposition (disposes Receiver 0 true None))
+
+abbrev pub finishes : Record
+finishes = from 1 (ADisposition (disposes Receiver 0 true accepted))
+
+abbrev pub consumer_leaves : Record
+consumer_leaves = from 1 (detach_of true)
+
+abbrev pub gives_more : Record
+gives_more = from 1 (AFlow (gives 0 0 20))
+
+-- the producer settles it
+abbrev pub producer_settles : Record
+producer_settles = from 0 (ADisposition (disposes Sender 0 true None))
+
+-- the router tells the producer its outcome, and settles it
+abbrev pub tells : Record
+tells = tell 0 C (disposes Receiver 0 true accepted)
+
+abbrev pub router_settles : Record
+router_settles = to 1 (ADisposition (disposes Sender 0 true None))

@@ -1,35 +1,14 @@
 -- What captures say of the deliveries to settle, the copies to send and the outcomes to tell, and of what one more record
 -- does to them.
 use Rattle.std.specs.Prelude.{◌≡◌, List, true, false, [], ◌∷◌, ◌++◌, None, refl}
-use Rattle.amqp_perf.specs.declared.attach.Role.TheVariants.{Sender, Receiver}
+use Rattle.amqp_perf.specs.declared.attach.Role.TheVariants.{Receiver}
 use Rattle.amqp_perf.specs.declared.attach.SenderSettleMode.TheVariants.{Settled}
 use Rattle.amqp_perf.specs.Meaning.{AFlow, ATransfer, ADisposition}
 use Rattle.pairing_cert.specs.declared.note.Why.TheVariants.{C}
 use Rattle.capture_form.specs.declared.records.Record.{Record}
 use Rattle.capture_form.specs.declared.rules.Distribution.TheVariants.{Multicast}
 use Rattle.trace_clauses.proofs.Captures.{rule, to_settle_in, unsent_in, is_unsettled_in, is_closed_in, is_kept_by, is_answered_by, is_closed_by, comes_by, comes_due_by, to_tell_in, has_outcome_in, is_answered_in, answers_by, gets_by}
-use Rattle.trace_clauses.proofs.Made.{from, from_with, to, carry, tell, gives, first, next, with_more, as_settled, disposes, accepted, detach_of, q, hi, pair_by, sent, sent_by}
-
--- the consumer is sent delivery 16, by delivery 17, whose id is 0; its link is that of record 13
-abbrev carried : List Record
-carried = sent ++ (carry 1 16 (first 0) hi ∷ [])
-
--- what the consumer and the producer may say of it
-abbrev accepts : Record
-accepts = from 1 (ADisposition (disposes Receiver 0 false accepted))
-
-abbrev settles : Record
-settles = from 1 (ADisposition (disposes Receiver 0 true accepted))
-
-abbrev producer_settles : Record
-producer_settles = from 0 (ADisposition (disposes Sender 0 true None))
-
-abbrev tells : Record
-tells = tell 0 C (disposes Receiver 0 true accepted)
-
--- what the router may
-abbrev router_settles : Record
-router_settles = to 1 (ADisposition (disposes Sender 0 true None))
+use Rattle.trace_clauses.proofs.Made.{from, from_with, carry, tell, gives, first, next, with_more, as_settled, disposes, accepted, detach_of, q, hi, pair_by, sent, sent_by, carried, accepts, finishes, producer_settles, tells, router_settles}
 
 -- ---- deliveries to settle
 
@@ -57,7 +36,7 @@ stands : is_unsettled_in [] (carried ++ (accepts ∷ tells ∷ [])) 17 ≡ true
 unfolding is_unsettled_in
 stands = refl
 
-settled_by_consumer : is_unsettled_in [] (carried ++ (settles ∷ [])) 17 ≡ false
+settled_by_consumer : is_unsettled_in [] (carried ++ (finishes ∷ [])) 17 ≡ false
 unfolding is_unsettled_in
 settled_by_consumer = refl
 
@@ -84,7 +63,7 @@ leaves : is_kept_by [] (carried ++ (accepts ∷ tells ∷ [])) (from 1 (AFlow (g
 unfolding is_kept_by
 leaves = refl
 
-consumer_settles : is_kept_by [] (carried ++ (accepts ∷ tells ∷ [])) settles 17 ≡ false
+consumer_settles : is_kept_by [] (carried ++ (accepts ∷ tells ∷ [])) finishes 17 ≡ false
 unfolding is_kept_by
 consumer_settles = refl
 
@@ -154,7 +133,7 @@ unfolding comes_by
 not_decided = refl
 
 -- told, where the consumer settled it itself
-not_unsettled : comes_by [] (carried ++ (settles ∷ [])) tells 17 ≡ false
+not_unsettled : comes_by [] (carried ++ (finishes ∷ [])) tells 17 ≡ false
 unfolding comes_by
 not_unsettled = refl
 

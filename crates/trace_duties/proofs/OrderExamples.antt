@@ -4,45 +4,38 @@ use Rattle.amqp_perf.specs.declared.attach.SenderSettleMode.TheVariants.{Settled
 use Rattle.amqp_perf.specs.Meaning.{AFlow, ATransfer}
 use Rattle.capture_form.specs.declared.records.Record.{Record}
 use Rattle.capture_form.specs.declared.rules.Distribution.TheVariants.{Multicast}
-use Rattle.capture_form.specs.Rules.{RuleText}
 use Rattle.trace_clauses.proofs.Captures.{rule, unsent_in, broken_of}
-use Rattle.trace_clauses.proofs.Made.{from, from_with, to, carry, gives, shows, first, as_settled, producer, q, hi, pair_by, sent_by}
+use Rattle.trace_clauses.proofs.Made.{from, from_with, to, carry, gives, shows, first, as_settled, producer, hi, pair_by, multicast, two_sent_by}
 use Rattle.trace_duties.proofs.Captures.{is_in_order_on, is_unsent_at, is_in_order_at, is_earliest_by}
 
-abbrev multicast : List RuleText
-multicast = rule Multicast q ∷ []
-
 -- copies of deliveries 16 and 17 are due to the consumer's link, that of record 13
-abbrev two : List Record
-two = sent_by Settled ++ (from_with 0 (ATransfer (first 1)) hi ∷ [])
-
-both_are_due : unsent_in multicast two 13 ≡ 16 ∷ 17 ∷ []
+both_are_due : unsent_in multicast (two_sent_by Settled) 13 ≡ 16 ∷ 17 ∷ []
 unfolding unsent_in
 both_are_due = refl
 
 -- before anything is sent, each is in order
-first_in_order : is_in_order_on multicast two 13 16 ≡ true
+first_in_order : is_in_order_on multicast (two_sent_by Settled) 13 16 ≡ true
 unfolding is_in_order_on
 first_in_order = refl
 
-second_in_order : is_in_order_on multicast two 13 17 ≡ true
+second_in_order : is_in_order_on multicast (two_sent_by Settled) 13 17 ≡ true
 unfolding is_in_order_on
 second_in_order = refl
 
 -- the first is sent
-sends_first : is_earliest_by multicast two (carry 1 16 (as_settled (first 0)) hi) ≡ true
+sends_first : is_earliest_by multicast (two_sent_by Settled) (carry 1 16 (as_settled (first 0)) hi) ≡ true
 unfolding is_earliest_by
 sends_first = refl
 
-second_next : is_in_order_on multicast (two ++ (carry 1 16 (as_settled (first 0)) hi ∷ [])) 13 17 ≡ true
+second_next : is_in_order_on multicast (two_sent_by Settled ++ (carry 1 16 (as_settled (first 0)) hi ∷ [])) 13 17 ≡ true
 unfolding is_in_order_on
 second_next = refl
 
 -- the second is sent, which breaks no clause; then the first is unsent still, and out of order
 abbrev swapped : List Record
-swapped = two ++ (carry 1 17 (as_settled (first 0)) hi ∷ [])
+swapped = two_sent_by Settled ++ (carry 1 17 (as_settled (first 0)) hi ∷ [])
 
-sends_second : is_earliest_by multicast two (carry 1 17 (as_settled (first 0)) hi) ≡ false
+sends_second : is_earliest_by multicast (two_sent_by Settled) (carry 1 17 (as_settled (first 0)) hi) ≡ false
 unfolding is_earliest_by
 sends_second = refl
 
@@ -59,7 +52,7 @@ unfolding is_in_order_on
 out_of_order = refl
 
 -- what begins nothing sends nothing
-sends_nothing : is_earliest_by multicast two (from 1 (AFlow (gives 0 0 10))) ≡ true
+sends_nothing : is_earliest_by multicast (two_sent_by Settled) (from 1 (AFlow (gives 0 0 10))) ≡ true
 unfolding is_earliest_by
 sends_nothing = refl
 

@@ -6,11 +6,10 @@ use Rattle.amqp_perf.specs.declared.attach.ReceiverSettleMode.TheVariants.{First
 use Rattle.amqp_perf.specs.Meaning.{AnAttach, AFlow, ATransfer, ADisposition}
 use Rattle.pairing_cert.specs.declared.note.Why.TheVariants.{C, S}
 use Rattle.capture_form.specs.declared.records.Record.{Record}
-use Rattle.capture_form.specs.declared.rules.Distribution.TheVariants.{Multicast}
-use Rattle.capture_form.specs.Rules.{RuleText}
 use Rattle.trace_clauses.specs.Written.{written_open, written_begin, written_settling}
-use Rattle.trace_clauses.proofs.Captures.{rule, opened}
-use Rattle.trace_clauses.proofs.Made.{from, from_with, write, to, carry, tell, open_of, begin_of, receives_from, session_flow, gives, shows, draining, first, next, with_more, as_settled, disposes, accepted, q, hi, producer, consumer, pair, pair_by, sent, written_to_consumer}
+use Rattle.trace_clauses.proofs.Captures.{opened}
+use Rattle.trace_clauses.proofs.Made.{from, from_with, write, to, carry, tell, open_of, begin_of, receives_from, session_flow, gives, shows, draining, first, next, with_more, as_settled, disposes, accepted, q, hi, producer, consumer, pair, pair_by, sent, written_to_consumer, multicast}
+use Rattle.trace_clauses.proofs.Copies.{completed}
 use Rattle.trace_duties.proofs.Captures.{diligence_of, in_turn_by, left_of, order_of}
 use Rattle.trace_duties.proofs.Duties.{Waiting, Progress, Outcome, Credit, Drain, Copies, Settling}
 
@@ -171,18 +170,11 @@ unfolding in_turn_by
 later_first = refl
 
 -- a copy
-abbrev news : List RuleText
-news = rule Multicast q ∷ []
-
-abbrev copies : List Record
-copies =
-    producer 0 q ++ consumer 1 Mixed q ++ consumer 2 Mixed q ++ (to 0 (AFlow (shows 0 0 0 250)) ∷ from 1 (AFlow (gives 0 0 10)) ∷ from 2 (AFlow (gives 0 0 10)) ∷ from_with 0 (ATransfer (first 0)) hi ∷ [])
-
-uncopied : left_of news copies ≡ Copies ∷ []
+uncopied : left_of multicast (completed Mixed Mixed) ≡ Copies ∷ []
 unfolding left_of
 uncopied = refl
 
-copy_next : in_turn_by news copies (carry 2 24 (first 0) hi) ≡ true
+copy_next : in_turn_by multicast (completed Mixed Mixed) (carry 2 24 (first 0) hi) ≡ true
 unfolding in_turn_by
 copy_next = refl
 
@@ -235,11 +227,11 @@ waiting_and_drain : left_of [] (sent ++ drains) ≡ Waiting ∷ Drain ∷ []
 unfolding left_of
 waiting_and_drain = refl
 
-drain_behind_copies : in_turn_by news (copies ++ drains) drained ≡ false
+drain_behind_copies : in_turn_by multicast (completed Mixed Mixed ++ drains) drained ≡ false
 unfolding in_turn_by
 drain_behind_copies = refl
 
-copy_and_drain : left_of news (copies ++ drains) ≡ Copies ∷ Drain ∷ []
+copy_and_drain : left_of multicast (completed Mixed Mixed ++ drains) ≡ Copies ∷ Drain ∷ []
 unfolding left_of
 copy_and_drain = refl
 
