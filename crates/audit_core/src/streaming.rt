@@ -14,10 +14,10 @@ ghost use Rattle.capture_form.specs.Text.{head_text};
 ghost use Rattle.audit_core.specs.Watching.{Watched};
 
 use crate::auditor::Auditor;
-use crate::lengths::{len_of_head, len_of_record};
+use crate::lengths::len_of_head;
 use crate::verdict::{Refusal, Verdict};
 use crate::watching::{Unwatched, Watcher};
-use capture_form::{FormFault, FormKind, MOST_READS, Reader, Record, RuleSet};
+use capture_form::{FormFault, FormKind, MOST_READS, Reader, Record, RuleSet, len_of_record};
 use std::alloc::{AllocError, Global};
 use std::io::Read;
 
