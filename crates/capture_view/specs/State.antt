@@ -1,5 +1,5 @@
 -- What a state of a delivery tells beside its outcome: the error of a rejected one (part 3, 3.4.3; part 2, 2.8.14), and what a
--- modified one says of its delivery (part 3, 3.4.5).
+-- modified one says of its delivery (part 3, 3.4.5). And the name of an outcome.
 use Rattle.std.specs.Prelude.{ℕ, Bool, false, List, Option, Some, None, Ok, Err, codes, ◌==◌, if◌then◌else◌}
 use Rattle.std.specs.Str.{bytes_eq}
 use Rattle.flow_counts.specs.declared.profile.TheConstants.{MAX_DEPTH}
@@ -78,3 +78,10 @@ modified_by (Some Modified) octets = modified_read (seen_at MAX_DEPTH 0 octets)
 -- what a modified state says of its delivery
 abbrev pub modified_told : StateFields → Option ModifiedTold
 modified_told state = modified_by state.outcome state.octets
+
+-- the name of an outcome (part 3, 3.4)
+abbrev pub outcome_name : Outcome → List ℕ
+outcome_name Accepted = codes "accepted"
+outcome_name Rejected = codes "rejected"
+outcome_name Released = codes "released"
+outcome_name Modified = codes "modified"

@@ -3,7 +3,7 @@
 //! `view_of` looks at one record: its number, its connection, what happened, and its note. The octets of a frame are
 //! read by `said_by`: a performative with its fields, or the first reason why they are none, and where that stands.
 //! `condition_told` finds the condition of the error that a rejected state tells, `modified_told` what a modified one says of its
-//! delivery. None of these takes memory.
+//! delivery; `outcome_name` is the name of an outcome. None of these takes memory.
 //!
 //! What follows takes records one after the other:
 //!
@@ -39,7 +39,7 @@ pub use link::{Link, LinkAddress};
 pub use names::{LinkKey, Names, key_of};
 pub use rows::TotalsByRow;
 pub use said::{FrameFlaw, Said, said_by};
-pub use state::{ModifiedTold, condition_told, modified_told};
+pub use state::{ModifiedTold, condition_told, modified_told, outcome_name};
 pub use told::{AddressTold, LinkRole, LinkTold, Writer, link_told};
 pub use totals::Totals;
 pub use trail::Trail;

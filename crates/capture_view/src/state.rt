@@ -1,5 +1,6 @@
 //! What a state of a delivery tells beside its outcome: the error of a rejected one (part 3, 3.4.3: its first field is an error;
 //! part 2, 2.8.14: the first field of an error is its condition), and what a modified one says of its delivery (part 3, 3.4.5).
+//! And the name of an outcome.
 
 ghost use Rattle.std.specs.Prelude.{◌≡◌, option_map};
 ghost use Rattle.std.specs.Option.{option_copied};
@@ -7,7 +8,7 @@ ghost use Rattle.amqp_types.specs.Listed.{listed_in};
 ghost use Rattle.amqp_types.specs.View.{items_left, view};
 ghost use Rattle.amqp_perf.specs.NestedViews.{state_view};
 ghost use Rattle.amqp_perf.specs.View.{seen_or_missing};
-ghost use Rattle.capture_view.specs.State.{condition_in, condition_of, condition_told, is_error, modified_of, modified_told, says_true};
+ghost use Rattle.capture_view.specs.State.{condition_in, condition_of, condition_told, is_error, modified_of, modified_told, outcome_name, says_true};
 
 use amqp_perf::{Fields, Outcome, State};
 use amqp_types::{Items, Value};
@@ -102,5 +103,17 @@ fn says_true(field: Option<Value<'_>>) -> bool
     match field {
         Some(value) => value.as_bool().unwrap_or(false),
         None => false,
+    }
+}
+
+/// The name of an outcome, as the standard writes it (part 3, 3.4).
+pub fn outcome_name(outcome: Outcome) -> &'static str
+    ensures { result.now ≡ outcome_name outcome }
+{
+    match outcome {
+        Outcome::Accepted => "accepted",
+        Outcome::Rejected => "rejected",
+        Outcome::Released => "released",
+        Outcome::Modified => "modified",
     }
 }

@@ -2,10 +2,10 @@
 
 use crate::page::Page;
 use amqp_perf::{
-    Address, Attach, Begin, Detach, Disposition, Flow, Open, Outcome, Performative,
-    ReceiverSettleMode, Role, SenderSettleMode, State, Target, Terminus, Transfer,
+    Address, Attach, Begin, Detach, Disposition, Flow, Open, Performative, ReceiverSettleMode,
+    Role, SenderSettleMode, State, Target, Terminus, Transfer,
 };
-use capture_view::{ModifiedTold, condition_told, modified_told};
+use capture_view::{ModifiedTold, condition_told, modified_told, outcome_name};
 use std::alloc::AllocError;
 
 impl Page {
@@ -240,15 +240,5 @@ impl Page {
             }
             None => Ok(()),
         }
-    }
-}
-
-/// The name of an outcome.
-pub fn outcome_name(outcome: Outcome) -> &'static str {
-    match outcome {
-        Outcome::Accepted => "accepted",
-        Outcome::Rejected => "rejected",
-        Outcome::Released => "released",
-        Outcome::Modified => "modified",
     }
 }

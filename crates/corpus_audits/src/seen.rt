@@ -3,6 +3,7 @@
 
 use amqp_perf::Outcome;
 use capture_form::{Capture, What, read_capture};
+use capture_view::outcome_name;
 use std::{fmt, fs, io};
 use trace_law::{best_verdict_at, credit_at, slow_check, waiting_at, window_at};
 
@@ -45,7 +46,7 @@ impl fmt::Display for State {
             State::Nothing => write!(f, "no more"),
             State::Count(count) => write!(f, "{count}"),
             State::Waits => write!(f, "waits"),
-            State::Told(outcome) => write!(f, "{}", word_of(*outcome)),
+            State::Told(outcome) => write!(f, "{}", outcome_name(*outcome)),
         }
     }
 }
@@ -142,16 +143,6 @@ fn tell_records(rt: &HostRuntime, capture: &Capture) -> io::Result<()> {
         }
     }
     Ok(())
-}
-
-/// An outcome in a word.
-fn word_of(outcome: Outcome) -> &'static str {
-    match outcome {
-        Outcome::Accepted => "accepted",
-        Outcome::Rejected => "rejected",
-        Outcome::Released => "released",
-        Outcome::Modified => "modified",
-    }
 }
 
 /// Writes of each delivery of the capture `NAME.cap` what its producer would be told by the verdicts of its copies, if anything.

@@ -1,8 +1,9 @@
 //! What L11 and L12 compare, in words.
 
-use crate::text::{Hex, Noted, OrNoAddress, StateToTell, kind_name, outcome_name, where_so};
+use crate::text::{Hex, Noted, OrNoAddress, StateToTell, kind_name, where_so};
 use crate::transfer::{FromClient, ToClient, write_flag};
 use amqp_perf::{Outcome, State};
+use capture_view::outcome_name;
 use pairing_cert::{Note, Why};
 use refusal_facts::{Carrier, Decision, OutcomeFacts, SettlingFacts, ToldDelivery};
 use std::fmt;

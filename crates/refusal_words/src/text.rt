@@ -1,6 +1,7 @@
 //! Octets, names and flags as they are printed.
 
-use amqp_perf::{Outcome, ReceiverSettleMode, Role, SenderSettleMode};
+use amqp_perf::{ReceiverSettleMode, Role, SenderSettleMode};
+use capture_view::outcome_name;
 use pairing_cert::{Note, Why};
 use refusal_facts::{AskedAddress, Told};
 use std::{fmt, str};
@@ -123,15 +124,6 @@ pub(crate) fn receiver_mode_name(mode: ReceiverSettleMode) -> &'static str {
     match mode {
         ReceiverSettleMode::First => "first",
         ReceiverSettleMode::Second => "second",
-    }
-}
-
-pub(crate) fn outcome_name(outcome: Outcome) -> &'static str {
-    match outcome {
-        Outcome::Accepted => "accepted",
-        Outcome::Rejected => "rejected",
-        Outcome::Released => "released",
-        Outcome::Modified => "modified",
     }
 }
 
