@@ -4,14 +4,13 @@ ghost use Rattle.capture_form.specs.Rules.{RuleSet};
 ghost use Rattle.std.specs.Prelude.{List, ◌≡◌, ◌&&◌, IfSome, is_none, is_some, option_map};
 ghost use Rattle.amqp_perf.specs.View.{view};
 ghost use Rattle.trace_events.specs.Event as said;
-ghost use Rattle.trace_events.specs.Heard as heard;
 ghost use Rattle.trace_events.specs.Said.{as_open, out_spoken};
 ghost use Rattle.trace_values.specs.View.{Events, event_view, frame_view};
 ghost use Rattle.refusal_facts.specs.OpeningFacts.{AreWriting, IsFrame};
 
 use amqp_perf::Performative;
 use trace_judge::{Openings, Outcomes};
-use trace_values::{Event, Frame, Moment};
+use trace_values::{Event, Frame, Moment, is_of_connection};
 
 /// Octets that are no performative.
 #[derive(Clone, Copy)]
@@ -55,13 +54,6 @@ fn is_open(performative: &Performative) -> bool
     ensures { result ≡ is_some (as_open (view performative.now)) }
 {
     matches!(performative, Performative::Open(_))
-}
-
-/// An open or a close.
-fn is_of_connection(performative: &Performative) -> bool
-    ensures { result ≡ heard.is_of_connection (view performative.now) }
-{
-    matches!(performative, Performative::Open(_) | Performative::Close(_))
 }
 
 /// L1, of a frame that is no performative.

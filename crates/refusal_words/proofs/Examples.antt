@@ -14,7 +14,7 @@ use Rattle.refusal_words.specs.declared.link.Change.TheVariants.{Credit, Transfe
 use Rattle.refusal_words.specs.declared.origins.ChannelKey.{ChannelKey}
 use Rattle.refusal_words.specs.Session.{SessionEvent, AnyEnd, Changes, OurBegin, OurTransfer, TheirBegin, TheirFlow, began, capped, event_by, heard, is_channel, last_begin, lives, opened, sent, session_of, window, written}
 use Rattle.refusal_words.specs.Link as links
-use Rattle.refusal_words.specs.Link.{LinkEvent, OurAttach, Over, attached, attached_in, begun, credit, credit_granted, drain_answered, drained, heard_of_handle, heard_of_link, in_progress, link_by, link_of, name, opens_link, written_of_handle, written_of_link}
+use Rattle.refusal_words.specs.Link.{LinkEvent, OurAttach, Over, attached, attached_in, begun, credit, credit_granted, drain_answered, drained, heard_of_handle, heard_of_link, in_progress, link_by, link_of, name, written_of_handle, written_of_link}
 
 -- ---- words
 
@@ -226,10 +226,10 @@ attaches source target = refl
 attaches_other_handle : (source : TerminusFields) (target : TargetFields) → written_of_handle 2 7 (AnAttach (an_attach (Some source) (Some target))) ≡ None
 attaches_other_handle source target = refl
 
-refuses_without_source : (target : TargetFields) → opens_link (an_attach None (Some target)) ≡ false
+refuses_without_source : (target : TargetFields) → written_of_handle 3 7 (AnAttach (an_attach None (Some target))) ≡ None
 refuses_without_source target = refl
 
-refuses_without_target : (source : TerminusFields) → opens_link (an_attach (Some source) None) ≡ false
+refuses_without_target : (source : TerminusFields) → written_of_handle 3 7 (AnAttach (an_attach (Some source) None)) ≡ None
 refuses_without_target source = refl
 
 their_attach : (fields : AttachFields) → heard_of_handle 3 7 (AnAttach fields) ≡ None

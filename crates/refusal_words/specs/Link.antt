@@ -1,8 +1,9 @@
 -- The link on a handle of a channel, by what the records so far do to it, the newest first (AMQP 1.0, 2.6.7: a sender may
 -- begin as many deliveries as the link-credit that the receiver told last).
-use Rattle.std.specs.Prelude.{ℕ, ◌+◌, Bool, true, false, ◌&&◌, List, [], ◌∷◌, Option, Some, None, is_some, filter_map, ◌==◌, if◌then◌else◌}
+use Rattle.std.specs.Prelude.{ℕ, ◌+◌, Bool, true, false, ◌&&◌, List, [], ◌∷◌, Option, Some, None, filter_map, ◌==◌, if◌then◌else◌}
 use Rattle.amqp_perf.specs.declared.flow.Flow.{Flow}
 use Rattle.amqp_perf.specs.Meaning.{Meaning, ABegin, AnAttach, AFlow, ATransfer, ADetach, AnEnd, AttachFields, flag}
+use Rattle.trace_events.specs.Link.{opens_link}
 use Rattle.capture_view.specs.Saying.{Says}
 use Rattle.capture_view.specs.Viewed.{Happening, In, Out, Viewed}
 use Rattle.refusal_words.specs.declared.link.Credited.{Credited}
@@ -23,10 +24,6 @@ pub data LinkEvent : Type 0 where
 abbrev pub is_zero : Option ℕ → Bool
 is_zero None = false
 is_zero (Some n) = n == 0
-
--- an attach with source and target opens a link; one without both refuses it (2.6.3)
-abbrev pub opens_link : AttachFields → Bool
-opens_link fields = is_some fields.source && is_some fields.target
 
 -- the credit that a flow in the record of this number tells, where it does (2.7.4)
 abbrev pub credit_told : ℕ → Flow → Option ℕ → Option Credited

@@ -1,10 +1,9 @@
 //! Where the credit of a link comes from (part 2 of the standard, section 2.6.7).
 
 ghost use Rattle.std.specs.Prelude.{◌≡◌};
-ghost use Rattle.refusal_words.specs.Link.{credit_granted, drain_answered, opens_link};
-ghost use Rattle.amqp_perf.specs.View.{attach_fields};
+ghost use Rattle.refusal_words.specs.Link.{credit_granted, drain_answered};
 
-use amqp_perf::{Attach, Flow};
+use amqp_perf::Flow;
 use std::alloc::{AllocError, Global};
 
 /// A flow of a client, which grants credit to a link.
@@ -111,11 +110,4 @@ pub(crate) fn drain_answered(flow: &Flow) -> Option<u32>
     } else {
         None
     }
-}
-
-/// An attach with source and target opens a link; one without both refuses it (2.6.3).
-pub(crate) fn opens_link(attach: &Attach) -> bool
-    ensures { result ≡ opens_link (attach_fields attach.now) }
-{
-    attach.source.is_some() && attach.target.is_some()
 }

@@ -1,9 +1,10 @@
 //! Where the window of a session comes from (part 2 of the standard, section 2.5.6), and its links.
 
-use crate::link::{Change, LinkOrigin, credit_granted, drain_answered, opens_link};
+use crate::link::{Change, LinkOrigin, credit_granted, drain_answered};
 use amqp_perf::{Attach, Flow, Performative};
 use std::alloc::{AllocError, Global};
 use std::collections::HashMap;
+use trace_values::opens_link;
 
 /// The begin of a client, which grants the first window of a session.
 #[derive(Clone, Copy, Debug)]
