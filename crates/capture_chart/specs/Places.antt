@@ -1,14 +1,11 @@
 -- Where lanes and rows stand, in pixels (own choice).
-use Rattle.std.specs.Prelude.{ℕ, ◌+◌, ◌-◌, ◌*◌, ◌/◌, ◌^◌, ◌==◌, min, List, [], ◌∷◌, ◌++◌, Option, Some, None, if◌then◌else◌}
+use Rattle.std.specs.Prelude.{ℕ, ◌+◌, ◌*◌, ◌/◌, ◌==◌, List, [], ◌∷◌, ◌++◌, Option, Some, None, if◌then◌else◌}
 use Rattle.std.specs.List.{list_any}
+use Rattle.svg_parts.specs.Numbers.{most}
 use Rattle.capture_chart.specs.declared.places.TheConstants.{FIRST_LANE, LANE, ROUTER, ROW, TOP}
 use Rattle.capture_chart.specs.declared.places.ArrowPlace.{ArrowPlace}
 use Rattle.capture_chart.specs.Marks.{Marking, mark_of}
 use Rattle.capture_chart.specs.Shown.{Shown}
-
--- a number of 32 bits, which stops at the largest
-abbrev pub most : ℕ → ℕ
-most n = min n (2 ^ 32 - 1)
 
 -- the place of a lane or a row, by its number
 abbrev pub count_place : ℕ → ℕ → ℕ → ℕ

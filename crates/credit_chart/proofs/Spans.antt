@@ -5,9 +5,10 @@ use Rattle.std.specs.Prelude.{unwrap_or, SomeIff}
 use Rattle.std.specs.Int.Count.{count_leading_zeros, leading_unique}
 use Rattle.std.proofs.lemmas.Bool.{leb-true, leb-false}
 use Rattle.std.proofs.lemmas.Nat.{leading_length, pow-add}
+use Rattle.svg_parts.specs.Numbers.{most}
 use Rattle.credit_chart.specs.declared.scale.TheConstants.{COLUMNS}
 use Rattle.credit_chart.specs.declared.scale.Scale.{Scale}
-use Rattle.credit_chart.specs.Places.{count_of, most, power_above, scale_of, span_of}
+use Rattle.credit_chart.specs.Places.{count_of, power_above, scale_of, span_of}
 
 -- ---- the lowest power of two above a number
 

@@ -1,14 +1,11 @@
 -- Where columns and values stand, in pixels (own choice).
-use Rattle.std.specs.Prelude.{ℕ, ◌+◌, ◌-◌, ◌*◌, ◌/◌, ◌^◌, min}
+use Rattle.std.specs.Prelude.{ℕ, ◌+◌, ◌-◌, ◌*◌, ◌/◌, ◌^◌}
 use Rattle.std.specs.Int.Count.{count_leading_zeros}
+use Rattle.svg_parts.specs.Numbers.{most}
 use Rattle.credit_chart.specs.declared.level.Quantity.{Quantity}
 use Rattle.credit_chart.specs.declared.level.Quantity.TheVariants.{Credit, Window, Waiting, Unsettled, Draining}
 use Rattle.credit_chart.specs.declared.scale.Scale.{Scale}
 use Rattle.credit_chart.specs.declared.scale.TheConstants.{COLUMNS, LEFT}
-
--- a number of 32 bits, which stops at the largest
-abbrev pub most : ℕ → ℕ
-most n = min n (2 ^ 32 - 1)
 
 -- ---- columns
 

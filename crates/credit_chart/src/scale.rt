@@ -1,6 +1,7 @@
 //! Where columns and values stand, in pixels.
 
 ghost use Rattle.std.specs.Prelude.{◌≡◌, ◌<◌, ◌≤◌, List, Option, length};
+ghost use Rattle.svg_parts.specs.Numbers.{most};
 ghost use Rattle.credit_chart.specs.Places as spec;
 
 use crate::level::Quantity;
@@ -76,7 +77,7 @@ pub(crate) fn place_of(scale: Scale, column: usize) -> u32
 
 /// It stops at the largest number.
 fn narrowed(number: usize) -> u32
-    ensures { result ≡ spec.most number }
+    ensures { result ≡ most number }
 {
     u32::try_from(number).unwrap_or(u32::MAX)
 }

@@ -1,2 +1,3 @@
 -- specs/Lib.antt
+pub mod Numbers
 pub mod Parts
