@@ -30,3 +30,4 @@ pub use fault::EngineFault;
 pub use gate::{Delivered, Gate, Ready, Taken};
 pub use output::Output;
 pub use port::{Port, PortFault};
+pub use silence::EMPTY_FRAME;

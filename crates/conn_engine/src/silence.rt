@@ -7,7 +7,7 @@ use crate::said::time_out_in;
 use stream_reading::Event;
 
 /// A frame without a body, on channel 0. It says that the router is still there.
-pub(crate) const EMPTY_FRAME: [u8; 8] = [0, 0, 0, 8, 2, 0, 0, 0];
+pub const EMPTY_FRAME: [u8; 8] = [0, 0, 0, 8, 2, 0, 0, 0];
 
 /// From which moment on nothing was given, as far as ticks have told.
 #[derive(Clone, Copy, Debug, PartialEq, Eq)]

@@ -2,9 +2,9 @@
 
 ghost use Rattle.std.specs.Prelude.{◌<◌};
 
-use crate::router::{EMPTY_FRAME, Router};
+use crate::router::Router;
 use capture_form::What;
-use conn_engine::{Engine, EngineFault};
+use conn_engine::{EMPTY_FRAME, Engine, EngineFault};
 use kit_clients::{Chance, Reading};
 use std::alloc::{AllocError, Global};
 

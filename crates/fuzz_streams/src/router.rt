@@ -3,12 +3,9 @@
 ghost use Rattle.std.specs.Prelude.{ℕ};
 
 use capture_form::What;
-use conn_engine::{Port, PortFault};
+use conn_engine::{EMPTY_FRAME, Port, PortFault};
 use route_items::Item;
 use std::alloc::{AllocError, Global};
-
-/// A frame without a body.
-pub const EMPTY_FRAME: [u8; 8] = [0, 0, 0, 8, 2, 0, 0, 0];
 
 /// Takes all items, and gives a frame without a body for each.
 #[derive(Drop)]
@@ -47,7 +44,7 @@ impl Router {
 
 impl Port for Router {
     ghost use Rattle.std.specs.Prelude.{replicate, true};
-    ghost use Rattle.fuzz_streams.specs.Frames.{empty_frame};
+    ghost use Rattle.conn_engine.specs.Silence.{empty_frame};
 
     ghost connection = { λ port. port.connection };
 
