@@ -5,7 +5,7 @@ use crate::text::{
     Asked, OrNoAddress, Quoted, receiver_mode_name, role_name, sender_mode_name, where_so,
 };
 use crate::transfer::{Linked, NO_SESSION, write_no_link, write_number, write_session};
-use amqp_perf::{ErrorCondition, Performative, Role};
+use amqp_perf::{ErrorCondition, Performative};
 use flow_counts::INCOMING_WINDOW;
 use refusal_facts::{
     AskedAddress, Asking, AttachFacts, BeginFacts, DetachFacts, EndFacts, FrameFacts, WritingFacts,
@@ -107,13 +107,6 @@ pub(crate) fn write_begin<W: fmt::Write>(
         Some(facts.incoming_window),
         INCOMING_WINDOW,
     )
-}
-
-fn opposite(role: Role) -> Role {
-    match role {
-        Role::Sender => Role::Receiver,
-        Role::Receiver => Role::Sender,
-    }
 }
 
 /// A word that is said, and the one that is due.
@@ -226,7 +219,7 @@ fn write_asked<W: fmt::Write>(
         f,
         "role",
         role_name(facts.ours.role),
-        role_name(opposite(asked.role)),
+        role_name(asked.role.other()),
     )?;
     match asked.fault {
         None => write_accepted(f, facts, asked),

@@ -31,7 +31,7 @@ use Rattle.trace_events.specs.Said.{in_attach}
 use Rattle.trace_events.specs.Link.{attaches_in, attaches_out, address_at, is_receiver, address_text, source_address, target_address}
 use Rattle.trace_events.specs.Fault.{terminus_fault, address_fault, target_fault, target_address_fault, source_fault, source_address_fault}
 use Rattle.trace_events.proofs.LinkSteps.{unanswered_attach-asked}
-use Rattle.trace_clauses.specs.LinkClause.{Asking, asked_by, asking, asked_address, has_dynamic_source, is_without_address, answers_one, answers_attach, opposite, is_same_sender_mode, is_same_receiver_mode}
+use Rattle.trace_clauses.specs.LinkClause.{Asking, asked_by, asking, asked_address, has_dynamic_source, is_without_address, answers_one, answers_attach, is_same_sender_mode, is_same_receiver_mode}
 use Rattle.trace_clauses.specs.Written.{spoken_octets, says}
 use Rattle.trace_duties.specs.Answer.{attach_answer, attach_to_anonymous}
 use Rattle.route_answers.proofs.Words.{same_octets}
@@ -94,12 +94,12 @@ module _ (theirs : AttachFields) (address : List ℕ) where
 
 producer_asks : (number : ℕ) (theirs : AttachFields) → theirs.role ≡ Sender → asked_address number theirs ≡ target_address theirs.target
 producer_asks number theirs same =
-    ap (λ r. if is_receiver r && is_some_and theirs.source (λ (s : TerminusFields). flag s.dynamic) then codes "dyn/" ++ decimal number else address_at (opposite r) theirs) same
+    ap (λ r. if is_receiver r && is_some_and theirs.source (λ (s : TerminusFields). flag s.dynamic) then codes "dyn/" ++ decimal number else address_at (other_role r) theirs) same
 
 consumer_asks : (number : ℕ) (theirs : AttachFields) → theirs.role ≡ Receiver
     → asked_address number theirs ≡ (if is_some_and theirs.source (λ (s : TerminusFields). flag s.dynamic) then codes "dyn/" ++ decimal number else source_address theirs.source)
 consumer_asks number theirs same =
-    ap (λ r. if is_receiver r && is_some_and theirs.source (λ (s : TerminusFields). flag s.dynamic) then codes "dyn/" ++ decimal number else address_at (opposite r) theirs) same
+    ap (λ r. if is_receiver r && is_some_and theirs.source (λ (s : TerminusFields). flag s.dynamic) then codes "dyn/" ++ decimal number else address_at (other_role r) theirs) same
 
 counted_by : (b : Bool) (o : Option Fault) → (if b then Some (Refuse InvalidField) else o) ≡ None → o ≡ None
 counted_by true o is = absurd cc

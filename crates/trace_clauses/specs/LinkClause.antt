@@ -8,6 +8,7 @@ use Rattle.amqp_perf.specs.declared.attach.ReceiverSettleMode.{ReceiverSettleMod
 use Rattle.amqp_perf.specs.declared.attach.ReceiverSettleMode.TheVariants.{First, Second}
 use Rattle.amqp_perf.specs.Nested.{TargetFields, ATerminus, ACoordinator}
 use Rattle.amqp_perf.specs.Meaning.{AttachFields, DetachFields, flag, sender_mode, receiver_mode}
+use Rattle.amqp_perf.specs.Router.{other_role}
 use Rattle.trace_events.specs.declared.fault.Fault.{Fault}
 use Rattle.trace_events.specs.declared.fault.Fault.TheVariants.{Close, End, Refuse, Detach}
 use Rattle.trace_events.specs.Words.{is_some_and}
@@ -15,10 +16,6 @@ use Rattle.trace_events.specs.Event.{Event}
 use Rattle.trace_events.specs.declared.session.Session.{Session}
 use Rattle.trace_events.specs.Said.{in_attach}
 use Rattle.trace_events.specs.Link.{is_receiver, opens_link, address_at, unanswered_attach, owes_detach}
-
-abbrev pub opposite : Role → Role
-opposite Sender = Receiver
-opposite Receiver = Sender
 
 abbrev pub is_same_role : Role → Role → Bool
 is_same_role Sender Sender = true
@@ -44,7 +41,7 @@ has_dynamic_source fields = is_receiver fields.role && is_some_and fields.source
 -- dynamic source (own rule); else its target's or its source's
 abbrev pub asked_address : ℕ → AttachFields → List ℕ
 asked_address number theirs =
-    if has_dynamic_source theirs then codes "dyn/" ++ decimal number else address_at (opposite theirs.role) theirs
+    if has_dynamic_source theirs then codes "dyn/" ++ decimal number else address_at (other_role theirs.role) theirs
 
 -- the settle mode of the receiver in the answer, whose sender settles as the client asks: first to a producer, and to a
 -- consumer its own
@@ -101,7 +98,7 @@ accepts_or_refuses asked ours (Some (Detach condition)) = false
 
 abbrev pub answers_one : AttachFields → Asking → Bool
 answers_one ours asked =
-    bytes_eq ours.name asked.name && is_same_role ours.role (opposite asked.role)
+    bytes_eq ours.name asked.name && is_same_role ours.role (other_role asked.role)
     && accepts_or_refuses asked ours asked.fault
 
 abbrev pub answers_attach : AttachFields → List Event → Session → Bool

@@ -15,15 +15,6 @@ use trace_events::Fault;
 /// What the address of a dynamic source begins with; the number of the attach's record follows.
 const DYNAMIC: &[u8] = b"dyn/";
 
-fn opposite(role: Role) -> Role
-    ensures { result ≡ law.opposite role }
-{
-    match role {
-        Role::Sender => Role::Receiver,
-        Role::Receiver => Role::Sender,
-    }
-}
-
 fn is_same_role(one: Role, other: Role) -> bool
     ensures { result ≡ law.is_same_role one other }
 {
@@ -123,7 +114,7 @@ impl<'a> AskedAddress<'a> {
         if has_dynamic_source(theirs) {
             AskedAddress::Made(number)
         } else {
-            AskedAddress::Given(address_at(opposite(theirs.role), theirs))
+            AskedAddress::Given(address_at(theirs.role.other(), theirs))
         }
     }
 
@@ -205,7 +196,7 @@ impl<'a> Asking<'a> {
         ensures { result ≡ law.answers_one (attach_fields ours.now) (asking_view self.now) }
     {
         ours.name == self.name
-            && is_same_role(ours.role, opposite(self.role))
+            && is_same_role(ours.role, self.role.other())
             && self.is_accepted_or_refused(ours)
     }
 }
