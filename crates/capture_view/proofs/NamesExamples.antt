@@ -32,8 +32,14 @@ other_handle = refl
 abbrev channel : ℕ → ℕ → ChannelKey
 channel connection number = record { connection = connection; channel = number }
 
+one_channel : is_channel (channel 1 2) (channel 1 2) ≡ true
+one_channel = refl
+
 channel_of_another : is_channel (channel 1 2) (channel 4 2) ≡ false
 channel_of_another = refl
+
+channel_of_other_number : is_channel (channel 1 2) (channel 1 3) ≡ false
+channel_of_other_number = refl
 
 -- a transfer names its handle; an empty frame and an opened connection name none
 of_transfer : (fields : TransferFields) → key_by 1 (In (Says 2 (ATransfer fields) [])) ≡ Some (key 1 2 fields.handle)

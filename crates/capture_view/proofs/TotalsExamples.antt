@@ -112,5 +112,8 @@ no_payload : of_input octets (In (NoBody 0)) ≡ 0
 no_payload = refl
 
 -- a number stops at the largest
+small : most 5 ≡ 5
+small = refl
+
 stops : most 18446744073709551616 ≡ 18446744073709551615
 stops = refl

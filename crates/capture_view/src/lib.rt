@@ -36,7 +36,7 @@ mod view;
 pub use choice::{Choice, Traits};
 pub use ids::{Ids, Scope, Sender};
 pub use link::{Link, LinkAddress};
-pub use names::{LinkKey, Names, key_of};
+pub use names::{ChannelKey, LinkKey, Names, key_of};
 pub use rows::TotalsByRow;
 pub use said::{FrameFlaw, Said, said_by};
 pub use state::{ModifiedTold, condition_told, modified_told, outcome_name};

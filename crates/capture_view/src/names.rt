@@ -17,9 +17,9 @@ pub struct LinkKey {
 
 /// A channel of a connection.
 #[derive(Clone, Copy, Debug, PartialEq, Eq, Hash)]
-struct ChannelKey {
-    connection: u32,
-    channel: u16,
+pub struct ChannelKey {
+    pub connection: u32,
+    pub channel: u16,
 }
 
 /// A link, and the record of the attach that told it.

@@ -7,11 +7,12 @@ use Rattle.amqp_perf.specs.declared.begin.Begin.{Begin}
 use Rattle.amqp_perf.specs.declared.performative.Performative.{Performative}
 use Rattle.amqp_perf.specs.declared.performative.Performative.TheVariants as performatives
 use Rattle.amqp_perf.specs.View.{view}
+use Rattle.capture_view.specs.declared.names.ChannelKey.{ChannelKey}
+use Rattle.capture_view.specs.Named.{is_channel}
 use Rattle.refusal_words.specs.declared.session.Opened.{Opened}
 use Rattle.refusal_words.specs.declared.session.SessionOrigin.{SessionOrigin}
-use Rattle.refusal_words.specs.declared.origins.ChannelKey.{ChannelKey}
 use Rattle.refusal_words.specs.declared.origins.Origins.{Origins}
-use Rattle.refusal_words.specs.Session.{SessionChange, SessionEvent, heard, heard_change, if_here, is_channel, written, written_change}
+use Rattle.refusal_words.specs.Session.{SessionChange, SessionEvent, heard, heard_change, if_here, written, written_change}
 use Rattle.refusal_words.specs.Link.{LinkEvent, heard_of_link, heard_of_handle, link_of, written_of_link, written_of_handle}
 use Rattle.refusal_words.specs.Tables.{ChannelStands, MovesChannel, SessionMoves, SessionStands}
 use Rattle.refusal_words.proofs.Sessions.{changing, entry-moved}

@@ -1,42 +1,25 @@
 -- What records do to sessions and links, and what they come to: examples that hold, and ones beside them that do not.
-use Rattle.std.proofs.Common.{◌≡◌, ℕ, ◌^◌, ◌-◌, Bool, true, false, List, [], ◌∷◌, Option, None, Some, refl}
+use Rattle.std.proofs.Common.{◌≡◌, ℕ, Bool, true, false, List, [], ◌∷◌, Option, None, Some, refl}
 use Rattle.amqp_perf.specs.declared.begin.Begin.{Begin}
 use Rattle.amqp_perf.specs.declared.flow.Flow.{Flow}
 use Rattle.amqp_perf.specs.declared.attach.Role.TheVariants.{Sender}
 use Rattle.amqp_perf.specs.Meaning.{AttachFields, DetachFields, TransferFields, ABegin, AnAttach, AFlow, ATransfer, ADetach, AnEnd}
 use Rattle.amqp_perf.specs.Nested.{TargetFields, TerminusFields}
+use Rattle.capture_view.specs.declared.names.ChannelKey.{ChannelKey}
 use Rattle.capture_view.specs.Saying.{NoBody, Says}
 use Rattle.capture_view.specs.Viewed.{In, Out, Opened as AnOpening}
 use Rattle.refusal_words.specs.declared.session.Opened.{Opened}
 use Rattle.refusal_words.specs.declared.session.Windowed.{Windowed}
 use Rattle.refusal_words.specs.declared.link.Credited.{Credited}
 use Rattle.refusal_words.specs.declared.link.Change.TheVariants.{Credit, Transfer, Drain}
-use Rattle.refusal_words.specs.declared.origins.ChannelKey.{ChannelKey}
-use Rattle.refusal_words.specs.Session.{SessionEvent, AnyEnd, Changes, OurBegin, OurTransfer, TheirBegin, TheirFlow, began, capped, event_by, heard, is_channel, last_begin, lives, opened, sent, session_of, window, written}
+use Rattle.refusal_words.specs.Session.{SessionEvent, AnyEnd, Changes, OurBegin, OurTransfer, TheirBegin, TheirFlow, began, event_by, heard, last_begin, lives, opened, sent, session_of, window, written}
 use Rattle.refusal_words.specs.Link as links
 use Rattle.refusal_words.specs.Link.{LinkEvent, OurAttach, Over, attached, attached_in, begun, credit, credit_granted, drain_answered, drained, heard_of_handle, heard_of_link, in_progress, link_by, link_of, name, written_of_handle, written_of_link}
 
--- ---- words
-
-small : capped 5 ≡ 5
-small = refl
-
-large : capped (2 ^ 64) ≡ 2 ^ 64 - 1
-large = refl
+-- ---- what a record does to the session on a channel
 
 abbrev channel : ℕ → ℕ → ChannelKey
 channel connection number = record { connection = connection; channel = number }
-
-one_channel : is_channel (channel 1 2) (channel 1 2) ≡ true
-one_channel = refl
-
-channel_of_another : is_channel (channel 1 2) (channel 4 2) ≡ false
-channel_of_another = refl
-
-other_channel : is_channel (channel 1 2) (channel 1 3) ≡ false
-other_channel = refl
-
--- ---- what a record does to the session on a channel
 
 abbrev a_begin : ℕ → Begin
 a_begin transfers = record { remote_channel = None; next_outgoing_id = 0; incoming_window = transfers; outgoing_window = 9; handle_max = None }

@@ -1,18 +1,18 @@
 -- What one event more does to a link.
 use Rattle.std.proofs.Common.{◌≡◌, refl, ap, ℕ, ◌+◌, Bool, true, false, List, ◌∷◌, Option, Some, None, option_map, if◌then◌else◌, arith}
 use Rattle.std.specs.List.{cons_option}
+use Rattle.capture_view.specs.Numbers.{most}
 use Rattle.refusal_words.specs.declared.link.Change.{Change}
 use Rattle.refusal_words.specs.declared.link.Change.TheVariants.{Credit, Transfer, Drain}
-use Rattle.refusal_words.specs.Session.{capped}
 use Rattle.refusal_words.specs.Link.{LinkEvent, LinkTold, Changes, OurAttach, Over, attached, attached_in, begun, credit, drained, in_progress, link_of, name, told}
 use Rattle.refusal_words.specs.Tables.{changed, link_next}
 
-pub capped-more : (n : ℕ) → capped (n + 1) ≡ capped (capped n + 1)
-capped-more n = omega arith
+pub most-more : (n : ℕ) → most (n + 1) ≡ most (most n + 1)
+most-more n = omega arith
 
-begun-more : (b : Bool) (n : ℕ) → capped (if b then n else n + 1) ≡ (if b then capped n else capped (capped n + 1))
+begun-more : (b : Bool) (n : ℕ) → most (if b then n else n + 1) ≡ (if b then most n else most (most n + 1))
 begun-more true n = refl
-begun-more false n = capped-more n
+begun-more false n = most-more n
 
 told-changed : (change : Change) (events : List LinkEvent) → told (Changes change ∷ events) ≡ changed change (told events)
 told-changed (Credit credited) events = refl

@@ -6,7 +6,7 @@ use Rattle.refusal_words.specs.declared.session.SessionOrigin.{SessionOrigin}
 use Rattle.refusal_words.specs.Session.{SessionChange, SessionEvent, SessionTold, Changes, OurBegin, OurTransfer, TheirFlow, began, fresh_session, last_begin, lives, opened, sent, told, window}
 use Rattle.refusal_words.specs.Link.{LinkEvent, Over}
 use Rattle.refusal_words.specs.Tables.{ChannelStands, SessionMoves, SessionStands, Stands, link_next, link_on, session_told, told_next}
-use Rattle.refusal_words.proofs.Links.{capped-more, link-step}
+use Rattle.refusal_words.proofs.Links.{most-more, link-step}
 
 abbrev pub changing : Option SessionChange → Option SessionEvent
 changing change = option_map Changes change
@@ -26,7 +26,7 @@ told-step None events = refl
 told-step (Some (TheirFlow number flow)) events = refl
 told-step (Some OurTransfer) events =
     let made : ℕ → SessionTold = λ n. record { number = began events; opened = opened events; window = window events; sent = n } in
-    ap made (capped-more (sent events))
+    ap made (most-more (sent events))
 
 -- a session that lives, with a change of its window and events of its links
 moved : (change : Option SessionChange) (said : ℕ → Option LinkEvent) (s t : SessionOrigin) → SessionMoves change said s t

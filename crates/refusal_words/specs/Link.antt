@@ -4,13 +4,15 @@ use Rattle.std.specs.Prelude.{ℕ, ◌+◌, Bool, true, false, ◌&&◌, List, [
 use Rattle.amqp_perf.specs.declared.flow.Flow.{Flow}
 use Rattle.amqp_perf.specs.Meaning.{Meaning, ABegin, AnAttach, AFlow, ATransfer, ADetach, AnEnd, AttachFields, flag}
 use Rattle.trace_events.specs.Link.{opens_link}
+use Rattle.capture_view.specs.declared.names.ChannelKey.{ChannelKey}
+use Rattle.capture_view.specs.Named.{is_channel}
+use Rattle.capture_view.specs.Numbers.{most}
 use Rattle.capture_view.specs.Saying.{Says}
 use Rattle.capture_view.specs.Viewed.{Happening, In, Out, Viewed}
 use Rattle.refusal_words.specs.declared.link.Credited.{Credited}
 use Rattle.refusal_words.specs.declared.link.Change.{Change}
 use Rattle.refusal_words.specs.declared.link.Change.TheVariants.{Credit, Transfer, Drain}
-use Rattle.refusal_words.specs.declared.origins.ChannelKey.{ChannelKey}
-use Rattle.refusal_words.specs.Session.{capped, if_here, is_channel, lives, session_events}
+use Rattle.refusal_words.specs.Session.{if_here, lives, session_events}
 
 -- ---- what a record does to the link on a handle (own rule: by the client's and the router's performatives of it)
 
@@ -158,7 +160,7 @@ pub record LinkTold : Type 0 where
   pub in_progress : Bool
 
 abbrev pub told : List LinkEvent → LinkTold
-told past = record { number = attached_in past; name = name past; credit = credit past; begun = capped (begun past); drained = drained past; in_progress = in_progress past }
+told past = record { number = attached_in past; name = name past; credit = credit past; begun = most (begun past); drained = drained past; in_progress = in_progress past }
 
 -- the same of the link that lives
 abbrev pub link_of : List LinkEvent → Option LinkTold

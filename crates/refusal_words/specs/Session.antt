@@ -1,24 +1,18 @@
 -- The session on a channel, by what the records so far do to it, the newest first (AMQP 1.0, 2.5.6: a sender may send as
 -- many transfers as the window that the receiver told last).
-use Rattle.std.specs.Prelude.{ℕ, ◌+◌, ◌-◌, ◌^◌, min, Bool, true, false, ◌&&◌, List, [], ◌∷◌, Option, Some, None, option_map, filter_map, nat_eq, if◌then◌else◌}
+use Rattle.std.specs.Prelude.{ℕ, ◌+◌, Bool, true, false, List, [], ◌∷◌, Option, Some, None, option_map, filter_map, if◌then◌else◌}
 use Rattle.amqp_perf.specs.declared.begin.Begin.{Begin}
 use Rattle.amqp_perf.specs.declared.flow.Flow.{Flow}
 use Rattle.amqp_perf.specs.Meaning.{Meaning, ABegin, AFlow, ATransfer, AnEnd}
+use Rattle.capture_view.specs.declared.names.ChannelKey.{ChannelKey}
+use Rattle.capture_view.specs.Named.{is_channel}
+use Rattle.capture_view.specs.Numbers.{most}
 use Rattle.capture_view.specs.Saying.{Says}
 use Rattle.capture_view.specs.Viewed.{Happening, In, Out, Viewed}
 use Rattle.refusal_words.specs.declared.session.Opened.{Opened}
 use Rattle.refusal_words.specs.declared.session.Windowed.{Windowed}
-use Rattle.refusal_words.specs.declared.origins.ChannelKey.{ChannelKey}
 
 -- ---- words
-
--- a count that is kept in 64 bits: the greatest number where there are more (own rule)
-abbrev pub capped : ℕ → ℕ
-capped n = min n (2 ^ 64 - 1)
-
--- whether channels are one
-abbrev pub is_channel : ChannelKey → ChannelKey → Bool
-is_channel a b = nat_eq a.connection b.connection && nat_eq a.channel b.channel
 
 -- what is there, if it stands here
 abbrev pub if_here : {A : Type 0} → Bool → Option A → Option A
@@ -125,7 +119,7 @@ pub record SessionTold : Type 0 where
   pub sent : ℕ
 
 abbrev pub told : List SessionEvent → SessionTold
-told past = record { number = began past; opened = opened past; window = window past; sent = capped (sent past) }
+told past = record { number = began past; opened = opened past; window = window past; sent = most (sent past) }
 
 -- the same of the session that lives
 abbrev pub session_of : List SessionEvent → Option SessionTold

@@ -3,15 +3,17 @@ use Rattle.std.specs.Prelude.{◌≡◌, ℕ, ◌+◌, false, true, List, ◌∷
 use Rattle.std.specs.List.{cons_option}
 use Rattle.std.specs.HashMap.{get}
 use Rattle.std.specs.String.{string_bytes}
+use Rattle.capture_view.specs.declared.names.ChannelKey.{ChannelKey}
+use Rattle.capture_view.specs.Named.{is_channel}
+use Rattle.capture_view.specs.Numbers.{most}
 use Rattle.capture_view.specs.Viewed.{Viewed}
 use Rattle.refusal_words.specs.declared.link.Change.{Change}
 use Rattle.refusal_words.specs.declared.link.Change.TheVariants.{Credit, Transfer, Drain}
 use Rattle.refusal_words.specs.declared.link.LinkOrigin.{LinkOrigin}
 use Rattle.refusal_words.specs.declared.session.Opened.{Opened}
 use Rattle.refusal_words.specs.declared.session.SessionOrigin.{SessionOrigin}
-use Rattle.refusal_words.specs.declared.origins.ChannelKey.{ChannelKey}
 use Rattle.refusal_words.specs.declared.origins.Origins.{Origins}
-use Rattle.refusal_words.specs.Session.{SessionChange, SessionEvent, SessionTold, OurTransfer, TheirFlow, capped, if_here, is_channel, last_begin, lives, session_events, told}
+use Rattle.refusal_words.specs.Session.{SessionChange, SessionEvent, SessionTold, OurTransfer, TheirFlow, if_here, last_begin, lives, session_events, told}
 use Rattle.refusal_words.specs.Link.{LinkEvent, LinkTold, Changes, OurAttach, Over, fresh_link, link_events, link_of}
 
 -- ---- values of the code
@@ -32,7 +34,7 @@ link_on session handle = option_map link_told (get nat_eq session.links handle)
 abbrev pub changed : Change → LinkTold → LinkTold
 changed (Credit credited) link = record link { credit = Some credited; begun = 0; drained = None }
 changed (Transfer more) link =
-    record link { begun = (if link.in_progress then link.begun else capped (link.begun + 1)); in_progress = more }
+    record link { begun = (if link.in_progress then link.begun else most (link.begun + 1)); in_progress = more }
 changed (Drain number) link = record link { drained = Some number }
 
 abbrev pub link_next : Option LinkEvent → Option LinkTold → Option LinkTold
@@ -45,7 +47,7 @@ abbrev pub told_next : Option SessionChange → SessionTold → SessionTold
 told_next None session = session
 told_next (Some (TheirFlow number flow)) session =
     record session { window = Some (record { number = number; next_incoming_id = flow.next_incoming_id; incoming_window = flow.incoming_window }); sent = 0 }
-told_next (Some OurTransfer) session = record session { sent = capped (session.sent + 1) }
+told_next (Some OurTransfer) session = record session { sent = most (session.sent + 1) }
 
 -- a session with this change of its window, and these events of its links
 pub record SessionMoves (change : Option SessionChange) (said : ℕ → Option LinkEvent) (earlier later : SessionOrigin) : Type 0 where

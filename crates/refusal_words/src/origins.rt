@@ -3,16 +3,9 @@
 use crate::link::LinkOrigin;
 use crate::session::{Opened, SessionOrigin};
 use amqp_perf::{Begin, Performative};
-use capture_view::{Happened, RecordView, Said};
+use capture_view::{ChannelKey, Happened, RecordView, Said};
 use std::alloc::{AllocError, Global};
 use std::collections::HashMap;
-
-/// A channel of a connection.
-#[derive(Clone, Copy, Debug, PartialEq, Eq, Hash)]
-struct ChannelKey {
-    connection: u32,
-    channel: u16,
-}
 
 /// Where windows and credits come from, of the sessions and links that live.
 #[derive(Debug, Drop)]
@@ -27,9 +20,9 @@ impl Origins {
     ghost use Rattle.std.specs.Prelude.{◌≡◌, ℕ, List, [], Some, None, OnOk, option_map};
     ghost use Rattle.std.specs.Option.{option_copied};
     ghost use Rattle.amqp_perf.specs.View.{view};
+    ghost use Rattle.capture_view.specs.declared.names.ChannelKey.{ChannelKey};
     ghost use Rattle.capture_view.specs.Saying.{saying};
     ghost use Rattle.capture_view.specs.Viewed.{In, Out, Viewed, viewed};
-    ghost use Rattle.refusal_words.specs.declared.origins.ChannelKey.{ChannelKey};
     ghost use Rattle.refusal_words.specs.Session.{AnyEnd, OurBegin, TheirBegin, event_by, heard, session_of, session_events, written};
     ghost use Rattle.refusal_words.specs.Link.{Over, heard_of_link, link_by, link_past, written_of_link};
     ghost use Rattle.refusal_words.specs.Tables.{MovesChannel, MovesTo, StandsFor, TakesOneMore, link_told, session_told};

@@ -1,9 +1,10 @@
 use Rattle.std.proofs.Common.{ap, ◌∙◌, Option, Some}
 use Rattle.std.specs.HashMap.{get}
+use Rattle.capture_view.specs.declared.names.ChannelKey.{ChannelKey}
+use Rattle.capture_view.specs.Named.{is_channel}
 use Rattle.refusal_words.specs.declared.session.Opened.{Opened}
 use Rattle.refusal_words.specs.declared.session.SessionOrigin.{SessionOrigin}
-use Rattle.refusal_words.specs.declared.origins.ChannelKey.{ChannelKey}
-use Rattle.refusal_words.specs.Session.{OurBegin, fresh_session, is_channel}
+use Rattle.refusal_words.specs.Session.{OurBegin, fresh_session}
 use Rattle.refusal_words.specs.Link.{Over}
 use Rattle.refusal_words.proofs.Sessions.{entry-begun}
 use Rattle.refusal_words.proofs.Channels.{at-channel}
