@@ -6,14 +6,12 @@ ghost use Rattle.trace_events.specs.Session.{IsLiveOn, StandsLive};
 ghost use Rattle.trace_clauses.specs.LinkClause as attaches;
 ghost use Rattle.trace_values.specs.View.{Events, asking_view, event_view};
 ghost use Rattle.trace_events.specs.Said as said;
-ghost use Rattle.trace_events.specs.Words.{is_some_and};
-ghost use Rattle.amqp_perf.specs.NestedViews.{target_view};
 ghost use Rattle.refusal_facts.specs.OpeningFacts.{AreAttach, AreBegin};
 
-use amqp_perf::{Attach, ReceiverSettleMode, SenderSettleMode, Target};
+use amqp_perf::{Attach, ReceiverSettleMode, SenderSettleMode};
 use trace_events::Session;
 use trace_judge::Openings;
-use trace_values::{Asking, Event, address_at};
+use trace_values::{Asking, Event, address_at, is_without_address};
 
 /// A begin of the router's.
 #[derive(Clone, Copy)]
@@ -90,16 +88,6 @@ fn asked_on<'a, P: Openings<'a>>(
         (option_map asking_view result ≡ option_and_then (λ s. attaches.asking s handle history) session) }
 {
     past.asking(session?, handle)
-}
-
-/// A target without address; a coordinator is none.
-fn is_without_address(target: &Option<Target>) -> bool
-    ensures { result ≡ is_some_and (option_map target_view target.now) attaches.is_without_address }
-{
-    match target {
-        Some(Target::Terminus(terminus)) => terminus.address.is_none(),
-        _ => false,
-    }
 }
 
 /// L3.

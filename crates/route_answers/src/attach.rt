@@ -11,12 +11,12 @@ ghost use Rattle.trace_events.specs.Address as addresses;
 ghost use Rattle.trace_events.specs.Link as links;
 ghost use Rattle.trace_clauses.specs.LinkClause as law;
 ghost use Rattle.trace_clauses.specs.Written.{says};
-ghost use Rattle.trace_events.specs.Words.{is_some_and};
 ghost use Rattle.trace_duties.specs.Answer.{attach_answer, attach_to_anonymous};
 ghost use Rattle.route_answers.specs.Replies.{reply_view, source_text, is_made, CanBeSaid};
 
 use crate::reply::{Reply, Saying, Source};
 use amqp_perf::{Address, Attach, Role, Target, Terminus};
+use trace_values::is_without_address;
 
 /// An address that is a text; any other is empty.
 fn text_of(address: Option<Address<'_>>) -> &str
@@ -57,16 +57,6 @@ fn asked_source<'a>(number: u64, theirs: &Attach<'a>) -> Source<'a>
     match theirs.source {
         Some(source) if source.is_dynamic() => Source::Made(number),
         source => Source::Given(source_text_of(source)),
-    }
-}
-
-/// A target without address, as an anonymous sender has it; a coordinator has none either.
-fn is_without_address(target: &Option<Target<'_>>) -> bool
-    ensures { result ≡ is_some_and (option_map target_view target.now) law.is_without_address }
-{
-    match target {
-        Some(Target::Terminus(terminus)) => terminus.address.is_none(),
-        _ => false,
     }
 }
 

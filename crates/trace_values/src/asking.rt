@@ -71,8 +71,8 @@ fn is_dynamic_address(address: &[u8], number: u64) -> bool
     }
 }
 
-/// A target without address, as an anonymous sender has it; a coordinator has none either.
-fn is_without_address(target: &Option<Target>) -> bool
+/// A target without address, as an anonymous sender has it; a coordinator is none.
+pub fn is_without_address(target: &Option<Target>) -> bool
     ensures { result ≡ is_some_and (option_map target_view target.now) law.is_without_address }
 {
     match target {

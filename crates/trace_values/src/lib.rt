@@ -28,7 +28,7 @@ mod session;
 mod window;
 
 pub use address::has_multicast;
-pub use asking::{AskedAddress, Asking};
+pub use asking::{AskedAddress, Asking, is_without_address};
 pub use credit::{LinkEvent, is_drain_answer};
 pub use disposition::{Decision, is_decisive};
 pub use event::{Event, Incoming, Link, Moment, Outgoing};
