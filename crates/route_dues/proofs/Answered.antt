@@ -10,7 +10,8 @@ use Rattle.trace_events.specs.Frame.{Spoken}
 use Rattle.trace_events.specs.Event.{Event, is_out}
 use Rattle.trace_events.specs.Said.{as_open, out_open}
 use Rattle.trace_duties.specs.Diligent.{group, up_to_input, last_answer, begin_with, is_answered, is_of_answer, is_on_connection_of, writes, is_picked, is_due_frame, is_called_for, moment_keeps}
-use Rattle.route_dues.specs.Writing.{frame_of, writing}
+use Rattle.route_answers.specs.Writing.{frame_of}
+use Rattle.route_dues.specs.Writing.{writing}
 
 -- ---- events behind those that begin with an answer
 

@@ -23,7 +23,8 @@ use Rattle.trace_clauses.specs.Written.{spoken_octets}
 use Rattle.trace_clauses.proofs.Lawful.{history-push}
 use Rattle.trace_duties.specs.Diligent.{moment_keeps, all_keep}
 use Rattle.trace_duties.proofs.CopyOrder.{copies_in_order-step}
-use Rattle.route_dues.specs.Writing.{frame_of, writing, IsReadAgain, IsLawful, IsInOrder, MayFollow}
+use Rattle.route_answers.specs.Writing.{frame_of}
+use Rattle.route_dues.specs.Writing.{writing, IsReadAgain, IsLawful, IsInOrder, MayFollow}
 use Rattle.route_dues.proofs.Words.{both}
 use Rattle.route_dues.proofs.Connections.{lawful_judged}
 

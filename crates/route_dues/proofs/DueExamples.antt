@@ -27,7 +27,8 @@ use Rattle.trace_clauses.proofs.Captures.{unmarked}
 use Rattle.trace_clauses.proofs.Made.{from, from_with, carry, gives, first, with_more, hi, pair, sent, multicast, two_sent_by}
 use Rattle.trace_duties.specs.Diligent.{moment_keeps}
 use Rattle.trace_duties.specs.Order.{is_earliest}
-use Rattle.route_dues.specs.Writing.{frame_of, writing}
+use Rattle.route_answers.specs.Writing.{frame_of}
+use Rattle.route_dues.specs.Writing.{writing}
 use Rattle.route_dues.specs.Transfers.{first_frame, next_frame}
 
 -- ---- what is asked, of the link that opened in a record

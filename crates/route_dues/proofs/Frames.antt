@@ -33,7 +33,8 @@ use Rattle.trace_clauses.specs.TransferClause.{has_window}
 use Rattle.trace_clauses.specs.Outcome.{may_be_told}
 use Rattle.trace_clauses.proofs.WaitingQueue.{find_has, in_reverse}
 use Rattle.route_dues.specs.Work.{sendable, lacking, drainable, grantable, untold, unsettled, work_left}
-use Rattle.route_dues.specs.Writing.{spoken_with, frame_of, writing}
+use Rattle.route_answers.specs.Writing.{frame_of}
+use Rattle.route_dues.specs.Writing.{spoken_with, writing}
 use Rattle.route_dues.proofs.OwnCounts.{IsOurCredit}
 use Rattle.route_dues.proofs.OwnEvents.{IsOwn, on-known, sendable-most, sendable-less, lacking-most, drainable-most, grantable-most, untold-most, untold-less, unsettled-most, unsettled-kept, unsettled-less}
 use Rattle.route_dues.proofs.Sums.{no_more}

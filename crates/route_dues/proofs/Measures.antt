@@ -20,7 +20,8 @@ use Rattle.trace_clauses.specs.Written.{spoken_octets}
 use Rattle.trace_clauses.proofs.ClausesMet.{met}
 use Rattle.trace_clauses.proofs.Lawful.{history-push}
 use Rattle.trace_duties.specs.Diligent.{is_called_for, is_due_frame, is_of_answer, is_picked}
-use Rattle.route_dues.specs.Writing.{spoken_with, frame_of, writing, IsReadAgain, MayFollow}
+use Rattle.route_answers.specs.Writing.{frame_of}
+use Rattle.route_dues.specs.Writing.{spoken_with, writing, IsReadAgain, MayFollow}
 use Rattle.route_dues.proofs.Connections.{lawful_judged}
 use Rattle.route_dues.specs.Steps.{IsUnderWay}
 use Rattle.route_dues.proofs.Answered.{not_of_answer}

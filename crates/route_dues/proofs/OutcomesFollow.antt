@@ -35,7 +35,8 @@ use Rattle.trace_clauses.proofs.OneConsumer.{not-true}
 use Rattle.trace_clauses.proofs.Parts.{delivery_kept}
 use Rattle.trace_clauses.proofs.PartsGoOn.{complete-whole}
 use Rattle.trace_duties.specs.Diligent.{is_of_answer}
-use Rattle.route_dues.specs.Writing.{frame_of, writing, IsLawful, MayFollow}
+use Rattle.route_answers.specs.Writing.{frame_of}
+use Rattle.route_dues.specs.Writing.{writing, IsLawful, MayFollow}
 use Rattle.route_dues.specs.Outcomes.{octets_in, outcome_frame}
 use Rattle.route_dues.proofs.Words.{or_right, both}
 use Rattle.route_dues.proofs.Words.{none_broken}

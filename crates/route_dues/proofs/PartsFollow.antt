@@ -21,7 +21,8 @@ use Rattle.trace_clauses.specs.declared.clause.Clause.TheVariants.{L1, L2, L3, L
 use Rattle.trace_clauses.specs.Clauses.{transfer_meets, spoken_meets, broken_clause, clauses}
 use Rattle.trace_clauses.specs.Written.{spoken_octets, written_transfer, first_part, next_part}
 use Rattle.trace_duties.specs.Diligent.{is_picked, is_due_frame, is_of_answer, is_filled_transfer, filled, transfer_fields, rest, moment_keeps}
-use Rattle.route_dues.specs.Writing.{frame_of, writing, IsLawful, MayFollow}
+use Rattle.route_answers.specs.Writing.{frame_of}
+use Rattle.route_dues.specs.Writing.{writing, IsLawful, MayFollow}
 use Rattle.route_dues.specs.Transfers.{room_on, first_frame, next_frame}
 use Rattle.route_dues.proofs.Words.{or_right, both, none_broken}
 use Rattle.route_dues.proofs.Connections.{may_write}

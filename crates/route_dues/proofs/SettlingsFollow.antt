@@ -26,7 +26,8 @@ use Rattle.trace_clauses.proofs.BegunDeliveries.{IsBegun, judged-begun}
 use Rattle.trace_clauses.proofs.LinkEnds.{lives-live}
 use Rattle.trace_clauses.proofs.WaitingQueue.{all_contained, reverse_has, contains_none, contains_cases}
 use Rattle.trace_duties.specs.Diligent.{is_of_answer}
-use Rattle.route_dues.specs.Writing.{frame_of, writing, IsLawful, MayFollow}
+use Rattle.route_answers.specs.Writing.{frame_of}
+use Rattle.route_dues.specs.Writing.{writing, IsLawful, MayFollow}
 use Rattle.route_dues.proofs.Words.{or_right, both, same_octets, none_broken}
 use Rattle.route_dues.proofs.Connections.{lawful_judged, may_write}
 use Rattle.route_dues.proofs.Lengths.{settling_short, short_fits}

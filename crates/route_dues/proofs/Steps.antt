@@ -22,10 +22,10 @@ use Rattle.trace_duties.specs.Order.{CopiesInOrder, is_earliest}
 use Rattle.trace_duties.specs.Turn.{stands_in_turn, are_in_turn, is_ordered}
 use Rattle.trace_duties.proofs.CopyOrder.{copies_in_order-step, copies_in_order-none, earliest-none}
 use Rattle.route_answers.specs.Answering.{IsReady, AreOpensAnswered, IsAnswerInOrder, AreInOrder, may_happen}
-use Rattle.route_answers.specs.Writing.{behind}
+use Rattle.route_answers.specs.Writing.{frame_of, behind}
 use Rattle.route_answers.proofs.Inputs.{answers_in_order}
 use Rattle.route_answers.proofs.Kept.{none_answered, opens_stay}
-use Rattle.route_dues.specs.Writing.{writing, frame_of, IsReadAgain, IsLawful, IsInOrder, MayFollow}
+use Rattle.route_dues.specs.Writing.{writing, IsReadAgain, IsLawful, IsInOrder, MayFollow}
 use Rattle.route_dues.proofs.Behind.{stays_in_order}
 use Rattle.route_dues.proofs.Connections.{lawful_judged}
 use Rattle.route_dues.proofs.Lengths.{within}

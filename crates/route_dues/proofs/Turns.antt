@@ -28,7 +28,8 @@ use Rattle.trace_duties.specs.Diligent.{is_of_answer}
 use Rattle.trace_duties.specs.Turn.{is_all_told, is_all_sent, is_all_drained, is_first_to_begin, begins_in_turn, link_flow_in_turn, is_all_credited, stands_in_turn}
 use Rattle.route_dues.specs.Outcomes.{outcome_frame}
 use Rattle.route_dues.specs.Transfers.{room_on, first_frame, next_frame}
-use Rattle.route_dues.specs.Writing.{frame_of, writing, IsLawful}
+use Rattle.route_answers.specs.Writing.{frame_of}
+use Rattle.route_dues.specs.Writing.{writing, IsLawful}
 use Rattle.route_dues.proofs.Words.{or_left, or_right, both}
 use Rattle.route_dues.proofs.Connections.{lawful_judged}
 use Rattle.route_dues.proofs.FlowsFollow.{no_consumer}

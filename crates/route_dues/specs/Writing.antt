@@ -4,21 +4,18 @@ use Rattle.amqp_perf.specs.Meaning.{Meaning}
 use Rattle.pairing_cert.specs.declared.note.Note.{Note}
 use Rattle.capture_form.specs.declared.records.Record.{Record}
 use Rattle.capture_form.specs.Rules.{RuleSet}
-use Rattle.trace_events.specs.Frame.{Frame, Says, Spoken, frame_read}
+use Rattle.trace_events.specs.Frame.{Spoken, frame_read}
 use Rattle.trace_events.specs.Event.{Event, Out}
 use Rattle.trace_events.specs.History.{judge_moment, history}
 use Rattle.trace_clauses.specs.Clauses.{first_broken, broken_clause}
 use Rattle.trace_clauses.specs.Written.{spoken_octets}
 use Rattle.trace_duties.specs.Diligent.{moment_keeps, all_keep}
 use Rattle.trace_duties.specs.Order.{CopiesInOrder, is_earliest}
+use Rattle.route_answers.specs.Writing.{frame_of}
 
 -- a performative on a channel, with what stands behind it
 abbrev pub spoken_with : ℕ → Meaning → List ℕ → Spoken
 spoken_with channel meaning payload = record { channel = channel; meaning = meaning; payload = payload }
-
--- a frame in the octets in which it is written
-abbrev pub frame_of : Spoken → Frame
-frame_of spoken = record { octets = spoken_octets spoken; body = Says spoken }
 
 -- it is written on this connection, with this note
 abbrev pub writing : RuleSet → List Event → ℕ → Note → Spoken → Event

@@ -16,7 +16,8 @@ ghost use Rattle.trace_duties.specs.Diligent.{is_diligent};
 ghost use Rattle.trace_duties.specs.Quiet.{is_quiet};
 ghost use Rattle.trace_duties.specs.Turn.{stands_in_turn, is_ordered};
 ghost use Rattle.route_answers.specs.Answering.{may_happen};
-ghost use Rattle.route_dues.specs.Writing.{frame_of, writing, IsReadAgain, MayFollow};
+ghost use Rattle.route_answers.specs.Writing.{frame_of};
+ghost use Rattle.route_dues.specs.Writing.{writing, IsReadAgain, MayFollow};
 ghost use Rattle.route_dues.specs.Steps.{IsAnswering, IsAtRest, IsUnderWay};
 
 /// The law of a step. The function does nothing: its contract is the law.

@@ -22,7 +22,8 @@ use Rattle.route_dues.specs.Outcomes.{HasState, octets_in, outcome_frame}
 use Rattle.route_dues.specs.Transfers.{first_frame, next_frame}
 use Rattle.trace_duties.specs.Quiet.{none_is_untold, none_stands_still}
 use Rattle.trace_duties.specs.Turn.{is_all_told, is_all_sent, is_all_drained, is_all_credited, is_first_to_begin, stands_in_turn}
-use Rattle.route_dues.specs.Writing.{frame_of, writing, IsReadAgain, IsInOrder, MayFollow}
+use Rattle.route_answers.specs.Writing.{frame_of}
+use Rattle.route_dues.specs.Writing.{writing, IsReadAgain, IsInOrder, MayFollow}
 use Rattle.route_dues.proofs.FlowsFollow.{window_follows, credit_follows, drain_follows}
 use Rattle.route_dues.proofs.OutcomesFollow.{outcome_follows}
 use Rattle.route_dues.proofs.SettlingsFollow.{settling_follows}

@@ -14,7 +14,8 @@ use Rattle.trace_duties.specs.Quiet.{none_is_untold, none_stands_still}
 use Rattle.trace_duties.specs.Turn.{is_all_told, is_all_sent, is_all_drained, is_all_credited, is_first_to_begin, stands_in_turn}
 use Rattle.trace_judge.specs.Told.{told_view}
 use Rattle.trace_values.specs.View.{link_view, incoming_view, outgoing_view}
-use Rattle.route_dues.specs.Writing.{frame_of, writing, IsReadAgain, IsInOrder, MayFollow}
+use Rattle.route_answers.specs.Writing.{frame_of}
+use Rattle.route_dues.specs.Writing.{writing, IsReadAgain, IsInOrder, MayFollow}
 use Rattle.due_outcomes.specs.DueOutcomes.{IsDueOutcome}
 use Rattle.due_outcomes.specs.Settlings.{IsDueSettling}
 use Rattle.due_flows.specs.Parts.{IsDuePart}
