@@ -2,7 +2,8 @@
 
 ghost use Rattle.std.specs.Prelude.{◌≡◌, ◌↔◌, IsTrue, true};
 ghost use Rattle.capture_form.specs.Text.{frame_of};
-ghost use Rattle.route_items.specs.WrittenFrames.{writes_on, is_written};
+ghost use Rattle.route_items.specs.Inputs.{is_output};
+ghost use Rattle.route_items.specs.WrittenFrames.{writes_on};
 ghost use Rattle.core_exchange.specs.Seats.{Agrees, SeatAgrees, SeatsAgree, Begins, inputs_on, outs_on, is_input_on, owned_below, is_owned_below};
 
 use crate::seat::Seat;
@@ -106,7 +107,7 @@ fn is_out_on(entry: &Record, conn: u32) -> bool
 
 /// Whether these are the octets of what was written.
 fn is_frame_of(what: &What, given: &Frame) -> bool
-    requires { is_written what.now ≡ true }
+    requires { is_output what.now ≡ true }
     ensures { IsTrue result ↔ (frame_of what.now ≡ given.now) }
 {
     match what {

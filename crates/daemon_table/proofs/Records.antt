@@ -6,7 +6,7 @@ use Rattle.std.proofs.lemmas.List.Elements.{filter-append, All-filter, All-head,
 use Rattle.capture_form.specs.declared.records.Record.{Record}
 use Rattle.capture_form.specs.Text.{frame_of}
 use Rattle.route_items.specs.Inputs.{inputs, is_output}
-use Rattle.route_items.specs.WrittenFrames.{is_written, writes_on}
+use Rattle.route_items.specs.WrittenFrames.{writes_on}
 use Rattle.daemon_core.specs.Recordings.{Recording}
 use Rattle.daemon_desk.specs.Desks.{IsEntry, told_by}
 use Rattle.daemon_rounds.specs.Stepping.{HasStepped, IsInput}
@@ -44,7 +44,7 @@ none-of c (r ∷ rs) all =
 none-written : (c : ℕ) (records : List Record) → All (λ r. r.connection ≡ c → ⊥) records → filter (writes_on c) records ≡ []
 none-written c [] all = refl
 none-written c (r ∷ rs) all =
-    ap (λ b. if b then r ∷ filter (writes_on c) rs else filter (writes_on c) rs) (never (is_written r.what) (differ r.connection c (All-head (λ (x : Record). x.connection ≡ c → ⊥) r rs all)))
+    ap (λ b. if b then r ∷ filter (writes_on c) rs else filter (writes_on c) rs) (never (is_output r.what) (differ r.connection c (All-head (λ (x : Record). x.connection ≡ c → ⊥) r rs all)))
     ∙ none-written c rs (All-tail (λ (x : Record). x.connection ≡ c → ⊥) r rs all)
   where
     never : (b : Bool) {t : Bool} → t ≡ false → (b && t) ≡ false
@@ -84,11 +84,11 @@ inputs-are n inbox all = λ k d lt. let entry = all k d lt in record { input = e
 -- ---- frames
 
 -- a record that writes one
-pub frames-written : (n : ℕ) (laid : List Record) (r : Record) → is_written r.what ≡ true → r.connection ≡ n → frames_to n (laid ++ r ∷ []) ≡ frames_to n laid ++ frame_of r.what ∷ []
+pub frames-written : (n : ℕ) (laid : List Record) (r : Record) → is_output r.what ≡ true → r.connection ≡ n → frames_to n (laid ++ r ∷ []) ≡ frames_to n laid ++ frame_of r.what ∷ []
 frames-written n laid r written own =
     ap (map (λ (x : Record). frame_of x.what)) (filter-append (writes_on n) laid (r ∷ []))
     ∙ (map-append (λ (x : Record). frame_of x.what) (filter (writes_on n) laid) (filter (writes_on n) (r ∷ []))
-    ∙ ap (λ b. frames_to n laid ++ map (λ (x : Record). frame_of x.what) (if b then r ∷ [] else [])) (both (is_written r.what) (r.connection == n) written (same r.connection n own)))
+    ∙ ap (λ b. frames_to n laid ++ map (λ (x : Record). frame_of x.what) (if b then r ∷ [] else [])) (both (is_output r.what) (r.connection == n) written (same r.connection n own)))
   where
     both : (a b : Bool) → a ≡ true → b ≡ true → (a && b) ≡ true
     both true b one is = is

@@ -8,8 +8,8 @@ use Rattle.capture_form.specs.declared.records.Record.{Record}
 use Rattle.capture_form.specs.declared.records.What.{What}
 use Rattle.capture_form.specs.declared.records.What.TheVariants as happened
 use Rattle.capture_form.specs.Text.{frame_of}
-use Rattle.route_items.specs.Inputs.{inputs}
-use Rattle.route_items.specs.WrittenFrames.{is_written, writes_on}
+use Rattle.route_items.specs.Inputs.{inputs, is_output}
+use Rattle.route_items.specs.WrittenFrames.{writes_on}
 use Rattle.conn_serving.specs.declared.serving.Status.TheVariants.{Ended}
 use Rattle.daemon_core.specs.Recordings.{Recording}
 use Rattle.daemon_desk.specs.Desks.{IsEntry, told_by}
@@ -23,7 +23,7 @@ equal : (c n : ℕ) → (c == n) ≡ true → c ≡ n
 equal c n is = grind (arith, nat_tests)
 
 -- a record that writes no frame
-pub not-written : (what : What) → ((frame : List ℕ) → what ≡ happened.Out frame → ⊥) → is_written what ≡ false
+pub not-written : (what : What) → ((frame : List ℕ) → what ≡ happened.Out frame → ⊥) → is_output what ≡ false
 not-written (happened.Out frame) never = absurd (never frame refl)
 not-written happened.Opened never = refl
 not-written (happened.In frame) never = refl
@@ -31,7 +31,7 @@ not-written happened.Broken never = refl
 not-written happened.Lost never = refl
 
 -- writes none to any connection
-pub writes-none : (n : ℕ) (r : Record) → is_written r.what ≡ false → writes_on n r ≡ false
+pub writes-none : (n : ℕ) (r : Record) → is_output r.what ≡ false → writes_on n r ≡ false
 writes-none n r none = ap (λ b. b && (r.connection == n)) none
 
 itself : (n : ℕ) → (n == n) ≡ true
@@ -317,7 +317,7 @@ module _ {G : Type 0} (Delivered Took : G → List ℕ → Type 0) (ended : G �
   -- a frame was laid out for the line
   pub serves-laid : (records rest : List Record) (waiting : List ℕ) (r : Record) (table later : Table G) (number : ℕ) (old line : Line G) (frame : List ℕ) → Held records (r ∷ rest) waiting table
       → get nat_eq table.lines number ≡ Some old → MovesTo number line table later → later.over.items ≡ table.over.items → table.next ≤ later.next → r.connection < later.next
-      → r.connection ≡ number → is_written r.what ≡ true → frame_of r.what ≡ frame → line.number ≡ old.number
+      → r.connection ≡ number → is_output r.what ≡ true → frame_of r.what ≡ frame → line.number ≡ old.number
       → ((taken : List What) (written : List (List ℕ)) → IsLine Delivered Took ended taken written old → IsLine Delivered Took ended taken (written ++ frame ∷ []) line)
       → line.inbox.items ≡ old.inbox.items → Held records rest waiting later
   serves-laid records rest waiting r table later number old line frame s was moved same next less own_connection written frame_is own_number own inbox =
@@ -334,7 +334,7 @@ module _ {G : Type 0} (Delivered Took : G → List ℕ → Type 0) (ended : G �
       (taken-moved waiting table later number old line s.taken was moved inbox)
     where
       elsewhere : (n : ℕ) → (r.connection ≡ n → ⊥) → writes_on n r ≡ false
-      elsewhere n apart = by (is_written r.what) (r.connection == n) refl
+      elsewhere n apart = by (is_output r.what) (r.connection == n) refl
         where
           by : (a b : Bool) → (r.connection == n) ≡ b → (a && b) ≡ false
           by true true is = absurd (apart (equal r.connection n is))
@@ -533,7 +533,7 @@ module _ {G : Type 0} (Delivered Took : G → List ℕ → Type 0) (ended : G �
 
   -- where a connection has no line, nothing is written to one that has
   pub none-to : (r : Record) (table : Table G) → get nat_eq table.lines r.connection ≡ None → (n : ℕ) (x : Line G) → get nat_eq table.lines n ≡ Some x → writes_on n r ≡ false
-  none-to r table none n x at = by (is_written r.what) (r.connection == n) refl
+  none-to r table none n x at = by (is_output r.what) (r.connection == n) refl
     where
       by : (a b : Bool) → (r.connection == n) ≡ b → (a && b) ≡ false
       by true true is = let never : ◌≡◌ {A = Option (Line G)} None (Some x) = sym none ∙ (ap (get nat_eq table.lines) (equal r.connection n is) ∙ at) in cc

@@ -1,5 +1,5 @@
 -- The frames that were written on a connection, by the numbers of their records (own rules).
-use Rattle.std.specs.Prelude.{◌≡◌, ℕ, ◌+◌, Bool, true, false, ◌&&◌, List, [], ◌∷◌, ◌++◌, Option, Some, None, nat_le, nat_eq, option_and_then, slice_get, if◌then◌else◌, ◌==◌}
+use Rattle.std.specs.Prelude.{◌≡◌, ℕ, ◌+◌, Bool, ◌&&◌, List, [], ◌∷◌, ◌++◌, Option, Some, None, nat_le, nat_eq, option_and_then, slice_get, if◌then◌else◌, ◌==◌}
 use Rattle.std.specs.declared.vec.Vec.{Vec}
 use Rattle.indexmap.specs.IndexMap.{get}
 use Rattle.capture_form.specs.declared.records.Record.{Record}
@@ -7,16 +7,13 @@ use Rattle.capture_form.specs.declared.records.What.{What}
 use Rattle.capture_form.specs.declared.records.What.TheVariants as whats
 use Rattle.capture_form.specs.Text.{frame_of}
 use Rattle.route_items.specs.declared.written_frames.WrittenFrames.{WrittenFrames}
+use Rattle.route_items.specs.Inputs.{is_output}
 
 -- ---- what is asked
 
-abbrev pub is_written : What → Bool
-is_written (whats.Out frame) = true
-is_written other = false
-
 -- the record writes a frame on the connection
 abbrev pub writes_on : ℕ → Record → Bool
-writes_on c r = is_written r.what && (r.connection == c)
+writes_on c r = is_output r.what && (r.connection == c)
 
 -- of records that are counted from n, the first that writes a frame on the connection and has a number of at least `from`
 abbrev pub first_out : ℕ → ℕ → ℕ → List Record → Option (ℕ × List ℕ)

@@ -4,7 +4,7 @@ use Rattle.std.proofs.Math.Nat.{le-max_left, le-max_right}
 use Rattle.capture_form.specs.declared.records.Record.{Record}
 use Rattle.capture_form.specs.declared.records.What.{What}
 use Rattle.capture_form.specs.Text.{frame_of}
-use Rattle.route_items.specs.WrittenFrames.{is_written}
+use Rattle.route_items.specs.Inputs.{is_output}
 use Rattle.daemon_table.proofs.Tables.{none-to, not-written, serves-laid, serves-passed, writes-none}
 use Rattle.daemon_table.proofs.table.Table.lay.Goals as goal
 
@@ -49,7 +49,7 @@ returns-in_ok-push g c = record {
       let moved : (n : ℕ) → get nat_eq lines n ≡ (if r.connection == n then Some line else get nat_eq table.lines n) = search rules in
       serves-laid g.G.Gate.delivered g.G.Gate.took g.G.Gate.has_ended records rest waiting r table (record { alloc = table.alloc; lines = lines; signed = c.push.new.self; waiting = c.saturating_add-self.result; next = c.max-self.result; over = table.over }) r.connection old line
       c.in-Out.frame s was moved refl (next-from table.next r.connection c.max-self.result c.max-self.ensures) (above table.next r.connection c.max-self.result c.max-self.ensures) refl
-      (ap (λ (w : What). is_written w) c.in-Out.is) (ap (λ (w : What). frame_of w) c.in-Out.is) (c.sign.ensures.number ∙ c.in_ok-lay.ensures.number)
+      (ap (λ (w : What). is_output w) c.in-Out.is) (ap (λ (w : What). frame_of w) c.in-Out.is) (c.sign.ensures.number ∙ c.in_ok-lay.ensures.number)
       (λ taken written h. c.sign.ensures.line taken _ (c.in_ok-lay.ensures.line taken written h)) (◌∙◌ {A = List Record} c.sign.ensures.inbox c.in_ok-lay.ensures.inbox);
 }
 
@@ -65,6 +65,6 @@ returns-else-sign g c = record {
       let moved : (n : ℕ) → get nat_eq lines n ≡ (if r.connection == n then Some line else get nat_eq table.lines n) = search rules in
       serves-laid g.G.Gate.delivered g.G.Gate.took g.G.Gate.has_ended records rest waiting r table (record { alloc = table.alloc; lines = lines; signed = table.signed; waiting = c.saturating_add-self.result; next = c.max-self.result; over = table.over }) r.connection old line
       c.in-Out.frame s was moved refl (next-from table.next r.connection c.max-self.result c.max-self.ensures) (above table.next r.connection c.max-self.result c.max-self.ensures) refl
-      (ap (λ (w : What). is_written w) c.in-Out.is) (ap (λ (w : What). frame_of w) c.in-Out.is) (c.sign.ensures.number ∙ c.in_ok-lay.ensures.number)
+      (ap (λ (w : What). is_output w) c.in-Out.is) (ap (λ (w : What). frame_of w) c.in-Out.is) (c.sign.ensures.number ∙ c.in_ok-lay.ensures.number)
       (λ taken written h. c.sign.ensures.line taken _ (c.in_ok-lay.ensures.line taken written h)) (◌∙◌ {A = List Record} c.sign.ensures.inbox c.in_ok-lay.ensures.inbox);
 }
