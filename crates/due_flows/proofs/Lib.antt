@@ -4,7 +4,6 @@ pub mod LackingWindows
 pub mod StandingParts
 pub mod DrainingLinks
 pub mod ToppedLinks
-pub mod GroupMembers
 pub mod WindowsFollowed
 pub mod PartsFollowed
 pub mod PartsDue

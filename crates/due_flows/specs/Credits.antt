@@ -17,7 +17,7 @@ use Rattle.state_addresses.specs.ConsumerLinks.{has_number}
 use Rattle.state_answers.specs.declared.lent_tables.LentTables.{LentTables}
 use Rattle.state_answers.specs.Tables.{TellsOf}
 use Rattle.due_flows.specs.Candidates.{value_of}
-use Rattle.due_flows.specs.Numbers.{has}
+use Rattle.number_groups.specs.Ascending.{has}
 use Rattle.due_flows.specs.Topping.{IsProducing, settles}
 use Rattle.due_flows.specs.declared.credits.Credits.{Credits}
 use Rattle.due_flows.specs.declared.credits.LinkKey.{LinkKey}

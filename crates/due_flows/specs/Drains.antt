@@ -4,7 +4,7 @@ use Rattle.number_groups.specs.OctetGroups.{is_member}
 use Rattle.capture_form.specs.Rules.{RuleSet}
 use Rattle.trace_events.specs.Event.{Event, Link}
 use Rattle.trace_clauses.specs.FlowClause.{may_be_drained}
-use Rattle.due_flows.specs.Numbers.{has}
+use Rattle.number_groups.specs.Ascending.{has}
 use Rattle.due_flows.specs.Draining.{IsDraining}
 use Rattle.due_flows.specs.declared.drains.Drains.{Drains}
 

@@ -1,5 +1,4 @@
 pub mod Candidates
-pub mod Numbers
 pub mod Lacking
 pub mod Standing
 pub mod Draining

@@ -8,7 +8,7 @@ use Rattle.trace_events.specs.Outgoing as outgoing
 use Rattle.trace_events.specs.Outgoing.{in_progress, noted}
 use Rattle.trace_duties.specs.Quiet.{stands_still}
 use Rattle.trace_values.specs.View.{link_view}
-use Rattle.due_flows.specs.Numbers.{has}
+use Rattle.number_groups.specs.Ascending.{has}
 use Rattle.due_flows.specs.Standing.{IsGoing, has_window}
 use Rattle.due_flows.specs.declared.parts.DuePart.{DuePart}
 use Rattle.due_flows.specs.declared.parts.DeliveriesInProgress.{DeliveriesInProgress}

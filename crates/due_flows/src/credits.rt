@@ -24,11 +24,10 @@ ghost use Rattle.due_flows.specs.Credits.{HasCredits, AreEndedIn, AreFreedIn, Ar
 ghost use Rattle.trace_values.specs.View.{Events, event_view, link_view};
 
 use crate::candidates::Candidates;
-use crate::numbers::Numbers;
 use amqp_perf::Role;
 use capture_form::RuleSet;
-use event_effects::EventEffects;
-use number_groups::{Groups, OctetGroups};
+use event_effects::{EventEffects, add, add_group, add_octet_group};
+use number_groups::{Ascending, Groups, OctetGroups};
 use pairing_cert::Note;
 use state_answers::LentTables;
 use std::alloc::{AllocError, Global};
@@ -52,7 +51,7 @@ pub struct Credits {
     of_session: Groups<u64>,
     of_address: OctetGroups,
     /// Those that may be given more credit.
-    links: Numbers,
+    links: Ascending,
 }
 
 impl Credits {
@@ -64,7 +63,7 @@ impl Credits {
             places: Candidates::new(alloc),
             of_session: Groups::new(alloc),
             of_address: OctetGroups::new(alloc),
-            links: Numbers::new(alloc),
+            links: Ascending::new(alloc),
         }
     }
 
@@ -119,9 +118,9 @@ impl Credits {
     fn touch(&mut self, event: &Event, before: &LentTables<'_>) -> Result<(), AllocError>
         ensures { OnOk result (AreTouchedIn (event_view event.now) before.now self.old self.new) }
     {
-        self.links.add(producer_named(event))?;
-        self.links.add(producer_of(event.told, before))?;
-        self.links.add(producer_of(carried(event), before))?;
+        add(&mut self.links, producer_named(event))?;
+        add(&mut self.links, producer_of(event.told, before))?;
+        add(&mut self.links, producer_of(carried(event), before))?;
         Ok(())
     }
 
@@ -131,10 +130,10 @@ impl Credits {
         ensures { OnOk result (AreWokenIn (event_view event.now) before.now self.old self.new) }
     {
         if let Some(session) = settled_session(event) {
-            self.links.insert_group(&self.of_session, session)?;
+            add_group(&mut self.links, &self.of_session, session)?;
         }
         if let Some(address) = served(event, before) {
-            self.links.insert_octet_group(&self.of_address, address)?;
+            add_octet_group(&mut self.links, &self.of_address, address)?;
         }
         Ok(())
     }
@@ -145,7 +144,7 @@ impl Credits {
         ensures { OnOk result (AreFreedIn (views ended.now) before.now self.old self.new) }
     {
         if has_waited(ended, before) {
-            self.links.insert_octet_group(&self.of_address, &[])?;
+            add_octet_group(&mut self.links, &self.of_address, &[])?;
         }
         Ok(())
     }

@@ -17,11 +17,10 @@ ghost use Rattle.due_flows.specs.Drains.{HasDrains, stands, waits};
 ghost use Rattle.trace_events.specs.Link.{IsLiveLink};
 ghost use Rattle.trace_values.specs.View.{Events, event_view, link_view};
 
-use crate::numbers::Numbers;
 use amqp_perf::Performative;
 use capture_form::RuleSet;
-use event_effects::EventEffects;
-use number_groups::OctetGroups;
+use event_effects::{EventEffects, add_octet_group};
+use number_groups::{Ascending, OctetGroups};
 use state_answers::LentTables;
 use std::alloc::{AllocError, Global};
 use trace_judge::Counts;
@@ -33,7 +32,7 @@ pub struct Drains {
     /// All that do, by their addresses.
     of_address: OctetGroups,
     /// Those whose drain may be answered.
-    links: Numbers,
+    links: Ascending,
 }
 
 impl Drains {
@@ -43,7 +42,7 @@ impl Drains {
     {
         Drains {
             of_address: OctetGroups::new(alloc),
-            links: Numbers::new(alloc),
+            links: Ascending::new(alloc),
         }
     }
 
@@ -99,8 +98,7 @@ impl Drains {
         if event.out_transfer().is_some()
             && let Some(link) = event.link
         {
-            self.links
-                .insert_octet_group(&self.of_address, link.address)?;
+            add_octet_group(&mut self.links, &self.of_address, link.address)?;
         }
         Ok(())
     }

@@ -10,7 +10,7 @@
 //! - `parts`: the deliveries to consumers that may go on;
 //! - `credits`: the links of producers that may be given more credit;
 //! - `drains`: the links of consumers whose drain may be answered;
-//! - `candidates`, `numbers`: what may be to do, in the order of its numbers.
+//! - `candidates`: what may be to do, in the order of its numbers.
 //!
 //! In `specs/`, each list has a file of its name, which says what it has; `Lacking`, `Standing`, `Topping` and `Draining` are
 //! what they list, in the law's words.
@@ -20,7 +20,6 @@ mod begin;
 mod candidates;
 mod credits;
 mod drains;
-mod numbers;
 mod parts;
 mod windows;
 

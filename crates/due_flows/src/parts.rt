@@ -19,10 +19,9 @@ ghost use Rattle.due_flows.specs.Standing.{IsStill, goes_on, grants_window};
 ghost use Rattle.due_flows.specs.Parts.{HasParts, IsDuePart, stands, waits};
 ghost use Rattle.trace_values.specs.View.{Events, event_view};
 
-use crate::numbers::Numbers;
-use event_effects::EventEffects;
+use event_effects::{EventEffects, add_group};
 use flow_counts::WindowEvent;
-use number_groups::Groups;
+use number_groups::{Ascending, Groups};
 use pairing_cert::Note;
 use state_answers::LentTables;
 use std::alloc::{AllocError, Global};
@@ -43,7 +42,7 @@ pub struct DeliveriesInProgress {
     /// All links with one, by their sessions.
     of_session: Groups<u64>,
     /// Those on which it may go on.
-    links: Numbers,
+    links: Ascending,
 }
 
 impl DeliveriesInProgress {
@@ -53,7 +52,7 @@ impl DeliveriesInProgress {
     {
         DeliveriesInProgress {
             of_session: Groups::new(alloc),
-            links: Numbers::new(alloc),
+            links: Ascending::new(alloc),
         }
     }
 
@@ -112,7 +111,7 @@ impl DeliveriesInProgress {
             (n : ℕ) → stands self.old s.number n ≡ true → waits self.new n ≡ true) }
     {
         if let Some(session) = granted_session(event) {
-            self.links.insert_group(&self.of_session, session)?;
+            add_group(&mut self.links, &self.of_session, session)?;
         }
         Ok(())
     }

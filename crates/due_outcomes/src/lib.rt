@@ -3,13 +3,11 @@
 //! of each, the lowest first: this is the code's doing, shown by worked captures; neither law nor duties ask for it, so no
 //! clause says it.
 //!
-//! - `candidates`: what becomes a candidate, for both lists;
 //! - `parked`: deliveries to clients that are not to be settled yet, by what they carry;
 //! - `unsettled`: the deliveries to settle with their consumers;
 //! - `untold`: the outcomes to tell, each with its row (`outcome`) and the state that it tells (`state`).
 #![tactic(auto)]
 
-mod candidates;
 mod outcome;
 mod parked;
 mod state;

@@ -6,7 +6,7 @@ ghost use Rattle.number_groups.specs.Groups.{is_member};
 ghost use Rattle.due_outcomes.specs.Parked.{IsLeft, is_parked};
 ghost use Rattle.due_outcomes.specs.Candidates.{Grows};
 
-use crate::candidates::add_group;
+use event_effects::add_group;
 use number_groups::{Ascending, Groups};
 use std::alloc::{AllocError, Global};
 

@@ -27,10 +27,9 @@ ghost use Rattle.due_outcomes.specs.Parked.{IsLeft, is_parked};
 ghost use Rattle.due_outcomes.specs.Settlings.{IsDueSettling, due_in, waits_in};
 ghost use Rattle.due_outcomes.specs.Unsettled.{HasUnsettled, IsParked};
 
-use crate::candidates::add_all;
 use crate::parked::Parked;
 use amqp_perf::{Disposition, Role};
-use event_effects::EventEffects;
+use event_effects::{EventEffects, add_all};
 use number_groups::{Ascending, NumberTest};
 use pairing_cert::Note;
 use state_answers::LentTables;

@@ -26,10 +26,9 @@ ghost use Rattle.event_effects.specs.Effects.{AreEffects};
 ghost use Rattle.due_outcomes.specs.DueOutcomes.{IsDueOutcome};
 ghost use Rattle.due_outcomes.specs.Untold.{HasUntold, IsOn, KeepsOn};
 
-use crate::candidates::{add, add_of_links};
 use crate::outcome::{DueOutcome, outcome_of};
 use capture_form::RuleSet;
-use event_effects::EventEffects;
+use event_effects::{EventEffects, add, add_octet_group, add_of_links};
 use number_groups::{Ascending, Groups, OctetGroups};
 use pairing_cert::Note;
 use state_answers::LentTables;
@@ -47,27 +46,13 @@ pub struct Untold {
     carried: Groups<u64>,
 }
 
-/// All numbers of the group of an address become candidates.
-fn add_group(
-    candidates: &mut Ascending,
-    groups: &OctetGroups,
-    address: &[u8],
-) -> Result<(), AllocError>
-    ensures { OnOk result ((n : ℕ) → has candidates.new n ≡ (has candidates.old n || octets.is_member groups.now address.now n)) }
-{
-    for index in 0..groups.count(address) {
-        add(candidates, groups.get(address, index))?;
-    }
-    Ok(())
-}
-
 /// What waits at the address of a consumer's link becomes a candidate.
 fn add_left(candidates: &mut Ascending, groups: &OctetGroups, link: &Link) -> Result<(), AllocError>
     ensures { OnOk result ((n : ℕ) → has candidates.new n
         ≡ (has candidates.old n || is_consumer (link_view link.now) && octets.is_member groups.now (link_view link.now).address n)) }
 {
     if link.is_consumer() {
-        add_group(candidates, groups, link.address)?;
+        add_octet_group(candidates, groups, link.address)?;
     }
     Ok(())
 }

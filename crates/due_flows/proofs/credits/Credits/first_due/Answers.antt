@@ -10,7 +10,7 @@ none-due o none some = let never : false ≡ true = ap is_some (sym none) ∙ so
 
 pub loop-number-preserved : goal.loop-number-preserved
 loop-number-preserved c = λ past are credits.
-    have-dropped c.args.rules.now past c.loop-number.self (record c.loop-number.self { links = c.remove.new.self }) c.in-Some.number (λ n. refl) (λ session n. refl) (λ address n. refl) c.remove.ensures.removed
+    have-dropped c.args.rules.now past c.loop-number.self (record c.loop-number.self { links = c.remove.new.self }) c.in-Some.number (λ n. refl) (λ session n. refl) (λ address n. refl) c.remove.ensures.left
     (λ l own there may. none-due None refl (c.in_default-credit_due.ensures.found past are l own (c.get.ensures ∙ (ap (place_in c.loop-number.self) (sym own) ∙ there.place)) may)) (c.loop-number.invariant past are credits)
 
 pub returns-clause-quiet : goal.returns-clause-quiet

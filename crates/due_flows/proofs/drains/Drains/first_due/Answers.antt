@@ -3,7 +3,7 @@ use Rattle.number_groups.specs.OctetGroups.{is_member}
 use Rattle.trace_values.specs.declared.event.Link.{Link}
 use Rattle.state_incoming.proofs.GroupAnswers.{judged-of}
 use Rattle.due_flows.specs.Drains.{stands, waits}
-use Rattle.due_flows.specs.Numbers.{has}
+use Rattle.number_groups.specs.Ascending.{has}
 use Rattle.due_flows.proofs.DrainsFollowed.{have-dropped, none-draining}
 use Rattle.due_flows.proofs.drains.Drains.first_due.Goals as goal
 
@@ -13,7 +13,7 @@ none-due o none some = let never : false ≡ true = ap is_some (sym none) ∙ so
 pub loop-number-preserved : goal.loop-number-preserved
 loop-number-preserved c = λ past are drains.
     let of = is_member c.loop-number.self.of_address in
-    have-dropped c.args.rules.now past of of (has c.loop-number.self.links) (has c.remove.new.self) c.in-Some.number (λ address n. refl) c.remove.ensures.removed
+    have-dropped c.args.rules.now past of of (has c.loop-number.self.links) (has c.remove.new.self) c.in-Some.number (λ address n. refl) c.remove.ensures.left
     (λ l own may. none-due None refl (c.in_default-drain_due.ensures.found past are l own may)) (c.loop-number.invariant past are drains)
 
 pub returns-clause-quiet : goal.returns-clause-quiet

@@ -1,7 +1,7 @@
 use Rattle.std.proofs.Common.{List}
 use Rattle.trace_events.specs.Event.{Event}
 use Rattle.state_answers.specs.Tables.{TellsOf}
-use Rattle.due_flows.specs.Numbers.{count_of}
+use Rattle.number_groups.specs.Ascending.{count_of}
 use Rattle.due_flows.specs.Drains.{HasDrains}
 use Rattle.due_flows.proofs.drains.Drains.first_due.Given as goal
 

@@ -1,7 +1,7 @@
 use Rattle.std.proofs.Common.{◌≡◌, refl, sym, ap, ◌∙◌, Option, None, false, true, is_some}
 use Rattle.state_incoming.proofs.GroupAnswers.{judged-of}
 use Rattle.due_flows.specs.Parts.{stands, waits}
-use Rattle.due_flows.specs.Numbers.{has}
+use Rattle.number_groups.specs.Ascending.{has}
 use Rattle.number_groups.specs.Groups.{is_member}
 use Rattle.std.specs.Prelude.{nat_eq}
 use Rattle.due_flows.specs.declared.parts.DuePart.{DuePart}
@@ -14,7 +14,7 @@ none-due o none some = let never : false ≡ true = ap is_some (sym none) ∙ so
 pub loop-number-preserved : goal.loop-number-preserved
 loop-number-preserved c = λ rules past are parts.
     let of = is_member nat_eq c.loop-number.self.of_session in
-    have-dropped past of of (has c.loop-number.self.links) (has c.remove.new.self) c.in-Some.number (λ session n. refl) c.remove.ensures.removed
+    have-dropped past of of (has c.loop-number.self.links) (has c.remove.new.self) c.in-Some.number (λ session n. refl) c.remove.ensures.left
     (λ l own still. none-due None refl (c.in_default-part_due.ensures.found rules past are l own still)) (c.loop-number.invariant rules past are parts)
 
 pub returns-clause-quiet : goal.returns-clause-quiet

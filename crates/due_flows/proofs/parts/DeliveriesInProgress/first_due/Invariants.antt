@@ -2,7 +2,7 @@ use Rattle.std.proofs.Common.{List}
 use Rattle.capture_form.specs.Rules.{RuleSet}
 use Rattle.trace_events.specs.Event.{Event}
 use Rattle.state_answers.specs.Tables.{TellsOf}
-use Rattle.due_flows.specs.Numbers.{count_of}
+use Rattle.number_groups.specs.Ascending.{count_of}
 use Rattle.due_flows.specs.Parts.{HasParts}
 use Rattle.due_flows.proofs.parts.DeliveriesInProgress.first_due.Given as goal
 

@@ -1,18 +1,18 @@
 use Rattle.std.proofs.Common.{subst, ◌<◌, ◌≤◌}
 use Rattle.number_groups.specs.OctetGroups.{numbers}
-use Rattle.due_flows.specs.Numbers.{has}
-use Rattle.due_flows.proofs.GroupMembers.{none-yet, one-more, all-in}
-use Rattle.due_flows.proofs.numbers.Numbers.insert_octet_group.Goals as goal
+use Rattle.number_groups.specs.Ascending.{has}
+use Rattle.state_tables.proofs.GroupLists.{none-yet, one-more, all-in}
+use Rattle.event_effects.proofs.candidates.add_octet_group.Goals as goal
 
 pub loop-index-init : goal.loop-index-init
-loop-index-init c = λ n. none-yet (numbers c.args.groups.now c.args.key.now) n (has c.args.self.now n)
+loop-index-init c = λ n. none-yet (numbers c.args.groups.now c.args.key.now) n (has c.args.candidates.now n)
 
 pub loop-index-preserved : goal.loop-index-preserved
 loop-index-preserved c = λ n.
-    one-more (numbers c.args.groups.now c.args.key.now) c.loop-index.index n (has c.args.self.now n) _ _
+    one-more (numbers c.args.groups.now c.args.key.now) c.loop-index.index n (has c.args.candidates.now n) _ _
     (subst (λ k. c.loop-index.index < k) c.count-index-end.ensures.count c.loop-index-test.true) (c.loop-index.invariant n) _ c.get.ensures (c.in_ok-add.ensures n)
 
 pub returns : goal.returns
 returns c = λ n.
-    all-in (numbers c.args.groups.now c.args.key.now) c.loop-index.index n (has c.args.self.now n) _
+    all-in (numbers c.args.groups.now c.args.key.now) c.loop-index.index n (has c.args.candidates.now n) _
     (subst (λ k. k ≤ c.loop-index.index) c.count-index-end.ensures.count c.loop-index-test.false) (c.loop-index.invariant n)

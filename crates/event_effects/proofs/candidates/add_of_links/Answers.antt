@@ -3,7 +3,7 @@ use Rattle.number_groups.specs.Ascending.{has}
 use Rattle.number_groups.specs.Groups.{is_member}
 use Rattle.trace_values.specs.View.{link_view}
 use Rattle.state_tables.proofs.GroupLists.{nothing-yet, each-more, each-in}
-use Rattle.due_outcomes.proofs.candidates.add_of_links.Goals as goal
+use Rattle.event_effects.proofs.candidates.add_of_links.Goals as goal
 
 pub loop-link-init : goal.loop-link-init
 loop-link-init c = λ n. nothing-yet (λ link. is_member nat_eq c.args.groups.now (link_view link).number n) c.args.links.now (has c.args.candidates.now n)

@@ -3,7 +3,7 @@ use Rattle.std.specs.List.{list_any}
 use Rattle.number_groups.specs.Ascending.{has}
 use Rattle.number_groups.specs.Groups.{is_member}
 use Rattle.trace_values.specs.View.{link_view}
-use Rattle.due_outcomes.proofs.candidates.add_of_links.Given as goal
+use Rattle.event_effects.proofs.candidates.add_of_links.Given as goal
 
 abbrev pub invariant-loop-link : goal.invariant-loop-link
 invariant-loop-link l = (n : ℕ) → has l.candidates n

@@ -1,18 +1,18 @@
-use Rattle.std.proofs.Common.{subst, ◌<◌, ◌≤◌}
-use Rattle.number_groups.specs.OctetGroups.{numbers}
+use Rattle.std.proofs.Common.{subst, ◌<◌, ◌≤◌, nat_eq}
+use Rattle.number_groups.specs.Groups.{numbers}
 use Rattle.number_groups.specs.Ascending.{has}
 use Rattle.state_tables.proofs.GroupLists.{none-yet, one-more, all-in}
-use Rattle.due_outcomes.proofs.untold.add_group.Goals as goal
+use Rattle.event_effects.proofs.candidates.add_group.Goals as goal
 
 pub loop-index-init : goal.loop-index-init
-loop-index-init c = λ n. none-yet (numbers c.args.groups.now c.args.address.now) n (has c.args.candidates.now n)
+loop-index-init c = λ n. none-yet (numbers nat_eq c.args.groups.now c.args.key) n (has c.args.candidates.now n)
 
 pub loop-index-preserved : goal.loop-index-preserved
 loop-index-preserved c = λ n.
-    one-more (numbers c.args.groups.now c.args.address.now) c.loop-index.index n (has c.args.candidates.now n) _ _
+    one-more (numbers nat_eq c.args.groups.now c.args.key) c.loop-index.index n (has c.args.candidates.now n) _ _
     (subst (λ k. c.loop-index.index < k) c.count-index-end.ensures.count c.loop-index-test.true) (c.loop-index.invariant n) _ c.get.ensures (c.in_ok-add.ensures n)
 
 pub returns : goal.returns
 returns c = λ n.
-    all-in (numbers c.args.groups.now c.args.address.now) c.loop-index.index n (has c.args.candidates.now n) _
+    all-in (numbers nat_eq c.args.groups.now c.args.key) c.loop-index.index n (has c.args.candidates.now n) _
     (subst (λ k. k ≤ c.loop-index.index) c.count-index-end.ensures.count c.loop-index-test.false) (c.loop-index.invariant n)

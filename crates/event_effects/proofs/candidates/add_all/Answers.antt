@@ -1,7 +1,7 @@
 use Rattle.std.proofs.Common.{◌∙◌, ap, sym, ◌||◌, nat_eq}
 use Rattle.number_groups.specs.Ascending.{has}
 use Rattle.state_tables.proofs.GroupLists.{each-in, each-more, nothing-yet, swapped}
-use Rattle.due_outcomes.proofs.candidates.add_all.Goals as goal
+use Rattle.event_effects.proofs.candidates.add_all.Goals as goal
 
 pub loop-number-init : goal.loop-number-init
 loop-number-init c = λ n. nothing-yet (nat_eq n) c.args.numbers.now (has c.args.candidates.now n)

@@ -1,19 +1,25 @@
-//! What becomes a candidate: numbers one by one, those of a group, and those that stand under links.
+//! What becomes a candidate of a list that follows events: numbers one by one, those of a group, and those that stand under
+//! links.
 
 ghost use Rattle.std.specs.Prelude.{◌≡◌, ◌||◌, ℕ, OnOk, nat_eq};
 ghost use Rattle.std.specs.List.{list_any};
 ghost use Rattle.number_groups.specs.Ascending.{has};
 ghost use Rattle.number_groups.specs.Groups.{is_member};
 ghost use Rattle.number_groups.specs.Numbers.{is_among};
+ghost use Rattle.number_groups.specs.OctetGroups as octets;
 ghost use Rattle.trace_events.specs.Words.{is_number};
 ghost use Rattle.trace_values.specs.View.{link_view};
 
-use number_groups::{Ascending, Groups};
+use number_groups::{Ascending, Groups, OctetGroups};
 use std::alloc::AllocError;
 use trace_values::Link;
 
 /// The number becomes a candidate, if there is one.
-pub(crate) fn add(candidates: &mut Ascending, number: Option<u64>) -> Result<(), AllocError>
+///
+/// # Errors
+///
+/// Memory was refused; then all stays as it was.
+pub fn add(candidates: &mut Ascending, number: Option<u64>) -> Result<(), AllocError>
     ensures { OnOk result ((n : ℕ) → has candidates.new n ≡ (has candidates.old n || is_number number n)) }
 {
     if let Some(number) = number {
@@ -23,7 +29,11 @@ pub(crate) fn add(candidates: &mut Ascending, number: Option<u64>) -> Result<(),
 }
 
 /// These become candidates.
-pub(crate) fn add_all(candidates: &mut Ascending, numbers: &[u64]) -> Result<(), AllocError>
+///
+/// # Errors
+///
+/// Memory was refused; then some of them came in.
+pub fn add_all(candidates: &mut Ascending, numbers: &[u64]) -> Result<(), AllocError>
     ensures { OnOk result ((n : ℕ) → has candidates.new n ≡ (has candidates.old n || is_among numbers.now n)) }
 {
     for number in numbers {
@@ -33,7 +43,11 @@ pub(crate) fn add_all(candidates: &mut Ascending, numbers: &[u64]) -> Result<(),
 }
 
 /// All numbers of the group become candidates.
-pub(crate) fn add_group(
+///
+/// # Errors
+///
+/// Memory was refused; then some of them came in.
+pub fn add_group(
     candidates: &mut Ascending,
     groups: &Groups<u64>,
     key: u64,
@@ -46,8 +60,30 @@ pub(crate) fn add_group(
     Ok(())
 }
 
+/// All numbers of the group under these octets become candidates.
+///
+/// # Errors
+///
+/// Memory was refused; then some of them came in.
+pub fn add_octet_group(
+    candidates: &mut Ascending,
+    groups: &OctetGroups,
+    key: &[u8],
+) -> Result<(), AllocError>
+    ensures { OnOk result ((n : ℕ) → has candidates.new n ≡ (has candidates.old n || octets.is_member groups.now key.now n)) }
+{
+    for index in 0..groups.count(key) {
+        add(candidates, groups.get(key, index))?;
+    }
+    Ok(())
+}
+
 /// All numbers of the groups of these links become candidates.
-pub(crate) fn add_of_links(
+///
+/// # Errors
+///
+/// Memory was refused; then some of them came in.
+pub fn add_of_links(
     candidates: &mut Ascending,
     groups: &Groups<u64>,
     links: &[Link],

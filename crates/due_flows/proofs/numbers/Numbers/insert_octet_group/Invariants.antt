@@ -1,8 +1,0 @@
-use Rattle.std.proofs.Common.{◌≡◌, ℕ, ◌||◌, nat_eq, take}
-use Rattle.std.specs.List.{list_any}
-use Rattle.number_groups.specs.OctetGroups.{numbers}
-use Rattle.due_flows.specs.Numbers.{has}
-use Rattle.due_flows.proofs.numbers.Numbers.insert_octet_group.Given as goal
-
-abbrev pub invariant-loop-index : goal.invariant-loop-index
-invariant-loop-index l = (n : ℕ) → has l.self n ≡ (has l.fn.self n || list_any (nat_eq n) (take l.index (numbers l.groups l.key)))
