@@ -72,16 +72,6 @@ fn add_waiting(
     Ok(())
 }
 
-/// The number of the delivery from a client that the one of this number carries.
-fn carried_by(sent: &SentDeliveries, number: u64) -> Option<u64>
-    ensures { result ≡ carried (sent_in sent.now number) }
-{
-    match sent.get(number)?.delivery().note {
-        Note::Pair(carried) => Some(carried),
-        Note::None | Note::Told(_) => None,
-    }
-}
-
 /// What the deliveries of these numbers carry becomes a candidate.
 fn add_carried(
     candidates: &mut Ascending,
@@ -92,7 +82,7 @@ fn add_carried(
         ≡ (has candidates.old n || list_any (λ m. is_number (carried (sent_in sent.now m)) n) numbers.now)) }
 {
     for number in numbers {
-        add(candidates, carried_by(sent, *number))?;
+        add(candidates, sent.carried_by(Some(*number)))?;
     }
     Ok(())
 }

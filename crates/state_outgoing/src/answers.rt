@@ -42,6 +42,16 @@ impl SentDeliveries {
         self.carried_by(self.last_begun_on(link.number))
     }
 
+    /// The number of the delivery from a client that the one of this number carries, if the table has that.
+    pub fn carried_by(&self, number: Option<u64>) -> Option<u64>
+        ensures { result ≡ entries.carried (option_and_then (sent_in self.now) number) }
+    {
+        match self.get(number?)?.note() {
+            Note::Pair(carried) => Some(carried),
+            Note::None | Note::Told(_) => None,
+        }
+    }
+
     /// The last delivery that carries the one from a client.
     pub fn pairing(&self, delivery: &Incoming) -> Option<Outgoing<'_>>
         ensures value { (rules : RuleSet) (records : List Record) → IsTable self.now (history rules records) →
@@ -128,15 +138,6 @@ impl SentDeliveries {
         match self.get(number?) {
             Some(own) if !own.is_sent() => Some(own.delivery()),
             _ => None,
-        }
-    }
-
-    fn carried_by(&self, number: Option<u64>) -> Option<u64>
-        ensures { result ≡ entries.carried (option_and_then (sent_in self.now) number) }
-    {
-        match self.get(number?)?.note() {
-            Note::Pair(carried) => Some(carried),
-            Note::None | Note::Told(_) => None,
         }
     }
 
