@@ -13,7 +13,8 @@ use Rattle.event_effects.specs.declared.effects.EventEffects.{EventEffects}
 pub record AreEffects (e : Event) (history : Events) (effects : EventEffects) : Type 0 where
   -- just these links live there and end with it
   pub ended : AreEnded e history (views effects.ended.items)
-  -- each delivery to a client that is left unsettled there, and of which its consumer speaks with it, is among these
+  -- each delivery to a client that is left unsettled there, and of which its consumer speaks with it, is among these; there may
+  -- be others
   pub spoken : (j : Outgoing) → Contains (outgoing_deliveries history) j → is_left_unsettled history j ≡ true → is_some (answering j e) ≡ true → is_among effects.spoken.items j.number ≡ true
   -- of which none stands there twice
   pub distinct : IsDistinct nat_eq effects.spoken.items

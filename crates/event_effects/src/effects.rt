@@ -50,7 +50,8 @@ impl<'t> EventEffects<'t> {
         &self.ended
     }
 
-    /// The numbers of the unsettled deliveries of which the event's consumer speaks, each once.
+    /// Numbers of deliveries to clients, each once, among which are all that are unsettled and of which the event's consumer
+    /// speaks. There may be others: where it names more than one id, these are all that are unsettled on its session.
     pub fn spoken(&self) -> &[u64]
         ensures { result.now ≡ self.now.spoken.items }
     {

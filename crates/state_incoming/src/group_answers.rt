@@ -29,7 +29,8 @@ impl Deliveries {
         !self.groups.waiting.is_empty(address)
     }
 
-    /// The numbers of the deliveries that wait, by their address.
+    /// Numbers of deliveries by address, among which all that wait are found. That no others are among them is the code's doing,
+    /// and no clause says it.
     pub fn waiting(&self) -> &OctetGroups
         ensures { (rules : RuleSet) (history : Events) → IsHistory rules history → IsTable rules self.now history →
             (d : law.Incoming) → received.incoming_at d.number history ≡ Some d → waiting.is_waiting rules d history ≡ true →
