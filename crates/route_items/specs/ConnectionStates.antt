@@ -15,11 +15,11 @@ no_life = record { is_opened = false; is_lost = false; is_broken = false }
 
 -- what the table has of a connection without an entry: what its run says
 abbrev pub life_over : ConnectionStates → ℕ → ConnectionState
-life_over lives c = unwrap_or (value_in lives.over c) no_life
+life_over connections c = unwrap_or (value_in connections.over c) no_life
 
 -- what it has of a connection
 abbrev pub life_in : ConnectionStates → ℕ → ConnectionState
-life_in lives c = unwrap_or (get nat_eq lives.entries c) (life_over lives c)
+life_in connections c = unwrap_or (get nat_eq connections.entries c) (life_over connections c)
 
 -- this became of the connection, and of the others what had become of them
 abbrev pub IsNow : ℕ → ConnectionState → ConnectionStates → ConnectionStates → Type 0
@@ -37,4 +37,4 @@ abbrev pub life_of : ℕ → List Record → ConnectionState
 life_of c records = record { is_opened = has_one is_opening c records; is_lost = has_one is_losing c records; is_broken = not (has_one is_losing c records) && has_one is_breaking c records }
 
 abbrev pub AreStates : ConnectionStates → List Record → Type 0
-AreStates lives records = (c : ℕ) → life_in lives c ≡ life_of c records
+AreStates connections records = (c : ℕ) → life_in connections c ≡ life_of c records

@@ -43,11 +43,11 @@ module _ {D : Type 0} (HasAll : D → RuleSet → List Event → Type 0) (captur
 
   -- ---- an answer
 
-  pub nothing-left : (books : RouterState D) (group : List Record) → IsAnswered HasAll capture books group [] → IsDraft HasAll capture books group
-  nothing-left books group answered = by answered.frames answered.replies answered.answering
+  pub nothing-left : (state : RouterState D) (group : List Record) → IsAnswered HasAll capture state group [] → IsDraft HasAll capture state group
+  nothing-left state group answered = by answered.frames answered.replies answered.answering
     where
       by : (frames : List Spoken) → AreReplies answered.connection frames [] → IsAnswering capture.rules answered.connection (history capture.rules (so_far group)) frames
-          → IsDraft HasAll capture books group
+          → IsDraft HasAll capture state group
       by [] replies answering = record {
         stand = answered.stand;
         under_way = steps.answered capture.rules (history capture.rules (so_far group)) answered.connection answering;
@@ -55,24 +55,24 @@ module _ {D : Type 0} (HasAll : D → RuleSet → List Event → Type 0) (captur
       }
       by (s ∷ frames) replies answering = absurd replies
 
-  pub reply-fits : (books : RouterState D) (group left : List Record) (r : Record) → IsAnswered HasAll capture books group (r ∷ left) → IsUnbroken capture.rules (so_far group) r
-  reply-fits books group left r answered = by answered.frames answered.replies answered.answering
+  pub reply-fits : (state : RouterState D) (group left : List Record) (r : Record) → IsAnswered HasAll capture state group (r ∷ left) → IsUnbroken capture.rules (so_far group) r
+  reply-fits state group left r answered = by answered.frames answered.replies answered.answering
     where
       by : (frames : List Spoken) → AreReplies answered.connection frames (r ∷ left) → IsAnswering capture.rules answered.connection (history capture.rules (so_far group)) frames
           → IsUnbroken capture.rules (so_far group) r
       by [] replies answering = absurd replies
       by (s ∷ frames) replies answering = reply-unbroken capture.rules (so_far group) answered.connection s frames r answering replies.0
 
-  pub reply-output : (books : RouterState D) (group left : List Record) (r : Record) → IsAnswered HasAll capture books group (r ∷ left) → is_output r.what ≡ true
-  reply-output books group left r answered = by answered.frames answered.replies
+  pub reply-output : (state : RouterState D) (group left : List Record) (r : Record) → IsAnswered HasAll capture state group (r ∷ left) → is_output r.what ≡ true
+  reply-output state group left r answered = by answered.frames answered.replies
     where
       by : (frames : List Spoken) → AreReplies answered.connection frames (r ∷ left) → is_output r.what ≡ true
       by [] replies = absurd replies
       by (s ∷ frames) replies = output_is r.what (spoken_octets s) replies.0.what
 
-  pub reply-entered : (books later : RouterState D) (group left : List Record) (r : Record) → IsAnswered HasAll capture books group (r ∷ left) → IsRouterStateOf HasAll capture later (group ++ r ∷ [])
+  pub reply-entered : (state later : RouterState D) (group left : List Record) (r : Record) → IsAnswered HasAll capture state group (r ∷ left) → IsRouterStateOf HasAll capture later (group ++ r ∷ [])
       → IsAnswered HasAll capture later (group ++ r ∷ []) left
-  reply-entered books later group left r answered stand = by answered.frames answered.replies answered.answering
+  reply-entered state later group left r answered stand = by answered.frames answered.replies answered.answering
     where
       by : (frames : List Spoken) → AreReplies answered.connection frames (r ∷ left) → IsAnswering capture.rules answered.connection (history capture.rules (so_far group)) frames
           → IsAnswered HasAll capture later (group ++ r ∷ []) left
@@ -89,30 +89,30 @@ module _ {D : Type 0} (HasAll : D → RuleSet → List Event → Type 0) (captur
       }
 
   -- a reply that was entered
-  pub reply-follows : (books later : RouterState D) (group after left : List Record) (r : Record) → after ≡ group ++ r ∷ []
-      → (IsRouterStateOf HasAll capture books group → IsUnbroken capture.rules (so_far group) r → IsRouterStateOf HasAll capture later (group ++ r ∷ []))
-      → IsAnswered HasAll capture books group (r ∷ left) → IsAnswered HasAll capture later after left
-  reply-follows books later group after left r is entered answered =
+  pub reply-follows : (state later : RouterState D) (group after left : List Record) (r : Record) → after ≡ group ++ r ∷ []
+      → (IsRouterStateOf HasAll capture state group → IsUnbroken capture.rules (so_far group) r → IsRouterStateOf HasAll capture later (group ++ r ∷ []))
+      → IsAnswered HasAll capture state group (r ∷ left) → IsAnswered HasAll capture later after left
+  reply-follows state later group after left r is entered answered =
       subst (λ (rs : List Record). IsAnswered HasAll capture later rs left) (sym is)
-      (reply-entered books later group left r answered (entered answered.stand (reply-fits books group left r answered)))
+      (reply-entered state later group left r answered (entered answered.stand (reply-fits state group left r answered)))
 
-  pub reply-adds : (books : RouterState D) (group after left : List Record) (r : Record) → after ≡ group ++ r ∷ [] → IsAnswered HasAll capture books group (r ∷ left) → AddsOutputs group after
-  reply-adds books group after left r is answered = one-added group after r is (reply-output books group left r answered)
+  pub reply-adds : (state : RouterState D) (group after left : List Record) (r : Record) → after ≡ group ++ r ∷ [] → IsAnswered HasAll capture state group (r ∷ left) → AddsOutputs group after
+  reply-adds state group after left r is answered = one-added group after r is (reply-output state group left r answered)
 
   -- ---- a frame that is due
 
-  pub known : (given : RuleSet) → given ≡ capture.rules → (books : RouterState D) (group : List Record) → IsDraft HasAll capture books group → AreInOrder HasAll given books
-  known given same books group draft =
-      subst (λ (xs : RuleSet). AreInOrder HasAll xs books) (sym same)
+  pub known : (given : RuleSet) → given ≡ capture.rules → (state : RouterState D) (group : List Record) → IsDraft HasAll capture state group → AreInOrder HasAll given state
+  known given same state group draft =
+      subst (λ (xs : RuleSet). AreInOrder HasAll xs state) (sym same)
       (record { records = so_far group; stand = draft.stand; order = draft.under_way.order })
 
-  pub due-fits : (books : RouterState D) (group : List Record) (r : Record) → IsDraft HasAll capture books group → IsNextFrame capture.rules (history capture.rules (so_far group)) r
+  pub due-fits : (state : RouterState D) (group : List Record) (r : Record) → IsDraft HasAll capture state group → IsNextFrame capture.rules (history capture.rules (so_far group)) r
       → IsUnbroken capture.rules (so_far group) r
-  due-fits books group r draft next = due-unbroken capture.rules (so_far group) r draft.under_way next
+  due-fits state group r draft next = due-unbroken capture.rules (so_far group) r draft.under_way next
 
-  pub due-entered : (books later : RouterState D) (group : List Record) (r : Record) → IsDraft HasAll capture books group → IsNextFrame capture.rules (history capture.rules (so_far group)) r → IsRecord r
+  pub due-entered : (state later : RouterState D) (group : List Record) (r : Record) → IsDraft HasAll capture state group → IsNextFrame capture.rules (history capture.rules (so_far group)) r → IsRecord r
       → IsRouterStateOf HasAll capture later (group ++ r ∷ []) → IsDraft HasAll capture later (group ++ r ∷ [])
-  due-entered books later group r draft next bounds stand = record {
+  due-entered state later group r draft next bounds stand = record {
     stand = stand;
     under_way =
         subst (λ (rs : List Record). IsUnderWay capture.rules (history capture.rules rs)) (longer group r)
@@ -120,10 +120,10 @@ module _ {D : Type 0} (HasAll : D → RuleSet → List Event → Type 0) (captur
     bounds = all-more IsRecord group r draft.bounds bounds;
   }
 
-pub due-leaves-less : {D : Type 0} (HasAll : D → RuleSet → List Event → Type 0) (capture : Trace) (books : RouterState D) (group : List Record) (r : Record) → IsDraft HasAll capture books group
+pub due-leaves-less : {D : Type 0} (HasAll : D → RuleSet → List Event → Type 0) (capture : Trace) (state : RouterState D) (group : List Record) (r : Record) → IsDraft HasAll capture state group
     → IsNextFrame capture.rules (history capture.rules (capture.records ++ group)) r
     → work_left (history capture.rules (capture.records ++ (group ++ r ∷ []))) < work_left (history capture.rules (capture.records ++ group))
-due-leaves-less HasAll capture books group r draft next =
+due-leaves-less HasAll capture state group r draft next =
     subst (λ (rs : List Record). work_left (history capture.rules rs) < work_left (history capture.rules (capture.records ++ group))) (append_assoc capture.records group (r ∷ []))
     (due-less capture.rules (capture.records ++ group) r draft.under_way next)
 
@@ -131,17 +131,17 @@ pub due-output : (rules : RuleSet) (past : List Event) (r : Record) → IsNextFr
 due-output rules past r next = output_is r.what (spoken_octets next.spoken) next.what
 
 -- a frame that is due, by rules that were lent, once it was entered
-module _ {D : Type 0} (HasAll : D → RuleSet → List Event → Type 0) (capture : Trace) (given : RuleSet) (same : given ≡ capture.rules) (books between later : RouterState D) (group after : List Record) (next : Option Record) (r : Record) (is : next ≡ Some r)
-    (asked : (rs : List Record) → IsRouterState HasAll given books rs → IsInOrder given (history given rs) → IfSome next (IsNextFrame given (history given rs)))
+module _ {D : Type 0} (HasAll : D → RuleSet → List Event → Type 0) (capture : Trace) (given : RuleSet) (same : given ≡ capture.rules) (state between later : RouterState D) (group after : List Record) (next : Option Record) (r : Record) (is : next ≡ Some r)
+    (asked : (rs : List Record) → IsRouterState HasAll given state rs → IsInOrder given (history given rs) → IfSome next (IsNextFrame given (history given rs)))
     (bounds : IfSome next IsRecord)
-    (draft : IsDraft HasAll capture books group) where
+    (draft : IsDraft HasAll capture state group) where
   abbrev past : List Event
   past = history capture.rules (capture.records ++ group)
 
   is_next : IsNextFrame capture.rules past r
   is_next =
       subst (λ (o : Option Record). IfSome o (IsNextFrame capture.rules past)) is
-      (subst (λ (xs : RuleSet). (rs : List Record) → IsRouterState HasAll xs books rs → IsInOrder xs (history xs rs) → IfSome next (IsNextFrame xs (history xs rs))) same asked
+      (subst (λ (xs : RuleSet). (rs : List Record) → IsRouterState HasAll xs state rs → IsInOrder xs (history xs rs) → IfSome next (IsNextFrame xs (history xs rs))) same asked
       (capture.records ++ group) draft.stand draft.under_way.order)
 
   pub due-adds : after ≡ group ++ r ∷ [] → AddsOutputs group after
@@ -150,12 +150,12 @@ module _ {D : Type 0} (HasAll : D → RuleSet → List Event → Type 0) (captur
   pub due-lessens : after ≡ group ++ r ∷ [] → work_left (history capture.rules (capture.records ++ after)) < work_left past
   due-lessens grown =
       subst (λ (rs : List Record). work_left (history capture.rules (capture.records ++ rs)) < work_left past) (sym grown)
-      (due-leaves-less HasAll capture books group r draft is_next)
+      (due-leaves-less HasAll capture state group r draft is_next)
 
-  pub due-follows : ((rs : List Record) → IsRouterState HasAll given books rs → IsRouterState HasAll given between rs)
+  pub due-follows : ((rs : List Record) → IsRouterState HasAll given state rs → IsRouterState HasAll given between rs)
       → (IsRouterStateOf HasAll capture between group → IsUnbroken capture.rules (capture.records ++ group) r → IsRouterStateOf HasAll capture later (group ++ r ∷ []))
       → after ≡ group ++ r ∷ [] → IsDraft HasAll capture later after
   due-follows kept entered grown =
-      let stood = subst (λ (xs : RuleSet). (rs : List Record) → IsRouterState HasAll xs books rs → IsRouterState HasAll xs between rs) same kept (capture.records ++ group) draft.stand in
+      let stood = subst (λ (xs : RuleSet). (rs : List Record) → IsRouterState HasAll xs state rs → IsRouterState HasAll xs between rs) same kept (capture.records ++ group) draft.stand in
       subst (λ (rs : List Record). IsDraft HasAll capture later rs) (sym grown)
-      (due-entered HasAll capture books later group r draft is_next (subst (λ (o : Option Record). IfSome o IsRecord) is bounds) (entered stood (due-fits HasAll capture books group r draft is_next)))
+      (due-entered HasAll capture state later group r draft is_next (subst (λ (o : Option Record). IfSome o IsRecord) is bounds) (entered stood (due-fits HasAll capture state group r draft is_next)))

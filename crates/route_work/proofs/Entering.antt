@@ -1,4 +1,4 @@
--- One record more, behind those for which the books stand.
+-- One record more, behind those for which the state stands.
 use Rattle.std.proofs.Common.{◌≡◌, refl, sym, ap, subst, ◌∙◌, ℕ, List, [], ◌∷◌, ◌++◌, length, None, Result, Ok, Err, OnOk}
 use Rattle.capture_form.specs.declared.records.Record.{Record}
 use Rattle.capture_form.specs.Rules.{RuleSet}
@@ -18,7 +18,7 @@ module _ (rules : RuleSet) (records : List Record) (r : Record) where
   pub same-event : (e : Event) → e ≡ judge rules past r → (record e { moment = moment_of r.what }) ≡ judge rules past r
   same-event e same = ap (λ (x : Event). let y : Event = record x { moment = moment_of r.what } in y) same
 
-  -- the record's event, by which the books are moved
+  -- the record's event, by which the state is moved
   pub lawful-next : (e : Event) → e ≡ judge rules past r → first_broken rules past ≡ None → IsUnbroken rules records r → IsLawfulNext rules records r e
   lawful-next e same lawful unbroken = (same, ap (λ (x : Event). first_broken rules (x ∷ past)) same ∙ rw (lawful, unbroken) refl)
 

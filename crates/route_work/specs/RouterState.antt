@@ -15,13 +15,13 @@ IsUnbroken rules records r = let past = history rules records in broken_clause r
 
 module _ {D : Type 0} (HasAll : D → RuleSet → List Event → Type 0) where
   -- the tables tell of these records, and so how many deliveries they complete; and all that is due is listed
-  pub record IsRouterState (rules : RuleSet) (books : RouterState D) (records : List Record) : Type 0 where
-    pub tables : AreTables rules books.tables (history rules records)
-    pub counted : books.tables.completed ≡ completed_by_all (history rules records)
-    pub listed : HasAll books.dues rules (history rules records)
+  pub record IsRouterState (rules : RuleSet) (state : RouterState D) (records : List Record) : Type 0 where
+    pub tables : AreTables rules state.tables (history rules records)
+    pub counted : state.tables.completed ≡ completed_by_all (history rules records)
+    pub listed : HasAll state.dues rules (history rules records)
 
   -- of some records, which are in order
-  pub record AreInOrder (rules : RuleSet) (books : RouterState D) : Type 0 where
+  pub record AreInOrder (rules : RuleSet) (state : RouterState D) : Type 0 where
     pub records : List Record
-    pub stand : IsRouterState rules books records
+    pub stand : IsRouterState rules state records
     pub order : IsInOrder rules (history rules records)
