@@ -1,6 +1,7 @@
 -- What the list of links that may be given more credit has, and what an event makes of it.
 use Rattle.std.specs.Prelude.{◌≡◌, ◌&&◌, ℕ, Bool, true, false, List, [], Option, Some, option_map, nat_eq, ◌==◌}
 use Rattle.std.specs.List.{list_any}
+use Rattle.number_groups.specs.Ascending.{has}
 use Rattle.number_groups.specs.Groups.{is_member}
 use Rattle.number_groups.specs.OctetGroups as octets
 use Rattle.capture_form.specs.Rules.{RuleSet}
@@ -17,7 +18,6 @@ use Rattle.state_addresses.specs.ConsumerLinks.{has_number}
 use Rattle.state_answers.specs.declared.lent_tables.LentTables.{LentTables}
 use Rattle.state_answers.specs.Tables.{TellsOf}
 use Rattle.due_flows.specs.Candidates.{value_of}
-use Rattle.number_groups.specs.Ascending.{has}
 use Rattle.due_flows.specs.Topping.{IsProducing, settles}
 use Rattle.due_flows.specs.declared.credits.Credits.{Credits}
 use Rattle.due_flows.specs.declared.credits.LinkKey.{LinkKey}
