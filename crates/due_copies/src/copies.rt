@@ -95,16 +95,16 @@ impl UnsentCopies {
     pub fn first_due<'t>(
         &mut self,
         rules: &RuleSet,
-        looked: &LentTables<'t>,
+        tables: &LentTables<'t>,
     ) -> Option<DueBegin<'t>>
-        ensures due { IfSome result (λ copy. (past : Events) → TellsOf rules.now looked.now past → HasUnsent rules.now self.old past →
+        ensures due { IfSome result (λ copy. (past : Events) → TellsOf rules.now tables.now past → HasUnsent rules.now self.old past →
             IsDueCopy rules.now copy past) }
-        ensures kept { (past : Events) → TellsOf rules.now looked.now past → HasUnsent rules.now self.old past → HasUnsent rules.now self.new past }
-        ensures quiet { (past : Events) → TellsOf rules.now looked.now past → HasUnsent rules.now self.old past → result ≡ None →
+        ensures kept { (past : Events) → TellsOf rules.now tables.now past → HasUnsent rules.now self.old past → HasUnsent rules.now self.new past }
+        ensures quiet { (past : Events) → TellsOf rules.now tables.now past → HasUnsent rules.now self.old past → result ≡ None →
             copies_are_sent rules.now past ≡ true }
     {
         while let Some((completion, link)) = self.lists.links.first() {
-            if let Some(copy) = self.copy_due(link, rules, looked) {
+            if let Some(copy) = self.copy_due(link, rules, tables) {
                 return Some(copy);
             }
             self.lists.links.remove(completion, link);
@@ -118,21 +118,21 @@ impl UnsentCopies {
         &mut self,
         number: u64,
         rules: &RuleSet,
-        looked: &LentTables<'t>,
+        tables: &LentTables<'t>,
     ) -> Option<DueBegin<'t>>
-        ensures due { IfSome result (λ copy. (past : Events) → TellsOf rules.now looked.now past → HasUnsent rules.now self.old past →
+        ensures due { IfSome result (λ copy. (past : Events) → TellsOf rules.now tables.now past → HasUnsent rules.now self.old past →
             IsDueCopy rules.now copy past) }
-        ensures found { (past : Events) → TellsOf rules.now looked.now past → HasUnsent rules.now self.old past → (l : law.Link) → l.number ≡ number →
+        ensures found { (past : Events) → TellsOf rules.now tables.now past → HasUnsent rules.now self.old past → (l : law.Link) → l.number ≡ number →
             IsReady rules.now l past → is_some result ≡ true }
-        ensures kept { (past : Events) → TellsOf rules.now looked.now past → HasUnsent rules.now self.old past → HasUnsent rules.now self.new past }
+        ensures kept { (past : Events) → TellsOf rules.now tables.now past → HasUnsent rules.now self.old past → HasUnsent rules.now self.new past }
         ensures links { self.new.lists.links ≡ self.old.lists.links }
     {
-        let link = looked.consumer_links.get(number)?;
-        if !may_take(&link, looked) {
+        let link = tables.consumer_links.get(number)?;
+        if !may_take(&link, tables) {
             return None;
         }
-        let delivery = self.earliest(&link, rules, looked)?;
-        let payload = looked.deliveries.payload(&delivery);
+        let delivery = self.earliest(&link, rules, tables)?;
+        let payload = tables.deliveries.payload(&delivery);
         Some(DueBegin {
             link,
             delivery,
@@ -145,20 +145,20 @@ impl UnsentCopies {
         &mut self,
         link: &Link,
         rules: &RuleSet,
-        looked: &LentTables<'t>,
+        tables: &LentTables<'t>,
     ) -> Option<Incoming<'t>>
-        ensures copy { (past : Events) → TellsOf rules.now looked.now past → IsLiveLink (link_view link.now) past →
-            IfSome (option_map incoming_view result) (IsKnownCopy rules.now looked.now.deliveries.now (link_view link.now) past) }
-        ensures first { (past : Events) → TellsOf rules.now looked.now past → HasUnsent rules.now self.old past → IsLiveLink (link_view link.now) past →
+        ensures copy { (past : Events) → TellsOf rules.now tables.now past → IsLiveLink (link_view link.now) past →
+            IfSome (option_map incoming_view result) (IsKnownCopy rules.now tables.now.deliveries.now (link_view link.now) past) }
+        ensures first { (past : Events) → TellsOf rules.now tables.now past → HasUnsent rules.now self.old past → IsLiveLink (link_view link.now) past →
             IfSome (option_map incoming_view result) (λ f. has_earlier_unsent rules.now past (link_view link.now) f ≡ false) }
-        ensures none { (past : Events) → TellsOf rules.now looked.now past → HasUnsent rules.now self.old past → IsLiveLink (link_view link.now) past →
+        ensures none { (past : Events) → TellsOf rules.now tables.now past → HasUnsent rules.now self.old past → IsLiveLink (link_view link.now) past →
             result ≡ None → has_unsent rules.now (link_view link.now) past ≡ false }
-        ensures kept { (past : Events) → TellsOf rules.now looked.now past → HasUnsent rules.now self.old past → IsLiveLink (link_view link.now) past →
+        ensures kept { (past : Events) → TellsOf rules.now tables.now past → HasUnsent rules.now self.old past → IsLiveLink (link_view link.now) past →
             HasUnsent rules.now self.new past }
         ensures links { self.new.lists.links ≡ self.old.lists.links }
     {
         while let Some((completion, number)) = self.lists.copies.first(link.number) {
-            if let Some(delivery) = unsent_copy(number, link, rules, looked) {
+            if let Some(delivery) = unsent_copy(number, link, rules, tables) {
                 return Some(delivery);
             }
             self.lists.copies.remove(link.number, completion);
@@ -168,13 +168,13 @@ impl UnsentCopies {
 }
 
 /// A live link may be sent a delivery: it has credit, its session has window, and nothing is in progress.
-fn may_take(link: &Link, looked: &LentTables<'_>) -> bool
-    ensures { (rules : RuleSet) (past : Events) → TellsOf rules looked.now past → IsLiveLink (link_view link.now) past →
+fn may_take(link: &Link, tables: &LentTables<'_>) -> bool
+    ensures { (rules : RuleSet) (past : Events) → TellsOf rules tables.now past → IsLiveLink (link_view link.now) past →
         result ≡ may_take past (link_view link.now) }
 {
-    looked.link_credit(link) > 0
-        && looked.session_window(link.session) > 0
-        && looked.outgoing_in_progress(link).is_none()
+    tables.link_credit(link) > 0
+        && tables.session_window(link.session) > 0
+        && tables.outgoing_in_progress(link).is_none()
 }
 
 /// The delivery of this number, where a copy of it is unsent on the live link.
@@ -182,15 +182,15 @@ fn unsent_copy<'t>(
     number: u64,
     link: &Link,
     rules: &RuleSet,
-    looked: &LentTables<'t>,
+    tables: &LentTables<'t>,
 ) -> Option<Incoming<'t>>
-    ensures copy { (past : Events) → TellsOf rules.now looked.now past → IsLiveLink (link_view link.now) past →
-        IfSome (option_map incoming_view result) (λ d. IsKnownCopy rules.now looked.now.deliveries.now (link_view link.now) past d × (d.number ≡ number)) }
-    ensures found { (past : Events) → TellsOf rules.now looked.now past → (d : law.Incoming) → d.number ≡ number →
+    ensures copy { (past : Events) → TellsOf rules.now tables.now past → IsLiveLink (link_view link.now) past →
+        IfSome (option_map incoming_view result) (λ d. IsKnownCopy rules.now tables.now.deliveries.now (link_view link.now) past d × (d.number ≡ number)) }
+    ensures found { (past : Events) → TellsOf rules.now tables.now past → (d : law.Incoming) → d.number ≡ number →
         IsUnsentOn rules.now (link_view link.now) d past → option_map incoming_view result ≡ Some d }
 {
-    let delivery = looked.deliveries.to_carry(Note::Pair(number))?;
-    if looked.is_unsent(rules, &delivery, link) {
+    let delivery = tables.deliveries.to_carry(Note::Pair(number))?;
+    if tables.is_unsent(rules, &delivery, link) {
         Some(delivery)
     } else {
         None

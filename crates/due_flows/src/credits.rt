@@ -150,14 +150,14 @@ impl Credits {
     }
 
     /// The live link with the lowest number that may be given more credit. Links below it are candidates no more.
-    pub fn first_due<'t>(&mut self, rules: &RuleSet, looked: &LentTables<'t>) -> Option<Link<'t>>
-        ensures due { IfSome result (λ link. (past : Events) → TellsOf rules.now looked.now past → IsToppable rules.now (link_view link) past) }
-        ensures kept { (past : Events) → TellsOf rules.now looked.now past → HasCredits rules.now self.old past → HasCredits rules.now self.new past }
-        ensures quiet { (past : Events) → TellsOf rules.now looked.now past → HasCredits rules.now self.old past → result ≡ None →
+    pub fn first_due<'t>(&mut self, rules: &RuleSet, tables: &LentTables<'t>) -> Option<Link<'t>>
+        ensures due { IfSome result (λ link. (past : Events) → TellsOf rules.now tables.now past → IsToppable rules.now (link_view link) past) }
+        ensures kept { (past : Events) → TellsOf rules.now tables.now past → HasCredits rules.now self.old past → HasCredits rules.now self.new past }
+        ensures quiet { (past : Events) → TellsOf rules.now tables.now past → HasCredits rules.now self.old past → result ≡ None →
             none_lacks_credit rules.now past ≡ true }
     {
         while let Some(number) = self.links.first() {
-            if let Some(link) = credit_due(number, self.places.get(number), rules, looked) {
+            if let Some(link) = credit_due(number, self.places.get(number), rules, tables) {
                 return Some(link);
             }
             self.links.remove(number);
@@ -266,16 +266,16 @@ fn credit_due<'t>(
     number: u64,
     place: Option<LinkKey>,
     rules: &RuleSet,
-    looked: &LentTables<'t>,
+    tables: &LentTables<'t>,
 ) -> Option<Link<'t>>
-    ensures due { IfSome result (λ link. (past : Events) → TellsOf rules.now looked.now past → IsToppable rules.now (link_view link) past) }
-    ensures found { (past : Events) → TellsOf rules.now looked.now past → (l : law.Link) → l.number ≡ number → place ≡ Some (place_of l) →
+    ensures due { IfSome result (λ link. (past : Events) → TellsOf rules.now tables.now past → IsToppable rules.now (link_view link) past) }
+    ensures found { (past : Events) → TellsOf rules.now tables.now past → (l : law.Link) → l.number ≡ number → place ≡ Some (place_of l) →
         IsToppable rules.now l past → is_some result ≡ true }
 {
     let place = place?;
-    let session = looked.live_session(place.connection, place.channel)?;
-    let link = looked.session_link(session, place.handle)?;
-    if link.number == number && link.is_producer() && may_be_topped_up(looked, rules, &link) {
+    let session = tables.live_session(place.connection, place.channel)?;
+    let link = tables.session_link(session, place.handle)?;
+    if link.number == number && link.is_producer() && may_be_topped_up(tables, rules, &link) {
         Some(link)
     } else {
         None

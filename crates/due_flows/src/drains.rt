@@ -104,14 +104,14 @@ impl Drains {
     }
 
     /// The live link with the lowest number whose drain may be answered. Links below it are candidates no more.
-    pub fn first_due<'t>(&mut self, rules: &RuleSet, looked: &LentTables<'t>) -> Option<Link<'t>>
-        ensures due { IfSome result (λ link. (past : Events) → TellsOf rules.now looked.now past → IsDrainable rules.now (link_view link) past) }
-        ensures kept { (past : Events) → TellsOf rules.now looked.now past → HasDrains rules.now self.old past → HasDrains rules.now self.new past }
-        ensures quiet { (past : Events) → TellsOf rules.now looked.now past → HasDrains rules.now self.old past → result ≡ None →
+    pub fn first_due<'t>(&mut self, rules: &RuleSet, tables: &LentTables<'t>) -> Option<Link<'t>>
+        ensures due { IfSome result (λ link. (past : Events) → TellsOf rules.now tables.now past → IsDrainable rules.now (link_view link) past) }
+        ensures kept { (past : Events) → TellsOf rules.now tables.now past → HasDrains rules.now self.old past → HasDrains rules.now self.new past }
+        ensures quiet { (past : Events) → TellsOf rules.now tables.now past → HasDrains rules.now self.old past → result ≡ None →
             none_is_undrained rules.now past ≡ true }
     {
         while let Some(number) = self.links.first() {
-            if let Some(link) = drain_due(number, rules, looked) {
+            if let Some(link) = drain_due(number, rules, tables) {
                 return Some(link);
             }
             self.links.remove(number);
@@ -135,13 +135,13 @@ fn asks_drain(event: &Event) -> bool
 
 /// The link of this number, where its drain may be answered.
 #[inline(never)]
-fn drain_due<'t>(number: u64, rules: &RuleSet, looked: &LentTables<'t>) -> Option<Link<'t>>
-    ensures due { IfSome result (λ link. (past : Events) → TellsOf rules.now looked.now past → IsDrainable rules.now (link_view link) past) }
-    ensures found { (past : Events) → TellsOf rules.now looked.now past → (l : law.Link) → l.number ≡ number → IsDrainable rules.now l past →
+fn drain_due<'t>(number: u64, rules: &RuleSet, tables: &LentTables<'t>) -> Option<Link<'t>>
+    ensures due { IfSome result (λ link. (past : Events) → TellsOf rules.now tables.now past → IsDrainable rules.now (link_view link) past) }
+    ensures found { (past : Events) → TellsOf rules.now tables.now past → (l : law.Link) → l.number ≡ number → IsDrainable rules.now l past →
         is_some result ≡ true }
 {
-    let link = looked.consumer_links.get(number)?;
-    if may_be_drained(rules, &link, looked) {
+    let link = tables.consumer_links.get(number)?;
+    if may_be_drained(rules, &link, tables) {
         Some(link)
     } else {
         None
@@ -149,12 +149,12 @@ fn drain_due<'t>(number: u64, rules: &RuleSet, looked: &LentTables<'t>) -> Optio
 }
 
 /// The credit of a live link may be used up: its client asks for it, and nothing waits.
-fn may_be_drained(rules: &RuleSet, link: &Link, looked: &LentTables<'_>) -> bool
-    ensures { (past : Events) → TellsOf rules.now looked.now past → IsLiveLink (link_view link.now) past →
+fn may_be_drained(rules: &RuleSet, link: &Link, tables: &LentTables<'_>) -> bool
+    ensures { (past : Events) → TellsOf rules.now tables.now past → IsLiveLink (link_view link.now) past →
         result ≡ may_be_drained rules.now past (link_view link.now) }
 {
-    looked.is_draining(link)
-        && looked.link_credit(link) > 0
-        && !looked.has_waiting(rules, link.address)
-        && !looked.has_unsent(rules, link)
+    tables.is_draining(link)
+        && tables.link_credit(link) > 0
+        && !tables.has_waiting(rules, link.address)
+        && !tables.has_unsent(rules, link)
 }

@@ -117,14 +117,14 @@ impl DeliveriesInProgress {
     }
 
     /// The part that is due on the live link with the lowest number. Links below it are candidates no more.
-    pub fn first_due<'t>(&mut self, looked: &LentTables<'t>) -> Option<DuePart<'t>>
-        ensures due { IfSome result (λ part. (rules : RuleSet) (past : Events) → TellsOf rules looked.now past → IsDuePart part past) }
-        ensures kept { (rules : RuleSet) (past : Events) → TellsOf rules looked.now past → HasParts self.old past → HasParts self.new past }
-        ensures quiet { (rules : RuleSet) (past : Events) → TellsOf rules looked.now past → HasParts self.old past → result ≡ None →
+    pub fn first_due<'t>(&mut self, tables: &LentTables<'t>) -> Option<DuePart<'t>>
+        ensures due { IfSome result (λ part. (rules : RuleSet) (past : Events) → TellsOf rules tables.now past → IsDuePart part past) }
+        ensures kept { (rules : RuleSet) (past : Events) → TellsOf rules tables.now past → HasParts self.old past → HasParts self.new past }
+        ensures quiet { (rules : RuleSet) (past : Events) → TellsOf rules tables.now past → HasParts self.old past → result ≡ None →
             none_stands_still past ≡ true }
     {
         while let Some(number) = self.links.first() {
-            if let Some(part) = part_due(number, looked) {
+            if let Some(part) = part_due(number, tables) {
                 return Some(part);
             }
             self.links.remove(number);
@@ -155,22 +155,22 @@ pub fn granted_session(event: &Event) -> Option<u64>
 
 /// The part that is due on the link of this number.
 #[inline(never)]
-fn part_due<'t>(number: u64, looked: &LentTables<'t>) -> Option<DuePart<'t>>
-    ensures due { IfSome result (λ part. (rules : RuleSet) (past : Events) → TellsOf rules looked.now past → IsDuePart part past) }
-    ensures found { (rules : RuleSet) (past : Events) → TellsOf rules looked.now past → (l : law.Link) → l.number ≡ number → IsStill l past →
+fn part_due<'t>(number: u64, tables: &LentTables<'t>) -> Option<DuePart<'t>>
+    ensures due { IfSome result (λ part. (rules : RuleSet) (past : Events) → TellsOf rules tables.now past → IsDuePart part past) }
+    ensures found { (rules : RuleSet) (past : Events) → TellsOf rules tables.now past → (l : law.Link) → l.number ≡ number → IsStill l past →
         is_some result ≡ true }
 {
-    let link = looked.consumer_links.get(number)?;
-    let delivery = looked.outgoing_in_progress(&link)?;
-    if looked.session_window(link.session) == 0 {
+    let link = tables.consumer_links.get(number)?;
+    let delivery = tables.outgoing_in_progress(&link)?;
+    if tables.session_window(link.session) == 0 {
         return None;
     }
-    let carried = looked.deliveries.to_carry(delivery.note)?;
-    let payload = looked.deliveries.payload(&carried);
+    let carried = tables.deliveries.to_carry(delivery.note)?;
+    let payload = tables.deliveries.payload(&carried);
     Some(DuePart {
         link,
         note: delivery.note,
-        rest: behind(payload, looked.sent.sent_count(delivery.number)),
+        rest: behind(payload, tables.sent.sent_count(delivery.number)),
     })
 }
 

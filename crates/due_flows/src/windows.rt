@@ -53,14 +53,14 @@ impl Windows {
     }
 
     /// The live session with the lowest number whose window is to be given anew. Those below it are candidates no more.
-    pub fn first_due(&mut self, looked: &LentTables<'_>) -> Option<Session>
-        ensures due { IfSome result (λ s. (rules : RuleSet) (past : Events) → TellsOf rules looked.now past → IsLacking s past) }
-        ensures kept { (rules : RuleSet) (past : Events) → TellsOf rules looked.now past → HasLacking self.old past → HasLacking self.new past }
-        ensures quiet { (rules : RuleSet) (past : Events) → TellsOf rules looked.now past → HasLacking self.old past → result ≡ None →
+    pub fn first_due(&mut self, tables: &LentTables<'_>) -> Option<Session>
+        ensures due { IfSome result (λ s. (rules : RuleSet) (past : Events) → TellsOf rules tables.now past → IsLacking s past) }
+        ensures kept { (rules : RuleSet) (past : Events) → TellsOf rules tables.now past → HasLacking self.old past → HasLacking self.new past }
+        ensures quiet { (rules : RuleSet) (past : Events) → TellsOf rules tables.now past → HasLacking self.old past → result ≡ None →
             none_lacks_window past ≡ true }
     {
         while let Some((number, candidate)) = self.sessions.first() {
-            if let Some(session) = lacking(candidate, looked) {
+            if let Some(session) = lacking(candidate, tables) {
                 return Some(session);
             }
             self.sessions.remove(number);
@@ -85,12 +85,12 @@ fn lowered(event: &Event, before: &LentTables<'_>) -> Option<Session>
 
 /// The live session of the candidate's channel, where it is the candidate and lacks window.
 #[inline(never)]
-fn lacking(candidate: Session, looked: &LentTables<'_>) -> Option<Session>
-    ensures due { IfSome result (λ s. (rules : RuleSet) (past : Events) → TellsOf rules looked.now past → IsLacking s past) }
-    ensures found { (rules : RuleSet) (past : Events) → TellsOf rules looked.now past → IsLacking candidate past → result ≡ Some candidate }
+fn lacking(candidate: Session, tables: &LentTables<'_>) -> Option<Session>
+    ensures due { IfSome result (λ s. (rules : RuleSet) (past : Events) → TellsOf rules tables.now past → IsLacking s past) }
+    ensures found { (rules : RuleSet) (past : Events) → TellsOf rules tables.now past → IsLacking candidate past → result ≡ Some candidate }
 {
-    let session = looked.live_session(candidate.connection, candidate.channel)?;
-    if session.number == candidate.number && looked.given_window(session) <= RENEWAL_MARK {
+    let session = tables.live_session(candidate.connection, candidate.channel)?;
+    if session.number == candidate.number && tables.given_window(session) <= RENEWAL_MARK {
         Some(session)
     } else {
         None

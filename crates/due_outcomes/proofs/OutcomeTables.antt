@@ -47,7 +47,7 @@ knows-has table d knows = by (held_in table d.number) knows
     by None is = absurd cc
     by (Some x) is = refl
 
-module _ (rules : RuleSet) (past : List Event) (looked : LentTables) (stands : TellsOf rules looked past) where
+module _ (rules : RuleSet) (past : List Event) (tables : LentTables) (stands : TellsOf rules tables past) where
   are : AreJudged rules past
   are = judged-of rules past stands.0
 
@@ -57,15 +57,15 @@ module _ (rules : RuleSet) (past : List Event) (looked : LentTables) (stands : T
   pub begun-at : (d : Incoming) → Contains (incoming_deliveries past) d → incoming_at d.number past ≡ Some d
   begun-at d there = (all_contained (IsKept past) (incoming_deliveries past) d (each_delivery (IsKept past) past (judged-kept rules past are).each) there).at
 
-  told-known : (d : Incoming) → Contains (incoming_deliveries past) d → may_be_told d past ≡ true → Knows looked.deliveries.now d
+  told-known : (d : Incoming) → Contains (incoming_deliveries past) d → may_be_told d past ≡ true → Knows tables.deliveries.now d
   told-known d there may =
-      knows-held rules past are lawful looked.deliveries.now stands.1.1.1.1.0.0 d (begun-at d there)
+      knows-held rules past are lawful tables.deliveries.now stands.1.1.1.1.0.0 d (begun-at d there)
       (held-bits (is_complete d past) (is_settled d past) (is_told d past) (is_live past d.link) (is_gone rules d past) _ may)
-      (open-kept rules past are looked.deliveries.now stands.1.1.1.1.0.1.1 d.number d (begun-at d there) (closed-bits (is_complete d past) (is_settled d past) (is_told d past) (is_live past d.link) may))
+      (open-kept rules past are tables.deliveries.now stands.1.1.1.1.0.1.1 d.number d (begun-at d there) (closed-bits (is_complete d past) (is_settled d past) (is_told d past) (is_live past d.link) may))
 
   -- nothing is to be told of a delivery of which the tables cannot tell, that may not be told, or to which no row applies
   pub unless-told : (d : Incoming) → Contains (incoming_deliveries past) d
-      → (Knows looked.deliveries.now d → may_be_told d past ≡ true → list_any (λ why. is_some (row rules d past why)) reasons ≡ true → true ≡ false) → is_to_tell rules past d ≡ false
+      → (Knows tables.deliveries.now d → may_be_told d past ≡ true → list_any (λ why. is_some (row rules d past why)) reasons ≡ true → true ≡ false) → is_to_tell rules past d ≡ false
   unless-told d there never = by (may_be_told d past) refl (list_any (λ why. is_some (row rules d past why)) reasons) refl
     where
       by : (a : Bool) → may_be_told d past ≡ a → (b : Bool) → list_any (λ why. is_some (row rules d past why)) reasons ≡ b → a && b ≡ false

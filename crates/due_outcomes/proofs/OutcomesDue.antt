@@ -27,25 +27,25 @@ use Rattle.due_outcomes.specs.declared.untold.Untold.{Untold}
 same_some : {A : Type 0} (a b : A) → Some a ≡ Some b → a ≡ b
 same_some a b is = cc
 
-module _ (rules : RuleSet) (past : List Event) (looked : LentTables) (stands : TellsOf rules looked past) where
+module _ (rules : RuleSet) (past : List Event) (tables : LentTables) (stands : TellsOf rules tables past) where
   are : AreJudged rules past
   are = judged-of rules past stands.0
 
   lawful : first_broken rules past ≡ None
   lawful = stands.1.1.1.1.1.1.1.0
 
-  carried-entry : (j : Outgoing) → Contains (outgoing_deliveries past) j → (d : Incoming) → noted j.note past ≡ Some d → is_shut (held_in looked.deliveries.now d.number) ≡ is_closed past d
+  carried-entry : (j : Outgoing) → Contains (outgoing_deliveries past) j → (d : Incoming) → noted j.note past ≡ Some d → is_shut (held_in tables.deliveries.now d.number) ≡ is_closed past d
   carried-entry j there d at =
       let c = carried-of rules past are lawful (λ (k : Outgoing). k.number == j.number) j (contained-at rules past are j there) in
       let same : c.delivery ≡ d = same_some c.delivery d (sym (ap (λ note. noted note past) c.named ∙ c.at) ∙ at) in
-      subst (λ (x : Incoming). is_shut (held_in looked.deliveries.now x.number) ≡ is_closed past x) same (carried-shut rules past are lawful looked.deliveries.now stands.1.1.1.1.0.0 stands.1.1.1.1.0.1.1 j c)
+      subst (λ (x : Incoming). is_shut (held_in tables.deliveries.now x.number) ≡ is_closed past x) same (carried-shut rules past are lawful tables.deliveries.now stands.1.1.1.1.0.0 stands.1.1.1.1.0.1.1 j c)
 
   -- ---- what is forgotten
 
   module _ (earlier later : Untold) (number : ℕ) (none : (d : Incoming) → Contains (incoming_deliveries past) d → d.number ≡ number → is_to_tell rules past d ≡ false) (was : HasUntold rules earlier past)
       (left : (n : ℕ) → has later.candidates n ≡ (has earlier.candidates n && not (number == n)))
       (carried : (j : Outgoing) (n : ℕ) → (number == n) ≡ false → IsOn earlier.carried j n → IsOn later.carried j n)
-      (opens : is_shut (held_in looked.deliveries.now number) ≡ false → later.carried ≡ earlier.carried) where
+      (opens : is_shut (held_in tables.deliveries.now number) ≡ false → later.carried ≡ earlier.carried) where
     another : (d : Incoming) → Contains (incoming_deliveries past) d → is_to_tell rules past d ≡ true → (number == d.number) ≡ false
     another d there is = by (number == d.number) refl
       where
@@ -54,16 +54,16 @@ module _ (rules : RuleSet) (past : List Event) (looked : LentTables) (stands : T
         by true same = let never : true ≡ false = sym is ∙ none d there (sym (eqb-true number d.number same)) in absurd cc
 
     still-carried : (j : Outgoing) → Contains (outgoing_deliveries past) j → (d : Incoming) → noted j.note past ≡ Some d → is_of_multicast rules d past ≡ false → is_closed past d ≡ false → IsOn later.carried j d.number
-    still-carried j there d at anycast open_still = by (is_shut (held_in looked.deliveries.now number)) refl
+    still-carried j there d at anycast open_still = by (is_shut (held_in tables.deliveries.now number)) refl
       where
-        apart : is_shut (held_in looked.deliveries.now number) ≡ true → (b : Bool) → (number == d.number) ≡ b → (number == d.number) ≡ false
+        apart : is_shut (held_in tables.deliveries.now number) ≡ true → (b : Bool) → (number == d.number) ≡ b → (number == d.number) ≡ false
         apart closed false other = other
         apart closed true same =
-            let says = ap (λ n. is_shut (held_in looked.deliveries.now n)) (eqb-true number d.number same) ∙ (carried-entry j there d at ∙ open_still) in
+            let says = ap (λ n. is_shut (held_in tables.deliveries.now n)) (eqb-true number d.number same) ∙ (carried-entry j there d at ∙ open_still) in
             let never : true ≡ false = sym closed ∙ says in
             absurd cc
 
-        by : (b : Bool) → is_shut (held_in looked.deliveries.now number) ≡ b → IsOn later.carried j d.number
+        by : (b : Bool) → is_shut (held_in tables.deliveries.now number) ≡ b → IsOn later.carried j d.number
         by false says = subst (λ (x : Groups ℕ). IsOn x j d.number) (sym (opens says)) (was.carried j there d at anycast open_still)
         by true says = carried j d.number (apart says (number == d.number) refl) (was.carried j there d at anycast open_still)
 

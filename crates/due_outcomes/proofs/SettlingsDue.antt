@@ -80,7 +80,7 @@ settled-of past j opens decides closed = sym (settles-as past j) ∙ all (is_lef
     all : (a b c : Bool) → a ≡ true → b ≡ true → c ≡ true → a && b && c ≡ true
     all a b c is so too = rw (is, so, too) refl
 
-module _ (rules : RuleSet) (past : List Event) (looked : LentTables) (stands : TellsOf rules looked past) where
+module _ (rules : RuleSet) (past : List Event) (tables : LentTables) (stands : TellsOf rules tables past) where
   are : AreJudged rules past
   are = judged-of rules past stands.0
 
@@ -88,33 +88,33 @@ module _ (rules : RuleSet) (past : List Event) (looked : LentTables) (stands : T
   lawful = stands.1.1.1.1.1.1.1.0
 
   -- one that is unsettled has its entry
-  entry : (j : Outgoing) → Contains (outgoing_deliveries past) j → is_left_unsettled past j ≡ true → sent_in looked.sent.now j.number ≡ Some (sent past j)
+  entry : (j : Outgoing) → Contains (outgoing_deliveries past) j → is_left_unsettled past j ≡ true → sent_in tables.sent.now j.number ≡ Some (sent past j)
   entry j there opens =
-      unfinished-entry looked.sent.now past stands.1.1.1.1.1.1.1.1.0 j.number j (contained-at rules past are j there) (unsettled-unfinished past j opens)
+      unfinished-entry tables.sent.now past stands.1.1.1.1.1.1.1.1.0 j.number j (contained-at rules past are j there) (unsettled-unfinished past j opens)
 
-  closings : (j : Outgoing) → outgoing_at j.number past ≡ Some j → closes (λ n. is_shut (held_in looked.deliveries.now n)) j.note ≡ carries_closed past j
+  closings : (j : Outgoing) → outgoing_at j.number past ≡ Some j → closes (λ n. is_shut (held_in tables.deliveries.now n)) j.note ≡ carries_closed past j
   closings j at =
       let c = carried-of rules past are lawful (λ (k : Outgoing). k.number == j.number) j at in
-      ap (closes (λ n. is_shut (held_in looked.deliveries.now n))) c.named
-      ∙ (carried-shut rules past are lawful looked.deliveries.now stands.1.1.1.1.0.0 stands.1.1.1.1.0.1.1 j c
+      ap (closes (λ n. is_shut (held_in tables.deliveries.now n))) c.named
+      ∙ (carried-shut rules past are lawful tables.deliveries.now stands.1.1.1.1.0.0 stands.1.1.1.1.0.1.1 j c
       ∙ sym (ap (λ note. is_some_and (noted note past) (is_closed past)) c.named ∙ ap (λ (o : Option Incoming). is_some_and o (is_closed past)) c.at))
 
   -- its entry says so just where the law does
-  entry-settles : (j : Outgoing) → outgoing_at j.number past ≡ Some j → to_settle (sent past j) (closes (λ n. is_shut (held_in looked.deliveries.now n)) j.note) ≡ is_to_settle past j
+  entry-settles : (j : Outgoing) → outgoing_at j.number past ≡ Some j → to_settle (sent past j) (closes (λ n. is_shut (held_in tables.deliveries.now n)) j.note) ≡ is_to_settle past j
   entry-settles j at =
       ap (λ b. is_left_unsettled past j && is_some (option_map terminal_state (decision j past)) && b) (closings j at)
       ∙ (ap (λ b. is_left_unsettled past j && b && carries_closed past j) (some-map terminal_state (decision j past))
       ∙ (settle-bits j.link.is_pre_settled (stands_unsettled past j) (first_deciding j past) (carries_closed past j) ∙ sym (is_to_settle-parts past j)))
 
   abbrev settles : Sent → Bool
-  settles x = to_settle x (closes (λ n. is_shut (held_in looked.deliveries.now n)) x.delivery.note)
+  settles x = to_settle x (closes (λ n. is_shut (held_in tables.deliveries.now n)) x.delivery.note)
 
   abbrev given : Option Sent → Option Outgoing
   given o = option_map (λ (x : Sent). x.delivery) (where_passes settles o)
 
   -- what the tables give is to be settled
-  pub due-is : (n : ℕ) (j : Outgoing) → due_in looked.sent.now looked.deliveries.now n ≡ Some j → IsDueSettling past j
-  due-is n j due = entered (sent_in looked.sent.now n) refl due
+  pub due-is : (n : ℕ) (j : Outgoing) → due_in tables.sent.now tables.deliveries.now n ≡ Some j → IsDueSettling past j
+  due-is n j due = entered (sent_in tables.sent.now n) refl due
     where
       pass : (k : Outgoing) → outgoing_at n past ≡ Some k → (b : Bool) → is_to_settle past k ≡ b → option_map (λ (x : Sent). x.delivery) (if b then Some (sent past k) else None) ≡ Some j → IsDueSettling past j
       pass k at true is gives =
@@ -132,12 +132,12 @@ module _ (rules : RuleSet) (past : List Event) (looked : LentTables) (stands : T
           let own : settles (sent past k) ≡ is_to_settle past k = entry-settles k (ap (λ m. outgoing_at m past) number ∙ at) in
           pass k at (is_to_settle past k) refl (sym (ap (λ b. option_map (λ (x : Sent). x.delivery) (if b then Some (sent past k) else None)) own) ∙ gives)
 
-      entered : (o : Option Sent) → sent_in looked.sent.now n ≡ o → given o ≡ Some j → IsDueSettling past j
+      entered : (o : Option Sent) → sent_in tables.sent.now n ≡ o → given o ≡ Some j → IsDueSettling past j
       entered None is gives = absurd cc
-      entered (Some x) is gives = by (outgoing_at n past) refl (ap given (entry-law looked.sent.now past stands.1.1.1.1.1.1.1.1.0.entries n x is) ∙ gives)
+      entered (Some x) is gives = by (outgoing_at n past) refl (ap given (entry-law tables.sent.now past stands.1.1.1.1.1.1.1.1.0.entries n x is) ∙ gives)
 
   -- and all that is to be settled they give
-  pub is-due : (j : Outgoing) → Contains (outgoing_deliveries past) j → is_to_settle past j ≡ true → is_some (due_in looked.sent.now looked.deliveries.now j.number) ≡ true
+  pub is-due : (j : Outgoing) → Contains (outgoing_deliveries past) j → is_to_settle past j ≡ true → is_some (due_in tables.sent.now tables.deliveries.now j.number) ≡ true
   is-due j there is =
       ap (λ o. is_some (given o)) (entry j there (settled-parts past j is).0)
       ∙ ap (λ b. is_some (option_map (λ (x : Sent). x.delivery) (if b then Some (sent past j) else None))) (entry-settles j (contained-at rules past are j there) ∙ is)
@@ -162,19 +162,19 @@ module _ (rules : RuleSet) (past : List Event) (looked : LentTables) (stands : T
     still : (n : ℕ) → (number == n) ≡ false → has earlier.candidates n ≡ true → has later.candidates n ≡ true
     still n another among = left n ∙ (ap (λ b. b && not (number == n)) among ∙ ap not another)
 
-    own-entry : (j : Outgoing) → Contains (outgoing_deliveries past) j → is_left_unsettled past j ≡ true → (number == j.number) ≡ true → sent_in looked.sent.now number ≡ Some (sent past j)
-    own-entry j there opens is = ap (sent_in looked.sent.now) (eqb-true number j.number is) ∙ entry j there opens
+    own-entry : (j : Outgoing) → Contains (outgoing_deliveries past) j → is_left_unsettled past j ≡ true → (number == j.number) ≡ true → sent_in tables.sent.now number ≡ Some (sent past j)
+    own-entry j there opens is = ap (sent_in tables.sent.now) (eqb-true number j.number is) ∙ entry j there opens
 
     -- ---- as it is no decided one that is unsettled
 
-    module _ (gone : waits_in (sent_in looked.sent.now number) ≡ false) (kept : (n m : ℕ) → is_parked earlier.parked n m ≡ true → is_parked later.parked n m ≡ true) where
+    module _ (gone : waits_in (sent_in tables.sent.now number) ≡ false) (kept : (n m : ℕ) → is_parked earlier.parked n m ≡ true → is_parked later.parked n m ≡ true) where
       another : (j : Outgoing) → Contains (outgoing_deliveries past) j → is_left_unsettled past j ≡ true → is_decided past j ≡ true → (number == j.number) ≡ false
       another j there opens decides = by (number == j.number) refl
         where
           by : (b : Bool) → (number == j.number) ≡ b → (number == j.number) ≡ false
           by false is = is
           by true is =
-              let waits : waits_in (sent_in looked.sent.now number) ≡ true =
+              let waits : waits_in (sent_in tables.sent.now number) ≡ true =
               ap waits_in (own-entry j there opens is) ∙ waits-bits (is_left_unsettled past j) (is_some (option_map terminal_state (decision j past))) opens (some-map terminal_state (decision j past) ∙ decides) in
               let never : true ≡ false = sym waits ∙ gone in
               absurd cc
@@ -190,7 +190,7 @@ module _ (rules : RuleSet) (past : List Event) (looked : LentTables) (stands : T
 
     -- ---- as it is parked
 
-    module _ (p : IsParked later.parked looked.deliveries.now number (sent_in looked.sent.now number)) (kept : (n m : ℕ) → is_parked earlier.parked n m ≡ true → is_parked later.parked n m ≡ true) where
+    module _ (p : IsParked later.parked tables.deliveries.now number (sent_in tables.sent.now number)) (kept : (n m : ℕ) → is_parked earlier.parked n m ≡ true → is_parked later.parked n m ≡ true) where
       -- of what it carries more is to be told
       module _ (j : Outgoing) (there : Contains (outgoing_deliveries past) j) (opens : is_left_unsettled past j ≡ true) (is : (number == j.number) ≡ true) where
         c : IsCarried rules past j
@@ -202,7 +202,7 @@ module _ (rules : RuleSet) (past : List Event) (looked : LentTables) (stands : T
         more : carries_closed past j ≡ false
         more =
             sym (closings j (contained-at rules past are j there))
-            ∙ (ap (closes (λ n. is_shut (held_in looked.deliveries.now n))) c.named ∙ (ap (λ n. is_shut (held_in looked.deliveries.now n)) (sym under-it) ∙ p.opens))
+            ∙ (ap (closes (λ n. is_shut (held_in tables.deliveries.now n))) c.named ∙ (ap (λ n. is_shut (held_in tables.deliveries.now n)) (sym under-it) ∙ p.opens))
 
         parked-own : (d : Incoming) → noted j.note past ≡ Some d → is_parked later.parked d.number j.number ≡ true
         parked-own d at =
@@ -232,7 +232,7 @@ module _ (rules : RuleSet) (past : List Event) (looked : LentTables) (stands : T
   -- ---- where none is given, none is left
 
   pub none-left : (unsettled : Unsettled) → HasUnsettled unsettled past
-      → ((n : ℕ) → has unsettled.candidates n ≡ true → is_some (due_in looked.sent.now looked.deliveries.now n) ≡ false) → none_is_unsettled past ≡ true
+      → ((n : ℕ) → has unsettled.candidates n ≡ true → is_some (due_in tables.sent.now tables.deliveries.now n) ≡ false) → none_is_unsettled past ≡ true
   none-left unsettled kept none = all-each (λ j. not (is_to_settle past j)) (outgoing_deliveries past) (λ j there. by j there (is_to_settle past j) refl)
     where
       by : (j : Outgoing) → Contains (outgoing_deliveries past) j → (b : Bool) → is_to_settle past j ≡ b → not b ≡ true

@@ -30,20 +30,20 @@ pub struct DueOutcome<'t> {
 #[inline(never)]
 pub(crate) fn outcome_of<'t>(
     rules: &RuleSet,
-    looked: &LentTables<'t>,
+    tables: &LentTables<'t>,
     number: u64,
 ) -> Option<DueOutcome<'t>>
-    ensures due { IfSome result (λ due. (records : List Record) → TellsOf rules.now looked.now (history rules.now records) →
+    ensures due { IfSome result (λ due. (records : List Record) → TellsOf rules.now tables.now (history rules.now records) →
         IsDueOutcome rules.now (history rules.now records) (incoming_view due.delivery) due.why (told_view due.told)) }
-    ensures none { result ≡ None → (records : List Record) → TellsOf rules.now looked.now (history rules.now records) →
+    ensures none { result ≡ None → (records : List Record) → TellsOf rules.now tables.now (history rules.now records) →
         (d : events.Incoming) → Contains (incoming_deliveries (history rules.now records)) d → d.number ≡ number →
         is_to_tell rules.now (history rules.now records) d ≡ false }
 {
-    let delivery = looked.deliveries.incoming_at(number)?;
-    if !may_be_told(looked, &delivery) {
+    let delivery = tables.deliveries.incoming_at(number)?;
+    if !may_be_told(tables, &delivery) {
         return None;
     }
-    let (why, told) = first_row(looked, rules, &delivery)?;
+    let (why, told) = first_row(tables, rules, &delivery)?;
     Some(DueOutcome {
         delivery,
         why,

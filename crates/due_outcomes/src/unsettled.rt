@@ -76,17 +76,17 @@ impl Unsettled {
     /// The delivery that is to be settled next, the lowest number first; those that are settled are forgotten. The one that is
     /// answered stays a candidate. Decided deliveries that carry one of which more is to be told are parked, each once; where
     /// memory is refused for that, it passes over them.
-    pub fn first_due<'t>(&mut self, looked: &LentTables<'t>) -> Option<Outgoing<'t>>
-        ensures due { IfSome result (λ j. (rules : RuleSet) (records : List Record) → TellsOf rules looked.now (history rules records) →
+    pub fn first_due<'t>(&mut self, tables: &LentTables<'t>) -> Option<Outgoing<'t>>
+        ensures due { IfSome result (λ j. (rules : RuleSet) (records : List Record) → TellsOf rules tables.now (history rules records) →
             IsDueSettling (history rules records) (outgoing_view j)) }
-        ensures kept { (rules : RuleSet) (records : List Record) → TellsOf rules looked.now (history rules records) →
+        ensures kept { (rules : RuleSet) (records : List Record) → TellsOf rules tables.now (history rules records) →
             HasUnsettled self.old (history rules records) → HasUnsettled self.new (history rules records) }
-        ensures quiet { result ≡ None → (rules : RuleSet) (records : List Record) → TellsOf rules looked.now (history rules records) →
+        ensures quiet { result ≡ None → (rules : RuleSet) (records : List Record) → TellsOf rules tables.now (history rules records) →
             HasUnsettled self.old (history rules records) → none_is_unsettled (history rules records) ≡ true }
     {
-        self.sort_lowest(looked);
-        let number = self.candidates.first_passing(&IsToSettle { looked })?;
-        settling_of(looked, number)
+        self.sort_lowest(tables);
+        let number = self.candidates.first_passing(&IsToSettle { tables })?;
+        settling_of(tables, number)
     }
 
     /// What carries a delivery of which nothing more is to be told with the event becomes a candidate.
@@ -116,12 +116,12 @@ impl Unsettled {
     }
 
     /// The lowest are forgotten or parked, up to one that is to be settled.
-    fn sort_lowest(&mut self, looked: &LentTables<'_>)
-        ensures { (rules : RuleSet) (records : List Record) → TellsOf rules looked.now (history rules records) →
+    fn sort_lowest(&mut self, tables: &LentTables<'_>)
+        ensures { (rules : RuleSet) (records : List Record) → TellsOf rules tables.now (history rules records) →
             HasUnsettled self.old (history rules records) → HasUnsettled self.new (history rules records) }
     {
         while let Some(number) = self.candidates.first() {
-            if self.stays(looked, number, looked.sent.get(number)) {
+            if self.stays(tables, number, tables.sent.get(number)) {
                 return;
             }
             self.candidates.remove(number);
@@ -129,23 +129,23 @@ impl Unsettled {
     }
 
     /// The delivery of the number stays a candidate: it is decided and unsettled, and cannot be parked.
-    fn stays(&mut self, looked: &LentTables<'_>, number: u64, entry: Option<&SentDelivery>) -> bool
+    fn stays(&mut self, tables: &LentTables<'_>, number: u64, entry: Option<&SentDelivery>) -> bool
         ensures goes { result ≡ false → (waits_in (option_map sent_view (option_copied entry.entry)) ≡ false)
-            ⊎ IsParked self.new.parked looked.now.deliveries.now number (option_map sent_view (option_copied entry.entry)) }
+            ⊎ IsParked self.new.parked tables.now.deliveries.now number (option_map sent_view (option_copied entry.entry)) }
         ensures kept { (n m : ℕ) → is_parked self.old.parked n m ≡ true → is_parked self.new.parked n m ≡ true }
         ensures candidates { self.new.candidates ≡ self.old.candidates }
     {
-        waits(entry) && !self.park(looked, number, entry)
+        waits(entry) && !self.park(tables, number, entry)
     }
 
     /// The delivery of the number is parked, and this is said, if more is to be told of what it carries and memory is not
     /// refused.
-    fn park(&mut self, looked: &LentTables<'_>, number: u64, entry: Option<&SentDelivery>) -> bool
-        ensures parked { result ≡ true → IsParked self.new.parked looked.now.deliveries.now number (option_map sent_view (option_copied entry.entry)) }
+    fn park(&mut self, tables: &LentTables<'_>, number: u64, entry: Option<&SentDelivery>) -> bool
+        ensures parked { result ≡ true → IsParked self.new.parked tables.now.deliveries.now number (option_map sent_view (option_copied entry.entry)) }
         ensures kept { (n m : ℕ) → is_parked self.old.parked n m ≡ true → is_parked self.new.parked n m ≡ true }
         ensures candidates { self.new.candidates ≡ self.old.candidates }
     {
-        match carried_open(looked, entry) {
+        match carried_open(tables, entry) {
             Some(carried) => self.parked.put(carried, number).is_ok(),
             None => false,
         }
@@ -163,12 +163,12 @@ fn waits(entry: Option<&SentDelivery>) -> bool
 }
 
 /// The number of what it carries, if more is to be told of that.
-fn carried_open(looked: &LentTables<'_>, entry: Option<&SentDelivery>) -> Option<u64>
+fn carried_open(tables: &LentTables<'_>, entry: Option<&SentDelivery>) -> Option<u64>
     ensures { IfSome result (λ n. (sent.carried (option_map sent_view (option_copied entry.entry)) ≡ Some n)
-        × (is_shut (held_in looked.now.deliveries.now n) ≡ false)) }
+        × (is_shut (held_in tables.now.deliveries.now n) ≡ false)) }
 {
     match entry?.delivery().note {
-        Note::Pair(number) if !looked.deliveries.is_shut(number) => Some(number),
+        Note::Pair(number) if !tables.deliveries.is_shut(number) => Some(number),
         _ => None,
     }
 }
@@ -215,22 +215,22 @@ fn has_producer(links: &[Link]) -> bool
 }
 
 /// Nothing more is to be told of the delivery that the note names.
-fn closes(looked: &LentTables<'_>, note: Note) -> bool
-    ensures { result ≡ sent.closes (λ n. is_shut (held_in looked.now.deliveries.now n)) note }
+fn closes(tables: &LentTables<'_>, note: Note) -> bool
+    ensures { result ≡ sent.closes (λ n. is_shut (held_in tables.now.deliveries.now n)) note }
 {
     match note {
-        Note::Pair(number) => looked.deliveries.is_shut(number),
+        Note::Pair(number) => tables.deliveries.is_shut(number),
         Note::None | Note::Told(_) => false,
     }
 }
 
 /// The delivery of the number, if it is to be settled.
-fn settling_of<'t>(looked: &LentTables<'t>, number: u64) -> Option<Outgoing<'t>>
-    ensures { option_map outgoing_view result ≡ due_in looked.now.sent.now looked.now.deliveries.now number }
+fn settling_of<'t>(tables: &LentTables<'t>, number: u64) -> Option<Outgoing<'t>>
+    ensures { option_map outgoing_view result ≡ due_in tables.now.sent.now tables.now.deliveries.now number }
 {
-    let own = looked.sent.get(number)?;
+    let own = tables.sent.get(number)?;
     let delivery = own.delivery();
-    if own.is_to_settle(closes(looked, delivery.note)) {
+    if own.is_to_settle(closes(tables, delivery.note)) {
         Some(delivery)
     } else {
         None
@@ -240,13 +240,13 @@ fn settling_of<'t>(looked: &LentTables<'t>, number: u64) -> Option<Outgoing<'t>>
 /// The deliveries that are to be settled.
 #[derive(Drop)]
 struct IsToSettle<'l, 't> {
-    looked: &'l LentTables<'t>,
+    tables: &'l LentTables<'t>,
 }
 
 impl<'l, 't> NumberTest for IsToSettle<'l, 't> {
-    ghost does_pass = { λ s number. is_some (due_in s.looked.now.sent.now s.looked.now.deliveries.now number) };
+    ghost does_pass = { λ s number. is_some (due_in s.tables.now.sent.now s.tables.now.deliveries.now number) };
 
     fn passes(&self, number: u64) -> bool {
-        settling_of(self.looked, number).is_some()
+        settling_of(self.tables, number).is_some()
     }
 }

@@ -168,20 +168,20 @@ impl Untold {
     pub fn first_due<'t>(
         &mut self,
         rules: &RuleSet,
-        looked: &LentTables<'t>,
+        tables: &LentTables<'t>,
     ) -> Option<DueOutcome<'t>>
-        ensures due { IfSome result (λ due. (records : List Record) → TellsOf rules.now looked.now (history rules.now records) →
+        ensures due { IfSome result (λ due. (records : List Record) → TellsOf rules.now tables.now (history rules.now records) →
             IsDueOutcome rules.now (history rules.now records) (incoming_view due.delivery) due.why (told_view due.told)) }
-        ensures kept { (records : List Record) → TellsOf rules.now looked.now (history rules.now records) →
+        ensures kept { (records : List Record) → TellsOf rules.now tables.now (history rules.now records) →
             HasUntold rules.now self.old (history rules.now records) → HasUntold rules.now self.new (history rules.now records) }
-        ensures quiet { result ≡ None → (records : List Record) → TellsOf rules.now looked.now (history rules.now records) →
+        ensures quiet { result ≡ None → (records : List Record) → TellsOf rules.now tables.now (history rules.now records) →
             HasUntold rules.now self.old (history rules.now records) → none_is_untold rules.now (history rules.now records) ≡ true }
     {
         while let Some(number) = self.candidates.first() {
-            if let Some(due) = outcome_of(rules, looked, number) {
+            if let Some(due) = outcome_of(rules, tables, number) {
                 return Some(due);
             }
-            self.forget(looked, number);
+            self.forget(tables, number);
         }
         None
     }
@@ -207,20 +207,20 @@ impl Untold {
 
     /// The delivery is no candidate, and not found any more by what is over of it.
     #[inline(never)]
-    fn forget(&mut self, looked: &LentTables<'_>, number: u64)
+    fn forget(&mut self, tables: &LentTables<'_>, number: u64)
         ensures left { (n : ℕ) → has self.new.candidates n ≡ (has self.old.candidates n && not (number == n)) }
         ensures shorter { has self.old.candidates number ≡ true → count_of self.new.candidates < count_of self.old.candidates }
         ensures carried { (j : events.Outgoing) (n : ℕ) → (number == n) ≡ false → IsOn self.old.carried j n → IsOn self.new.carried j n }
-        ensures opens { is_shut (held_in looked.now.deliveries.now number) ≡ false → self.new.carried ≡ self.old.carried }
+        ensures opens { is_shut (held_in tables.now.deliveries.now number) ≡ false → self.new.carried ≡ self.old.carried }
     {
         self.candidates.remove(number);
-        if let Some(held) = looked.deliveries.get(number) {
-            self.stop_carrying(looked, held, number);
+        if let Some(held) = tables.deliveries.get(number) {
+            self.stop_carrying(tables, held, number);
         }
     }
 
     /// It is not found by what carries it, if nothing more is to be told of it.
-    fn stop_carrying(&mut self, looked: &LentTables<'_>, held: &HeldDelivery, number: u64)
+    fn stop_carrying(&mut self, tables: &LentTables<'_>, held: &HeldDelivery, number: u64)
         ensures carried { (j : events.Outgoing) (n : ℕ) → (number == n) ≡ false → IsOn self.old.carried j n → IsOn self.new.carried j n }
         ensures opens { held.now.is_closed ≡ false → self.new.carried ≡ self.old.carried }
         ensures candidates { self.new.candidates ≡ self.old.candidates }
@@ -228,7 +228,7 @@ impl Untold {
         if !held.is_closed() {
             return;
         }
-        if let Some(carrier) = looked.pairing(&held.delivery()) {
+        if let Some(carrier) = tables.pairing(&held.delivery()) {
             remove_under(&mut self.carried, &carrier, number);
         }
     }

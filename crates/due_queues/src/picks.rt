@@ -81,28 +81,28 @@ fn text_of(octets: &[u8]) -> Option<&str>
 
 /// The consumer's live link of this number may be sent a delivery: it has credit, its session has window, and nothing is in
 /// progress.
-fn may_take(looked: &LentTables<'_>, number: u64) -> bool
-    ensures { (rules : RuleSet) (records : List Record) → TellsOf rules looked.now (history rules records) →
+fn may_take(tables: &LentTables<'_>, number: u64) -> bool
+    ensures { (rules : RuleSet) (records : List Record) → TellsOf rules tables.now (history rules records) →
         result ≡ is_some_and (consumer_at number (history rules records)) (may_take (history rules records)) }
 {
-    match looked.consumer_links.get(number) {
-        Some(link) => takes(looked, &link),
+    match tables.consumer_links.get(number) {
+        Some(link) => takes(tables, &link),
         None => false,
     }
 }
 
 /// The same of a live link.
-fn takes(looked: &LentTables<'_>, link: &Link) -> bool
-    ensures { (rules : RuleSet) (records : List Record) → TellsOf rules looked.now (history rules records) →
+fn takes(tables: &LentTables<'_>, link: &Link) -> bool
+    ensures { (rules : RuleSet) (records : List Record) → TellsOf rules tables.now (history rules records) →
         IsLiveLink (link_view link.now) (history rules records) → result ≡ may_take (history rules records) (link_view link.now) }
 {
-    if looked.links.link_credit(link) == 0 {
+    if tables.links.link_credit(link) == 0 {
         return false;
     }
-    if looked.connections.session_window(link.session) == 0 {
+    if tables.connections.session_window(link.session) == 0 {
         return false;
     }
-    looked.sent.outgoing_in_progress(link).is_none()
+    tables.sent.outgoing_in_progress(link).is_none()
 }
 
 impl Picks {
@@ -149,11 +149,11 @@ impl Picks {
         &self,
         address: &[u8],
         rules: &RuleSet,
-        looked: &LentTables<'t>,
+        tables: &LentTables<'t>,
     ) -> Option<Link<'t>>
-        ensures picked { (records : List Record) → TellsOf rules.now looked.now (history rules.now records) → ArePicks self.now (history rules.now records) →
+        ensures picked { (records : List Record) → TellsOf rules.now tables.now (history rules.now records) → ArePicks self.now (history rules.now records) →
             option_map (λ l. (link_view l).number) result ≡ pick rules.now address.now (history rules.now records) }
-        ensures known { (records : List Record) → TellsOf rules.now looked.now (history rules.now records) → ArePicks self.now (history rules.now records) →
+        ensures known { (records : List Record) → TellsOf rules.now tables.now (history rules.now records) → ArePicks self.now (history rules.now records) →
             IfSome (option_map link_view result) (λ l. link_at l.number (history rules.now records) ≡ Some l) }
     {
         let text = text_of(address)?;
@@ -162,11 +162,11 @@ impl Picks {
             text,
             distribution,
             |number: u64| -> bool
-                ensures { (rules : RuleSet) (records : List Record) → TellsOf rules looked.entry.now (history rules records) →
+                ensures { (rules : RuleSet) (records : List Record) → TellsOf rules tables.entry.now (history rules records) →
                     result ≡ is_some_and (consumer_at number (history rules records)) (may_take (history rules records)) }
-            { may_take(looked, number) },
+            { may_take(tables, number) },
         )?;
-        looked.consumer_links.get(number)
+        tables.consumer_links.get(number)
     }
 
     /// The link of a consumer that the event opens is attached to its address.

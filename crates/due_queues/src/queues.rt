@@ -126,21 +126,21 @@ impl Queues {
     }
 
     /// The delivery that was completed first of those that wait at the address. Those in front of it, which wait no more, go.
-    pub fn first<'t>(&mut self, address: &[u8], looked: &LentTables<'t>) -> Option<Incoming<'t>>
-        ensures kept { (rules : RuleSet) (records : List Record) → TellsOf rules looked.now (history rules records) →
+    pub fn first<'t>(&mut self, address: &[u8], tables: &LentTables<'t>) -> Option<Incoming<'t>>
+        ensures kept { (rules : RuleSet) (records : List Record) → TellsOf rules tables.now (history rules records) →
             HaveQueues rules self.old (history rules records) → HaveQueues rules self.new (history rules records) }
-        ensures first { (rules : RuleSet) (records : List Record) → TellsOf rules looked.now (history rules records) →
+        ensures first { (rules : RuleSet) (records : List Record) → TellsOf rules tables.now (history rules records) →
             HaveQueues rules self.old (history rules records) → IfSome (option_map incoming_view result) (λ d. (received.address_of d (history rules records) ≡ address.now)
             × (received.incoming_at d.number (history rules records) ≡ Some d) × (is_next_waiting rules (history rules records) d ≡ true)) }
-        ensures none { (rules : RuleSet) (records : List Record) → TellsOf rules looked.now (history rules records) →
+        ensures none { (rules : RuleSet) (records : List Record) → TellsOf rules tables.now (history rules records) →
             HaveQueues rules self.old (history rules records) → result ≡ None → waiting_queue rules address.now (history rules records) ≡ [] }
     {
         let Some(queue) = self.entries.get_mut(address) else {
             return None;
         };
-        let Some(number) = first_waiting(queue, looked.deliveries) else {
+        let Some(number) = first_waiting(queue, tables.deliveries) else {
             return None;
         };
-        looked.deliveries.kept(Some(number))
+        tables.deliveries.kept(Some(number))
     }
 }

@@ -85,22 +85,22 @@ impl Waiting {
     pub fn first_due<'t>(
         &mut self,
         rules: &RuleSet,
-        looked: &LentTables<'t>,
+        tables: &LentTables<'t>,
     ) -> Option<DueBegin<'t>>
-        ensures due { IfSome result (λ due. (records : List Record) → TellsOf rules.now looked.now (history rules.now records) →
+        ensures due { IfSome result (λ due. (records : List Record) → TellsOf rules.now tables.now (history rules.now records) →
             HasWaiting rules.now self.old (history rules.now records) → IsDueWaiting rules.now due (history rules.now records)) }
-        ensures earliest { IfSome result (λ due. (records : List Record) → TellsOf rules.now looked.now (history rules.now records) →
+        ensures earliest { IfSome result (λ due. (records : List Record) → TellsOf rules.now tables.now (history rules.now records) →
             HasWaiting rules.now self.old (history rules.now records) → IsEarliest rules.now due (history rules.now records)) }
-        ensures kept { (records : List Record) → TellsOf rules.now looked.now (history rules.now records) →
+        ensures kept { (records : List Record) → TellsOf rules.now tables.now (history rules.now records) →
             HasWaiting rules.now self.old (history rules.now records) → HasWaiting rules.now self.new (history rules.now records) }
-        ensures quiet { (records : List Record) → TellsOf rules.now looked.now (history rules.now records) →
+        ensures quiet { (records : List Record) → TellsOf rules.now tables.now (history rules.now records) →
             HasWaiting rules.now self.old (history rules.now records) → result ≡ None → none_waits_in_vain rules.now (history rules.now records) ≡ true }
     {
         let mut first = None;
         let mut index = 0;
         while index < self.awake.count() {
-            if let Some(due) = self.look(index, rules, looked) {
-                first = Some(earlier(first, due, looked));
+            if let Some(due) = self.look(index, rules, tables) {
+                first = Some(earlier(first, due, tables));
                 index += 1;
             }
         }
@@ -113,21 +113,21 @@ impl Waiting {
         &mut self,
         index: usize,
         rules: &RuleSet,
-        looked: &LentTables<'t>,
+        tables: &LentTables<'t>,
     ) -> Option<DueBegin<'t>>
         requires within { index < count_of self.old.awake }
-        ensures due { IfSome result (λ due. (records : List Record) → TellsOf rules.now looked.now (history rules.now records) →
+        ensures due { IfSome result (λ due. (records : List Record) → TellsOf rules.now tables.now (history rules.now records) →
             HasWaiting rules.now self.old (history rules.now records) → IsDueWaiting rules.now due (history rules.now records)) }
-        ensures kept { (records : List Record) → TellsOf rules.now looked.now (history rules.now records) →
+        ensures kept { (records : List Record) → TellsOf rules.now tables.now (history rules.now records) →
             HasWaiting rules.now self.old (history rules.now records) → HasWaiting rules.now self.new (history rules.now records) }
         ensures before { (at : List ℕ) → is_among_first self.new.awake index at ≡ is_among_first self.old.awake index at }
-        ensures here { IfSome result (λ due. (records : List Record) → TellsOf rules.now looked.now (history rules.now records) →
+        ensures here { IfSome result (λ due. (records : List Record) → TellsOf rules.now tables.now (history rules.now records) →
             HasWaiting rules.now self.old (history rules.now records) → (at : List ℕ) → is_among_first self.new.awake (index + 1) at
             ≡ (is_among_first self.old.awake index at || bytes_eq at (address_of (incoming_view due.delivery) (history rules.now records)))) }
         ensures count { count_of self.new.awake + (if is_none result then 1 else 0) ≡ count_of self.old.awake }
     {
         let address = self.awake.get(index)?;
-        if let Some(due) = due_at(address, &self.picks, &mut self.queues, rules, looked) {
+        if let Some(due) = due_at(address, &self.picks, &mut self.queues, rules, tables) {
             return Some(due);
         }
         self.awake.remove(index);
@@ -141,22 +141,22 @@ fn due_at<'t>(
     picks: &Picks,
     queues: &mut Queues,
     rules: &RuleSet,
-    looked: &LentTables<'t>,
+    tables: &LentTables<'t>,
 ) -> Option<DueBegin<'t>>
-    ensures due { IfSome result (λ due. (records : List Record) → TellsOf rules.now looked.now (history rules.now records) →
+    ensures due { IfSome result (λ due. (records : List Record) → TellsOf rules.now tables.now (history rules.now records) →
         ArePicks picks.now (history rules.now records) → HaveQueues rules.now queues.old (history rules.now records) →
         IsDueWaiting rules.now due (history rules.now records)) }
-    ensures here { IfSome result (λ due. (records : List Record) → TellsOf rules.now looked.now (history rules.now records) →
+    ensures here { IfSome result (λ due. (records : List Record) → TellsOf rules.now tables.now (history rules.now records) →
         HaveQueues rules.now queues.old (history rules.now records) → address_of (incoming_view due.delivery) (history rules.now records) ≡ address.now) }
-    ensures kept { (records : List Record) → TellsOf rules.now looked.now (history rules.now records) →
+    ensures kept { (records : List Record) → TellsOf rules.now tables.now (history rules.now records) →
         HaveQueues rules.now queues.old (history rules.now records) → HaveQueues rules.now queues.new (history rules.now records) }
-    ensures none { (records : List Record) → TellsOf rules.now looked.now (history rules.now records) →
+    ensures none { (records : List Record) → TellsOf rules.now tables.now (history rules.now records) →
         ArePicks picks.now (history rules.now records) → HaveQueues rules.now queues.old (history rules.now records) → result ≡ None →
         NoneBegins rules.now (history rules.now records) address.now }
 {
-    let delivery = queues.first(address, looked)?;
-    let link = picks.pick(address, rules, looked)?;
-    let payload = looked.deliveries.payload(&delivery);
+    let delivery = queues.first(address, tables)?;
+    let link = picks.pick(address, rules, tables)?;
+    let payload = tables.deliveries.payload(&delivery);
     Some(DueBegin {
         link,
         delivery,
@@ -168,16 +168,16 @@ fn due_at<'t>(
 fn earlier<'t>(
     first: Option<DueBegin<'t>>,
     other: DueBegin<'t>,
-    looked: &LentTables<'t>,
+    tables: &LentTables<'t>,
 ) -> DueBegin<'t>
     ensures one { (first.entry ≡ Some result) ⊎ (other.entry ≡ result) }
-    ensures order { (rules : RuleSet) (past : Events) → TellsOf rules looked.now past →
-        IfSome first.entry (λ due. Knows looked.now.deliveries.now (incoming_view due.delivery)) →
-        Knows looked.now.deliveries.now (incoming_view other.entry.delivery) → result ≡ earlier_of past first.entry other.entry }
+    ensures order { (rules : RuleSet) (past : Events) → TellsOf rules tables.now past →
+        IfSome first.entry (λ due. Knows tables.now.deliveries.now (incoming_view due.delivery)) →
+        Knows tables.now.deliveries.now (incoming_view other.entry.delivery) → result ≡ earlier_of past first.entry other.entry }
 {
     match first {
         Some(due) => {
-            if looked
+            if tables
                 .deliveries
                 .completed_before(&other.delivery, &due.delivery)
             {

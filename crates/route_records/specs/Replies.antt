@@ -46,12 +46,12 @@ pub record IsAnswerable (rules : RuleSet) (e : Event) : Type 0 where
   pub judged : e ≡ judge_moment rules past connection moment notes.None
 
 -- these frames are the answer to an event, behind whatever history of a router it is
-pub record IsAnswerOf (rules : RuleSet) (looked : LentTables) (e : Event) (frames : List Spoken) : Type 0 where
+pub record IsAnswerOf (rules : RuleSet) (tables : LentTables) (e : Event) (frames : List Spoken) : Type 0 where
   pub says : (past : List Event) (c : ℕ) (m : Moment) → IsReady rules past → IsTrue (may_happen c m past)
-      → e ≡ judge_moment rules past c m notes.None → TellsOf rules looked (e ∷ past) → frames ≡ answer rules e (e ∷ past)
+      → e ≡ judge_moment rules past c m notes.None → TellsOf rules tables (e ∷ past) → frames ≡ answer rules e (e ∷ past)
 
 -- these records write such frames
-pub record AreAnswers (rules : RuleSet) (looked : LentTables) (e : Event) (records : List Record) : Type 0 where
+pub record AreAnswers (rules : RuleSet) (tables : LentTables) (e : Event) (records : List Record) : Type 0 where
   pub frames : List Spoken
-  pub answers : IsAnswerOf rules looked e frames
+  pub answers : IsAnswerOf rules tables e frames
   pub written : AreReplies e.connection frames records

@@ -66,17 +66,17 @@ fn records_of(alloc: Global, connection: u32, answer: &Answer<'_>) -> Result<Rep
 
 /// The direct answer to what a client did, by the tables of what was recorded up to it.
 fn answer_by<'m>(
-    looked: &LentTables<'_>,
+    tables: &LentTables<'_>,
     rules: &RuleSet,
     held: &HeldEvent,
     entry: &ReadRecord<'m>,
 ) -> Answer<'m>
     requires answerable { IsAnswerable rules.now (held_event_view held.now (moment_of entry.now.what)) }
-    ensures says { IsAnswerOf rules.now looked.now (held_event_view held.now (moment_of entry.now.what)) (answer_view result) }
+    ensures says { IsAnswerOf rules.now tables.now (held_event_view held.now (moment_of entry.now.what)) (answer_view result) }
     ensures short { CanBeWritten result }
 {
     let event = held.event(entry);
-    answer_to(looked, rules, &event)
+    answer_to(tables, rules, &event)
 }
 
 /// The records that answer what a client did, by the tables of what was recorded up to it.
@@ -86,16 +86,16 @@ fn answer_by<'m>(
 /// Where memory is refused.
 pub(crate) fn replies_to(
     alloc: Global,
-    looked: &LentTables<'_>,
+    tables: &LentTables<'_>,
     rules: &RuleSet,
     held: &HeldEvent,
     entry: &ReadRecord<'_>,
 ) -> Result<Replies, AllocError>
     requires answerable { IsAnswerable rules.now (held_event_view held.now (moment_of entry.now.what)) }
     requires connected { (held_event_view held.now (moment_of entry.now.what)).connection ≡ entry.now.connection }
-    ensures { IfOk result (λ replies. AreAnswers rules.now looked.now (held_event_view held.now (moment_of entry.now.what)) (replies_of replies)) }
+    ensures { IfOk result (λ replies. AreAnswers rules.now tables.now (held_event_view held.now (moment_of entry.now.what)) (replies_of replies)) }
 {
-    let answer = answer_by(looked, rules, held, entry);
+    let answer = answer_by(tables, rules, held, entry);
     let replies = records_of(alloc, entry.connection(), &answer)?;
     Ok(replies)
 }

@@ -49,17 +49,17 @@ pub trait Dues {
             has_all self.old rules.now (history rules.now records) → has_all self.new rules.now (event_view event.now ∷ history rules.now records)) };
 
     /// What is due next, by the tables of the events so far; `None` where nothing is.
-    fn next_due<'t>(&mut self, rules: &RuleSet, looked: &LentTables<'t>) -> Option<Due<'t>>
+    fn next_due<'t>(&mut self, rules: &RuleSet, tables: &LentTables<'t>) -> Option<Due<'t>>
         // What is answered is due.
-        ensures due { (records : List Record) → TellsOf rules.now looked.now (history rules.now records) →
+        ensures due { (records : List Record) → TellsOf rules.now tables.now (history rules.now records) →
             has_all self.old rules.now (history rules.now records) → IfSome result (IsDue rules.now (history rules.now records)) }
         // Nothing is due in front of it.
-        ensures turn { (records : List Record) → TellsOf rules.now looked.now (history rules.now records) →
+        ensures turn { (records : List Record) → TellsOf rules.now tables.now (history rules.now records) →
             has_all self.old rules.now (history rules.now records) → IfSome result (λ due. is_in_turn rules.now (history rules.now records) due ≡ true) }
         // All that is due stays listed.
-        ensures kept { (records : List Record) → TellsOf rules.now looked.now (history rules.now records) →
+        ensures kept { (records : List Record) → TellsOf rules.now tables.now (history rules.now records) →
             has_all self.old rules.now (history rules.now records) → has_all self.new rules.now (history rules.now records) }
         // Nothing is left where nothing is answered.
-        ensures quiet { (records : List Record) → TellsOf rules.now looked.now (history rules.now records) →
+        ensures quiet { (records : List Record) → TellsOf rules.now tables.now (history rules.now records) →
             has_all self.old rules.now (history rules.now records) → result ≡ None → is_quiet rules.now (history rules.now records) ≡ true };
 }

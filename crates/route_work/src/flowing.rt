@@ -79,25 +79,25 @@ impl Flowing {
     pub(crate) fn next_due<'t>(
         &mut self,
         rules: &RuleSet,
-        looked: &LentTables<'t>,
+        tables: &LentTables<'t>,
     ) -> Option<Due<'t>>
-        ensures due { (records : List Record) → TellsOf rules.now looked.now (history rules.now records) →
+        ensures due { (records : List Record) → TellsOf rules.now tables.now (history rules.now records) →
             HasFlowing rules.now self.old (history rules.now records) → IfSome result (IsDue rules.now (history rules.now records)) }
-        ensures turn { (records : List Record) → TellsOf rules.now looked.now (history rules.now records) →
+        ensures turn { (records : List Record) → TellsOf rules.now tables.now (history rules.now records) →
             HasFlowing rules.now self.old (history rules.now records) → IsAllTold rules.now (history rules.now records) →
             IsAllSent rules.now (history rules.now records) → IfSome result (λ due. is_in_turn rules.now (history rules.now records) due ≡ true) }
-        ensures kept { (records : List Record) → TellsOf rules.now looked.now (history rules.now records) →
+        ensures kept { (records : List Record) → TellsOf rules.now tables.now (history rules.now records) →
             HasFlowing rules.now self.old (history rules.now records) → HasFlowing rules.now self.new (history rules.now records) }
-        ensures quiet { (records : List Record) → TellsOf rules.now looked.now (history rules.now records) →
+        ensures quiet { (records : List Record) → TellsOf rules.now tables.now (history rules.now records) →
             HasFlowing rules.now self.old (history rules.now records) → result ≡ None → IsAllGiven rules.now (history rules.now records) }
     {
-        if let Some(link) = self.drains.first_due(rules, looked) {
+        if let Some(link) = self.drains.first_due(rules, tables) {
             return Some(Due::Drain(link));
         }
-        if let Some(link) = self.credits.first_due(rules, looked) {
+        if let Some(link) = self.credits.first_due(rules, tables) {
             return Some(Due::Credit(link));
         }
-        if let Some(session) = self.windows.first_due(looked) {
+        if let Some(session) = self.windows.first_due(tables) {
             return Some(Due::Window(session));
         }
         None

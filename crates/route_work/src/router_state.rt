@@ -93,9 +93,9 @@ impl<D: Dues> RouterState<D> {
         ensures { OnOk result ((records : List Record) → IsRouterState D.has_all rules.now self.now records → number ≡ length records →
             IsUnbroken rules.now records entry.now → IsLawfulNext rules.now records entry.now (held_event_view held.new (moment_of entry.now.what))) }
     {
-        let looked = self.tables.looked();
-        let mut event = judge_unopened(&looked, rules, number, entry);
-        open(&looked, &mut event);
+        let lent = self.tables.looked();
+        let mut event = judge_unopened(&lent, rules, number, entry);
+        open(&lent, &mut event);
         held.keep(self.alloc, &event)
     }
 
@@ -108,11 +108,11 @@ impl<D: Dues> RouterState<D> {
         ensures { OnOk result ((records : List Record) (r : Record) → IsLawfulNext rules.now records r (event_view event.now) →
             IsRouterState D.has_all rules.now self.old records → IsRouterState D.has_all rules.now self.new (records ++ r ∷ [])) }
     {
-        let looked = self.tables.looked();
-        let completed = looked.deliveries.completed_for(event);
+        let lent = self.tables.looked();
+        let completed = lent.deliveries.completed_for(event);
         let address = completed.octets();
-        let effects = EventEffects::of(self.alloc, event, &looked)?;
-        self.dues.follow(rules, event, address, &looked, &effects)?;
+        let effects = EventEffects::of(self.alloc, event, &lent)?;
+        self.dues.follow(rules, event, address, &lent, &effects)?;
         drop(effects);
         self.tables.take_addressed(rules, event, address)?;
         Ok(())
@@ -133,9 +133,9 @@ impl<D: Dues> RouterState<D> {
         ensures quiet { (records : List Record) → IsRouterState D.has_all rules.now self.old records →
             IfOk result (λ next. next ≡ None → is_quiet rules.now (history rules.now records) ≡ true) }
     {
-        let looked = self.tables.looked();
-        match self.dues.next_due(rules, &looked) {
-            Some(due) => Ok(Some(record_of(self.alloc, &looked, rules, &due)?)),
+        let lent = self.tables.looked();
+        match self.dues.next_due(rules, &lent) {
+            Some(due) => Ok(Some(record_of(self.alloc, &lent, rules, &due)?)),
             None => {
                 // Two are looked at, since a step may make one delivery more: so what is over does not grow while others stay open.
                 self.tables.let_go_next();

@@ -89,24 +89,24 @@ impl Sending {
     pub(crate) fn next_due<'t>(
         &mut self,
         rules: &RuleSet,
-        looked: &LentTables<'t>,
+        tables: &LentTables<'t>,
     ) -> Option<Due<'t>>
-        ensures due { (records : List Record) → TellsOf rules.now looked.now (history rules.now records) →
+        ensures due { (records : List Record) → TellsOf rules.now tables.now (history rules.now records) →
             HasSending rules.now self.old (history rules.now records) → IfSome result (IsDue rules.now (history rules.now records)) }
-        ensures turn { (records : List Record) → TellsOf rules.now looked.now (history rules.now records) →
+        ensures turn { (records : List Record) → TellsOf rules.now tables.now (history rules.now records) →
             HasSending rules.now self.old (history rules.now records) → IsAllTold rules.now (history rules.now records) →
             IfSome result (λ due. is_in_turn rules.now (history rules.now records) due ≡ true) }
-        ensures kept { (records : List Record) → TellsOf rules.now looked.now (history rules.now records) →
+        ensures kept { (records : List Record) → TellsOf rules.now tables.now (history rules.now records) →
             HasSending rules.now self.old (history rules.now records) → HasSending rules.now self.new (history rules.now records) }
-        ensures quiet { (records : List Record) → TellsOf rules.now looked.now (history rules.now records) →
+        ensures quiet { (records : List Record) → TellsOf rules.now tables.now (history rules.now records) →
             HasSending rules.now self.old (history rules.now records) → result ≡ None → IsAllSent rules.now (history rules.now records) }
     {
-        if let Some(part) = self.parts.first_due(looked) {
+        if let Some(part) = self.parts.first_due(tables) {
             return Some(Due::Part(part));
         }
-        let waiting = self.waiting.first_due(rules, looked);
-        let copy = self.copies.first_due(rules, looked);
-        first_completed(waiting, copy, looked)
+        let waiting = self.waiting.first_due(rules, tables);
+        let copy = self.copies.first_due(rules, tables);
+        first_completed(waiting, copy, tables)
     }
 }
 
@@ -114,7 +114,7 @@ impl Sending {
 fn first_completed<'t>(
     waiting: Option<DueBegin<'t>>,
     copy: Option<DueBegin<'t>>,
-    looked: &LentTables<'t>,
+    tables: &LentTables<'t>,
 ) -> Option<Due<'t>>
     ensures due { (rules : RuleSet) (past : Events) → IfSome waiting.entry (λ due. IsDueWaiting rules due past) → IfSome copy.entry (λ due. IsDueCopy rules due past) →
         IfSome result (IsDue rules past) }
@@ -124,7 +124,7 @@ fn first_completed<'t>(
 {
     match (waiting, copy) {
         (Some(begin), Some(copy)) => {
-            if looked
+            if tables
                 .deliveries
                 .completed_before(&copy.delivery, &begin.delivery)
             {

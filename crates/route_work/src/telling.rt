@@ -71,21 +71,21 @@ impl Telling {
     pub(crate) fn next_due<'t>(
         &mut self,
         rules: &RuleSet,
-        looked: &LentTables<'t>,
+        tables: &LentTables<'t>,
     ) -> Option<Due<'t>>
-        ensures due { (records : List Record) → TellsOf rules.now looked.now (history rules.now records) →
+        ensures due { (records : List Record) → TellsOf rules.now tables.now (history rules.now records) →
             HasTelling rules.now self.old (history rules.now records) → IfSome result (IsDue rules.now (history rules.now records)) }
-        ensures turn { (records : List Record) → TellsOf rules.now looked.now (history rules.now records) →
+        ensures turn { (records : List Record) → TellsOf rules.now tables.now (history rules.now records) →
             HasTelling rules.now self.old (history rules.now records) → IfSome result (λ due. is_in_turn rules.now (history rules.now records) due ≡ true) }
-        ensures kept { (records : List Record) → TellsOf rules.now looked.now (history rules.now records) →
+        ensures kept { (records : List Record) → TellsOf rules.now tables.now (history rules.now records) →
             HasTelling rules.now self.old (history rules.now records) → HasTelling rules.now self.new (history rules.now records) }
-        ensures quiet { (records : List Record) → TellsOf rules.now looked.now (history rules.now records) →
+        ensures quiet { (records : List Record) → TellsOf rules.now tables.now (history rules.now records) →
             HasTelling rules.now self.old (history rules.now records) → result ≡ None → IsAllTold rules.now (history rules.now records) }
     {
-        if let Some(outcome) = self.untold.first_due(rules, looked) {
+        if let Some(outcome) = self.untold.first_due(rules, tables) {
             return Some(Due::Outcome(outcome));
         }
-        if let Some(settling) = self.unsettled.first_due(looked) {
+        if let Some(settling) = self.unsettled.first_due(tables) {
             return Some(Due::Settling(settling));
         }
         None

@@ -60,13 +60,13 @@ impl Dues for Work {
         Ok(())
     }
 
-    fn next_due<'t>(&mut self, rules: &RuleSet, looked: &LentTables<'t>) -> Option<Due<'t>> {
-        if let Some(due) = self.telling.next_due(rules, looked) {
+    fn next_due<'t>(&mut self, rules: &RuleSet, tables: &LentTables<'t>) -> Option<Due<'t>> {
+        if let Some(due) = self.telling.next_due(rules, tables) {
             return Some(due);
         }
-        if let Some(due) = self.sending.next_due(rules, looked) {
+        if let Some(due) = self.sending.next_due(rules, tables) {
             return Some(due);
         }
-        self.flowing.next_due(rules, looked)
+        self.flowing.next_due(rules, tables)
     }
 }

@@ -55,8 +55,8 @@ AreTables rules tables past =
 
 -- the tables that are lent tell of these events
 abbrev pub TellsOf : RuleSet → LentTables → List Event → Type 0
-TellsOf rules looked past =
-    StandFor rules looked.connections.now looked.links.now looked.consumers.now looked.deliveries.now looked.consumer_links.now looked.copies.now looked.sent.now looked.verdicts.now past
+TellsOf rules tables past =
+    StandFor rules tables.connections.now tables.links.now tables.consumers.now tables.deliveries.now tables.consumer_links.now tables.copies.now tables.sent.now tables.verdicts.now past
 
 -- nothing can come of the delivery of this number any more, as the tables tell
 pub record IsReady (tables : Tables) (n : ℕ) : Type 0 where

@@ -37,23 +37,23 @@ impl<'t> History for LentTables<'t> {
     ghost use Rattle.state_incoming.specs.EntryAnswers.{Knows, has_number};
     ghost use Rattle.state_outgoing.specs.SentAnswers.{KnowsOrBegins};
 
-    ghost stands_for = { λ looked rules history.
-        StandFor rules looked.connections.now looked.links.now looked.consumers.now looked.deliveries.now
-        looked.consumer_links.now looked.copies.now looked.sent.now looked.verdicts.now history };
+    ghost stands_for = { λ tables rules history.
+        StandFor rules tables.connections.now tables.links.now tables.consumers.now tables.deliveries.now
+        tables.consumer_links.now tables.copies.now tables.sent.now tables.verdicts.now history };
 
-    ghost knows_number = { λ looked number history. has_number looked.deliveries.now number ≡ true };
+    ghost knows_number = { λ tables number history. has_number tables.deliveries.now number ≡ true };
 
-    ghost knows_incoming = { λ looked delivery history. Knows looked.deliveries.now delivery };
+    ghost knows_incoming = { λ tables delivery history. Knows tables.deliveries.now delivery };
 
-    ghost knows_outgoing = { λ looked delivery history. KnowsOrBegins looked.sent.now history delivery };
+    ghost knows_outgoing = { λ tables delivery history. KnowsOrBegins tables.sent.now history delivery };
 
-    ghost knows_begin = { λ looked connection channel history. has_unanswered_begin connection channel history ≡ true };
+    ghost knows_begin = { λ tables connection channel history. has_unanswered_begin connection channel history ≡ true };
 
-    ghost knows_attach = { λ looked session handle history. is_some (asking session handle history) ≡ true };
+    ghost knows_attach = { λ tables session handle history. is_some (asking session handle history) ≡ true };
 
-    ghost is_short = { λ looked. Unit {0} };
+    ghost is_short = { λ tables. Unit {0} };
 
-    ghost is_whole = { λ looked. IsWhole looked.deliveries.now };
+    ghost is_whole = { λ tables. IsWhole tables.deliveries.now };
 }
 
 impl<'t> Inputs<'t> for LentTables<'t> {

@@ -1,7 +1,7 @@
 //! The tables that auditor and router share, as the one who answers the questions of `trace_judge`.
 //!
 //! - `tables`: all tables, moved forward by one event after the other;
-//! - `looked`: the same, lent to be asked, with `outcomes` and `carriage`;
+//! - `lent_tables`: the same, lent to be asked, with `outcomes` and `carriage`;
 //! - `closings`: what the table of deliveries from clients tells that of deliveries to clients.
 #![tactic(auto)]
 

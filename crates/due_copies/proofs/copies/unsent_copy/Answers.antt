@@ -23,7 +23,7 @@ returns-in_err-delivery-clause-found c = λ past are d is h.
     let rules = c.args.rules.now in
     let judged = judged-of rules past are.0 in
     let l = link_view c.args.link.now in
-    let table = c.args.looked.now.deliveries.now in
+    let table = c.args.tables.now.deliveries.now in
     let own : c.args.number ≡ d.number = sym is in
     let there : is_let_go table.let_go.items c.args.number ≡ false = ap (λ (n : ℕ). is_let_go table.let_go.items n) own ∙ copy-there rules past judged l table are.1.1.1.1.0.1.1 d h in
     let never : ◌≡◌ {A = Option Incoming} None (Some d) =

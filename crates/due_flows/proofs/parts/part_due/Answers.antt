@@ -44,7 +44,7 @@ returns-in_err-carried-clause-found c = λ rules past are l own still.
     let live : IsLiveLink m past = (found-consumer rules past judged c.args.number m (sym at)).0 in
     let going : in_progress m past ≡ Some j = sym (c.in_ok-delivery.ensures rules past are live) in
     let one = carries rules past judged are.1.1.1.1.1.1.1.0 m j going in
-    let there = carrier-there rules past judged are.1.1.1.1.1.1.1.0 m j going c.args.looked.now.deliveries.now are.1.1.1.1.0.1.1 in
+    let there = carrier-there rules past judged are.1.1.1.1.1.1.1.0 m j going c.args.tables.now.deliveries.now are.1.1.1.1.0.1.1 in
     let never : ◌≡◌ {A = Option Incoming} None (Some one.0) = c.in_err-carried.ensures.value rules past are.1.1.1.1.0.0 there ∙ one.1 in
     absurd cc
 
@@ -62,7 +62,7 @@ returns-clause-due c = λ rules past are.
     let short : length (incoming.payload d past) < 2 ^ 64 = omega (arith, ap length payload, c.behind.ensures.counted) in
     let window : nat_lt 0 (session_window m.session past) ≡ true =
     lt-ltb 0 (session_window m.session past) (omega (arith, c.session_window.ensures rules past are found.0.0, c.if-session_window-eq0.false)) in
-    let count = c.sent_count.ensures ∙ sent-so-far rules past judged are.1.1.1.1.1.1.1.0 m j going c.args.looked.now.sent.now are.1.1.1.1.1.1.1.1.0 d carried short in
+    let count = c.sent_count.ensures ∙ sent-so-far rules past judged are.1.1.1.1.1.1.1.0 m j going c.args.tables.now.sent.now are.1.1.1.1.1.1.1.1.0 d carried short in
     record {
       delivery = j;
       carried = d;

@@ -17,10 +17,10 @@ pub returns-in_err-delivery-clause-none : goal.returns-in_err-delivery-clause-no
 returns-in_err-delivery-clause-none c = λ none records stands d there number.
     let rules = c.args.rules.now in
     let past = history rules records in
-    unless-told rules past c.args.looked.now stands d there
+    unless-told rules past c.args.tables.now stands d there
     (λ knows may rows.
-    let has = subst (λ n. has_number c.args.looked.now.deliveries.now n ≡ true) number (knows-has c.args.looked.now.deliveries.now d knows) in
-    let at : incoming_at c.args.number past ≡ Some d = subst (λ n. incoming_at n past ≡ Some d) number (begun-at rules past c.args.looked.now stands d there) in
+    let has = subst (λ n. has_number c.args.tables.now.deliveries.now n ≡ true) number (knows-has c.args.tables.now.deliveries.now d knows) in
+    let at : incoming_at c.args.number past ≡ Some d = subst (λ n. incoming_at n past ≡ Some d) number (begun-at rules past c.args.tables.now stands d there) in
     let given : None ≡ incoming_at c.args.number past = c.in_err-delivery.ensures.value rules past stands.1.1.1.1.0.0 has in
     absurd cc)
 
@@ -29,10 +29,10 @@ returns-then-not-may_be_told-clause-none c = λ none records stands d there numb
     let rules = c.args.rules.now in
     let past = history rules records in
     let own = incoming_view c.in_ok-delivery.delivery in
-    unless-told rules past c.args.looked.now stands d there
+    unless-told rules past c.args.tables.now stands d there
     (λ knows may rows.
-    let has = subst (λ n. has_number c.args.looked.now.deliveries.now n ≡ true) number (knows-has c.args.looked.now.deliveries.now d knows) in
-    let at : incoming_at c.args.number past ≡ Some d = subst (λ n. incoming_at n past ≡ Some d) number (begun-at rules past c.args.looked.now stands d there) in
+    let has = subst (λ n. has_number c.args.tables.now.deliveries.now n ≡ true) number (knows-has c.args.tables.now.deliveries.now d knows) in
+    let at : incoming_at c.args.number past ≡ Some d = subst (λ n. incoming_at n past ≡ Some d) number (begun-at rules past c.args.tables.now stands d there) in
     let given : Some own ≡ incoming_at c.args.number past = c.in_ok-delivery.ensures.value rules past stands.1.1.1.1.0.0 has in
     let same : own ≡ d = same_some own d (given ∙ at) in
     let asked = c.may_be_told.ensures rules past stands (c.in_ok-delivery.ensures.known rules past stands.1.1.1.1.0.0) in
@@ -43,10 +43,10 @@ returns-in_err-why-clause-none c = λ none records stands d there number.
     let rules = c.args.rules.now in
     let past = history rules records in
     let own = incoming_view c.in_ok-delivery.delivery in
-    unless-told rules past c.args.looked.now stands d there
+    unless-told rules past c.args.tables.now stands d there
     (λ knows may rows.
-    let has = subst (λ n. has_number c.args.looked.now.deliveries.now n ≡ true) number (knows-has c.args.looked.now.deliveries.now d knows) in
-    let at : incoming_at c.args.number past ≡ Some d = subst (λ n. incoming_at n past ≡ Some d) number (begun-at rules past c.args.looked.now stands d there) in
+    let has = subst (λ n. has_number c.args.tables.now.deliveries.now n ≡ true) number (knows-has c.args.tables.now.deliveries.now d knows) in
+    let at : incoming_at c.args.number past ≡ Some d = subst (λ n. incoming_at n past ≡ Some d) number (begun-at rules past c.args.tables.now stands d there) in
     let given : Some own ≡ incoming_at c.args.number past = c.in_ok-delivery.ensures.value rules past stands.1.1.1.1.0.0 has in
     let same : own ≡ d = same_some own d (given ∙ at) in
     let none_applies = c.in_err-why.ensures.none past stands (c.in_ok-delivery.ensures.known rules past stands.1.1.1.1.0.0) refl in
@@ -58,7 +58,7 @@ returns-clause-due c = λ records stands.
     let past = history rules records in
     let knows = c.in_ok-delivery.ensures.known rules past stands.1.1.1.1.0.0 in
     record {
-      at = knows-at rules past c.args.looked.now.deliveries.now stands.1.1.1.1.0.0 (incoming_view c.in_ok-delivery.delivery) knows;
+      at = knows-at rules past c.args.tables.now.deliveries.now stands.1.1.1.1.0.0 (incoming_view c.in_ok-delivery.delivery) knows;
       may = sym (c.may_be_told.ensures rules past stands knows) ∙ c.if-not-may_be_told.false;
       tells = c.in_ok-why.ensures.tells past stands knows;
     }

@@ -37,7 +37,7 @@ returns-clause-due c = λ records tables picks queues.
       at = at;
       found = first.1;
       payload = c.payload-payload.ensures rules past tables.1.1.1.1.0.0
-          (waiting-known rules past are c.args.looked.now.deliveries.now tables.1.1.1.1.0 d first.1 (next-waits rules past d first.2));
+          (waiting-known rules past are c.args.tables.now.deliveries.now tables.1.1.1.1.0 d first.1 (next-waits rules past d first.2));
       next = first.2;
       picked = picked-link rules past are d address l.number first.0 picked;
     }

@@ -9,7 +9,7 @@ returns-clause-says c =
     let is = c.event-event.ensures in
     record {
       says = λ past k m ready may judged tells.
-          c.answer_to.ensures.says past k m ready may (is ∙ judged) (subst (λ e. TellsOf rules c.args.looked.now (e ∷ past)) (sym is) tells)
+          c.answer_to.ensures.says past k m ready may (is ∙ judged) (subst (λ e. TellsOf rules c.args.tables.now (e ∷ past)) (sym is) tells)
           ∙ ap (λ e. duties.answer rules e (e ∷ past)) is;
     }
 

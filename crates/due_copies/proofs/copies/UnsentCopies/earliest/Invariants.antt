@@ -9,7 +9,7 @@ use Rattle.due_copies.proofs.copies.UnsentCopies.earliest.Given as goal
 
 abbrev pub invariant-loop-completion : goal.invariant-loop-completion
 invariant-loop-completion l =
-    ((past : List Event) → TellsOf l.rules l.looked past → HasUnsent l.rules l.fn.self past → IsLiveLink (link_view l.link) past → HasUnsent l.rules l.self past)
+    ((past : List Event) → TellsOf l.rules l.tables past → HasUnsent l.rules l.fn.self past → IsLiveLink (link_view l.link) past → HasUnsent l.rules l.self past)
     × (l.self.lists.links ≡ l.fn.self.lists.links)
 
 abbrev pub decreases-loop-completion : goal.decreases-loop-completion

@@ -6,7 +6,7 @@ use Rattle.due_copies.specs.Copies.{HasUnsent}
 use Rattle.due_copies.proofs.copies.UnsentCopies.first_due.Given as goal
 
 abbrev pub invariant-loop-completion : goal.invariant-loop-completion
-invariant-loop-completion l = (past : List Event) → TellsOf l.rules l.looked past → HasUnsent l.rules l.fn.self past → HasUnsent l.rules l.self past
+invariant-loop-completion l = (past : List Event) → TellsOf l.rules l.tables past → HasUnsent l.rules l.fn.self past → HasUnsent l.rules l.self past
 
 abbrev pub decreases-loop-completion : goal.decreases-loop-completion
 decreases-loop-completion l = count_of l.self.lists.links

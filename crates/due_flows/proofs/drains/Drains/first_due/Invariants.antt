@@ -6,7 +6,7 @@ use Rattle.due_flows.specs.Drains.{HasDrains}
 use Rattle.due_flows.proofs.drains.Drains.first_due.Given as goal
 
 abbrev pub invariant-loop-number : goal.invariant-loop-number
-invariant-loop-number l = (past : List Event) → TellsOf l.rules l.looked past → HasDrains l.rules l.fn.self past → HasDrains l.rules l.self past
+invariant-loop-number l = (past : List Event) → TellsOf l.rules l.tables past → HasDrains l.rules l.fn.self past → HasDrains l.rules l.self past
 
 abbrev pub decreases-loop-number : goal.decreases-loop-number
 decreases-loop-number l = count_of l.self.links

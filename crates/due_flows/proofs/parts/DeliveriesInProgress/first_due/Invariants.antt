@@ -7,7 +7,7 @@ use Rattle.due_flows.specs.Parts.{HasParts}
 use Rattle.due_flows.proofs.parts.DeliveriesInProgress.first_due.Given as goal
 
 abbrev pub invariant-loop-number : goal.invariant-loop-number
-invariant-loop-number l = (rules : RuleSet) (past : List Event) → TellsOf rules l.looked past → HasParts l.fn.self past → HasParts l.self past
+invariant-loop-number l = (rules : RuleSet) (past : List Event) → TellsOf rules l.tables past → HasParts l.fn.self past → HasParts l.self past
 
 abbrev pub decreases-loop-number : goal.decreases-loop-number
 decreases-loop-number l = count_of l.self.links

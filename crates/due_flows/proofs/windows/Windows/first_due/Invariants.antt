@@ -7,7 +7,7 @@ use Rattle.due_flows.specs.Windows.{HasLacking}
 use Rattle.due_flows.proofs.windows.Windows.first_due.Given as goal
 
 abbrev pub invariant-loop-number : goal.invariant-loop-number
-invariant-loop-number l = (rules : RuleSet) (past : List Event) → TellsOf rules l.looked past → HasLacking l.fn.self past → HasLacking l.self past
+invariant-loop-number l = (rules : RuleSet) (past : List Event) → TellsOf rules l.tables past → HasLacking l.fn.self past → HasLacking l.self past
 
 abbrev pub decreases-loop-number : goal.decreases-loop-number
 decreases-loop-number l = count_of l.self.sessions

@@ -8,7 +8,7 @@ use Rattle.due_outcomes.specs.Unsettled.{HasUnsettled}
 use Rattle.due_outcomes.proofs.unsettled.Unsettled.sort_lowest.Given as goal
 
 abbrev pub invariant-loop-number : goal.invariant-loop-number
-invariant-loop-number l = (rules : RuleSet) (records : List Record) → TellsOf rules l.looked (history rules records) → HasUnsettled l.fn.self (history rules records)
+invariant-loop-number l = (rules : RuleSet) (records : List Record) → TellsOf rules l.tables (history rules records) → HasUnsettled l.fn.self (history rules records)
     → HasUnsettled l.self (history rules records)
 
 abbrev pub decreases-loop-number : goal.decreases-loop-number

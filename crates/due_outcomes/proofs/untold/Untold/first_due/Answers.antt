@@ -5,7 +5,7 @@ use Rattle.due_outcomes.proofs.untold.Untold.first_due.Goals as goal
 
 pub loop-number-preserved : goal.loop-number-preserved
 loop-number-preserved c = λ records stands was.
-    forgotten c.args.rules.now (history c.args.rules.now records) c.args.looked.now stands c.loop-number.self c.forget.new.self c.in-Some.number
+    forgotten c.args.rules.now (history c.args.rules.now records) c.args.tables.now stands c.loop-number.self c.forget.new.self c.in-Some.number
     (c.in_default-outcome_of.ensures.none refl records stands) (c.loop-number.invariant records stands was)
     c.forget.ensures.left c.forget.ensures.carried c.forget.ensures.opens
 

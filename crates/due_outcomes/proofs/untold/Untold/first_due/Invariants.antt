@@ -7,7 +7,7 @@ use Rattle.due_outcomes.specs.Untold.{HasUntold}
 use Rattle.due_outcomes.proofs.untold.Untold.first_due.Given as goal
 
 abbrev pub invariant-loop-number : goal.invariant-loop-number
-invariant-loop-number l = (records : List Record) → TellsOf l.rules l.looked (history l.rules records) → HasUntold l.rules l.fn.self (history l.rules records)
+invariant-loop-number l = (records : List Record) → TellsOf l.rules l.tables (history l.rules records) → HasUntold l.rules l.fn.self (history l.rules records)
     → HasUntold l.rules l.self (history l.rules records)
 
 abbrev pub decreases-loop-number : goal.decreases-loop-number

@@ -21,7 +21,7 @@ returns-in_default-first_waiting-clause-kept c = λ rs records tables queues.
     let key = c.args.address.now in
     let m = c.args.self.now.entries in
     let n = c.get_mut.follows.lender c.first_waiting.new.queue in
-    moved-queues rs (history rs records) (history-judged rs records) c.args.looked.now.deliveries.now tables.1.1.1.1.0 m n key c.in-Some.queue.now c.first_waiting.new.queue c.in-Some.ensures.value
+    moved-queues rs (history rs records) (history-judged rs records) c.args.tables.now.deliveries.now tables.1.1.1.1.0 m n key c.in-Some.queue.now c.first_waiting.new.queue c.in-Some.ensures.value
     (changed m n key (Some c.first_waiting.new.queue) ((c.get_mut.follows.holds c.first_waiting.new.queue).3 (search rules))) c.first_waiting.ensures.shorter queues
 
 pub returns-in_default-first_waiting-clause-none :
@@ -30,7 +30,7 @@ returns-in_default-first_waiting-clause-none c = λ rs records tables queues non
     let key = c.args.address.now in
     let items : queued (under c.args.self.now.entries key) ≡ c.in-Some.queue.now.items = ap queued (sym c.in-Some.ensures.value) in
     none-waits rs (history rs records) key c.first_waiting.new.queue.items
-    (shorter-at rs (history rs records) (history-judged rs records) c.args.looked.now.deliveries.now tables.1.1.1.1.0 key c.in-Some.queue.now.items c.first_waiting.new.queue.items
+    (shorter-at rs (history rs records) (history-judged rs records) c.args.tables.now.deliveries.now tables.1.1.1.1.0 key c.in-Some.queue.now.items c.first_waiting.new.queue.items
     (subst (λ (xs : List ℕ). IsQueue rs (history rs records) key xs) items (queues key)) c.first_waiting.ensures.shorter)
     (c.first_waiting.ensures.none c.in_default-first_waiting.is)
 
@@ -39,7 +39,7 @@ returns-clause-kept c = λ rs records tables queues.
     let key = c.args.address.now in
     let m = c.args.self.now.entries in
     let n = c.get_mut.follows.lender c.first_waiting.new.queue in
-    moved-queues rs (history rs records) (history-judged rs records) c.args.looked.now.deliveries.now tables.1.1.1.1.0 m n key c.in-Some.queue.now c.first_waiting.new.queue c.in-Some.ensures.value
+    moved-queues rs (history rs records) (history-judged rs records) c.args.tables.now.deliveries.now tables.1.1.1.1.0 m n key c.in-Some.queue.now c.first_waiting.new.queue c.in-Some.ensures.value
     (changed m n key (Some c.first_waiting.new.queue) ((c.get_mut.follows.holds c.first_waiting.new.queue).3 (search rules))) c.first_waiting.ensures.shorter queues
 
 pub returns-clause-first : goal.returns-clause-first
@@ -48,7 +48,7 @@ returns-clause-first c = λ rs records tables queues.
     let past = history rs records in
     let items : queued (under c.args.self.now.entries key) ≡ c.in-Some.queue.now.items = ap queued (sym c.in-Some.ensures.value) in
     let first = c.in-Some-first_waiting.ensures.first in
-    chosen rs past (history-judged rs records) c.args.looked.now.deliveries.now tables.1.1.1.1.0 key c.first_waiting.new.queue.items c.in-Some-first_waiting.number
-    (shorter-at rs past (history-judged rs records) c.args.looked.now.deliveries.now tables.1.1.1.1.0 key c.in-Some.queue.now.items c.first_waiting.new.queue.items
+    chosen rs past (history-judged rs records) c.args.tables.now.deliveries.now tables.1.1.1.1.0 key c.first_waiting.new.queue.items c.in-Some-first_waiting.number
+    (shorter-at rs past (history-judged rs records) c.args.tables.now.deliveries.now tables.1.1.1.1.0 key c.in-Some.queue.now.items c.first_waiting.new.queue.items
     (subst (λ (xs : List ℕ). IsQueue rs past key xs) items (queues key)) c.first_waiting.ensures.shorter)
     first.0 first.1 (option_map incoming_view c.kept.result) c.kept.ensures

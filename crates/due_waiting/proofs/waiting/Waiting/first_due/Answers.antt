@@ -38,7 +38,7 @@ due-known rules past judged table is_table due is = waiting-known rules past jud
 pub loop-index-preserved-in-Some : goal.loop-index-preserved-in-Some
 loop-index-preserved-in-Some c =
     let rules = c.args.rules.now in
-    let table = c.args.looked.now.deliveries.now in
+    let table = c.args.tables.now.deliveries.now in
     let inv = c.loop-index.invariant in
     let due = c.in-Some.due in (
       λ records are has. c.look.ensures.kept records are (inv.0 records are has),
@@ -69,7 +69,7 @@ returns-clause-earliest c =
     let rules = c.args.rules.now in
     let keys = c.loop-index.self.awake.addresses.keys in
     let le = subst (λ k. k ≤ c.loop-index.index) c.count.ensures c.loop-index-test.false in
-    earliest-of rules (λ records. TellsOf rules c.args.looked.now (history rules records)) (λ records. HasWaiting rules c.args.self.now (history rules records)) c.loop-index.first
+    earliest-of rules (λ records. TellsOf rules c.args.tables.now (history rules records)) (λ records. HasWaiting rules c.args.self.now (history rules records)) c.loop-index.first
     (λ records are has d l h. c.loop-index.invariant.2 records are has d l h (all-first keys c.loop-index.index le (address_of d (history rules records)) ∙ (c.loop-index.invariant.0 records are has).awake d l h))
 
 pub returns-clause-quiet : goal.returns-clause-quiet
