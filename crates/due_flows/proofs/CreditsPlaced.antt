@@ -4,13 +4,13 @@ use Rattle.trace_events.specs.Event.{Event, Link}
 use Rattle.trace_events.specs.declared.session.Session.{Session}
 use Rattle.trace_events.specs.Session.{live_session}
 use Rattle.trace_events.specs.Link.{IsLiveLink, session_link}
-use Rattle.due_flows.specs.Credits.{place_of}
+use Rattle.due_flows.specs.Credits.{key_of}
 use Rattle.due_flows.specs.declared.credits.LinkKey.{LinkKey}
 
 module _ (past : List Event) (p : LinkKey) (s : Session) (m : Link) (session : Some s ≡ live_session p.connection p.channel past) (link : Some m ≡ session_link s p.handle past) where
-  pub placed-link : (l : Link) → Some p ≡ Some (place_of l) → IsLiveLink l past → m ≡ l
+  pub placed-link : (l : Link) → Some p ≡ Some (key_of l) → IsLiveLink l past → m ≡ l
   placed-link l place live =
-      let one : p ≡ place_of l = cc in
+      let one : p ≡ key_of l = cc in
       let both : Some s ≡ Some l.session = session ∙ (ap (λ (q : LinkKey). live_session q.connection q.channel past) one ∙ live.0) in
       let same : s ≡ l.session = cc in
       let found : Some m ≡ Some l = link ∙ (ap (λ (t : Session). session_link t p.handle past) same ∙ (ap (λ (q : LinkKey). session_link l.session q.handle past) one ∙ live.1)) in

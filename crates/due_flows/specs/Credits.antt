@@ -22,8 +22,8 @@ use Rattle.due_flows.specs.Topping.{IsProducing, settles}
 use Rattle.due_flows.specs.declared.credits.Credits.{Credits}
 use Rattle.due_flows.specs.declared.credits.LinkKey.{LinkKey}
 
-abbrev pub place_of : Link → LinkKey
-place_of l = record { connection = l.session.connection; channel = l.session.channel; handle = l.handle }
+abbrev pub key_of : Link → LinkKey
+key_of l = record { connection = l.session.connection; channel = l.session.channel; handle = l.handle }
 
 -- where the link of this number is found
 abbrev pub place_in : Credits → ℕ → Option LinkKey
@@ -42,7 +42,7 @@ waits credits n = has credits.links n
 
 -- the link is found there, and stands with its session and its address
 pub record IsIn (credits : Credits) (l : Link) : Type 0 where
-  pub place : place_in credits l.number ≡ Some (place_of l)
+  pub place : place_in credits l.number ≡ Some (key_of l)
   pub session : on_session credits l.session.number l.number ≡ true
   pub address : at_address credits l.address l.number ≡ true
 

@@ -20,7 +20,7 @@ ghost use Rattle.state_addresses.specs.ConsumerLinks.{has_number};
 ghost use Rattle.state_answers.specs.Tables.{TellsOf};
 ghost use Rattle.event_effects.specs.Effects.{AreEffects};
 ghost use Rattle.due_flows.specs.Topping.{IsToppable, settles};
-ghost use Rattle.due_flows.specs.Credits.{HasCredits, AreEndedIn, AreFreedIn, AreOpenedIn, AreTouchedIn, AreWokenIn, has_waited, place_of};
+ghost use Rattle.due_flows.specs.Credits.{HasCredits, AreEndedIn, AreFreedIn, AreOpenedIn, AreTouchedIn, AreWokenIn, has_waited, key_of};
 ghost use Rattle.trace_values.specs.View.{Events, event_view, link_view};
 
 use crate::candidates::Candidates;
@@ -108,7 +108,7 @@ impl Credits {
         let Some(link) = producer_opened(event) else {
             return Ok(());
         };
-        self.places.insert(link.number, place_of(&link))?;
+        self.places.insert(link.number, key_of(&link))?;
         self.of_session.insert(link.session.number, link.number)?;
         self.of_address.insert(link.address, link.number)?;
         Ok(())
@@ -166,8 +166,8 @@ impl Credits {
     }
 }
 
-fn place_of(link: &Link) -> LinkKey
-    ensures { result ≡ place_of (link_view link.now) }
+fn key_of(link: &Link) -> LinkKey
+    ensures { result ≡ key_of (link_view link.now) }
 {
     LinkKey {
         connection: link.session.connection,
@@ -269,7 +269,7 @@ fn credit_due<'t>(
     tables: &LentTables<'t>,
 ) -> Option<Link<'t>>
     ensures due { IfSome result (λ link. (past : Events) → TellsOf rules.now tables.now past → IsToppable rules.now (link_view link) past) }
-    ensures found { (past : Events) → TellsOf rules.now tables.now past → (l : law.Link) → l.number ≡ number → place ≡ Some (place_of l) →
+    ensures found { (past : Events) → TellsOf rules.now tables.now past → (l : law.Link) → l.number ≡ number → place ≡ Some (key_of l) →
         IsToppable rules.now l past → is_some result ≡ true }
 {
     let place = place?;

@@ -5,20 +5,20 @@ use Rattle.indexmap.specs.IndexSet.{contains_by, index_set_len}
 use Rattle.due_waiting.specs.declared.addresses_to_try.AddressesToTry.{AddressesToTry}
 
 -- the address is one of them
-abbrev pub is_awake : AddressesToTry → List ℕ → Bool
-is_awake awake address = contains_by (λ kept. bytes_eq address kept.items) awake.addresses
+abbrev pub is_to_try : AddressesToTry → List ℕ → Bool
+is_to_try to_try address = contains_by (λ kept. bytes_eq address kept.items) to_try.addresses
 
 abbrev pub count_of : AddressesToTry → ℕ
-count_of awake = index_set_len awake.addresses
+count_of to_try = index_set_len to_try.addresses
 
 -- the one at the index
 abbrev pub address_at : AddressesToTry → ℕ → Option (List ℕ)
-address_at awake index = option_map (λ kept. kept.items) (slice_get awake.addresses.keys index)
+address_at to_try index = option_map (λ kept. kept.items) (slice_get to_try.addresses.keys index)
 
 -- the address is one of the first so many
 abbrev pub is_among_first : AddressesToTry → ℕ → List ℕ → Bool
-is_among_first awake n address = list_any (λ kept. bytes_eq address kept.items) (take n awake.addresses.keys)
+is_among_first to_try n address = list_any (λ kept. bytes_eq address kept.items) (take n to_try.addresses.keys)
 
 -- none went
 abbrev pub IsKept : AddressesToTry → AddressesToTry → Type 0
-IsKept earlier later = (address : List ℕ) → is_awake earlier address ≡ true → is_awake later address ≡ true
+IsKept earlier later = (address : List ℕ) → is_to_try earlier address ≡ true → is_to_try later address ≡ true

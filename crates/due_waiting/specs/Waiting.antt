@@ -10,7 +10,7 @@ use Rattle.trace_duties.specs.Diligent.{is_next_waiting, is_picked_link}
 use Rattle.trace_values.specs.View.{incoming_view, link_view}
 use Rattle.due_queues.specs.Picks.{ArePicks}
 use Rattle.due_queues.specs.Queues.{HaveQueues}
-use Rattle.due_waiting.specs.AddressesToTry.{is_awake}
+use Rattle.due_waiting.specs.AddressesToTry.{is_to_try}
 use Rattle.due_waiting.specs.BySession.{stands}
 use Rattle.due_waiting.specs.Waking.{MayBegin}
 use Rattle.due_flows.specs.declared.begin.DueBegin.{DueBegin}
@@ -22,7 +22,7 @@ pub record HasWaiting (rules : RuleSet) (waiting : Waiting) (past : List Event) 
   pub picks : ArePicks waiting.picks past
   pub queues : HaveQueues rules waiting.queues past
   pub stands : (l : Link) → IsLiveLink l past → is_consumer l ≡ true → stands waiting.links l.session.number l.number ≡ true
-  pub awake : (d : Incoming) (l : Link) → MayBegin rules past d l → is_awake waiting.awake (address_of d past) ≡ true
+  pub to_try : (d : Incoming) (l : Link) → MayBegin rules past d l → is_to_try waiting.to_try (address_of d past) ≡ true
 
 -- the delivery that comes next at its address, and the live link that is picked for it
 pub record IsDueWaiting (rules : RuleSet) (due : DueBegin) (past : List Event) : Type 0 where

@@ -13,7 +13,7 @@ ghost use Rattle.state_addresses.specs.ConsumerLinks.{consumer_at, link_in};
 ghost use Rattle.state_answers.specs.Tables.{TellsOf};
 ghost use Rattle.due_flows.specs.Standing.{goes_on, grants_window, has_window};
 ghost use Rattle.due_waiting.specs.BySession.{stands};
-ghost use Rattle.due_waiting.specs.AddressesToTry.{IsKept, address_at, count_of, is_among_first, is_awake};
+ghost use Rattle.due_waiting.specs.AddressesToTry.{IsKept, address_at, count_of, is_among_first, is_to_try};
 ghost use Rattle.due_waiting.specs.Waking.{IsGranted};
 
 use crate::by_session::BySession;
@@ -35,7 +35,7 @@ pub struct AddressesToTry {
 impl AddressesToTry {
     /// None.
     pub fn new(alloc: Global) -> AddressesToTry
-        ensures { (address : List ℕ) → is_awake result address ≡ false }
+        ensures { (address : List ℕ) → is_to_try result address ≡ false }
     {
         AddressesToTry {
             alloc,
@@ -45,7 +45,7 @@ impl AddressesToTry {
 
     /// The address comes in, if it was not yet there.
     fn insert(&mut self, address: &[u8]) -> Result<(), AllocError>
-        ensures { OnOk result ((at : List ℕ) → is_awake self.new at ≡ (bytes_eq address.now at || is_awake self.old at)) }
+        ensures { OnOk result ((at : List ℕ) → is_to_try self.new at ≡ (bytes_eq address.now at || is_to_try self.old at)) }
     {
         if self.addresses.contains(address) {
             return Ok(());
@@ -57,7 +57,7 @@ impl AddressesToTry {
 
     /// The address comes in, if there is one.
     fn add(&mut self, address: Option<&[u8]>) -> Result<(), AllocError>
-        ensures { OnOk result ((at : List ℕ) → is_awake self.new at ≡ (is_some_and address.entry (λ octets. bytes_eq octets.now at) || is_awake self.old at)) }
+        ensures { OnOk result ((at : List ℕ) → is_to_try self.new at ≡ (is_some_and address.entry (λ octets. bytes_eq octets.now at) || is_to_try self.old at)) }
     {
         match address {
             Some(octets) => self.insert(octets),
@@ -79,14 +79,14 @@ impl AddressesToTry {
         links: &BySession,
         before: &LentTables<'_>,
     ) -> Result<(), AllocError>
-        ensures completed { OnOk result ((d : law.Incoming) → completed_by (event_view event.now) ≡ Some d → is_awake self.new address.now ≡ true) }
+        ensures completed { OnOk result ((d : law.Incoming) → completed_by (event_view event.now) ≡ Some d → is_to_try self.new address.now ≡ true) }
         ensures credited { OnOk result ((l : law.Link) → (event_view event.now).link ≡ Some l → is_consumer l ≡ true →
-            grants_window (event_view event.now) ≡ true → is_awake self.new l.address ≡ true) }
+            grants_window (event_view event.now) ≡ true → is_to_try self.new l.address ≡ true) }
         ensures freed { OnOk result ((j : law.Outgoing) → (event_view event.now).outgoing ≡ Some j → goes_on (event_view event.now) ≡ false →
-            is_awake self.new j.link.address ≡ true) }
+            is_to_try self.new j.link.address ≡ true) }
         ensures granted { OnOk result ((rules : RuleSet) (past : Events) → TellsOf rules before.now past → (l : law.Link) →
             IsGranted (event_view event.now) past l → stands links.now l.session.number l.number ≡ true → consumer_at l.number past ≡ Some l →
-            is_awake self.new l.address ≡ true) }
+            is_to_try self.new l.address ≡ true) }
         ensures kept { OnOk result (IsKept self.old self.new) }
     {
         self.add(completed(event, address))?;
@@ -104,7 +104,7 @@ impl AddressesToTry {
         consumer_links: &ConsumerLinks,
     ) -> Result<(), AllocError>
         ensures woken { OnOk result ((l : law.Link) → session ≡ Some l.session.number → stands links.now l.session.number l.number ≡ true →
-            link_in consumer_links.now l.number ≡ Some l → is_awake self.new l.address ≡ true) }
+            link_in consumer_links.now l.number ≡ Some l → is_to_try self.new l.address ≡ true) }
         ensures kept { OnOk result (IsKept self.old self.new) }
     {
         let Some(session) = session else {
@@ -138,7 +138,7 @@ impl AddressesToTry {
 
     /// The one at the index goes; the last one takes its place.
     pub fn remove(&mut self, index: usize)
-        ensures removed { IfSome (address_at self.old index) (λ gone. (at : List ℕ) → is_awake self.new at ≡ (is_awake self.old at && not (bytes_eq gone at))) }
+        ensures removed { IfSome (address_at self.old index) (λ gone. (at : List ℕ) → is_to_try self.new at ≡ (is_to_try self.old at && not (bytes_eq gone at))) }
         ensures before { (at : List ℕ) → is_among_first self.new index at ≡ is_among_first self.old index at }
         ensures fewer { index < count_of self.old → count_of self.new + 1 ≡ count_of self.old }
     {

@@ -37,7 +37,7 @@ pub struct Waiting {
     /// The live links of consumers.
     links: BySession,
     /// The addresses at which one may begin, and others.
-    awake: AddressesToTry,
+    to_try: AddressesToTry,
 }
 
 impl Waiting {
@@ -49,7 +49,7 @@ impl Waiting {
             picks: Picks::new(alloc),
             queues: Queues::new(alloc),
             links: BySession::new(alloc),
-            awake: AddressesToTry::new(alloc),
+            to_try: AddressesToTry::new(alloc),
         }
     }
 
@@ -74,7 +74,7 @@ impl Waiting {
     {
         self.picks.follow(rules, event, before, effects)?;
         self.queues.follow(rules, event, address)?;
-        self.awake.wake(event, address, &self.links, before)?;
+        self.to_try.wake(event, address, &self.links, before)?;
         self.links.end(effects.ended());
         self.links.open(event)?;
         Ok(())
@@ -98,7 +98,7 @@ impl Waiting {
     {
         let mut first = None;
         let mut index = 0;
-        while index < self.awake.count() {
+        while index < self.to_try.count() {
             if let Some(due) = self.look(index, rules, tables) {
                 first = Some(earlier(first, due, tables));
                 index += 1;
@@ -115,22 +115,22 @@ impl Waiting {
         rules: &RuleSet,
         tables: &LentTables<'t>,
     ) -> Option<DueBegin<'t>>
-        requires within { index < count_of self.old.awake }
+        requires within { index < count_of self.old.to_try }
         ensures due { IfSome result (λ due. (records : List Record) → TellsOf rules.now tables.now (history rules.now records) →
             HasWaiting rules.now self.old (history rules.now records) → IsDueWaiting rules.now due (history rules.now records)) }
         ensures kept { (records : List Record) → TellsOf rules.now tables.now (history rules.now records) →
             HasWaiting rules.now self.old (history rules.now records) → HasWaiting rules.now self.new (history rules.now records) }
-        ensures before { (at : List ℕ) → is_among_first self.new.awake index at ≡ is_among_first self.old.awake index at }
+        ensures before { (at : List ℕ) → is_among_first self.new.to_try index at ≡ is_among_first self.old.to_try index at }
         ensures here { IfSome result (λ due. (records : List Record) → TellsOf rules.now tables.now (history rules.now records) →
-            HasWaiting rules.now self.old (history rules.now records) → (at : List ℕ) → is_among_first self.new.awake (index + 1) at
-            ≡ (is_among_first self.old.awake index at || bytes_eq at (address_of (incoming_view due.delivery) (history rules.now records)))) }
-        ensures count { count_of self.new.awake + (if is_none result then 1 else 0) ≡ count_of self.old.awake }
+            HasWaiting rules.now self.old (history rules.now records) → (at : List ℕ) → is_among_first self.new.to_try (index + 1) at
+            ≡ (is_among_first self.old.to_try index at || bytes_eq at (address_of (incoming_view due.delivery) (history rules.now records)))) }
+        ensures count { count_of self.new.to_try + (if is_none result then 1 else 0) ≡ count_of self.old.to_try }
     {
-        let address = self.awake.get(index)?;
+        let address = self.to_try.get(index)?;
         if let Some(due) = due_at(address, &self.picks, &mut self.queues, rules, tables) {
             return Some(due);
         }
-        self.awake.remove(index);
+        self.to_try.remove(index);
         None
     }
 }

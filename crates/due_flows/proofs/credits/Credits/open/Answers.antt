@@ -20,7 +20,7 @@ returns c =
           let some : Some m ≡ Some l = sym (ap (option_map link_view) c.in-Some.is) ∙ (c.producer_opened.ensures ∙ is) in
           subst (λ (k : Link). IsIn (record { places = c.insert.new.self; of_session = c.insert-2.new.self; of_address = c.insert-3.new.self; links = c.args.self.now.links }) k) (same_some m l some)
           (record {
-            place = c.in_ok-insert.ensures m.number ∙ (ap (λ b. if b then Some c.place_of.result else place_in c.args.self.now m.number) (eq-eqb m.number m.number refl) ∙ ap Some c.place_of.ensures);
+            place = c.in_ok-insert.ensures m.number ∙ (ap (λ b. if b then Some c.key_of.result else place_in c.args.self.now m.number) (eq-eqb m.number m.number refl) ∙ ap Some c.key_of.ensures);
             session = c.in_ok-insert-2.ensures.joined m.session.number m.number ∙ there _ _ _ (eq-eqb m.session.number m.session.number refl) (eq-eqb m.number m.number refl);
             address = c.in_ok-insert-3.ensures.joined m.address m.number ∙ there _ _ _ ((bytes_eq-Decides m.address m.address).1 refl) (eq-eqb m.number m.number refl);
           });

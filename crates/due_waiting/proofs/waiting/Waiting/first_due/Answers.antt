@@ -53,8 +53,8 @@ loop-index-preserved-in-Some c =
           let first = each-more _ (λ (x : DueBegin). Knows table (incoming_view x.delivery)) c.loop-index.first (λ x one. due-known rules past judged table are.1.1.1.1.0 x (one records are has)) inv.1 in
           let order = c.earlier.ensures.order rules past are first (due-known rules past judged table are.1.1.1.1.0 due is) in
           subst (λ (x : DueBegin). is_ahead past (Some x) d ≡ true) (sym order)
-          (ahead-more rules past judged c.loop-index.first due is d l h (is_among_first c.loop-index.self.awake c.loop-index.index (address_of d past))
-          (is_among_first c.look.new.self.awake (c.loop-index.index + 1) (address_of d past)) (c.in-Some.ensures.here records are (inv.0 records are has) (address_of d past)) (inv.2 records are has d l h) among),
+          (ahead-more rules past judged c.loop-index.first due is d l h (is_among_first c.loop-index.self.to_try c.loop-index.index (address_of d past))
+          (is_among_first c.look.new.self.to_try (c.loop-index.index + 1) (address_of d past)) (c.in-Some.ensures.here records are (inv.0 records are has) (address_of d past)) (inv.2 records are has d l h) among),
     )
 
 -- what is ahead of all that may begin is the earliest
@@ -67,19 +67,19 @@ earliest-of rules Are Has (Some due) ahead = λ records are has d l h. off (comp
 pub returns-clause-earliest : goal.returns-clause-earliest
 returns-clause-earliest c =
     let rules = c.args.rules.now in
-    let keys = c.loop-index.self.awake.addresses.keys in
+    let keys = c.loop-index.self.to_try.addresses.keys in
     let le = subst (λ k. k ≤ c.loop-index.index) c.count.ensures c.loop-index-test.false in
     earliest-of rules (λ records. TellsOf rules c.args.tables.now (history rules records)) (λ records. HasWaiting rules c.args.self.now (history rules records)) c.loop-index.first
-    (λ records are has d l h. c.loop-index.invariant.2 records are has d l h (all-first keys c.loop-index.index le (address_of d (history rules records)) ∙ (c.loop-index.invariant.0 records are has).awake d l h))
+    (λ records are has d l h. c.loop-index.invariant.2 records are has d l h (all-first keys c.loop-index.index le (address_of d (history rules records)) ∙ (c.loop-index.invariant.0 records are has).to_try d l h))
 
 pub returns-clause-quiet : goal.returns-clause-quiet
 returns-clause-quiet c = λ records are has none.
     let rules = c.args.rules.now in
     let past = history rules records in
-    let keys = c.loop-index.self.awake.addresses.keys in
+    let keys = c.loop-index.self.to_try.addresses.keys in
     let le = subst (λ k. k ≤ c.loop-index.index) c.count.ensures c.loop-index-test.false in
     none-in-vain rules past (history-judged rules records)
     (λ d l h.
-    let ahead = c.loop-index.invariant.2 records are has d l h (all-first keys c.loop-index.index le (address_of d past) ∙ (c.loop-index.invariant.0 records are has).awake d l h) in
+    let ahead = c.loop-index.invariant.2 records are has d l h (all-first keys c.loop-index.index le (address_of d past) ∙ (c.loop-index.invariant.0 records are has).to_try d l h) in
     let never : false ≡ true = ap (λ o. is_ahead past o d) (sym none) ∙ ahead in
     absurd cc)

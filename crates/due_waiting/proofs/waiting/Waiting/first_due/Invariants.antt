@@ -14,7 +14,7 @@ invariant-loop-index l =
     ((records : List Record) → TellsOf l.rules l.tables (history l.rules records) → HasWaiting l.rules l.fn.self (history l.rules records) → HasWaiting l.rules l.self (history l.rules records))
     × IfSome l.first (λ due. (records : List Record) → TellsOf l.rules l.tables (history l.rules records) → HasWaiting l.rules l.fn.self (history l.rules records) → IsDueWaiting l.rules due (history l.rules records))
     × ((records : List Record) → TellsOf l.rules l.tables (history l.rules records) → HasWaiting l.rules l.fn.self (history l.rules records) → (d : law.Incoming) (m : law.Link) →
-    MayBegin l.rules (history l.rules records) d m → is_among_first l.self.awake l.index (address_of d (history l.rules records)) ≡ true → is_ahead (history l.rules records) l.first d ≡ true)
+    MayBegin l.rules (history l.rules records) d m → is_among_first l.self.to_try l.index (address_of d (history l.rules records)) ≡ true → is_ahead (history l.rules records) l.first d ≡ true)
 
 abbrev pub decreases-loop-index : goal.decreases-loop-index
-decreases-loop-index l = count_of l.self.awake - l.index
+decreases-loop-index l = count_of l.self.to_try - l.index

@@ -9,5 +9,5 @@ returns c = λ rules. record {
   picks = c.new.ensures;
   queues = c.new-2.ensures rules;
   stands = λ l live consumer. never l live.1;
-  awake = λ d l h. never d h.found;
+  to_try = λ d l h. never d h.found;
 }
