@@ -1,5 +1,5 @@
 -- What the credit that is given on a producer's link comes to.
-use Rattle.std.specs.Prelude.{ℕ, ◌≡◌, List, ◌∷◌}
+use Rattle.std.specs.Prelude.{ℕ, List}
 use Rattle.flow_counts.specs.Credit.{LinkEvent}
 use Rattle.flow_counts.specs.GivenCredit.{given_credit, received_delivery_count}
 
@@ -18,13 +18,3 @@ credit_left first past = given_credit past
 
 abbrev pub counted : ℕ → List LinkEvent → Counters
 counted first past = record { rcv = received_count first past; left = credit_left first past }
-
--- Whichever events came before: where the earlier counters are their counts, the later ones are the counts with this
--- event in front.
-abbrev pub CountsOneMore : Counters → Counters → LinkEvent → Type 0
-CountsOneMore earlier later event =
-    (first : ℕ) (past : List LinkEvent) → earlier ≡ counted first past → later ≡ counted first (event ∷ past)
-
--- Whichever events came before: where the counters are their counts, the answer is this count of them.
-abbrev pub IsCount : Counters → ℕ → (ℕ → List LinkEvent → ℕ) → Type 0
-IsCount counters answer count = (first : ℕ) (past : List LinkEvent) → counters ≡ counted first past → answer ≡ count first past

@@ -1,3 +1,4 @@
+pub mod Counting
 pub mod SenderCounts
 pub mod GivenCounts
 pub mod ConsumerHistory

@@ -1,5 +1,5 @@
 -- What the credit of a consumer's link comes to.
-use Rattle.std.specs.Prelude.{ℕ, ◌≡◌, Bool, List, ◌∷◌}
+use Rattle.std.specs.Prelude.{ℕ, Bool, List}
 use Rattle.flow_counts.specs.Credit.{LinkEvent, delivery_count, credit, is_draining}
 
 -- What a consumer's link has come to: its delivery-count, how many deliveries may still begin, and whether the client
@@ -16,13 +16,3 @@ counted first past = record { first = first; snd = delivery_count first past; le
 
 abbrev pub asks_drain : ℕ → List LinkEvent → Bool
 asks_drain first past = is_draining past
-
--- Whichever events came before: where the earlier counters are their counts, the later ones are the counts with this
--- event in front.
-abbrev pub CountsOneMore : Counters → Counters → LinkEvent → Type 0
-CountsOneMore earlier later event =
-    (first : ℕ) (past : List LinkEvent) → earlier ≡ counted first past → later ≡ counted first (event ∷ past)
-
--- Whichever events came before: where the counters are their counts, the answer is this count of them.
-abbrev pub IsCount : {A : Type 0} → Counters → A → (ℕ → List LinkEvent → A) → Type 0
-IsCount counters answer count = (first : ℕ) (past : List LinkEvent) → counters ≡ counted first past → answer ≡ count first past

@@ -38,7 +38,8 @@ impl Model for GivenCredit {
 impl GivenCredit {
     ghost use Rattle.std.specs.Prelude.{◌≡◌, ◌+◌, ◌-◌, ◌≤◌, ◌↔◌, [], IsErr, OnOk, OnErr, IsSome, IfSome, IfNone, Some, false};
     ghost use Rattle.flow_counts.specs.Credit.{OurFlow, Begun};
-    ghost use Rattle.link_credit.specs.GivenCounts.{counted, credit_left, received_count, CountsOneMore, IsCount};
+    ghost use Rattle.link_credit.specs.Counting.{CountsOneMore, IsCount};
+    ghost use Rattle.link_credit.specs.GivenCounts.{counted, credit_left, received_count};
 
     /// A link as it is attached, with the initial delivery-count of the client's attach (0 where it has none), and
     /// without credit.
@@ -54,7 +55,7 @@ impl GivenCredit {
     /// The client began a delivery. Where it had no credit left, `Over` is the answer, and the delivery is not counted.
     pub fn begun(&mut self) -> Result<(), Over>
         ensures refused { IsErr result ↔ (self.old.left ≡ 0) }
-        ensures counted { OnOk result (CountsOneMore self.old self.new Begun) }
+        ensures counted { OnOk result (CountsOneMore counted self.old self.new Begun) }
         ensures unchanged { OnErr result (self.new ≡ self.old) }
     {
         if self.left == 0 {
@@ -73,7 +74,7 @@ impl GivenCredit {
         ensures fills { IfSome result (λ credit. credit ≡ CAPACITY - undecided) }
         ensures left { IfSome result (λ credit. self.new.left ≡ credit) }
         ensures never_less { IfSome result (λ credit. self.old.left ≤ credit) }
-        ensures counted { IfSome result (λ credit. CountsOneMore self.old self.new (OurFlow (Some self.old.rcv) (Some credit) false)) }
+        ensures counted { IfSome result (λ credit. CountsOneMore counted self.old self.new (OurFlow (Some self.old.rcv) (Some credit) false)) }
         ensures unchanged { IfNone result (self.new ≡ self.old) }
     {
         if self.left.saturating_add(undecided) > LOW_MARK {
@@ -86,7 +87,7 @@ impl GivenCredit {
     /// How many deliveries the client may still begin.
     pub fn left(&self) -> u32
         ensures value { result ≡ self.now.left }
-        ensures count { IsCount self.now result credit_left }
+        ensures count { IsCount counted self.now result credit_left }
     {
         self.left
     }
@@ -94,7 +95,7 @@ impl GivenCredit {
     /// The delivery-count that the link's receiver, which the router is, has come to (part 2, 2.6.7).
     pub fn rcv(&self) -> u32
         ensures value { result ≡ self.now.rcv }
-        ensures count { IsCount self.now result received_count }
+        ensures count { IsCount counted self.now result received_count }
     {
         self.rcv
     }

@@ -27,7 +27,8 @@ impl SenderCredit {
     ghost use Rattle.std.specs.Prelude.{◌≡◌, ◌<◌, [], IsTrue, Some, true};
     ghost use Rattle.flow_counts.specs.Serial.{serial_add};
     ghost use Rattle.flow_counts.specs.Credit.{TheirFlow, OurFlow, Begun, delivery_count, credit};
-    ghost use Rattle.link_credit.specs.SenderCounts.{counted, asks_drain, CountsOneMore, IsCount};
+    ghost use Rattle.link_credit.specs.Counting.{CountsOneMore, IsCount};
+    ghost use Rattle.link_credit.specs.SenderCounts.{counted, asks_drain};
 
     /// A link as it is attached, with this initial delivery-count (0 where the attach has none), and without credit.
     pub fn new(initial: u32) -> SenderCredit
@@ -45,7 +46,7 @@ impl SenderCredit {
     /// link-credit, in deliveries, and whether it asks to drain. What began meanwhile is taken off that credit. Without
     /// a link-credit nothing changes.
     pub fn on_flow(&mut self, delivery_count: Option<u32>, link_credit: Option<u32>, drain: bool)
-        ensures { CountsOneMore self.old self.new (TheirFlow delivery_count link_credit drain) }
+        ensures { CountsOneMore counted self.old self.new (TheirFlow delivery_count link_credit drain) }
     {
         if let Some(credit) = link_credit {
             let known = delivery_count.unwrap_or(self.first);
@@ -59,7 +60,7 @@ impl SenderCredit {
     pub fn begun(&mut self)
         // `left` tells.
         requires { 0 < self.old.left }
-        ensures { CountsOneMore self.old self.new Begun }
+        ensures { CountsOneMore counted self.old self.new Begun }
     {
         self.left -= 1;
         self.snd = self.snd.wrapping_add(1);
@@ -73,7 +74,7 @@ impl SenderCredit {
         requires left { 0 < self.old.left }
         ensures advanced { result ≡ serial_add self.old.snd self.old.left }
         ensures snd { self.new.snd ≡ result }
-        ensures counted { CountsOneMore self.old self.new (OurFlow (Some result) (Some 0) true) }
+        ensures counted { CountsOneMore counted self.old self.new (OurFlow (Some result) (Some 0) true) }
     {
         self.snd = self.snd.wrapping_add(self.left);
         self.left = 0;
@@ -83,7 +84,7 @@ impl SenderCredit {
     /// How many deliveries may still begin.
     pub fn left(&self) -> u32
         ensures value { result ≡ self.now.left }
-        ensures count { IsCount self.now result credit }
+        ensures count { IsCount counted self.now result credit }
     {
         self.left
     }
@@ -91,7 +92,7 @@ impl SenderCredit {
     /// The delivery-count that the link's sender, which the router is, has come to (part 2, 2.6.7).
     pub fn snd(&self) -> u32
         ensures value { result ≡ self.now.snd }
-        ensures count { IsCount self.now result delivery_count }
+        ensures count { IsCount counted self.now result delivery_count }
     {
         self.snd
     }
@@ -99,7 +100,7 @@ impl SenderCredit {
     /// Whether the client's last flow with a link-credit asks to drain.
     pub fn draining(&self) -> bool
         ensures value { result ≡ self.now.draining }
-        ensures asks { IsCount self.now result asks_drain }
+        ensures asks { IsCount counted self.now result asks_drain }
     {
         self.draining
     }
