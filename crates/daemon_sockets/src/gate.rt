@@ -1,11 +1,10 @@
 //! A gate that is a socket.
 
-ghost use Rattle.std.specs.Prelude.{◌≡◌, ◌<◌};
-ghost use Rattle.std.specs.Bool.{OnTrue};
+ghost use Rattle.std.specs.Prelude.{◌≡◌};
 
 use crate::notice::Notice;
 use conn_engine::{Delivered, Gate, Ready, Taken};
-use socket_gates::{Connection, Moved};
+use socket_gates::{Connection, Moved, count_failure};
 use std::alloc::Global;
 use std::sync::Arc;
 
@@ -71,18 +70,6 @@ impl SocketGate {
         self.deaf_since = Some(since);
         self.notice.is_over() || self.has_passed(since, DEAF_TIME)
     }
-
-    /// Counts a failed call, unless there were as many as can be counted.
-    fn count_failure(&mut self) -> bool
-        ensures counted { OnTrue result (self.old.failed < self.new.failed) }
-        ensures ended { self.new.ended ≡ self.old.ended }
-    {
-        if self.failed == u64::MAX {
-            return false;
-        }
-        self.failed += 1;
-        true
-    }
 }
 
 impl Gate for SocketGate {
@@ -125,7 +112,7 @@ impl Gate for SocketGate {
             }
             Moved::Fault => {
                 self.ended = true;
-                if self.count_failure() {
+                if count_failure(&mut self.failed) {
                     Delivered::Fault
                 } else {
                     Delivered::End
@@ -144,7 +131,7 @@ impl Gate for SocketGate {
             Moved::Nothing | Moved::End => self.is_deaf(octets),
             Moved::Fault => true,
         };
-        if !has_failed || !self.count_failure() {
+        if !has_failed || !count_failure(&mut self.failed) {
             return Taken::Nothing;
         }
         self.ended = true;

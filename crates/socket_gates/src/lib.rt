@@ -7,12 +7,13 @@
 //! too where a socket of another worker has delivered octets, since the router may have written frames because of them.
 //!
 //! In reading order: `signs` is what is known of one socket; `connection` is one socket; `refusal` is why a listener gave none;
-//! `millis` is the moment; `watch` is the sockets in a poll; `worker_poll` is what a worker's slots share; `slot` is a gate;
-//! `opening` makes the slots of a listener; `serving` runs the workers. The first four serve a router of one thread too
-//! (`daemon_sockets`).
+//! `millis` is the moment; `failures` counts failed calls; `watch` is the sockets in a poll; `worker_poll` is what a worker's
+//! slots share; `slot` is a gate; `opening` makes the slots of a listener; `serving` runs the workers. The first five serve a
+//! router of one thread too (`daemon_sockets`).
 #![tactic(auto)]
 
 mod connection;
+mod failures;
 mod millis;
 mod opening;
 mod refusal;
@@ -23,6 +24,7 @@ mod watch;
 mod worker_poll;
 
 pub use connection::{Connection, Moved};
+pub use failures::count_failure;
 pub use millis::moment;
 pub use opening::{open_slots, slots_at};
 pub use refusal::{Refusal, refusal_of};

@@ -1,9 +1,9 @@
 //! A gate that is a socket.
 
-ghost use Rattle.std.specs.Prelude.{◌≡◌, ◌<◌};
-ghost use Rattle.std.specs.Bool.{OnTrue};
+ghost use Rattle.std.specs.Prelude.{◌≡◌};
 
 use crate::connection::{Connection, Moved};
+use crate::failures::count_failure;
 use crate::millis::moment;
 use crate::refusal::{Refusal, refusal_of};
 use crate::worker_poll::{WorkerPoll, WorkerPolls};
@@ -114,18 +114,6 @@ impl<R: Wait> ConnectionSlot<R> {
             Err(_) => self.state = SlotState::Unfit,
         }
     }
-
-    /// Counts a failed call, unless there were as many as can be counted.
-    fn count_failure(&mut self) -> bool
-        ensures counted { OnTrue result (self.old.failed < self.new.failed) }
-        ensures ended { self.new.ended ≡ self.old.ended }
-    {
-        if self.failed == u64::MAX {
-            return false;
-        }
-        self.failed += 1;
-        true
-    }
 }
 
 impl<R: Wait + Clock> Gate for ConnectionSlot<R> {
@@ -166,7 +154,7 @@ impl<R: Wait + Clock> Gate for ConnectionSlot<R> {
             }
             Moved::Fault => {
                 self.ended = true;
-                if self.count_failure() {
+                if count_failure(&mut self.failed) {
                     Delivered::Fault
                 } else {
                     Delivered::End
@@ -186,7 +174,7 @@ impl<R: Wait + Clock> Gate for ConnectionSlot<R> {
             Moved::Octets(n) => Taken::Took(n),
             Moved::Nothing | Moved::End => Taken::Nothing,
             Moved::Fault => {
-                if !self.count_failure() {
+                if !count_failure(&mut self.failed) {
                     return Taken::Nothing;
                 }
                 self.ended = true;
@@ -204,7 +192,7 @@ impl<R: Wait + Clock> Gate for ConnectionSlot<R> {
                 Err(_) => self.is_broken = true,
             }
         }
-        if self.count_failure() {
+        if count_failure(&mut self.failed) {
             Ready::Device
         } else {
             Ready::No
