@@ -4,18 +4,21 @@
 //! - `script`: what clients say and take;
 //! - `parted`: what one says whose message comes in two transfers;
 //! - `gate`: a client as a gate in memory;
-//! - `clients`: two of them.
+//! - `clients`: two of them;
+//! - `pairs`: which two a run serves.
 #![tactic(auto)]
 
 mod captures;
 mod clients;
 mod gate;
+mod pairs;
 mod parted;
 mod script;
 
 pub use captures::{RunRules, Told, audited, rules};
 pub use clients::{Part, clients_at, two_clients, two_gates};
 pub use gate::{Client, LOOKS, PATIENCE, Pace, Post};
+pub use pairs::{IN_HASTE, ONE_BY_ONE, Pair, exchanging, failing, part, two_of, vanishing};
 pub use parted::stream_parted;
 pub use script::{
     AMQP_HEADER, BEGINS_LATE, CONSUMER, MESSAGE, OPENS_LATE, PRODUCER, QUIET, RELAY, RELAY_IN_TWO,

@@ -1,7 +1,10 @@
 //! Runs of a kind.
 
-use crate::run::Came;
+use crate::ROOM;
+use crate::run::{Came, serve_two};
 use audit_core::Verdict;
+use kit_gates::Pair;
+use std::alloc::{AllocError, Global};
 use std::fmt;
 
 /// How many runs came to what.
@@ -21,6 +24,19 @@ impl Tally {
         cut: 0,
         others: 0,
     };
+
+    /// That of runs of these pairs.
+    ///
+    /// # Errors
+    ///
+    /// Where memory is refused outside the server.
+    pub fn of(alloc: Global, pairs: &[Pair]) -> Result<Tally, AllocError> {
+        let mut tally = Tally::NONE;
+        for pair in pairs {
+            tally.count(serve_two(alloc, pair, ROOM)?);
+        }
+        Ok(tally)
+    }
 
     /// One more run. Where a client was not shut once, or was called behind its end, it is among the others.
     pub fn count(&mut self, came: Came) {

@@ -13,45 +13,20 @@ mod writer;
 
 use kinds::Tally;
 use kit_gates::{
-    BEGINS_LATE, CONSUMER, LOOKS, MESSAGE, OPENS_LATE, PRODUCER, Pace, Part, QUIET, RELAY,
-    RELAY_IN_TWO, RELAYED, RunRules, STRANGERS, Script, stream_of,
+    BEGINS_LATE, CONSUMER, IN_HASTE, MESSAGE, ONE_BY_ONE, OPENS_LATE, PATIENCE, Pace, Pair, Part,
+    QUIET, RELAY, RELAY_IN_TWO, RELAYED, RunRules, STRANGERS, exchanging, failing, part, two_of,
+    vanishing,
 };
-use run::{Pair, serve_two};
-use std::alloc::{AllocError, Global};
+use run::serve_two;
+use std::alloc::Global;
 use std::io;
 use std::process::ExitCode;
 
 /// The status where memory was refused or a line not written.
 const SYSTEM_FAULT: u8 = 74;
 
-/// More records than any of these runs has.
-const LIMIT: u64 = 1000;
-
-/// A client that takes one octet at a time, and waits for what is to come.
-const ONE_BY_ONE: Pace = Pace {
-    most: 1,
-    vanishes: usize::MAX,
-    takes: true,
-    meets: false,
-    patience: LOOKS,
-    breaks: false,
-    passes: 0,
-    read_fails: usize::MAX,
-    write_fails: usize::MAX,
-};
-
-/// One that waits a little.
-const IN_HASTE: Pace = Pace {
-    most: 7,
-    vanishes: usize::MAX,
-    takes: true,
-    meets: false,
-    patience: 200,
-    breaks: false,
-    passes: 0,
-    read_fails: usize::MAX,
-    write_fails: usize::MAX,
-};
+/// More octets than the text of any of these runs has.
+pub(crate) const ROOM: usize = usize::MAX;
 
 fn main(rt: HostRuntime) -> ExitCode {
     ExitCode::from(match run_all(&rt, rt.alloc()) {
@@ -107,7 +82,7 @@ fn relay<R: Print>(rt: &R, alloc: Global) -> io::Result<()> {
             rules: RunRules::Anonymous,
             ..two_of(first, part(RELAYED, ONE_BY_ONE))
         };
-        tally.count(serve_two(alloc, &pair)?);
+        tally.count(serve_two(alloc, &pair, ROOM)?);
     }
     println!(rt; "anonymous, parted behind any octet: {tally}")
 }
@@ -130,68 +105,18 @@ fn take_turns<R: Print>(rt: &R, alloc: Global) -> io::Result<()> {
 
 /// The exchange, where one of both is gone behind any octet.
 fn vanish<R: Print>(rt: &R, alloc: Global) -> io::Result<()> {
-    let mut tally = Tally::NONE;
-    for is_first in [true, false] {
-        vanish_behind(alloc, is_first, &mut tally)?;
-    }
+    let tally = Tally::of(alloc, &vanishing(alloc, IN_HASTE)?)?;
     println!(rt; "gone behind any octet: {tally}")
-}
-
-/// The producer or the consumer is gone behind any octet.
-fn vanish_behind(alloc: Global, is_first: bool, tally: &mut Tally) -> Result<(), AllocError> {
-    for vanishes in 0..stream_of(alloc, script_of(is_first))?.len() {
-        let pace = Pace {
-            vanishes,
-            ..IN_HASTE
-        };
-        tally.count(serve_two(alloc, &one_of_both(is_first, pace, IN_HASTE))?);
-    }
-    Ok(())
 }
 
 /// The exchange octet by octet, where each read that brings one, and then each write, of one of both fails in turn.
 fn fail<R: Print>(rt: &R, alloc: Global) -> io::Result<()> {
     let pace = Pace {
-        patience: 100_000,
+        patience: PATIENCE,
         ..ONE_BY_ONE
     };
-    let mut tally = Tally::NONE;
-    for is_first in [true, false] {
-        fail_reads(alloc, pace, is_first, &mut tally)?;
-        fail_writes(alloc, pace, is_first, &mut tally)?;
-    }
+    let tally = Tally::of(alloc, &failing(alloc, pace)?)?;
     println!(rt; "each read and each write fails: {tally}")
-}
-
-/// Each read that would bring an octet fails, of the producer or the consumer.
-fn fail_reads(
-    alloc: Global,
-    pace: Pace,
-    is_first: bool,
-    tally: &mut Tally,
-) -> Result<(), AllocError> {
-    for read_fails in 0..stream_of(alloc, script_of(is_first))?.len() {
-        let fails = Pace { read_fails, ..pace };
-        tally.count(serve_two(alloc, &one_of_both(is_first, fails, pace))?);
-    }
-    Ok(())
-}
-
-/// Each write of an octet fails, of the producer or the consumer.
-fn fail_writes(
-    alloc: Global,
-    pace: Pace,
-    is_first: bool,
-    tally: &mut Tally,
-) -> Result<(), AllocError> {
-    for write_fails in 0..script_of(is_first).wanted {
-        let fails = Pace {
-            write_fails,
-            ..pace
-        };
-        tally.count(serve_two(alloc, &one_of_both(is_first, fails, pace))?);
-    }
-    Ok(())
 }
 
 /// Clients that speak something else, beside one that keeps to its script.
@@ -199,7 +124,7 @@ fn meet_strangers<R: Print>(rt: &R, alloc: Global) -> io::Result<()> {
     let mut tally = Tally::NONE;
     for script in STRANGERS {
         let pair = two_of(part(script, IN_HASTE), part(CONSUMER, IN_HASTE));
-        tally.count(serve_two(alloc, &pair)?);
+        tally.count(serve_two(alloc, &pair, ROOM)?);
     }
     println!(rt; "strangers: {tally}")
 }
@@ -212,7 +137,7 @@ fn take_nothing<R: Print>(rt: &R, alloc: Global) -> io::Result<()> {
     };
     let mut tally = Tally::NONE;
     for (first, second) in [(silent, IN_HASTE), (IN_HASTE, silent), (silent, silent)] {
-        tally.count(serve_two(alloc, &exchanging(first, second))?);
+        tally.count(serve_two(alloc, &exchanging(first, second), ROOM)?);
     }
     println!(rt; "taking nothing: {tally}")
 }
@@ -224,57 +149,17 @@ fn stop<R: Print>(rt: &R, alloc: Global) -> io::Result<()> {
         ..exchanging(ONE_BY_ONE, ONE_BY_ONE)
     };
     tell_pair(rt, alloc, "a full core", &full)?;
-    let whole = serve_two(alloc, &exchanging(ONE_BY_ONE, ONE_BY_ONE))?;
+    let pair = exchanging(ONE_BY_ONE, ONE_BY_ONE);
+    let whole = serve_two(alloc, &pair, ROOM)?;
     let mut tally = Tally::NONE;
     for room in 0..whole.octets {
-        let pair = Pair {
-            room,
-            ..exchanging(ONE_BY_ONE, ONE_BY_ONE)
-        };
-        tally.count(serve_two(alloc, &pair)?);
+        tally.count(serve_two(alloc, &pair, room)?);
     }
     println!(rt; "writers that fail behind any octet: {tally}")
 }
 
 /// Serves two clients, and prints what came of it.
 fn tell_pair<R: Print>(rt: &R, alloc: Global, name: &str, pair: &Pair) -> io::Result<()> {
-    let came = serve_two(alloc, pair)?;
+    let came = serve_two(alloc, pair, ROOM)?;
     println!(rt; "{name}: {came}")
-}
-
-/// A producer and a consumer of this pace each.
-fn exchanging(first: Pace, second: Pace) -> Pair {
-    two_of(part(PRODUCER, first), part(CONSUMER, second))
-}
-
-/// Two clients, without rules, a core that is never full and a writer that never fails.
-fn two_of(first: Part, second: Part) -> Pair {
-    Pair {
-        first,
-        second,
-        rules: RunRules::Plain,
-        limit: LIMIT,
-        room: usize::MAX,
-    }
-}
-
-/// The producer of one pace and the consumer of the other, or the other way round.
-fn one_of_both(is_first: bool, own: Pace, other: Pace) -> Pair {
-    if is_first {
-        exchanging(own, other)
-    } else {
-        exchanging(other, own)
-    }
-}
-
-fn part(script: Script, pace: Pace) -> Part {
-    Part {
-        script,
-        pace,
-        parted: None,
-    }
-}
-
-fn script_of(is_first: bool) -> Script {
-    if is_first { PRODUCER } else { CONSUMER }
 }

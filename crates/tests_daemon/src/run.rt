@@ -6,7 +6,7 @@ use crate::writer::Sheet;
 use address_table::Rules;
 use audit_core::{Verdict, audit_bytes};
 use daemon_server::{Halt, Server};
-use kit_gates::{Client, Part, Post, RunRules, Told, clients_at, rules};
+use kit_gates::{Client, Pair, Post, Told, clients_at, rules};
 use route_work::Work;
 use std::alloc::{AllocError, Global};
 use std::fmt;
@@ -14,17 +14,6 @@ use std::sync::Arc;
 
 /// As many rounds as a run has at most.
 const ROUNDS: u64 = 1_000_000;
-
-/// Two clients, and the server that they share: which rules it has, that it takes items while it has fewer than `limit` records, and
-/// how many octets its writer takes.
-#[derive(Clone, Copy)]
-pub struct Pair {
-    pub first: Part,
-    pub second: Part,
-    pub rules: RunRules,
-    pub limit: u64,
-    pub room: usize,
-}
 
 /// How a server ended.
 #[derive(Clone, Copy, PartialEq, Eq)]
@@ -108,16 +97,16 @@ impl fmt::Display for Came {
     }
 }
 
-/// Serves two clients to their ends.
+/// Serves two clients to their ends, by a server whose writer takes so many octets.
 ///
 /// # Errors
 ///
 /// Where memory is refused outside the server.
-pub fn serve_two(alloc: Global, pair: &Pair) -> Result<Came, AllocError> {
+pub fn serve_two(alloc: Global, pair: &Pair, room: usize) -> Result<Came, AllocError> {
     let rules = rules(alloc, pair.rules)?;
     let one = Arc::new(alloc, Post::new())?;
     let two = Arc::new(alloc, Post::new())?;
-    serve_at(alloc, pair, &rules, &one, &two)
+    serve_at(alloc, pair, room, &rules, &one, &two)
 }
 
 /// The same by these rules, where these posts are the clients'.
@@ -126,12 +115,13 @@ pub fn serve_two(alloc: Global, pair: &Pair) -> Result<Came, AllocError> {
 fn serve_at(
     alloc: Global,
     pair: &Pair,
+    room: usize,
     rules: &Rules,
     one: &Arc<Post, Global>,
     two: &Arc<Post, Global>,
 ) -> Result<Came, AllocError> {
     let (first, second) = clients_at(alloc, pair.first, pair.second, one, two)?;
-    let writer = Sheet::new(alloc, pair.room);
+    let writer = Sheet::new(alloc, room);
     let (ending, left, octets) = match Server::new(alloc, rules, pair.limit, writer) {
         Ok(server) => serve(server, first, second),
         Err(halt) => (Ending::Halted(halt), Left::NOTHING, Vec::new(alloc)),

@@ -16,10 +16,11 @@ use address_table::Rules;
 use audit_core::Verdict;
 use capture_form::Capture;
 use kit_gates::{
-    BEGINS_LATE, CONSUMER, LOOKS, MESSAGE, OPENS_LATE, PATIENCE, PRODUCER, Pace, Part, QUIET,
-    RELAY, RELAY_IN_TWO, RELAYED, RunRules, STRANGERS, Script, Told, audited, rules, stream_of,
+    BEGINS_LATE, CONSUMER, IN_HASTE, MESSAGE, ONE_BY_ONE, OPENS_LATE, PATIENCE, Pace, Pair, Part,
+    QUIET, RELAY, RELAY_IN_TWO, RELAYED, RunRules, STRANGERS, Told, audited, exchanging, failing,
+    part, rules, two_of, vanishing,
 };
-use served::{LIMIT, Pair, Served, serve_two};
+use served::{Served, serve_two};
 use shared::share_core;
 use std::alloc::{AllocError, Global};
 use std::process::ExitCode;
@@ -29,32 +30,6 @@ use std::{fmt, io};
 
 /// The status where memory was refused or a line not written.
 const SYSTEM_FAULT: u8 = 74;
-
-/// A client that takes one octet at a time, and waits for what is to come.
-const ONE_BY_ONE: Pace = Pace {
-    most: 1,
-    vanishes: usize::MAX,
-    takes: true,
-    meets: false,
-    patience: LOOKS,
-    breaks: false,
-    passes: 0,
-    read_fails: usize::MAX,
-    write_fails: usize::MAX,
-};
-
-/// One that waits a little.
-const IN_HASTE: Pace = Pace {
-    most: 7,
-    vanishes: usize::MAX,
-    takes: true,
-    meets: false,
-    patience: 200,
-    breaks: false,
-    passes: 0,
-    read_fails: usize::MAX,
-    write_fails: usize::MAX,
-};
 
 fn main(rt: HostRuntime) -> ExitCode {
     ExitCode::from(match run_all(&rt, rt.alloc()) {
@@ -185,87 +160,25 @@ fn listen<R: Threads + Wait + Sync + Print>(rt: &R, alloc: Global) -> io::Result
 /// The exchange, where one of both is gone behind any octet.
 fn vanish<R: Threads + Wait + Sync + Print>(rt: &R, alloc: Global) -> io::Result<()> {
     let mut tally = Tally::NONE;
-    for is_first in [true, false] {
-        vanish_behind(rt, alloc, is_first, &mut tally)?;
-    }
+    tally.count_all(rt, alloc, 2, &vanishing(alloc, IN_HASTE)?)?;
     println!(rt; "gone behind any octet: {tally}")
-}
-
-/// The producer or the consumer is gone behind any octet.
-fn vanish_behind<R: Threads + Wait + Sync>(
-    rt: &R,
-    alloc: Global,
-    is_first: bool,
-    tally: &mut Tally,
-) -> Result<(), AllocError> {
-    for vanishes in 0..stream_of(alloc, script_of(is_first))?.len() {
-        let pace = Pace {
-            vanishes,
-            ..IN_HASTE
-        };
-        tally.count_pair(rt, alloc, 2, &one_of_both(is_first, pace, IN_HASTE))?;
-    }
-    Ok(())
 }
 
 /// The exchange octet by octet, where each read that brings one, and then each write, of one of both fails in turn. By one
 /// worker nothing depends on how patient the other is, and each of these calls comes.
 fn fail<R: Threads + Wait + Sync + Print>(rt: &R, alloc: Global) -> io::Result<()> {
+    let pace = Pace {
+        patience: PATIENCE,
+        ..ONE_BY_ONE
+    };
+    let pairs = failing(alloc, pace)?;
     for (workers, name) in [(1, "one worker"), (2, "two workers")] {
-        let pace = Pace {
-            patience: PATIENCE,
-            ..ONE_BY_ONE
-        };
         let mut tally = Tally::NONE;
-        for is_first in [true, false] {
-            fail_reads(rt, alloc, workers, pace, is_first, &mut tally)?;
-            fail_writes(rt, alloc, workers, pace, is_first, &mut tally)?;
-        }
+        tally.count_all(rt, alloc, workers, &pairs)?;
         println!(rt; "{name}, each read and each write fails: {tally}")?;
         if workers == 1 {
             println!(rt; "devices that failed: {}", tally.failures)?;
         }
-    }
-    Ok(())
-}
-
-/// Each read that would bring an octet fails, of the producer or the consumer.
-fn fail_reads<R: Threads + Wait + Sync>(
-    rt: &R,
-    alloc: Global,
-    workers: usize,
-    pace: Pace,
-    is_first: bool,
-    tally: &mut Tally,
-) -> Result<(), AllocError>
-    requires some { 0 < workers }
-    requires few { workers ≤ 64 }
-{
-    for read_fails in 0..stream_of(alloc, script_of(is_first))?.len() {
-        let fails = Pace { read_fails, ..pace };
-        tally.count_pair(rt, alloc, workers, &one_of_both(is_first, fails, pace))?;
-    }
-    Ok(())
-}
-
-/// Each write of an octet fails, of the producer or the consumer.
-fn fail_writes<R: Threads + Wait + Sync>(
-    rt: &R,
-    alloc: Global,
-    workers: usize,
-    pace: Pace,
-    is_first: bool,
-    tally: &mut Tally,
-) -> Result<(), AllocError>
-    requires some { 0 < workers }
-    requires few { workers ≤ 64 }
-{
-    for write_fails in 0..script_of(is_first).wanted {
-        let fails = Pace {
-            write_fails,
-            ..pace
-        };
-        tally.count_pair(rt, alloc, workers, &one_of_both(is_first, fails, pace))?;
     }
     Ok(())
 }
@@ -361,6 +274,23 @@ impl Tally {
         Ok(())
     }
 
+    /// The same of each of these pairs.
+    fn count_all<R: Threads + Wait + Sync>(
+        &mut self,
+        rt: &R,
+        alloc: Global,
+        workers: usize,
+        pairs: &[Pair],
+    ) -> Result<(), AllocError>
+        requires some { 0 < workers }
+        requires few { workers ≤ 64 }
+    {
+        for pair in pairs {
+            self.count_pair(rt, alloc, workers, pair)?;
+        }
+        Ok(())
+    }
+
     fn count(&mut self, served: Served) {
         let is_accepted = match served {
             Served::Report(verdict, _, failures) => {
@@ -414,42 +344,4 @@ impl fmt::Display for Relays {
             self.content, self.others
         )
     }
-}
-
-/// A client of a script, at this pace.
-fn part(script: Script, pace: Pace) -> Part {
-    Part {
-        script,
-        pace,
-        parted: None,
-    }
-}
-
-/// These two clients over a core without rules, which does not fill.
-fn two_of(first: Part, second: Part) -> Pair {
-    Pair {
-        first,
-        second,
-        rules: RunRules::Plain,
-        limit: LIMIT,
-    }
-}
-
-/// A producer and a consumer, at these paces.
-fn exchanging(first: Pace, second: Pace) -> Pair {
-    two_of(part(PRODUCER, first), part(CONSUMER, second))
-}
-
-/// The same, where the first or the second has this pace, and the other that one.
-fn one_of_both(is_first: bool, pace: Pace, other: Pace) -> Pair {
-    if is_first {
-        exchanging(pace, other)
-    } else {
-        exchanging(other, pace)
-    }
-}
-
-/// The script of the first or the second.
-fn script_of(is_first: bool) -> Script {
-    if is_first { PRODUCER } else { CONSUMER }
 }

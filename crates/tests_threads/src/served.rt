@@ -7,23 +7,11 @@ use audit_core::Verdict;
 use capture_form::{Capture, What};
 use conn_engine::Gate;
 use conn_workers::{ConnReport, RunFault, RunReport, run_workers};
-use kit_gates::{AMQP_HEADER, Client, Part, RunRules, Told, audited, rules, two_gates};
+use kit_gates::{AMQP_HEADER, Client, Pair, Told, audited, rules, two_gates};
 use std::alloc::{AllocError, Global};
 use std::fmt;
 use std::sync::Wait;
 use std::thread::Threads;
-
-/// More records than any of these runs has.
-pub const LIMIT: u64 = 1000;
-
-/// Two clients, and the core that they share: which rules it has, and that it takes items while it has fewer than `limit` records.
-#[derive(Clone, Copy)]
-pub struct Pair {
-    pub first: Part,
-    pub second: Part,
-    pub rules: RunRules,
-    pub limit: u64,
-}
 
 /// What came of a run.
 #[derive(Clone, Copy)]
