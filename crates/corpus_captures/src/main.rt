@@ -10,7 +10,7 @@
 //! of 42, and at the end it is told how many of these captures the auditor and the plain checker judge alike (`damaged`).
 #![tactic(auto)]
 
-ghost use Rattle.std.specs.Prelude.{◌≡◌, ◌++◌, IfOk, IsSorted, codes, string_bytes, string_cmp};
+ghost use Rattle.std.specs.Prelude.{◌≡◌, ◌++◌, IfOk, codes, string_bytes};
 ghost use Rattle.audit_core.specs.Report.{line_of};
 ghost use Rattle.audit_core.specs.Verdict.{Answers};
 ghost use Rattle.audit_core.specs.declared.verdict.Verdict.{Verdict};
@@ -19,6 +19,7 @@ mod damaged;
 
 use audit_core::audit_bytes;
 use damaged::Damage;
+use kit_cases::names_in;
 use refusal_showing::explain_capture;
 use std::alloc::{AllocError, Global};
 use std::{env, fs, io};
@@ -27,7 +28,7 @@ use std::{env, fs, io};
 const SEED: u32 = 42;
 
 fn main(rt: HostRuntime) -> io::Result<()> {
-    let names = names_of_captures(&rt)?;
+    let names = names_in(&rt, ".", ".cap")?;
     tell_captures(&rt, names.as_slice())
 }
 
@@ -97,33 +98,4 @@ fn line_on(alloc: Global, name: &str, octets: &[u8]) -> Result<String, AllocErro
 {
     let verdict = audit_bytes(alloc, octets);
     format!(in alloc; "{name}: {verdict}")
-}
-
-/// The names of the captures in the folder that the program runs in, in order.
-fn names_of_captures(rt: &HostRuntime) -> io::Result<Vec<String>>
-    ensures { IfOk result (λ names. IsSorted string_cmp names.items) }
-{
-    let mut names = Vec::new(rt.alloc());
-    put_names(rt, &mut names)?;
-    names.sort()?;
-    Ok(names)
-}
-
-/// The same in any order, put into a list without names.
-///
-/// It borrows the list: owned here, its drop would be proved on each way out.
-fn put_names(rt: &HostRuntime, names: &mut Vec<String>) -> io::Result<()> {
-    for entry in fs::read_dir(rt, ".")? {
-        put_name(names, entry?.file_name())?;
-    }
-    Ok(())
-}
-
-/// Puts the name of a capture, where the file is one.
-fn put_name(names: &mut Vec<String>, file: &str) -> Result<(), AllocError> {
-    if let Some(name) = file.strip_suffix(".cap") {
-        let name = String::from_str(*names.allocator(), name)?;
-        names.push(name)?;
-    }
-    Ok(())
 }

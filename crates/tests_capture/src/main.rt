@@ -5,7 +5,7 @@
 //! a case stands what came of it. `stdout` holds what is expected: octets and numbers were worked out by hand from the
 //! formats, and an independent program made the octets of packets, which tshark read.
 //!
-//! In reading order: `words` and `octets` are what a case is written in; `fakes` are a reader that gives a text in pieces
+//! In reading order: `octets` are what a case is written in; `fakes` are a reader that gives a text in pieces
 //! or fails, and a writer with room for less; `runs` puts together what comes of many numbers; `reading`, `writing` and
 //! `packing` are what is done with a text; `texts` and `records` are the subjects.
 #![tactic(auto)]
@@ -17,13 +17,12 @@ mod reading;
 mod records;
 mod runs;
 mod texts;
-mod words;
 mod writing;
 
+use kit_cases::tell_cases;
 use records::Records;
-use std::{fs, io};
+use std::io;
 use texts::Texts;
-use words::Subject;
 
 fn main(rt: HostRuntime) -> io::Result<()> {
     let alloc = rt.alloc();
@@ -31,28 +30,4 @@ fn main(rt: HostRuntime) -> io::Result<()> {
     tell_cases(&rt, "writing", Texts::new(alloc))?;
     tell_cases(&rt, "packing", Texts::new(alloc))?;
     tell_cases(&rt, "records", Records::new(alloc))
-}
-
-/// Tells what comes of each case of a subject, in their order.
-///
-/// It takes the subject itself: in `main` the drop of each would be proved on each way out of it.
-fn tell_cases<S: Subject + Drop>(rt: &HostRuntime, name: &str, mut subject: S) -> io::Result<()> {
-    let cases = fs::read_to_string(rt, format!(in rt.alloc(); "{name}.cases")?)?;
-    println!(rt; "== {name}")?;
-    for line in cases.lines() {
-        tell_case(rt, line, &mut subject)?;
-    }
-    Ok(())
-}
-
-/// Tells what comes of the case on a line.
-fn tell_case<S: Subject>(rt: &HostRuntime, line: &str, subject: &mut S) -> io::Result<()> {
-    let words: Vec<&str> = line.split_whitespace().collect(rt.alloc())?;
-    if line.starts_with('#') || words.is_empty() {
-        return rt.println(line);
-    }
-    match subject.answer(words.as_slice())? {
-        Some(told) => println!(rt; "{line}{told}"),
-        None => println!(rt; "{line}: no words of this program"),
-    }
 }

@@ -1,6 +1,6 @@
 //! Octets in words.
 
-use crate::words::count;
+use kit_cases::count;
 use std::alloc::{AllocError, Global};
 
 /// The octets of these words, one behind the other: `"TEXT"` has those of its text, another word is hexadecimal, and

@@ -1,10 +1,10 @@
 //! Captures that are written as packets.
 
 use crate::fakes::{Pieces, Room};
-use crate::words::{Answer, told};
 use crate::writing::packed;
 use capture_form::{Capture, WriteFault, read_capture, read_whole_records};
 use capture_packets::{PacketFault, pack_capture};
+use kit_cases::{Answer, told};
 use std::alloc::Global;
 
 /// More octets than the packets of any case have.

@@ -2,10 +2,10 @@
 
 use crate::fakes::Pieces;
 use crate::runs::Runs;
-use crate::words::{Answer, count};
 use capture_form::{
     Form, FormFault, Reader, Record, Rule, RuleSet, What, read_capture, read_whole_records,
 };
+use kit_cases::{Answer, count};
 use std::alloc::{AllocError, Global};
 use std::io::Read;
 

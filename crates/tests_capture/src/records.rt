@@ -1,9 +1,9 @@
 //! Records that are looked at: their lines, what they come to, and the ids of deliveries.
 
 use crate::octets::octets_of;
-use crate::words::{Answer, Subject, behind, count, done, number, parted, said, small, told, word};
 use capture_view::{Happened, Ids, RecordView, Scope, Sender, said_by};
 use capture_words::{Page, Summary};
+use kit_cases::{Answer, Subject, behind, count, done, number, parted, said, small, told, word};
 use pairing_cert::Note;
 use std::alloc::Global;
 

@@ -1,6 +1,6 @@
 //! What comes of one number after the other.
 
-use crate::words::Answer;
+use kit_cases::Answer;
 use std::alloc::{AllocError, Global};
 use std::mem;
 

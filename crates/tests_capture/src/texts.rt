@@ -4,8 +4,8 @@ use crate::fakes::Pieces;
 use crate::octets::octets_of;
 use crate::packing::{faults_in_words, pack_read, packets_shown};
 use crate::reading::{read_cuts, read_failing, read_in_words, read_pieces, read_within, shown};
-use crate::words::{Answer, Subject, count, done, parted, said, small, word};
 use crate::writing::{Way, record_growing, written_again};
+use kit_cases::{Answer, Subject, count, done, parted, said, small, word};
 use std::alloc::Global;
 
 /// The text of which the cases speak.

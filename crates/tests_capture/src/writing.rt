@@ -2,11 +2,11 @@
 
 use crate::fakes::Room;
 use crate::runs::Runs;
-use crate::words::{Answer, count, parted, told, word};
 use capture_form::{Capture, Reader, WriteFault, append, append_head, read_capture, write_capture};
 use capture_journal::Journal;
 use capture_packets::{PacketFault, PacketWriter};
 use capture_recorder::Recorder;
+use kit_cases::{Answer, count, parted, told, word};
 use std::alloc::{AllocError, Global};
 use std::io::ErrorKind;
 

@@ -19,8 +19,8 @@ mod texts;
 
 use captures::chart_of;
 use curves::tell_curves;
+use kit_cases::names_in;
 use levels::tell_levels;
-use std::alloc::AllocError;
 use std::{fs, io};
 use texts::tell_texts;
 
@@ -33,7 +33,7 @@ fn main(rt: HostRuntime) -> io::Result<()> {
 
 /// Draws the captures of the folder that the program runs in, in the order of their names.
 fn tell_captures(rt: &HostRuntime) -> io::Result<()> {
-    for name in names_of_captures(rt)?.iter() {
+    for name in names_in(rt, ".", ".cap")?.iter() {
         tell_capture(rt, name)?;
     }
     Ok(())
@@ -52,31 +52,4 @@ fn tell_chart(rt: &HostRuntime, name: &str, octets: &[u8]) -> io::Result<()> {
         Some(document) => rt.print(document.as_str()),
         None => rt.println("no capture, or too many records"),
     }
-}
-
-/// The names of the captures in the folder that the program runs in, in order.
-fn names_of_captures(rt: &HostRuntime) -> io::Result<Vec<String>> {
-    let mut names = Vec::new(rt.alloc());
-    put_names(rt, &mut names)?;
-    Ok(names)
-}
-
-/// The same, put into a list without names.
-///
-/// It borrows the list: owned here, its drop would be proved on each way out.
-fn put_names(rt: &HostRuntime, names: &mut Vec<String>) -> io::Result<()> {
-    for entry in fs::read_dir(rt, ".")? {
-        put_name(names, entry?.file_name())?;
-    }
-    names.sort()?;
-    Ok(())
-}
-
-/// Puts the name of a capture, where the file is one.
-fn put_name(names: &mut Vec<String>, file: &str) -> Result<(), AllocError> {
-    if let Some(name) = file.strip_suffix(".cap") {
-        let name = String::from_str(*names.allocator(), name)?;
-        names.push(name)?;
-    }
-    Ok(())
 }

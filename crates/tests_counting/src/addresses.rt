@@ -1,8 +1,9 @@
 //! The rules of a router, and the links of consumers at addresses.
 
-use crate::words::{Answer, Subject, behind, done, joined, number, parted, parts, told, word};
+use crate::words::{joined, parts};
 use address_table::{AddressEvent, Rules, RulesFault, Table, table_after};
 use capture_form::{Distribution, Rule, read_capture};
+use kit_cases::{Answer, Subject, behind, done, number, parted, told, word};
 use std::alloc::{AllocError, Global};
 use std::cell::Cell;
 use std::mem;

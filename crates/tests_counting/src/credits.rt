@@ -1,8 +1,7 @@
 //! The credit of a consumer's link and of a producer's.
 
-use crate::words::{
-    Answer, Event, Subject, behind, done, events, optional, parted, small, told, word,
-};
+use crate::words::{Event, events, optional};
+use kit_cases::{Answer, Subject, behind, done, parted, small, told, word};
 use link_credit::{
     ConsumerEvent, GivenCredit, Over, ProducerEvent, SenderCredit, given_credit_after,
     sender_credit_after,

@@ -1,7 +1,8 @@
 //! Numbers, alone and under keys of a number, of a pair of numbers and of octets; and values under numbers, each with an entry
 //! of its own or neighbours in one.
 
-use crate::words::{Answer, Subject, done, number, parted, parts, small, told, word};
+use crate::words::parts;
+use kit_cases::{Answer, Subject, done, number, parted, small, told, word};
 use number_groups::{Ascending, Groups, IdOn, NumberKey, NumberSet, OctetGroups};
 use number_map::NumberMap;
 use number_runs::NumberRuns;

@@ -21,10 +21,10 @@ use addresses::Addresses;
 use credits::Credits;
 use deliveries::Deliveries;
 use groups::Keyed;
+use kit_cases::tell_cases;
 use notes::Notes;
-use std::{fs, io};
+use std::io;
 use windows::Windows;
-use words::Subject;
 
 fn main(rt: HostRuntime) -> io::Result<()> {
     let alloc = rt.alloc();
@@ -34,29 +34,4 @@ fn main(rt: HostRuntime) -> io::Result<()> {
     tell_cases(&rt, "addresses", Addresses::new(alloc))?;
     tell_cases(&rt, "groups", Keyed::new(alloc))?;
     tell_cases(&rt, "notes", Notes::new(alloc))
-}
-
-/// Tells what comes of each case of a subject, in their order.
-///
-/// It takes the subject itself: in `main` the drop of each would be proved on each way out of it.
-fn tell_cases<S: Subject + Drop>(rt: &HostRuntime, name: &str, mut subject: S) -> io::Result<()> {
-    let cases = fs::read_to_string(rt, format!(in rt.alloc(); "{name}.cases")?)?;
-    println!(rt; "== {name}")?;
-    for line in cases.lines() {
-        tell_case(rt, line, &mut subject)?;
-    }
-    Ok(())
-}
-
-/// Tells what comes of the case on a line.
-fn tell_case<S: Subject>(rt: &HostRuntime, line: &str, subject: &mut S) -> io::Result<()> {
-    let words: Vec<&str> = line.split_whitespace().collect(rt.alloc())?;
-    if line.starts_with('#') || words.is_empty() {
-        return rt.println(line);
-    }
-    match subject.answer(words.as_slice())? {
-        Some(told) if told.is_empty() => rt.println(line),
-        Some(told) => println!(rt; "{line}: {told}"),
-        None => println!(rt; "{line}: no words of this program"),
-    }
 }

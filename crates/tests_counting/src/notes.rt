@@ -1,6 +1,6 @@
 //! The notes of records.
 
-use crate::words::{Answer, Subject, number, told};
+use kit_cases::{Answer, Subject, number, told};
 use pairing_cert::Note;
 use std::alloc::Global;
 
@@ -24,7 +24,7 @@ impl Subject for Notes {
         let octet = octet.parse::<u8>().unwrap_or(u8::MAX);
         match Note::from_parts(octet, number(index)) {
             Ok(note) => told(self.alloc, (note, note.to_parts())),
-            Err(fault) => Ok(Some(format!(in self.alloc; "{fault:?}, {fault}")?)),
+            Err(fault) => Ok(Some(format!(in self.alloc; ": {fault:?}, {fault}")?)),
         }
     }
 }

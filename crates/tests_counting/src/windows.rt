@@ -1,9 +1,8 @@
 //! The windows of a session.
 
-use crate::words::{
-    Answer, Event, Subject, behind, done, events, optional, parted, small, told, word,
-};
+use crate::words::{Event, events, optional};
 use flow_counts::WindowEvent;
+use kit_cases::{Answer, Subject, behind, done, parted, small, told, word};
 use session_window::{Violation, Window, window_after};
 use std::alloc::Global;
 

@@ -1,8 +1,9 @@
 //! Frames, protocol headers and the frames of a SASL exchange.
 
-use crate::words::{Hex, NoAnswer, lent, number, octets, octets_of_each, parted, word};
+use crate::words::{Hex, NoAnswer, lent, number, octets, octets_of_each};
 use crate::{changed, performatives, pieces, written};
 use amqp_frames::{CutStream, FrameFault, FrameView, ProtocolHeader, cut_stream, sasl_read};
+use kit_cases::{parted, word};
 use std::alloc::{AllocError, Global};
 
 /// What comes of a case about frames.

@@ -25,9 +25,10 @@ mod values;
 mod words;
 mod written;
 
+use kit_cases::{parted, word};
 use std::alloc::Global;
 use std::io;
-use words::{NoAnswer, parted, word};
+use words::NoAnswer;
 
 fn main(rt: HostRuntime) -> io::Result<()> {
     for line in rt.lines(rt.alloc()) {

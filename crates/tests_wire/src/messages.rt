@@ -1,7 +1,8 @@
 //! The address that a message is for, of a payload that lies in one part, and of the same in several.
 
-use crate::words::{Hex, NoAnswer, octets, parted, word};
+use crate::words::{Hex, NoAnswer, octets};
 use amqp_cuts::{Cuts, Parts};
+use kit_cases::{parted, word};
 use std::alloc::{AllocError, Global};
 
 /// What comes of a case about messages.

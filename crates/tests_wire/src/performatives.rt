@@ -1,8 +1,9 @@
 //! Performatives that are read.
 
-use crate::words::{Hex, NoAnswer, behind, hex_if, octets, parted, tell, tell_if, word};
+use crate::words::{Hex, NoAnswer, hex_if, octets, tell, tell_if};
 use crate::written;
 use amqp_perf::{Attach, Disposition, PerfFault, Performative};
+use kit_cases::{behind, parted, word};
 use std::alloc::{AllocError, Global};
 
 /// What comes of a case about performatives.

@@ -1,8 +1,9 @@
 //! Streams of many frames that come in pieces, and what a splitter gives of them and keeps.
 
 use crate::frames::fault_told;
-use crate::words::{Hex, NoAnswer, behind, number, octets, word};
+use crate::words::{Hex, NoAnswer, number, octets};
 use amqp_frames::{Splitter, cut_stream};
+use kit_cases::{behind, word};
 use std::alloc::{AllocError, Global};
 
 /// What comes of a case about streams of frames.

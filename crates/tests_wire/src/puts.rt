@@ -4,13 +4,12 @@ ghost use Rattle.std.specs.Prelude.{◌≡◌, IfOk, length};
 ghost use Rattle.amqp_types.specs.Grammar.{IsValue, AreItems};
 ghost use Rattle.amqp_types.specs.Writing.{levels_in_list, levels_in_described};
 
-use crate::words::{
-    NoAnswer, between_commas, hexed, lent, number, octets, octets_of_each, parted, word,
-};
+use crate::words::{NoAnswer, between_commas, hexed, lent, number, octets, octets_of_each};
 use amqp_types::{
     put_binary, put_bool, put_described_list, put_list, put_null, put_parts, put_str, put_symbol,
     put_ubyte, put_uint, put_ulong, put_ushort,
 };
+use kit_cases::{parted, word};
 use std::alloc::{AllocError, Global};
 
 /// The most octets of a text.

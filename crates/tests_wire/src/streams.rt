@@ -1,6 +1,7 @@
 //! The steps of a client's stream.
 
-use crate::words::{Hex, NoAnswer, number, octets, parted, word};
+use crate::words::{Hex, NoAnswer, number, octets};
+use kit_cases::{parted, word};
 use std::alloc::{AllocError, Global};
 use stream_reading::{Phase, StreamReader, answer_to, answer_to_fault, front};
 

@@ -1,8 +1,9 @@
 //! Values that are read.
 
 use crate::puts;
-use crate::words::{Hex, NoAnswer, behind, hex_if, octets, parted, tell, tell_if, word};
+use crate::words::{Hex, NoAnswer, hex_if, octets, tell, tell_if};
 use amqp_types::{Items, Value, ValueFault, read_described_list};
+use kit_cases::{behind, parted, word};
 use std::alloc::{AllocError, Global};
 
 /// How many octets are printed in hex; of more only their number.

@@ -38,24 +38,6 @@ impl From<NoAnswer> for io::Error {
     }
 }
 
-/// The first word, which says what is done, and those behind it.
-pub(crate) fn parted<'w, 'a>(words: &'w [&'a str]) -> (&'a str, &'w [&'a str]) {
-    match words {
-        [first, rest @ ..] => (*first, rest),
-        [] => ("", words),
-    }
-}
-
-/// The word at this place, an empty one where there are fewer.
-pub(crate) fn word<'a>(words: &[&'a str], place: usize) -> &'a str {
-    words.get(place).copied().unwrap_or("")
-}
-
-/// The words from this place on.
-pub(crate) fn behind<'a>(words: &'a [&'a str], place: usize) -> &'a [&'a str] {
-    words.get(place..).unwrap_or(&[])
-}
-
 /// The octets that a word is in hex, none where it is `-`.
 pub(crate) fn octets(alloc: Global, word: &str) -> Result<Vec<u8>, NoAnswer> {
     if word == "-" {

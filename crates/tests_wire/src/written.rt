@@ -5,13 +5,14 @@ ghost use Rattle.flow_counts.specs.declared.profile.TheConstants.{MAX_ADDRESS};
 ghost use Rattle.amqp_perf.specs.View.{view};
 ghost use Rattle.amqp_perf.specs.Writing.{IsWritable};
 
-use crate::words::{NoAnswer, behind, between_commas, hexed, number, octets, parted, word};
+use crate::words::{NoAnswer, between_commas, hexed, number, octets};
 use amqp_frames::{SASL_OK, SaslFrame, put_frame, sasl_write};
 use amqp_perf::{
     Attach, Begin, Detach, Disposition, ErrorCondition, Flow, Open, Outcome, Performative, Role,
     SenderSettleMode, State, Transfer,
 };
 use flow_counts::{MAX_ADDRESS, MAX_FRAME_SIZE};
+use kit_cases::{behind, parted, word};
 use std::alloc::{AllocError, Global};
 
 /// The tag of each delivery.
