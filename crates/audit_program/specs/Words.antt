@@ -1,11 +1,10 @@
 -- What the words of the command line ask for.
-use Rattle.std.specs.Prelude.{◌≡◌, ◌⊎◌, ℕ, Bool, false, true, List, [], ◌∷◌, Option, Some, None, Result, MatchResult, codes}
-use Rattle.clap.specs.Words.{App, Rule, kind_of, new_app, new_rule, with_rule}
-use Rattle.clap.specs.declared.builder.ArgAction.TheVariants.{Set, SetTrue}
-use Rattle.clap.specs.declared.builder.value_parser.ValueParser.{ValueParser}
+use Rattle.std.specs.Prelude.{◌≡◌, ℕ, Bool, false, true, List, [], ◌∷◌, Option, Some, None, Result, MatchResult, codes}
+use Rattle.clap.specs.Words.{App, Rule, kind_of, new_app, with_rule}
 use Rattle.clap.specs.declared.builder.value_parser.ValueParser.TheVariants.{Unsigned}
 use Rattle.clap.specs.declared.error.Error.{Error}
-use Rattle.clap.specs.declared.error.kind.ErrorKind.TheVariants.{OutOfMemory, UnknownArgument}
+use Rattle.clap.specs.declared.error.kind.ErrorKind.TheVariants.{OutOfMemory}
+use Rattle.program_ends.specs.Arguments.{IsMistake, asking_argument, file_argument, flag_argument}
 use Rattle.program_ends.specs.Words.{is_option}
 use Rattle.program_ends.specs.InputSource.{path_of}
 use Rattle.audit_program.specs.declared.words.End.{End}
@@ -24,11 +23,6 @@ AsksFor path end result = MatchResult result
     (λ words. (path_of words.source ≡ path) × (words.end ≡ end))
     (λ error. kind_of error ≡ OutOfMemory)
 
--- the words are a mistake, or memory was refused (own format)
-abbrev pub IsMistake : Result Words Error → Type 0
-IsMistake result = MatchResult result (λ words. ⊥)
-    (λ error. (kind_of error ≡ OutOfMemory) ⊎ (kind_of error ≡ UnknownArgument))
-
 -- no word asks for standard input and one word that is no option for the file that it names, up to the end that is there; two are
 -- a mistake (own format)
 abbrev pub AnswersWords : List (List ℕ) → Result Words Error → Type 0
@@ -42,18 +36,6 @@ abbrev pub AsksToFollow : List (List ℕ) → Result Words Error → Type 0
 AsksToFollow words result =
     (words ≡ codes "--follow" ∷ [] → AsksFor None Never result)
     × ((file : List ℕ) → is_option file ≡ false → words ≡ codes "--follow" ∷ file ∷ [] → AsksFor (Some file) Never result)
-
--- the one argument of the command line that is no option (own format)
-abbrev pub file_argument : Rule
-file_argument = record (new_rule (codes "FILE")) { action = Some Set }
-
--- an option without a value (own format)
-abbrev pub flag_argument : List ℕ → Rule
-flag_argument name = record (new_rule name) { long = Some name; action = Some SetTrue }
-
--- an option with a value, which this parser checks (own format)
-abbrev pub asking_argument : List ℕ → ValueParser → Rule
-asking_argument name parser = record (new_rule name) { long = Some name; action = Some Set; parser = Some parser; value_names = 1 }
 
 -- that of seconds, whose value is a number of 64 bits (own format)
 abbrev pub idle_argument : Rule

@@ -1,11 +1,10 @@
 //! What the words of the command line ask for.
-ghost use Rattle.std.specs.Prelude.{◌≡◌, false, IfOk};
-ghost use Rattle.clap.specs.Words.{app_of, rule_of};
-ghost use Rattle.audit_program.specs.Words.{asking_argument, bare_command, command_line, flag_argument};
+ghost use Rattle.std.specs.Prelude.{◌≡◌, IfOk};
+ghost use Rattle.clap.specs.Words.{app_of};
+ghost use Rattle.audit_program.specs.Words.{bare_command, command_line};
 
-use clap::builder::ValueParser;
-use clap::{Arg, ArgAction, Command, Error, value_parser};
-use program_ends::InputSource;
+use clap::{Command, Error, value_parser};
+use program_ends::{InputSource, asking, file, flag};
 use std::alloc::{AllocError, Global};
 use std::convert::AsStr;
 
@@ -80,11 +79,9 @@ fn command_line<'a>(alloc: Global) -> Result<Command<'a>, AllocError>
     ensures { IfOk result (λ command. app_of command ≡ command_line) }
 {
     bare_command(alloc)
-        .arg(
-            Arg::new(alloc, "FILE").action(ArgAction::Set).help(
-                "The capture to audit; standard input where there is none, or for -",
-            ),
-        )?
+        .arg(file(alloc).help(
+            "The capture to audit; standard input where there is none, or for -",
+        ))?
         .arg(flag(alloc, "follow").help(
             "Follows a capture that a router still writes, to the first record that is refused",
         ))?
@@ -101,24 +98,4 @@ fn bare_command<'a>(alloc: Global) -> Command<'a>
         .about("Audits a capture of an AMQP 1.0 router")
         .after_help(BEHIND_HELP)
         .no_binary_name(true)
-}
-
-/// An option without a value.
-fn flag<'a>(alloc: Global, name: &'a str) -> Arg<'a>
-    ensures rule { rule_of result ≡ flag_argument name.entry.now }
-    ensures local { result.global ≡ false }
-{
-    Arg::new(alloc, name).long(name).action(ArgAction::SetTrue)
-}
-
-/// An option with a value.
-fn asking<'a>(alloc: Global, name: &'a str, parser: ValueParser<'a>, value: &'a str) -> Arg<'a>
-    ensures rule { rule_of result ≡ asking_argument name.entry.now parser.entry }
-    ensures local { result.global ≡ false }
-{
-    Arg::new(alloc, name)
-        .long(name)
-        .action(ArgAction::Set)
-        .value_parser(parser)
-        .value_name(value)
 }

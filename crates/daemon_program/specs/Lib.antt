@@ -1,4 +1,3 @@
 pub mod Endings
 pub mod Orders
-pub mod Run
 pub mod Words

@@ -1,11 +1,11 @@
 -- What the words of the command line ask for.
-use Rattle.std.specs.Prelude.{◌≡◌, ◌⊎◌, ℕ, Bool, false, true, List, [], ◌∷◌, ◌++◌, Some, None, Result, MatchResult, codes, pos, if◌then◌else◌}
+use Rattle.std.specs.Prelude.{◌≡◌, ℕ, Bool, false, true, List, [], ◌∷◌, ◌++◌, Some, None, Result, MatchResult, codes, pos, if◌then◌else◌}
 use Rattle.clap.specs.Words.{App, Rule, kind_of, new_app, new_rule, with_rule}
-use Rattle.clap.specs.declared.builder.ArgAction.TheVariants.{Append, Set, SetTrue}
-use Rattle.clap.specs.declared.builder.value_parser.ValueParser.{ValueParser}
+use Rattle.clap.specs.declared.builder.ArgAction.TheVariants.{Append}
 use Rattle.clap.specs.declared.builder.value_parser.ValueParser.TheVariants.{Signed, String, Unsigned}
 use Rattle.clap.specs.declared.error.Error.{Error}
-use Rattle.clap.specs.declared.error.kind.ErrorKind.TheVariants.{OutOfMemory, UnknownArgument}
+use Rattle.clap.specs.declared.error.kind.ErrorKind.TheVariants.{OutOfMemory}
+use Rattle.program_ends.specs.Arguments.{IsMistake, asking_argument, flag_argument}
 use Rattle.program_ends.specs.Words.{is_option}
 use Rattle.daemon_program.specs.declared.words.Words.{Words}
 
@@ -28,16 +28,7 @@ rules_asked spelled false = spelled
 -- without words the usual is asked for; a word in front that is no option is a mistake; want of memory aside (own format)
 abbrev pub AnswersWords : List (List ℕ) → Result Words Error → Type 0
 AnswersWords [] result = MatchResult result IsUsual (λ error. kind_of error ≡ OutOfMemory)
-AnswersWords (word ∷ more) result = is_option word ≡ false → MatchResult result (λ words. ⊥)
-    (λ error. (kind_of error ≡ OutOfMemory) ⊎ (kind_of error ≡ UnknownArgument))
-
--- an option with a value, which this parser checks
-abbrev pub asking_argument : List ℕ → ValueParser → Rule
-asking_argument name parser = record (new_rule name) { long = Some name; action = Some Set; parser = Some parser; value_names = 1 }
-
--- an option without one
-abbrev pub flag_argument : List ℕ → Rule
-flag_argument name = record (new_rule name) { long = Some name; action = Some SetTrue }
+AnswersWords (word ∷ more) result = is_option word ≡ false → IsMistake result
 
 -- an option with a value that may be said more than once
 abbrev pub rule_argument : Rule

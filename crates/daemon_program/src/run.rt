@@ -1,8 +1,7 @@
 //! A run over any words, input and writers.
 
 ghost use Rattle.std.specs.Prelude.{◌≡◌, ◌⊎◌, ◌<◌, ◌≤◌};
-ghost use Rattle.router_words.specs.RunEnd.{TellsSome};
-ghost use Rattle.daemon_program.specs.Run.{IsStatus};
+ghost use Rattle.router_words.specs.RunEnd.{IsStatus, TellsSome};
 
 use crate::capture_file::CaptureFile;
 use crate::ending::{outcome_of, outcome_of_halt, outcome_refused};

@@ -2,10 +2,11 @@
 
 ghost use Rattle.std.specs.Prelude.{◌≡◌, ◌++◌, [], ◌∷◌, false, codes, map, IfOk, if◌then◌else◌};
 ghost use Rattle.clap.specs.Words.{app_of, rule_of};
-ghost use Rattle.daemon_program.specs.Words.{asking_argument, bare_command, command_line, flag_argument, placing_command, rule_argument, rules_asked};
+ghost use Rattle.daemon_program.specs.Words.{bare_command, command_line, placing_command, rule_argument, rules_asked};
 
 use clap::builder::ValueParser;
 use clap::{Arg, ArgAction, Command, Error, value_parser};
+use program_ends::{asking, flag};
 use std::alloc::{AllocError, Global};
 use std::convert::AsStr;
 
@@ -167,24 +168,4 @@ fn rules<'a>(alloc: Global) -> Arg<'a>
         .long("rule")
         .action(ArgAction::Append)
         .value_name("DISTRIBUTION:PREFIX")
-}
-
-/// An option with a value.
-fn asking<'a>(alloc: Global, name: &'a str, parser: ValueParser<'a>, value: &'a str) -> Arg<'a>
-    ensures rule { rule_of result ≡ asking_argument name.entry.now parser.entry }
-    ensures local { result.global ≡ false }
-{
-    Arg::new(alloc, name)
-        .long(name)
-        .action(ArgAction::Set)
-        .value_parser(parser)
-        .value_name(value)
-}
-
-/// An option without one.
-fn flag<'a>(alloc: Global, name: &'a str) -> Arg<'a>
-    ensures rule { rule_of result ≡ flag_argument name.entry.now }
-    ensures local { result.global ≡ false }
-{
-    Arg::new(alloc, name).long(name).action(ArgAction::SetTrue)
 }

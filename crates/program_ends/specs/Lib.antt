@@ -1,3 +1,4 @@
+pub mod Arguments
 pub mod Growth
 pub mod InputSource
 pub mod Telling

@@ -1,11 +1,10 @@
 -- What the words of the command line ask for.
-use Rattle.std.specs.Prelude.{◌≡◌, ◌⊎◌, ℕ, Bool, false, true, ◌&&◌, ◌||◌, List, [], ◌∷◌, Option, Some, None, Result, MatchResult, codes, pos}
-use Rattle.clap.specs.Words.{App, Rule, kind_of, new_app, new_rule, with_rule}
-use Rattle.clap.specs.declared.builder.ArgAction.TheVariants.{Set, SetTrue}
-use Rattle.clap.specs.declared.builder.value_parser.ValueParser.{ValueParser}
+use Rattle.std.specs.Prelude.{◌≡◌, ℕ, Bool, false, true, ◌&&◌, ◌||◌, List, [], ◌∷◌, Option, Some, None, Result, MatchResult, codes, pos}
+use Rattle.clap.specs.Words.{App, Rule, kind_of, new_app, with_rule}
 use Rattle.clap.specs.declared.builder.value_parser.ValueParser.TheVariants.{Signed, String, Unsigned}
 use Rattle.clap.specs.declared.error.Error.{Error}
-use Rattle.clap.specs.declared.error.kind.ErrorKind.TheVariants.{OutOfMemory, UnknownArgument}
+use Rattle.clap.specs.declared.error.kind.ErrorKind.TheVariants.{OutOfMemory}
+use Rattle.program_ends.specs.Arguments.{IsMistake, asking_argument, file_argument, flag_argument}
 use Rattle.program_ends.specs.Words.{is_option}
 use Rattle.program_ends.specs.InputSource.{path_of}
 use Rattle.show_program.specs.declared.words.Mode.{Mode}
@@ -94,11 +93,6 @@ AsksWhy result = MatchResult result
     (λ words. (path_of words.source ≡ None) × IsAudit words.mode)
     (λ error. kind_of error ≡ OutOfMemory)
 
--- the words are a mistake, or memory was refused (own format)
-abbrev pub IsMistake : Result Words Error → Type 0
-IsMistake result = MatchResult result (λ words. ⊥)
-    (λ error. (kind_of error ≡ OutOfMemory) ⊎ (kind_of error ≡ UnknownArgument))
-
 -- no word asks for standard input and one word that is no option for the file that it names, and neither for packets nor for
 -- a chart, a credit or an audit; two such are a mistake
 abbrev pub AnswersWords : List (List ℕ) → Result Words Error → Type 0
@@ -106,18 +100,6 @@ AnswersWords [] result = AsksFor None result
 AnswersWords (word ∷ []) result = is_option word ≡ false → AsksFor (Some word) result
 AnswersWords (first ∷ second ∷ more) result =
     is_option first ≡ false → is_option second ≡ false → IsMistake result
-
--- the file
-abbrev pub file_argument : Rule
-file_argument = record (new_rule (codes "FILE")) { action = Some Set }
-
--- an option with a value, which this parser checks
-abbrev pub asking_argument : List ℕ → ValueParser → Rule
-asking_argument name parser = record (new_rule name) { long = Some name; action = Some Set; parser = Some parser; value_names = 1 }
-
--- an option without one
-abbrev pub flag_argument : List ℕ → Rule
-flag_argument name = record (new_rule name) { long = Some name; action = Some SetTrue }
 
 -- the name alone, and no word for the program's name
 abbrev pub bare_command : App

@@ -1,13 +1,13 @@
 //! What the words of the command line ask for.
 
-ghost use Rattle.std.specs.Prelude.{◌≡◌, false, IfOk};
-ghost use Rattle.clap.specs.Words.{app_of, rule_of};
-ghost use Rattle.show_program.specs.Words.{asking_argument, bare_command, choosing_command, command_line, flag_argument};
+ghost use Rattle.std.specs.Prelude.{◌≡◌, IfOk};
+ghost use Rattle.clap.specs.Words.{app_of};
+ghost use Rattle.show_program.specs.Words.{bare_command, choosing_command, command_line};
 
 use capture_view::Choice;
 use clap::builder::ValueParser;
-use clap::{Arg, ArgAction, Command, Error, value_parser};
-use program_ends::InputSource;
+use clap::{Command, Error, value_parser};
+use program_ends::{InputSource, asking, file, flag};
 use std::alloc::{AllocError, Global};
 use std::convert::AsStr;
 
@@ -184,11 +184,7 @@ fn choosing_command<'a>(alloc: Global) -> Result<Command<'a>, AllocError>
     ensures { IfOk result (λ command. app_of command ≡ choosing_command) }
 {
     bare_command(alloc)
-        .arg(
-            Arg::new(alloc, "FILE").action(ArgAction::Set).help(
-                "The capture to show; standard input where there is none, or for -",
-            ),
-        )?
+        .arg(file(alloc).help("The capture to show; standard input where there is none, or for -"))?
         .arg(asking(alloc, "from", value_parser!(u64), "N").help("Records from number N on"))?
         .arg(asking(alloc, "to", value_parser!(u64), "N").help("Records up to number N"))?
         .arg(asking(alloc, "connection", value_parser!(u32), "C").help("Records of connection C"))?
@@ -208,24 +204,4 @@ fn bare_command<'a>(alloc: Global) -> Command<'a>
         .about("Shows a capture of an AMQP 1.0 router in words")
         .after_help(BEHIND_HELP)
         .no_binary_name(true)
-}
-
-/// An option with a value.
-fn asking<'a>(alloc: Global, name: &'a str, parser: ValueParser<'a>, value: &'a str) -> Arg<'a>
-    ensures rule { rule_of result ≡ asking_argument name.entry.now parser.entry }
-    ensures local { result.global ≡ false }
-{
-    Arg::new(alloc, name)
-        .long(name)
-        .action(ArgAction::Set)
-        .value_parser(parser)
-        .value_name(value)
-}
-
-/// An option without one.
-fn flag<'a>(alloc: Global, name: &'a str) -> Arg<'a>
-    ensures rule { rule_of result ≡ flag_argument name.entry.now }
-    ensures local { result.global ≡ false }
-{
-    Arg::new(alloc, name).long(name).action(ArgAction::SetTrue)
 }

@@ -4,7 +4,8 @@ use Rattle.std.specs.Prelude.{Bool, pos}
 use Rattle.clap.specs.Words.{rule_of, with_rule}
 use Rattle.clap.specs.declared.builder.arg.Arg.{Arg}
 use Rattle.clap.specs.declared.builder.value_parser.ValueParser.TheVariants.{Signed}
-use Rattle.daemon_program.specs.Words.{asking_argument, buffer_argument, flag_argument, most_argument, stats_argument, until_argument}
+use Rattle.program_ends.specs.Arguments.{asking_argument, flag_argument}
+use Rattle.daemon_program.specs.Words.{buffer_argument, most_argument, stats_argument, until_argument}
 use Rattle.daemon_program.proofs.words.command_line.Goals as goal
 
 abbrev is_global : Arg → Bool

@@ -4,7 +4,8 @@ use Rattle.std.specs.Prelude.{Bool}
 use Rattle.clap.specs.Words.{rule_of, with_rule}
 use Rattle.clap.specs.declared.builder.arg.Arg.{Arg}
 use Rattle.clap.specs.declared.builder.value_parser.ValueParser.TheVariants.{String}
-use Rattle.daemon_program.specs.Words.{asking_argument, rule_argument}
+use Rattle.program_ends.specs.Arguments.{asking_argument}
+use Rattle.daemon_program.specs.Words.{rule_argument}
 use Rattle.daemon_program.proofs.words.placing_command.Goals as goal
 
 abbrev is_global : Arg → Bool

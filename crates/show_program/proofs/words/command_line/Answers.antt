@@ -3,7 +3,8 @@ use Rattle.std.proofs.lemmas.Result.{IfOk-weaker}
 use Rattle.std.specs.Prelude.{Bool}
 use Rattle.clap.specs.Words.{rule_of, with_rule}
 use Rattle.clap.specs.declared.builder.arg.Arg.{Arg}
-use Rattle.show_program.specs.Words.{asking_argument, chart_argument, credit_argument, flag_argument, packets_argument}
+use Rattle.program_ends.specs.Arguments.{asking_argument, flag_argument}
+use Rattle.show_program.specs.Words.{chart_argument, credit_argument, packets_argument}
 use Rattle.show_program.proofs.words.command_line.Goals as goal
 
 abbrev is_global : Arg → Bool
