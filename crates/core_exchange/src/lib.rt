@@ -14,6 +14,6 @@ mod port;
 mod seat;
 mod written_counts;
 
-pub use exchange::Exchange;
+pub use exchange::{Exchange, frame_from};
 pub use port::ExchangePort;
 pub use seat::Seat;

@@ -1,10 +1,11 @@
 //! A connection's way to a core that several connections share on one thread.
 
-ghost use Rattle.std.specs.Prelude.{◌≡◌, ℕ, ◌^◌, ◌-◌, ◌<◌, ◌≤◌, length, IfOk, IfSome};
+ghost use Rattle.std.specs.Prelude.{◌≡◌, ℕ, ◌^◌, ◌-◌, ◌<◌, ◌≤◌, IfOk, IfSome};
 ghost use Rattle.route_items.specs.Items.{IsShort};
 
 use capture_form::What;
 use conn_engine::{Port, PortFault};
+use core_exchange::frame_from;
 use route_core::Core;
 use route_items::Item;
 use std::alloc::{AllocError, Global};
@@ -102,11 +103,11 @@ fn stepped(core: &RefCell<Core>, item: Item<'_>) -> Result<(), PortFault>
     }
 }
 
-/// What `frame_from` gives of a core that is shared; nothing where it is in use.
+/// What `copied_from` gives of a core that is shared; nothing where it is in use.
 ///
 /// # Errors
 ///
-/// As those of `frame_from`.
+/// As those of `copied_from`.
 fn found(
     alloc: Global,
     core: &RefCell<Core>,
@@ -118,7 +119,7 @@ fn found(
     let Ok(core) = core.try_borrow() else {
         return Ok(None);
     };
-    frame_from(alloc, &core, connection, from)
+    copied_from(alloc, &core, connection, from)
 }
 
 /// The first frame that a core wrote to a connection in a record of this number or a later one: the record's number, and a
@@ -127,7 +128,7 @@ fn found(
 /// # Errors
 ///
 /// Where the memory for the copy is refused.
-fn frame_from(
+fn copied_from(
     alloc: Global,
     core: &Core,
     connection: u32,
@@ -135,16 +136,8 @@ fn frame_from(
 ) -> Result<Option<(u64, Vec<u8>)>, AllocError>
     ensures { IfOk result (λ found. IfSome found (λ out. (from ≤ out.0) × (out.0 < 2 ^ 64 - 1))) }
 {
-    let _ = records_of(core);
-    match core.next_out(connection, from) {
-        Some((number, frame)) => Ok(Some((number, frame.to_vec(alloc)?))),
+    match frame_from(core, connection, from)? {
+        Some((number, frame)) => Ok(Some((number, frame.octets().to_vec(alloc)?))),
         None => Ok(None),
     }
-}
-
-/// How many records a core has.
-fn records_of(core: &Core) -> usize
-    ensures { result ≡ length core.now.records }
-{
-    core.capture().records().len()
 }
