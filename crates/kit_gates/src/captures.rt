@@ -27,8 +27,8 @@ pub enum RunRules {
 pub fn rules(alloc: Global, of: RunRules) -> Result<Rules, AllocError> {
     let list = match of {
         RunRules::Plain | RunRules::Anonymous => Vec::new(alloc),
-        RunRules::Closest => one_rule(alloc, Distribution::Closest)?,
-        RunRules::Multicast => one_rule(alloc, Distribution::Multicast)?,
+        RunRules::Closest => one_rule(alloc, Distribution::Closest, "q")?,
+        RunRules::Multicast => one_rule(alloc, Distribution::Multicast, "q")?,
     };
     let rules = Rules::new(list).ok().ok_or(AllocError)?;
     Ok(match of {
@@ -37,15 +37,37 @@ pub fn rules(alloc: Global, of: RunRules) -> Result<Rules, AllocError> {
     })
 }
 
-/// `q` is distributed so.
-fn one_rule(alloc: Global, distribution: Distribution) -> Result<Vec<Rule>, AllocError> {
-    let prefix = String::from_str(alloc, "q")?;
+/// This one rule.
+///
+/// # Errors
+///
+/// Where memory is refused.
+pub fn one_rule(
+    alloc: Global,
+    distribution: Distribution,
+    prefix: &str,
+) -> Result<Vec<Rule>, AllocError> {
     let mut rules = Vec::new(alloc);
+    put_rule(&mut rules, distribution, prefix)?;
+    Ok(rules)
+}
+
+/// Puts a rule behind the others.
+///
+/// # Errors
+///
+/// Where memory is refused.
+pub fn put_rule(
+    rules: &mut Vec<Rule>,
+    distribution: Distribution,
+    prefix: &str,
+) -> Result<(), AllocError> {
+    let prefix = String::from_str(*rules.allocator(), prefix)?;
     rules.push(Rule {
         distribution,
         prefix,
     })?;
-    Ok(rules)
+    Ok(())
 }
 
 /// What the auditor says of a capture.

@@ -15,7 +15,7 @@ mod pairs;
 mod parted;
 mod script;
 
-pub use captures::{RunRules, Told, audited, rules};
+pub use captures::{RunRules, Told, audited, one_rule, put_rule, rules};
 pub use clients::{Part, clients_at, two_clients, two_gates};
 pub use gate::{Client, LOOKS, PATIENCE, Pace, Post};
 pub use pairs::{IN_HASTE, ONE_BY_ONE, Pair, exchanging, failing, part, two_of, vanishing};

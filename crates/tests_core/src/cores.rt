@@ -1,9 +1,9 @@
 //! Cores: their rules, what is done to them, the text of what they made, and what the auditor says of it.
 
 use address_table::Rules;
-use audit_core::{Verdict, audit_bytes};
-use capture_form::{Capture, Distribution, Rule, append, append_head, write_capture};
+use capture_form::{Capture, Distribution, append, append_head};
 use flow_counts::MAX_FRAME_SIZE;
+use kit_gates::one_rule;
 use kit_talks::Deed;
 use route_core::Core;
 use route_items::{Item, StepFault};
@@ -13,39 +13,6 @@ use std::io::ErrorKind;
 
 /// As many records as a core may have, where nothing else is said.
 pub(crate) const LIMIT: u64 = 1_000_000;
-
-/// Puts a rule behind the others.
-///
-/// # Errors
-///
-/// Where memory is refused.
-pub(crate) fn put_rule(
-    rules: &mut Vec<Rule>,
-    distribution: Distribution,
-    prefix: &str,
-) -> Result<(), AllocError> {
-    let prefix = String::from_str(*rules.allocator(), prefix)?;
-    rules.push(Rule {
-        distribution,
-        prefix,
-    })?;
-    Ok(())
-}
-
-/// This one rule.
-///
-/// # Errors
-///
-/// Where memory is refused.
-pub(crate) fn one_rule(
-    alloc: Global,
-    distribution: Distribution,
-    prefix: &str,
-) -> Result<Vec<Rule>, AllocError> {
-    let mut rules = Vec::new(alloc);
-    put_rule(&mut rules, distribution, prefix)?;
-    Ok(rules)
-}
 
 /// No rules.
 pub(crate) fn no_rules(alloc: Global) -> Result<Rules, AllocError> {
@@ -76,16 +43,6 @@ pub(crate) fn core_of_rule(
         return Err(io::Error::from(ErrorKind::InvalidInput));
     };
     Ok(Core::new(alloc, &rules, limit)?)
-}
-
-/// What the auditor says of the text of a capture.
-///
-/// # Errors
-///
-/// Where the memory for the text is refused.
-pub(crate) fn audited(alloc: Global, capture: &Capture) -> Result<Verdict, AllocError> {
-    let text = write_capture(alloc, capture)?;
-    Ok(audit_bytes(alloc, text.as_slice()))
 }
 
 /// The text of what a core of these rules made, but in the form of a known capture: a core's own has form Two. There is none

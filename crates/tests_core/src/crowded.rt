@@ -3,10 +3,11 @@
 //! The auditor has to accept the capture, and a plain scan of its records has to find that each delivery which begins carries the
 //! earliest one that waits, and goes to the consumer that is to get it. `README.md` says what the clients do.
 
-use crate::cores::{LIMIT, audited, core_of_rule, done};
+use crate::cores::{LIMIT, core_of_rule, done};
 use crate::{WORDS_FAULT, WRONG};
 use audit_core::Verdict;
 use capture_form::{Capture, Distribution};
+use kit_gates::audited;
 use kit_talks::{CROWDED, Crowd, Deed, scan_picks};
 use route_core::Core;
 use std::alloc::{AllocError, Global};

@@ -20,11 +20,12 @@ mod talks;
 
 ghost use Rattle.std.specs.Prelude.{◌<◌};
 
-use crate::cores::{audited, no_rules, text_in_form};
+use crate::cores::{no_rules, text_in_form};
 use crate::{WORDS_FAULT, WRONG};
 use audit_core::Verdict;
 use capture_form::{Capture, read_capture};
 use exchange::exchanged;
+use kit_gates::audited;
 use kit_talks::{StreamCounts, are_served};
 use running::{Run, run_of_seed};
 use std::alloc::{AllocError, Global};

@@ -12,11 +12,13 @@ mod asked;
 mod talk;
 
 use crate::WRONG;
-use crate::cores::{LIMIT, audited, put_rule};
-use crate::names::names_in;
+use crate::cores::LIMIT;
+use crate::names::is_wanted;
 use address_table::Rules;
 use audit_core::Verdict;
 use capture_form::{Distribution, Rule};
+use kit_cases::names_in;
+use kit_gates::{audited, put_rule};
 use kit_talks::{Difference, Words};
 use route_core::Core;
 use std::alloc::{AllocError, Global};
@@ -33,17 +35,17 @@ enum Played {
 
 /// Plays the scenarios of these names, or all, and prints what came of them; the status.
 pub(crate) fn play_all(rt: &HostRuntime, words: &[String]) -> io::Result<u8> {
-    let names = names_in(rt, "played", ".talk", words)?;
-    play_each(rt, names.as_slice())
+    let names = names_in(rt, "played", ".talk")?;
+    play_each(rt, names.as_slice(), words)
 }
 
-/// The same of just these names.
+/// The same of those of these names that the words ask for.
 ///
 /// It borrows the names: owned here, their drop would be proved on each way out.
-fn play_each(rt: &HostRuntime, names: &[String]) -> io::Result<u8> {
+fn play_each(rt: &HostRuntime, names: &[String], words: &[String]) -> io::Result<u8> {
     let mut status = 0;
     for name in names {
-        if !is_as_told(rt, name.as_str())? {
+        if is_wanted(words, name.as_str()) && !is_as_told(rt, name.as_str())? {
             status = WRONG;
         }
     }

@@ -14,11 +14,12 @@ ghost use Rattle.route_items.specs.Items.{IsShort};
 
 use crate::WRONG;
 use crate::cores::{LIMIT, text_in_form};
-use crate::names::names_in;
+use crate::names::is_wanted;
 use address_table::Rules;
 use audit_core::Verdict;
 use capture_form::{Capture, Reading, Record, What, read_whole_records};
 use core_verdict::audit_core_text;
+use kit_cases::names_in;
 use route_core::Core;
 use route_items::{Item, StepFault};
 use std::alloc::{AllocError, Global};
@@ -50,23 +51,28 @@ struct Answers {
 
 /// Runs the inputs of the captures of these names, or of all, and prints what came of them; the status.
 pub(crate) fn replay_all(rt: &HostRuntime, words: &[String]) -> io::Result<u8> {
-    let names = names_in(rt, "replayed", ".cap", words)?;
-    replay_each(rt, names.as_slice())
+    let names = names_in(rt, "replayed", ".cap")?;
+    replay_each(rt, names.as_slice(), words)
 }
 
-/// The same of just these names.
+/// The same of those of these names that the words ask for.
 ///
 /// It borrows the names: owned here, their drop would be proved on each way out.
-fn replay_each(rt: &HostRuntime, names: &[String]) -> io::Result<u8> {
+fn replay_each(rt: &HostRuntime, names: &[String], words: &[String]) -> io::Result<u8> {
     let mut status = 0;
     for name in names {
-        let replayed = replay_file(rt, name.as_str())?;
-        if !is_run(&replayed) {
+        if is_wanted(words, name.as_str()) && !runs(rt, name.as_str())? {
             status = WRONG;
         }
-        tell(rt, name.as_str(), &replayed)?;
     }
     Ok(status)
+}
+
+/// Runs the inputs of the capture of this name, prints what came of them, and answers whether that is as it has to be.
+fn runs(rt: &HostRuntime, name: &str) -> io::Result<bool> {
+    let replayed = replay_file(rt, name)?;
+    tell(rt, name, &replayed)?;
+    Ok(is_run(&replayed))
 }
 
 /// What comes of the inputs of the capture of this name.

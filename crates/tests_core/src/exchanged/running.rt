@@ -2,11 +2,12 @@
 
 ghost use Rattle.std.specs.Prelude.{◌<◌};
 
-use crate::cores::{LIMIT, one_rule};
+use crate::cores::LIMIT;
 use crate::exchanged::client::Client;
 use address_table::Rules;
 use capture_form::{Capture, Distribution, Rule};
 use kit_clients::Chance;
+use kit_gates::one_rule;
 use kit_talks::{Served, stream};
 use route_core::Core;
 use std::alloc::{AllocError, Global};

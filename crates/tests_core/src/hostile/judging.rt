@@ -1,8 +1,8 @@
 //! Whether a capture that a core made is as it has to be.
 
-use crate::cores::audited;
 use audit_core::Verdict;
 use capture_form::{Capture, What};
+use kit_gates::audited;
 use kit_talks::{Known, Life, Link};
 use route_core::Core;
 use std::alloc::{AllocError, Global};

@@ -1,10 +1,11 @@
 //! A run: a core takes what the driver makes.
 
-use crate::cores::{LIMIT, done, put_rule};
+use crate::cores::{LIMIT, done};
 use crate::hostile::judging::gives_its_frames;
 use address_table::Rules;
 use capture_form::{Capture, Distribution, Rule};
 use kit_clients::Chance;
+use kit_gates::put_rule;
 use kit_talks::{Deed, Driver, Known};
 use route_core::Core;
 use route_items::StepFault;
