@@ -1,4 +1,4 @@
-//! The auditor of captures: `amqp_audit [OPTIONS] [FILE]` reads a capture from the file, or from standard input
+//! The auditor of captures: `amqp_audit [OPTION]... [FILE]` reads a capture from the file, or from standard input
 //! where no word is given, and prints its verdict as one line on standard output.
 //!
 //! With `--follow` it judges a capture that a router still writes, record by record, and stops at the first that is refused; with

@@ -2,7 +2,7 @@
 //! capture of what it does to a new file while it serves.
 //!
 //! It prints how the run ended as one line on standard output; the exit status tells it too (`router_words::RunEnd`). It ends where
-//! standard input ends or has the line `quit`, unless that is a terminal. Words that the parser does not take give its text on
+//! standard input ends or has the line `quit`, where that is a pipe or a socket. Words that the parser does not take give its text on
 //! standard error, nothing on standard output, and status 64. The library `daemon_program` is a run over any words, input and
 //! writers.
 #![tactic(auto)]

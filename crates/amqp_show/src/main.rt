@@ -1,7 +1,8 @@
-//! A capture in words: `amqp_show [FILE]` reads a capture from the file, or from standard input where no word is given
+//! A capture in words: `amqp_show [OPTION]... [FILE]` reads a capture from the file, or from standard input where no word is given
 //! or the word is `-`, and prints a line for each record; with `--summary` the form, the rules and one table. With `--pcapng OUT`
 //! it prints no record, and writes the packets of all to a new file, in the format pcapng; with `--chart OUT` it draws those that
-//! are asked for as an SVG. With `--why` it audits the capture, and prints the verdict and why it is not accepted.
+//! are asked for as an SVG. With `--credit OUT` it audits the capture, and draws the credit of a consumer's link; with `--why` it
+//! audits the capture, and prints the verdict and why it is not accepted.
 //!
 //! The exit status tells whether the capture is whole (`Ending::status`), or the verdict. What was read in front of a fault is
 //! printed, and then the line of the fault. A mistake in the words gives the parser's text on standard error alone, and status

@@ -67,7 +67,7 @@ fn opened<'a, P: Inputs<'a>>(
     is_consumers(link_at(past, place)).then_some(place)
 }
 
-/// The same, unless one stood before.
+/// The link that is picked: the one that stood before, or else the one that opens here.
 pub(crate) fn placed<'a, P: Inputs<'a>>(
     earlier: Option<PickedLink>,
     past: &P,

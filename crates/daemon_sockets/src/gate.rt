@@ -57,8 +57,8 @@ impl SocketGate {
         self.notice.moment().saturating_sub(since) >= millis
     }
 
-    /// None of these octets was taken: whether the client has taken none for too long, or has to take them now.
-    fn is_deaf(&mut self, octets: &[u8]) -> bool
+    /// Notes that none of these octets was taken. Says whether the client has taken none for too long, or has to take them now.
+    fn note_untaken(&mut self, octets: &[u8]) -> bool
         ensures ended { self.new.ended ≡ self.old.ended }
         ensures failed { self.new.failed ≡ self.old.failed }
     {
@@ -128,7 +128,7 @@ impl Gate for SocketGate {
                 self.notice.count_moved(n);
                 return Taken::Took(n);
             }
-            Moved::Nothing | Moved::End => self.is_deaf(octets),
+            Moved::Nothing | Moved::End => self.note_untaken(octets),
             Moved::Fault => true,
         };
         if !has_failed || !count_failure(&mut self.failed) {

@@ -32,10 +32,10 @@ const LOOKS: u32 = 20;
 /// So many connections it takes in a round at most.
 const ARRIVALS: usize = 256;
 
-/// How many milliseconds it goes on to write at its end what was due then, and how many of them it waits for a client that takes
-/// none of it.
+/// How many milliseconds it goes on to write at its end what was due then.
 const LAST_WORDS: u64 = 1000;
 
+/// How many of these it waits for a client that takes none of it.
 const LAST_WAIT: u64 = 100;
 
 /// So many rounds it has at its end at most, of which the first ends all connections but those to which something is due.

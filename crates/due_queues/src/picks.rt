@@ -144,7 +144,8 @@ impl Picks {
     /// The consumer's link that a delivery of the address goes to, of those that may be sent one: for a closest address the
     /// one whose last delivery began first, where one without a delivery comes before all; for a balanced address the one
     /// with the fewest deliveries that are not decided; of equal ones the one that was attached first. `None` where none
-    /// may be sent one, and for a multicast address. It takes time linear in the links of the address, and no memory.
+    /// may be sent one, and for a multicast address. It takes no memory, and time linear in the links of the address at most,
+    /// of a balanced one in those up to the first that may be sent one.
     pub fn pick<'t>(
         &self,
         address: &[u8],

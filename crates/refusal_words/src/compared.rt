@@ -41,7 +41,7 @@ impl Granting {
         answered: None,
     };
 
-    /// It, behind one or two records.
+    /// Places for one or two records that the clause compares, and at the end for those from which its window or credit comes.
     fn beside(self, refused: u64, one: Option<u64>, other: Option<u64>) -> [u64; 8]
         ensures { result ≡ spec.in_places refused self (spec.two one other) }
     {
@@ -57,7 +57,7 @@ impl Granting {
         ]
     }
 
-    /// It, behind up to six.
+    /// The same for up to six records.
     fn behind(
         self,
         refused: u64,
