@@ -1,5 +1,5 @@
 -- What a server is between two rounds, and what it is not.
-use Rattle.std.proofs.Common.{◌≡◌, ℕ, Bool, List, [], ◌∷◌, Some, nat_eq, Contains, ◌⊎◌, inl, inr, sym, ◌∙◌, arith}
+use Rattle.std.proofs.Common.{◌≡◌, ℕ, Bool, true, false, List, [], ◌∷◌, Some, nat_eq, Contains, ◌⊎◌, inl, inr, sym, ◌∙◌, arith}
 use Rattle.indexmap.specs.IndexMap.{get}
 use Rattle.capture_form.specs.declared.records.Record.{Record}
 use Rattle.daemon_core.specs.Recordings.{Recording}
@@ -9,13 +9,17 @@ use Rattle.daemon_table.specs.Lines.{Serves}
 use Rattle.daemon_server.specs.Servers.{IsServing}
 
 module _ {G : Type 0} (Delivered Took : G → List ℕ → Type 0) (ended : G → Bool) (core : Recording) (table : Table G) where
-  -- nothing waits for the writer, and every frame is laid out
-  serving : core.journal.waiting ≡ [] → Serves Delivered Took ended core.journal.records [] [] table → IsServing Delivered Took ended core table
-  serving handed serves = record { handed = handed; serves = serves }
+  -- nothing waits for the writer, which has passed on all that it took, and every frame is laid out
+  serving : core.journal.waiting ≡ [] → core.journal.passed_on ≡ true → Serves Delivered Took ended core.journal.records [] [] table → IsServing Delivered Took ended core table
+  serving handed passed_on serves = record { passed = record { handed = handed; passed = passed_on }; serves = serves }
 
   -- not while an octet waits
   not_ahead_of_the_file : (octet : ℕ) (octets : List ℕ) → core.journal.waiting ≡ octet ∷ octets → IsServing Delivered Took ended core table → ⊥
-  not_ahead_of_the_file octet octets waits is = let never : ◌≡◌ {A = List ℕ} (octet ∷ octets) [] = sym waits ∙ is.handed in cc
+  not_ahead_of_the_file octet octets waits is = let never : ◌≡◌ {A = List ℕ} (octet ∷ octets) [] = sym waits ∙ is.passed.handed in cc
+
+  -- nor while the writer was not told to pass on what it took
+  not_ahead_of_the_disk : core.journal.passed_on ≡ false → IsServing Delivered Took ended core table → ⊥
+  not_ahead_of_the_disk kept is = let never : ◌≡◌ {A = Bool} false true = sym kept ∙ is.passed.passed in cc
 
   -- nor while the table does not serve these records
   not_without_its_lines : (Serves Delivered Took ended core.journal.records [] [] table → ⊥) → IsServing Delivered Took ended core table → ⊥

@@ -1,5 +1,6 @@
 -- A router that one owner serves (own rules).
 use Rattle.std.specs.Prelude.{◌≡◌, ℕ, Bool, List, []}
+use Rattle.capture_journal.specs.Journals.{IsPassedOn}
 use Rattle.daemon_core.specs.Recordings.{Recording}
 use Rattle.daemon_table.specs.declared.table.Table.{Table}
 use Rattle.daemon_table.specs.Lines.{Serves}
@@ -14,8 +15,8 @@ abbrev pub serving : {G : Type 0} → Recording → Table G → Bool → Serving
 serving core table has_stopped = record { core = core; table = table; has_stopped = has_stopped }
 
 module _ {G : Type 0} (Delivered Took : G → List ℕ → Type 0) (ended : G → Bool) where
-  -- between two rounds: the writer has the text of all records, every frame of which is laid out for its connection; and each
-  -- connection is served so far, and the core has taken all that came of it, or it was served to its end
+  -- between two rounds: the writer has the text of all records, and has passed it on; every frame of them is laid out for its
+  -- connection; and each connection is served so far, and the core has taken all that came of it, or it was served to its end
   pub record IsServing (core : Recording) (table : Table G) : Type 0 where
-    pub handed : core.journal.waiting ≡ []
+    pub passed : IsPassedOn core.journal
     pub serves : Serves Delivered Took ended core.journal.records [] [] table

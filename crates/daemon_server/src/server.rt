@@ -1,7 +1,7 @@
 //! The owner.
 
 ghost use Rattle.std.specs.Prelude.{◌≡◌, ◌<◌, [], None, true, false, length, IfOk, OnOk};
-ghost use Rattle.capture_journal.specs.Journals.{IsWhole};
+ghost use Rattle.capture_journal.specs.Journals.{IsPassedOn, IsWhole};
 ghost use Rattle.trace_events.specs.History.{history};
 ghost use Rattle.trace_clauses.specs.Clauses.{first_broken};
 ghost use Rattle.trace_duties.specs.Diligent.{is_diligent};
@@ -12,7 +12,7 @@ ghost use Rattle.daemon_table.specs.Lines.{HasCome};
 ghost use Rattle.daemon_server.specs.Servers.{IsServing};
 
 use crate::halt::Halt;
-use crate::round::serve_round;
+use crate::round::{serve_round, written};
 use address_table::Rules;
 use conn_engine::Gate;
 use daemon_core::RecordingCore;
@@ -226,14 +226,14 @@ fn begin<D: Dues + Drop, W: Write + Drop>(
     limit: u64,
     writer: W,
 ) -> Result<RecordingCore<D, W>, Halt>
-    ensures handed { IfOk result (λ core. core.journal.waiting ≡ []) }
+    ensures passed { IfOk result (λ core. IsPassedOn core.journal) }
     ensures records { IfOk result (λ core. core.journal.records ≡ []) }
     ensures rules { IfOk result (λ core. core.journal.rules ≡ rules.now) }
 {
     let Ok(mut core) = RecordingCore::new(alloc, rules, limit, writer) else {
         return Err(Halt::Memory);
     };
-    match core.hand_over() {
+    match written(&mut core) {
         Ok(()) => Ok(core),
         Err(fault) => Err(Halt::NotWritten(fault)),
     }

@@ -3,6 +3,7 @@
 ghost use Rattle.std.specs.Prelude.{◌≡◌, ◌<◌, ◌++◌, ◌∷◌, ◌↔◌, [], ℕ, List, length, IsTrue, IfOk, OnOk};
 ghost use Rattle.indexmap.specs.IndexMap.{index_map_len};
 ghost use Rattle.capture_form.specs.declared.records.Record.{Record as Entry};
+ghost use Rattle.capture_journal.specs.Journals.{IsPassedOn};
 ghost use Rattle.daemon_table.specs.Lines.{HasCome, HasLeft, HasSigned, Serves};
 
 use crate::line::Line;
@@ -140,7 +141,8 @@ impl<G: Gate + Drop> Table<G> {
     }
 
     /// The connection of this number, if it is open, has a turn, and one more in the next round where this one moved octets. The core
-    /// stands here for the contract alone: all that it has was handed to the writer, before any frame of it is written to a gate.
+    /// stands here for the contract alone: all that it has was handed to the writer, which has passed it on, before any frame of it is
+    /// written to a gate.
     ///
     /// # Errors
     ///
@@ -151,7 +153,7 @@ impl<G: Gate + Drop> Table<G> {
         number: u32,
         buffer: &mut [u8],
     ) -> Result<(), Stop>
-        requires handed { core.now.journal.waiting ≡ [] }
+        requires passed { IsPassedOn core.now.journal }
         requires serves { (waiting : List ℕ) × Serves G.delivered G.took G.has_ended core.now.journal.records [] waiting self.old }
         requires room { 0 < length buffer.old }
         ensures serves { OnOk result ((waiting : List ℕ) → Serves G.delivered G.took G.has_ended core.now.journal.records [] waiting self.old
