@@ -17,13 +17,12 @@ use Rattle.trace_events.specs.Window.{session_window}
 use Rattle.trace_events.proofs.Along.{and_first}
 use Rattle.trace_events.proofs.Judged.{AreJudged}
 use Rattle.trace_events.proofs.StepWords.{and-false}
-use Rattle.trace_clauses.specs.TransferClause.{to_carry}
 use Rattle.trace_clauses.proofs.FirstSent.{copy_goes_first, due_copy}
 use Rattle.trace_clauses.proofs.IncomingProgress.{judged-kept}
 use Rattle.trace_clauses.proofs.Parts.{IsKept, each_delivery}
 use Rattle.trace_clauses.proofs.UnsentCopies.{unsent_complete}
 use Rattle.trace_clauses.proofs.WaitingQueue.{all_contained, completed_below}
-use Rattle.trace_duties.specs.Pick.{may_take}
+use Rattle.trace_clauses.specs.TransferClause.{may_take, to_carry}
 use Rattle.trace_duties.specs.Quiet.{has_earlier_unsent, is_held_back, copies_are_sent}
 use Rattle.trace_duties.proofs.QuietLists.{all-each}
 use Rattle.trace_duties.proofs.PicksInOrder.{none-before}

@@ -22,7 +22,7 @@ use Rattle.trace_events.proofs.Judged.{AreJudged, judged-number}
 use Rattle.trace_clauses.specs.Clauses.{first_broken}
 use Rattle.trace_clauses.proofs.UnsentCopies.{unsent_complete}
 use Rattle.trace_clauses.proofs.WaitingQueue.{completed_below, completed_once, completion_complete}
-use Rattle.trace_duties.specs.Pick.{may_take}
+use Rattle.trace_clauses.specs.TransferClause.{may_take}
 use Rattle.state_addresses.specs.Addressed.{IsAddressed}
 use Rattle.state_addresses.specs.ConsumerLinks.{has_number, consumer_at}
 use Rattle.state_addresses.specs.Copies.{AreReceivers, names_at}

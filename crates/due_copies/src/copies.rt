@@ -7,7 +7,6 @@ ghost use Rattle.trace_events.specs.Event as law;
 ghost use Rattle.trace_events.specs.History.{history};
 ghost use Rattle.trace_events.specs.Due.{has_unsent};
 ghost use Rattle.trace_events.specs.Link.{IsLiveLink};
-ghost use Rattle.trace_duties.specs.Pick.{may_take};
 ghost use Rattle.trace_duties.specs.Quiet.{copies_are_sent, has_earlier_unsent};
 ghost use Rattle.trace_values.specs.View.{Events, event_view, incoming_view, link_view};
 ghost use Rattle.state_tables.specs.Connections.{IsLawfulNext};
@@ -24,7 +23,7 @@ use pairing_cert::Note;
 use state_addresses::{Copies, receivers_of};
 use state_answers::LentTables;
 use std::alloc::{AllocError, Global};
-use trace_judge::{Carriage, Counts};
+use trace_judge::{Carriage, may_take};
 use trace_values::{Event, Incoming, Link};
 
 /// The copies that are still to be sent.
@@ -128,7 +127,7 @@ impl UnsentCopies {
         ensures links { self.new.lists.links ≡ self.old.lists.links }
     {
         let link = tables.consumer_links.get(number)?;
-        if !may_take(&link, tables) {
+        if !may_take(tables, &link) {
             return None;
         }
         let delivery = self.earliest(&link, rules, tables)?;
@@ -165,16 +164,6 @@ impl UnsentCopies {
         }
         None
     }
-}
-
-/// A live link may be sent a delivery: it has credit, its session has window, and nothing is in progress.
-fn may_take(link: &Link, tables: &LentTables<'_>) -> bool
-    ensures { (rules : RuleSet) (past : Events) → TellsOf rules tables.now past → IsLiveLink (link_view link.now) past →
-        result ≡ may_take past (link_view link.now) }
-{
-    tables.link_credit(link) > 0
-        && tables.session_window(link.session) > 0
-        && tables.outgoing_in_progress(link).is_none()
 }
 
 /// The delivery of this number, where a copy of it is unsent on the live link.

@@ -5,7 +5,6 @@ ghost use Rattle.capture_form.specs.Rules.{RuleSet};
 ghost use Rattle.capture_form.specs.declared.records.Record.{Record};
 ghost use Rattle.trace_events.specs.Event as law;
 ghost use Rattle.trace_events.specs.History.{history};
-ghost use Rattle.trace_clauses.specs.FlowClause.{may_be_drained};
 ghost use Rattle.trace_duties.specs.Quiet.{none_is_undrained};
 ghost use Rattle.state_tables.specs.Connections.{IsLawfulNext};
 ghost use Rattle.state_tables.specs.EndedLinks.{views};
@@ -14,7 +13,6 @@ ghost use Rattle.state_answers.specs.Tables.{TellsOf};
 ghost use Rattle.event_effects.specs.Effects.{AreEffects};
 ghost use Rattle.due_flows.specs.Draining.{IsDrainable, asks_drain, writes_part};
 ghost use Rattle.due_flows.specs.Drains.{HasDrains, stands, waits};
-ghost use Rattle.trace_events.specs.Link.{IsLiveLink};
 ghost use Rattle.trace_values.specs.View.{Events, event_view, link_view};
 
 use amqp_perf::Performative;
@@ -23,7 +21,7 @@ use event_effects::{EventEffects, add_octet_group};
 use number_groups::{Ascending, OctetGroups};
 use state_answers::LentTables;
 use std::alloc::{AllocError, Global};
-use trace_judge::Counts;
+use trace_judge::may_be_drained;
 use trace_values::{Event, Link};
 
 /// The links of consumers that drain.
@@ -141,20 +139,9 @@ fn drain_due<'t>(number: u64, rules: &RuleSet, tables: &LentTables<'t>) -> Optio
         is_some result ≡ true }
 {
     let link = tables.consumer_links.get(number)?;
-    if may_be_drained(rules, &link, tables) {
+    if may_be_drained(tables, rules, &link) {
         Some(link)
     } else {
         None
     }
-}
-
-/// The credit of a live link may be used up: its client asks for it, and nothing waits.
-fn may_be_drained(rules: &RuleSet, link: &Link, tables: &LentTables<'_>) -> bool
-    ensures { (past : Events) → TellsOf rules.now tables.now past → IsLiveLink (link_view link.now) past →
-        result ≡ may_be_drained rules.now past (link_view link.now) }
-{
-    tables.is_draining(link)
-        && tables.link_credit(link) > 0
-        && !tables.has_waiting(rules, link.address)
-        && !tables.has_unsent(rules, link)
 }

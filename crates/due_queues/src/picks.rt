@@ -7,11 +7,12 @@ ghost use Rattle.capture_form.specs.Rules.{RuleSet};
 ghost use Rattle.capture_form.specs.declared.records.Record.{Record};
 ghost use Rattle.address_table.specs.Links.{IsCount};
 ghost use Rattle.trace_events.specs.Words.{is_some_and};
-ghost use Rattle.trace_events.specs.Link.{IsLiveLink, link_at, own_link};
+ghost use Rattle.trace_events.specs.Link.{link_at, own_link};
 ghost use Rattle.trace_events.specs.Outgoing as outgoing;
 ghost use Rattle.trace_events.specs.History.{history};
 ghost use Rattle.trace_duties.specs.Consumers.{attached_as, begun_by};
-ghost use Rattle.trace_duties.specs.Pick.{may_take, pick};
+ghost use Rattle.trace_clauses.specs.TransferClause.{may_take};
+ghost use Rattle.trace_duties.specs.Pick.{pick};
 ghost use Rattle.trace_values.specs.View.{Events, event_view, link_view};
 ghost use Rattle.state_tables.specs.Connections.{IsLawfulNext};
 ghost use Rattle.state_tables.specs.EndedLinks.{views};
@@ -33,6 +34,7 @@ use state_outgoing::SentDelivery;
 use state_tables::Links;
 use std::alloc::{AllocError, Global};
 use std::str::from_utf8;
+use trace_judge::may_take;
 use trace_values::{Event, Link, is_decisive};
 
 /// The links of consumers, as picks see them, moved forward by one event after the other.
@@ -81,28 +83,14 @@ fn text_of(octets: &[u8]) -> Option<&str>
 
 /// The consumer's live link of this number may be sent a delivery: it has credit, its session has window, and nothing is in
 /// progress.
-fn may_take(tables: &LentTables<'_>, number: u64) -> bool
+fn consumer_may_take(tables: &LentTables<'_>, number: u64) -> bool
     ensures { (rules : RuleSet) (records : List Record) → TellsOf rules tables.now (history rules records) →
         result ≡ is_some_and (consumer_at number (history rules records)) (may_take (history rules records)) }
 {
     match tables.consumer_links.get(number) {
-        Some(link) => takes(tables, &link),
+        Some(link) => may_take(tables, &link),
         None => false,
     }
-}
-
-/// The same of a live link.
-fn takes(tables: &LentTables<'_>, link: &Link) -> bool
-    ensures { (rules : RuleSet) (records : List Record) → TellsOf rules tables.now (history rules records) →
-        IsLiveLink (link_view link.now) (history rules records) → result ≡ may_take (history rules records) (link_view link.now) }
-{
-    if tables.links.link_credit(link) == 0 {
-        return false;
-    }
-    if tables.connections.session_window(link.session) == 0 {
-        return false;
-    }
-    tables.sent.outgoing_in_progress(link).is_none()
 }
 
 impl Picks {
@@ -165,7 +153,7 @@ impl Picks {
             |number: u64| -> bool
                 ensures { (rules : RuleSet) (records : List Record) → TellsOf rules tables.entry.now (history rules records) →
                     result ≡ is_some_and (consumer_at number (history rules records)) (may_take (history rules records)) }
-            { may_take(tables, number) },
+            { consumer_may_take(tables, number) },
         )?;
         tables.consumer_links.get(number)
     }

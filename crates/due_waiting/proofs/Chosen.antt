@@ -25,7 +25,8 @@ use Rattle.trace_clauses.proofs.IncomingProgress.{judged-kept}
 use Rattle.trace_clauses.proofs.WaitingQueue.{contains_none, contains_cases, contains_first, contains_later, filter_has, reverse_has, waits_queued}
 use Rattle.trace_duties.specs.Consumers.{address_events}
 use Rattle.trace_duties.specs.Diligent.{is_next_waiting}
-use Rattle.trace_duties.specs.Pick.{is_eligible, may_take, pick}
+use Rattle.trace_clauses.specs.TransferClause.{may_take}
+use Rattle.trace_duties.specs.Pick.{is_eligible, pick}
 use Rattle.trace_duties.proofs.ConsumersCounted.{consumers-counted}
 use Rattle.state_addresses.specs.ConsumerLinks.{consumer_at, is_live_consumer}
 use Rattle.state_incoming.specs.EntryAnswers.{Knows}

@@ -13,7 +13,8 @@ use Rattle.trace_events.proofs.Judged.{AreJudged}
 use Rattle.trace_clauses.proofs.IncomingProgress.{judged-kept}
 use Rattle.trace_clauses.proofs.Parts.{IsKept, each_delivery}
 use Rattle.trace_clauses.proofs.WaitingQueue.{all_contained, contains_first, filter_has, in_filter, in_reverse}
-use Rattle.trace_duties.specs.Pick.{eligible, may_take}
+use Rattle.trace_clauses.specs.TransferClause.{may_take}
+use Rattle.trace_duties.specs.Pick.{eligible}
 use Rattle.trace_duties.specs.Quiet.{none_waits_in_vain}
 use Rattle.trace_duties.specs.Turn.{is_first_to_begin}
 use Rattle.trace_duties.proofs.QuietLists.{all-each}

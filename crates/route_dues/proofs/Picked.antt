@@ -21,7 +21,8 @@ use Rattle.trace_events.proofs.LinkNumbers.{links-found}
 use Rattle.trace_clauses.proofs.OneOutcome.{number-some}
 use Rattle.trace_clauses.proofs.WaitingQueue.{contains_first, contains_later, contains_none, contains_cases, all_contained, in_reverse, in_filter}
 use Rattle.trace_duties.specs.Consumers.{address_events}
-use Rattle.trace_duties.specs.Pick.{may_take, is_eligible, pick}
+use Rattle.trace_clauses.specs.TransferClause.{may_take}
+use Rattle.trace_duties.specs.Pick.{is_eligible, pick}
 use Rattle.trace_duties.specs.Diligent.{is_picked_link}
 use Rattle.trace_duties.proofs.ConsumersCounted.{consumers-counted}
 

@@ -19,7 +19,7 @@ ghost use Rattle.trace_events.specs.Due.{is_unsent};
 ghost use Rattle.trace_clauses.specs.FlowClause.{may_be_topped_up, full_credit, may_be_drained, drained_count};
 ghost use Rattle.trace_clauses.specs.Outcome.{may_be_told, row};
 ghost use Rattle.trace_clauses.specs.Written.{spoken_octets, written_settling, written_session_flow, written_credit, written_count};
-ghost use Rattle.trace_duties.specs.Pick.{may_take};
+ghost use Rattle.trace_clauses.specs.TransferClause.{may_take};
 ghost use Rattle.trace_duties.specs.Quiet.{lacks_window, stands_still, has_earlier_unsent};
 ghost use Rattle.trace_duties.specs.Diligent.{is_next_waiting, is_picked_link, all_keep};
 ghost use Rattle.trace_duties.specs.Order.{CopiesInOrder};

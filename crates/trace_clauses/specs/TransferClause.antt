@@ -1,5 +1,5 @@
 -- L4 to L9: transfers that the router writes.
-use Rattle.std.specs.Prelude.{ℕ, Bool, true, false, ◌&&◌, ◌||◌, not, List, ◌++◌, Option, unwrap_or, option_and_then, find, bytes_eq, nat_lt, ◌==◌, if◌then◌else◌}
+use Rattle.std.specs.Prelude.{ℕ, Bool, true, false, ◌&&◌, ◌||◌, not, List, ◌++◌, Option, is_none, unwrap_or, option_and_then, find, bytes_eq, nat_lt, ◌==◌, if◌then◌else◌}
 use Rattle.std.specs.List.{starts_with}
 use Rattle.std.specs.Bool.{beq}
 use Rattle.amqp_perf.specs.Meaning.{TransferFields, flag}
@@ -36,6 +36,12 @@ has_link_and_window e fields past =
 abbrev pub has_credit_and_next_id : Link → TransferFields → List Event → Bool
 has_credit_and_next_id l fields past =
     nat_lt 0 (link_credit l past) && is_number fields.delivery_id (next_delivery_id l.session past)
+
+-- ---- what L4 to L6 ask before a delivery may begin: a consumer's live link has credit, its session has window, and nothing is
+-- in progress
+
+abbrev pub may_take : List Event → Link → Bool
+may_take past l = nat_lt 0 (link_credit l past) && has_window past l.session && is_none (outgoing.in_progress l past)
 
 -- ---- L6: a later transfer has no id, no settled flag, or those of the first (2.7.5), and its note
 

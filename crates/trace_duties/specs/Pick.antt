@@ -1,23 +1,17 @@
 -- The consumer that a waiting delivery goes to, as the pick of `address_table` over what happened to the links of
 -- consumers (Qpid Dispatch Router: closest, balanced; ties are own rules).
-use Rattle.std.specs.Prelude.{ℕ, Bool, ◌&&◌, List, Option, is_none, filter, nat_lt}
+use Rattle.std.specs.Prelude.{ℕ, Bool, List, Option, filter}
 use Rattle.capture_form.specs.Rules.{RuleSet}
 use Rattle.capture_form.specs.Addresses.{distribution}
 use Rattle.address_table.specs.Picking.{pick_of}
 use Rattle.trace_events.specs.Words.{is_some_and}
 use Rattle.trace_events.specs.Event.{Event, Link}
 use Rattle.trace_events.specs.Link.{link_at}
-use Rattle.trace_events.specs.Window.{session_window}
-use Rattle.trace_events.specs.Credit.{link_credit}
 use Rattle.trace_events.specs.Address.{consumers}
-use Rattle.trace_events.specs.Outgoing.{in_progress}
+use Rattle.trace_clauses.specs.TransferClause.{may_take}
 use Rattle.trace_duties.specs.Consumers.{address_events}
 
--- a consumer's live link may be sent a delivery: it has credit, its session has window, and nothing is in progress
-abbrev pub may_take : List Event → Link → Bool
-may_take past l = nat_lt 0 (link_credit l past) && nat_lt 0 (session_window l.session past) && is_none (in_progress l past)
-
--- those of the address, in the order of attach
+-- the consumers of the address that may be sent a delivery, in the order of attach
 abbrev pub eligible : List ℕ → List Event → List Link
 eligible address past = filter (may_take past) (consumers address past)
 

@@ -18,7 +18,7 @@ mod disposition;
 pub(crate) mod flow;
 mod link;
 mod session;
-mod transfer;
+pub(crate) mod transfer;
 
 use self::connection::{fits_limit, may_be_written};
 use self::disposition::{is_outcome, settles_one};

@@ -19,7 +19,8 @@ mod outcome;
 mod questions;
 
 pub use clauses::broken_clause;
-pub use clauses::flow::{full_credit, may_be_topped_up};
+pub use clauses::flow::{full_credit, may_be_drained, may_be_topped_up};
+pub use clauses::transfer::may_take;
 pub use judging::{judge, judge_unopened, open};
 pub use outcome::{Told, first_row, may_be_told, row};
 pub use questions::{Carriage, Counts, History, Inputs, Openings, Outcomes, Questions};

@@ -78,8 +78,8 @@ fn nothing_waits<P: Counts>(past: &P, rules: &RuleSet, link: &Link) -> bool
     !past.has_waiting(rules, link.address) && !past.has_unsent(rules, link)
 }
 
-/// The credit of a consumer's link may be used up: nothing waits, and the client asks for it.
-fn may_be_drained<P: Counts>(past: &P, rules: &RuleSet, link: &Link) -> bool
+/// The credit of a consumer's live link may be used up: its client asks for it, and nothing waits.
+pub fn may_be_drained<P: Counts>(past: &P, rules: &RuleSet, link: &Link) -> bool
     requires few { P.is_short past.now }
     ensures { (history : Events) → P.stands_for past.now rules.now history → IsLiveLink (link_view link.now) history →
         (result ≡ law.may_be_drained rules.now history (link_view link.now)) }

@@ -93,6 +93,17 @@ pub(crate) fn has_credit_and_next_id<P: Counts>(past: &P, link: &Link, fields: &
         && fields.delivery_id == Some(past.next_delivery_id(link.session))
 }
 
+/// What L4 to L6 ask before a delivery may begin: a consumer's live link has credit, its session has window, and nothing is in
+/// progress.
+pub fn may_take<'a, P: Counts + Carriage<'a>>(past: &P, link: &Link) -> bool
+    ensures { (rules : RuleSet) (history : Events) → P.stands_for past.now rules history → IsLiveLink (link_view link.now) history →
+        (result ≡ law.may_take history (link_view link.now)) }
+{
+    past.link_credit(link) > 0
+        && past.session_window(link.session) > 0
+        && past.outgoing_in_progress(link).is_none()
+}
+
 /// L8: the payloads so far are the first octets of the delivery's payload, and at the last transfer all of it.
 pub(crate) fn carries<'a, P: Carriage<'a>>(
     past: &P,

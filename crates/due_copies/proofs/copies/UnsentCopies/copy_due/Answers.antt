@@ -1,7 +1,7 @@
 use Rattle.std.proofs.Common.{◌≡◌, refl, sym, ap, ◌∙◌, Option, Some, None, true, false}
 use Rattle.trace_events.specs.Event.{Link}
 use Rattle.trace_events.specs.Due.{has_unsent}
-use Rattle.trace_duties.specs.Pick.{may_take}
+use Rattle.trace_clauses.specs.TransferClause.{may_take}
 use Rattle.trace_values.specs.View.{incoming_view, link_view}
 use Rattle.state_incoming.proofs.GroupAnswers.{judged-of}
 use Rattle.state_addresses.specs.ConsumerLinks.{consumer_at}
