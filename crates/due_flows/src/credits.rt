@@ -9,7 +9,6 @@ ghost use Rattle.trace_events.specs.Address as addresses;
 ghost use Rattle.trace_events.specs.Event as law;
 ghost use Rattle.trace_events.specs.History.{history};
 ghost use Rattle.trace_events.specs.Link.{is_consumer, is_producer, own_link, opened_consumer};
-ghost use Rattle.trace_events.specs.Outgoing.{carried_number};
 ghost use Rattle.trace_events.specs.Waiting.{has_waiting};
 ghost use Rattle.trace_events.specs.Words.{is_some_and, where_passes};
 ghost use Rattle.trace_duties.specs.Quiet.{none_lacks_credit};
@@ -28,7 +27,6 @@ use amqp_perf::Role;
 use capture_form::RuleSet;
 use event_effects::{EventEffects, add, add_group, add_octet_group};
 use number_groups::{Ascending, Groups, OctetGroups};
-use pairing_cert::Note;
 use state_answers::LentTables;
 use std::alloc::{AllocError, Global};
 use trace_judge::{Counts, Inputs, may_be_topped_up};
@@ -120,7 +118,7 @@ impl Credits {
     {
         add(&mut self.links, producer_named(event))?;
         add(&mut self.links, producer_of(event.told, before))?;
-        add(&mut self.links, producer_of(carried(event), before))?;
+        add(&mut self.links, producer_of(event.carried_number(), before))?;
         Ok(())
     }
 
@@ -193,16 +191,6 @@ fn producer_named(event: &Event) -> Option<u64>
     match event.link {
         Some(link) if link.role == Role::Receiver => Some(link.number),
         _ => None,
-    }
-}
-
-/// The number of the delivery that the one carries of which the event is a part.
-fn carried(event: &Event) -> Option<u64>
-    ensures { result ≡ carried_number (event_view event.now) }
-{
-    match event.outgoing?.note {
-        Note::Pair(number) => Some(number),
-        Note::None | Note::Told(_) => None,
     }
 }
 

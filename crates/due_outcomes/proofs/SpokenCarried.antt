@@ -1,12 +1,12 @@
 -- What a delivery to a client carries, of which its consumer speaks, is among what those carry of which one speaks.
-use Rattle.std.proofs.Common.{◌≡◌, refl, sym, ap, ◌∙◌, ℕ, Bool, true, false, ◌||◌, List, [], ◌∷◌, nat_eq, eqb-true}
-use Rattle.std.specs.Prelude.{Contains}
+use Rattle.std.proofs.Common.{◌≡◌, refl, sym, ap, ◌∙◌, ℕ, Bool, true, false, ◌||◌, List, [], ◌∷◌, Option, Some, None, nat_eq, eqb-true}
+use Rattle.std.specs.Prelude.{Contains, option_and_then}
 use Rattle.std.specs.List.{list_any}
 use Rattle.pairing_cert.specs.declared.note.Note.{Note}
 use Rattle.pairing_cert.specs.declared.note.Note.TheVariants as notes
 use Rattle.capture_form.specs.Rules.{RuleSet}
 use Rattle.number_groups.specs.Numbers.{is_among}
-use Rattle.trace_events.specs.Words.{is_number}
+use Rattle.trace_events.specs.Words.{is_number, is_some_and}
 use Rattle.trace_events.specs.Event.{Event, Outgoing}
 use Rattle.trace_events.specs.Outgoing.{names, noted_number, outgoing_deliveries}
 use Rattle.trace_events.proofs.Judged.{AreJudged}
@@ -29,6 +29,16 @@ named-number : (note : Note) (n : ℕ) → names n note ≡ true → is_number (
 named-number (notes.Pair m) n is = is
 named-number notes.None n is = absurd cc
 named-number (notes.Told why) n is = absurd cc
+
+pub carried-names : (o : Option Outgoing) (n : ℕ) → is_number (option_and_then (λ (j : Outgoing). noted_number j.note) o) n
+    ≡ is_some_and o (λ (j : Outgoing). names n j.note)
+carried-names None n = refl
+carried-names (Some j) n = by j.note
+  where
+    by : (note : Note) → is_number (noted_number note) n ≡ names n note
+    by (notes.Pair m) = refl
+    by notes.None = refl
+    by (notes.Told why) = refl
 
 pub spoken-carried : (rules : RuleSet) (past : List Event) → AreJudged rules past → (table : SentDeliveries) → IsTable table past → (spoken : List ℕ) (j : Outgoing) → Contains (outgoing_deliveries past) j
     → is_left_unsettled past j ≡ true → is_among spoken j.number ≡ true → (n : ℕ) → names n j.note ≡ true → list_any (λ m. is_number (carried (sent_in table m)) n) spoken ≡ true

@@ -97,16 +97,6 @@ fn completed_number(event: &Event) -> Option<u64>
     }
 }
 
-/// The number of the delivery from a client that the one carries of which the event is a part.
-fn carried_number(event: &Event) -> Option<u64>
-    ensures { (n : ℕ) → is_number result n ≡ is_some_and (event_view event.now).outgoing (λ j. names n j.note) }
-{
-    match event.outgoing.as_ref()?.note {
-        Note::Pair(number) => Some(number),
-        Note::None | Note::Told(_) => None,
-    }
-}
-
 /// The number stands under the link of the delivery that carries it.
 fn put_under(carried: &mut Groups<u64>, carrier: &Outgoing, number: u64) -> Result<(), AllocError>
     ensures under { OnOk result (IsOn carried.new (outgoing_view carrier.now) number) }
@@ -154,7 +144,7 @@ impl Untold {
     {
         add(&mut self.candidates, completed_number(event))?;
         self.pair(rules, event)?;
-        add(&mut self.candidates, carried_number(event))?;
+        add(&mut self.candidates, event.carried_number())?;
         add_carried(&mut self.candidates, before.sent, effects.spoken())?;
         let ended = effects.ended();
         add_of_links(&mut self.candidates, &self.carried, ended)?;

@@ -6,14 +6,12 @@ ghost use Rattle.number_groups.specs.Numbers.{is_among};
 ghost use Rattle.number_groups.specs.Groups.{is_member};
 ghost use Rattle.number_groups.specs.OctetGroups as octets;
 ghost use Rattle.trace_events.specs.Words.{is_some_and};
-ghost use Rattle.trace_events.specs.Outgoing as outgoing;
 ghost use Rattle.state_incoming.specs.Touched as law;
 ghost use Rattle.trace_values.specs.View.{event_view, link_view};
 
 use crate::groups::HeldGroups;
 use amqp_perf::Role;
 use number_groups::{NumberSet, OctetGroups};
-use pairing_cert::Note;
 use state_addresses::Addresses;
 use state_tables::{add_group, add_number};
 use std::alloc::{AllocError, Global};
@@ -41,16 +39,6 @@ fn part_number(event: &Event) -> Option<u64>
     match &event.incoming {
         Some(delivery) => Some(delivery.number),
         None => None,
-    }
-}
-
-/// The delivery that the one carries of which the event is a part.
-fn carried_number(event: &Event) -> Option<u64>
-    ensures { result ≡ outgoing.carried_number (event_view event.now) }
-{
-    match event.outgoing.as_ref()?.note {
-        Note::Pair(number) => Some(number),
-        Note::None | Note::Told(_) => None,
     }
 }
 
@@ -133,7 +121,7 @@ impl HeldGroups {
         let mut touched = NumberSet::new(alloc);
         add_number(&mut touched, part_number(event))?;
         add_number(&mut touched, event.told)?;
-        add_number(&mut touched, carried_number(event))?;
+        add_number(&mut touched, event.carried_number())?;
         self.add_settled(&mut touched, event)?;
         self.add_all_left(&mut touched, addresses, ended)?;
         Ok(touched)

@@ -37,6 +37,10 @@ each-more p xs i d first now next lt was added =
 pub each-in : {A : Type 0} (p : A → Bool) (xs : List A) (i : ℕ) (first now : Bool) → length xs ≤ i → now ≡ first || list_any p (take i xs) → now ≡ first || list_any p xs
 each-in p xs i first now le was = was ∙ ap (λ ys. first || list_any p ys) (take_all i xs le)
 
+-- an element of which it holds is one of the list's
+pub some-of : {A : Type 0} (p : A → Bool) (xs : List A) (i : ℕ) (d : A) → i < length xs → p (get_or xs i d) ≡ true → list_any p xs ≡ true
+some-of p xs i d below is = list_any_at p xs i d below is
+
 pub any-map : {A B : Type 0} (f : A → B) (p : B → Bool) (xs : List A) → list_any (λ x. p (f x)) xs ≡ list_any p (map f xs)
 any-map f p [] = refl
 any-map f p (x ∷ xs) = ap (λ b. p (f x) || b) (any-map f p xs)

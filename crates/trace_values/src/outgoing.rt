@@ -60,6 +60,16 @@ impl<'a, 'r, 'm> Event<'a, 'r, 'm> {
         }
     }
 
+    /// The number of the incoming delivery that the one carries which it is a part of.
+    pub fn carried_number(&self) -> Option<u64>
+        ensures { result ≡ law.carried_number (event_view self.now) }
+    {
+        match self.outgoing.as_ref()?.note {
+            Note::Pair(number) => Some(number),
+            Note::None | Note::Told(_) => None,
+        }
+    }
+
     /// A delivery to a client that carries the incoming one begins in it.
     pub fn pairs(&self, delivery: &Incoming) -> bool
         ensures { result ≡ pairs (incoming_view delivery.now) (event_view self.now) }

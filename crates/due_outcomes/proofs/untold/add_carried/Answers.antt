@@ -14,7 +14,7 @@ loop-number-preserved c = λ n.
     let test : ℕ → Bool = λ m. is_number (carried (sent_in c.args.sent.now m)) n in
     each-more test c.args.numbers.now c.loop-number.number-index _
     (has c.args.candidates.now n) _ _ c.loop-number-test.true (c.loop-number.invariant n)
-    (c.in_ok-add.ensures n ∙ ap (λ o. has c.loop-number.candidates n || is_number o n) c.carried_by.ensures)
+    (c.in_ok-add.ensures.joined n ∙ ap (λ o. has c.loop-number.candidates n || is_number o n) c.carried_by.ensures)
 
 pub returns : goal.returns
 returns c = λ n.

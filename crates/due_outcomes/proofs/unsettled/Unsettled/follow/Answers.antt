@@ -19,8 +19,8 @@ returns c = λ rules records r next does was.
     let first = c.args.self.now.candidates in
     let spoken = c.spoken.result.now in
     unsettled-next rules e past are (lawful-past rules e past next.1) (views c.args.effects.now.ended.items) does.ended c.args.self.now c.release.new.self was
-    (λ n there. c.in_ok-release.ensures.grown n (c.in_ok-add_all.ensures n ∙ or-first (has first n) (is_among spoken n) there))
-    (λ j there opens speaks. c.in_ok-release.ensures.grown j.number (c.in_ok-add_all.ensures j.number
+    (λ n there. c.in_ok-release.ensures.grown n (c.in_ok-add_all.ensures.joined n ∙ or-first (has first n) (is_among spoken n) there))
+    (λ j there opens speaks. c.in_ok-release.ensures.grown j.number (c.in_ok-add_all.ensures.joined j.number
     ∙ or-last (has first j.number) (is_among spoken j.number) (ap (λ (ns : List ℕ). is_among ns j.number) c.spoken.ensures ∙ does.spoken j there opens speaks)))
     (λ n m closes parked. c.in_ok-release.ensures.released n m (ap (λ links. may_close e links n) (ap views c.ended.ensures) ∙ closes) parked)
     c.in_ok-release.ensures.left

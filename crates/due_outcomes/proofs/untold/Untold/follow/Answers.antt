@@ -13,7 +13,7 @@ use Rattle.state_outgoing.specs.SentTables.{sent_in}
 use Rattle.state_tables.specs.EndedLinks.{views}
 use Rattle.number_groups.specs.Ascending.{has}
 use Rattle.state_tables.proofs.GroupLists.{any-map}
-use Rattle.due_outcomes.proofs.SpokenCarried.{spoken-carried}
+use Rattle.due_outcomes.proofs.SpokenCarried.{carried-names, spoken-carried}
 use Rattle.due_outcomes.proofs.UntoldFollowed.{followed}
 use Rattle.due_outcomes.proofs.UntoldSteps.{untold-next}
 use Rattle.due_outcomes.proofs.untold.Untold.follow.Goals as goal
@@ -34,15 +34,15 @@ returns c = λ records r next stands does was.
     (followed rules e past are c.args.self.now u2
     c.add.new.candidates c.add-2.new.candidates c.add_carried.new.candidates c.add_of_links.new.candidates c.add_of_links-2.new.candidates c.add_waiting.new.candidates
     c.completed_number.result c.carried_number.result told c.on_link.result.now waiting (views items)
-    c.in_ok-add.ensures c.completed_number.ensures
+    c.in_ok-add.ensures.joined c.completed_number.ensures
     c.in_ok-pair.ensures.begun c.in_ok-pair.ensures.kept c.in_ok-pair.ensures.same
-    c.in_ok-add-2.ensures c.carried_number.ensures
+    c.in_ok-add-2.ensures.joined (λ n. ap (λ o. is_number o n) c.carried_number.ensures ∙ carried-names e.outgoing n)
     (λ n. c.in_ok-add_carried.ensures n ∙ ap (λ (numbers : List ℕ). has c.add-2.new.candidates n || list_any (λ m. is_number (carried (sent_in sent m)) n) numbers) c.spoken.ensures)
     (λ j begun opens speaks. spoken-carried rules past (history-judged rules records) sent stands.1.1.1.1.1.1.1.1.0 spoken j begun opens (does.spoken j begun opens speaks))
-    (λ n. c.in_ok-add_of_links.ensures n
+    (λ n. c.in_ok-add_of_links.ensures.joined n
     ∙ (ap (λ links. has c.add_carried.new.candidates n || list_any (λ l. is_member nat_eq u2.carried (link_view l).number n) links) c.ended-ended.ensures
     ∙ ap (λ b. has c.add_carried.new.candidates n || b) (any-map link_view (λ l. is_member nat_eq u2.carried l.number n) items)))
-    (λ n. c.in_ok-add_of_links-2.ensures n
+    (λ n. c.in_ok-add_of_links-2.ensures.joined n
     ∙ (ap (λ links. has c.add_of_links.new.candidates n || list_any (λ l. is_member nat_eq c.on_link.result.now (link_view l).number n) links) c.ended-ended.ensures
     ∙ ap (λ b. has c.add_of_links.new.candidates n || b) (any-map link_view (λ l. is_member nat_eq c.on_link.result.now l.number n) items)))
     (λ link n. ap (λ (groups : Groups ℕ). is_member nat_eq groups link n) c.on_link.ensures ∙ stands.1.1.1.1.1.1.1.1.1.0.awaits link n)
