@@ -6,10 +6,9 @@ ghost use Rattle.route_items.specs.Items.{connection_of, what_of};
 ghost use Rattle.daemon_rounds.specs.Stepping.{HasStepped, IsInput};
 
 use capture_form::{Record, What};
-use daemon_core::RecordingCore;
+use daemon_core::{Dues, RecordingCore};
 use pairing_cert::Note;
 use route_items::{Item, StepFault};
-use route_work::Dues;
 use std::alloc::Global;
 use std::io::Write;
 

@@ -7,5 +7,6 @@ mod halt;
 mod round;
 mod server;
 
+pub use daemon_core::{Dues, Work};
 pub use halt::Halt;
 pub use server::Server;

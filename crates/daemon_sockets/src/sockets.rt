@@ -2,12 +2,11 @@
 
 use crate::gate::SocketGate;
 use crate::notice::Notice;
-use daemon_server::{Halt, Server};
+use daemon_server::{Dues, Halt, Server};
 use mio::event::Event;
 use mio::net::{TcpListener, TcpStream};
 use mio::unix::SourceFd;
 use mio::{Events, Interest, Poll, Token};
-use route_work::Dues;
 use slab::Slab;
 use socket_gates::{Connection, Refusal, Signs, refusal_of};
 use std::alloc::Global;

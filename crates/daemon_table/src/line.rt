@@ -13,12 +13,11 @@ ghost use Rattle.daemon_table.specs.Lines.{IsLine, frames_to, front_of, inputs_o
 use capture_form::{Frame, Record};
 use conn_engine::{Gate, PausedEngine};
 use conn_serving::{Script, Status, Stop, Turn};
-use daemon_core::RecordingCore;
+use daemon_core::{Dues, RecordingCore};
 use daemon_desk::Before;
 use daemon_lines::{Served, serve_at_desk};
 use daemon_rounds::step_inbox;
 use route_items::StepFault;
-use route_work::Dues;
 use std::alloc::{AllocError, Global};
 use std::collections::VecDeque;
 use std::io::Write;

@@ -10,4 +10,4 @@ pub use route_items::{Item, StepFault};
 pub use router::CoreOver;
 
 /// The router's core, with all that is due.
-pub type Core = CoreOver<route_work::Work>;
+pub type Core = CoreOver<route_kernel::Work>;

@@ -11,3 +11,4 @@ mod group;
 mod kernel;
 
 pub use kernel::Kernel;
+pub use route_work::{Dues, Work};

@@ -23,6 +23,7 @@ mod slot;
 mod watch;
 mod worker_poll;
 
+pub use conn_workers::RunFault;
 pub use connection::{Connection, Moved};
 pub use failures::count_failure;
 pub use millis::moment;
