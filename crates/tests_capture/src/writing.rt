@@ -69,14 +69,16 @@ fn journaled(alloc: Global, capture: &Capture, room: Room) -> Result<Written, Al
         Ok(_) => journal.waiting().is_empty(),
         Err(_) => journal.hand_over() == Err(NONE_TAKEN),
     };
+    let passed_on = journal.flush();
     let waits = journal.waiting().len();
-    let octets = journal.into_writer().octets;
-    // What was taken and what waits is the whole text.
-    let is_whole = waits.saturating_add(octets.len()) == write_capture(alloc, capture)?.len();
+    let room = journal.into_writer();
+    // What was taken and what waits is the whole text, and the writer is to pass it on just where all was taken.
+    let is_whole = waits.saturating_add(room.octets.len()) == write_capture(alloc, capture)?.len();
+    let is_flushed = passed_on.is_ok() == answer.is_ok() && room.is_flushed == answer.is_ok();
     Ok(Written {
-        octets,
+        octets: room.octets,
         answer: answer.map_err(PacketFault::Write),
-        is_kept: is_kept && is_whole,
+        is_kept: is_kept && is_whole && is_flushed,
     })
 }
 
