@@ -1,2 +1,4 @@
 mod Examples
 mod Kept
+mod StepExamples
+mod Steps

@@ -1,1 +1,2 @@
 pub mod Recordings
+pub mod Stepping

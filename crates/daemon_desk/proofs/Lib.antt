@@ -1,2 +1,4 @@
 mod Entries
 mod Examples
+mod TurnExamples
+mod Turns

@@ -10,7 +10,7 @@ use Rattle.conn_serving.specs.declared.serving.Status.{Status}
 use Rattle.conn_serving.specs.declared.serving.Status.TheVariants.{Open}
 use Rattle.conn_serving.specs.Served.{IsOpen, LineHolds}
 use Rattle.daemon_desk.specs.Desks.{IsEntry, is_empty, told_by}
-use Rattle.daemon_lines.specs.Lines.{HasServed}
+use Rattle.daemon_desk.specs.Lines.{HasServed}
 use Rattle.daemon_table.specs.declared.line.Line.{Line}
 use Rattle.daemon_table.specs.Lines.{IsLine, front_of}
 

@@ -9,7 +9,7 @@ use Rattle.route_items.specs.Inputs.{inputs, is_output}
 use Rattle.route_items.specs.WrittenFrames.{writes_on}
 use Rattle.daemon_core.specs.Recordings.{Recording}
 use Rattle.daemon_desk.specs.Desks.{IsEntry, told_by}
-use Rattle.daemon_rounds.specs.Stepping.{HasStepped, IsInput}
+use Rattle.daemon_core.specs.Stepping.{HasStepped, IsInput}
 use Rattle.daemon_table.specs.Lines.{AreBelow, frames_to, inputs_of}
 
 same : (c n : ℕ) → c ≡ n → (c == n) ≡ true

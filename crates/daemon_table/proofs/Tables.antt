@@ -13,7 +13,7 @@ use Rattle.route_items.specs.WrittenFrames.{writes_on}
 use Rattle.conn_serving.specs.declared.serving.Status.TheVariants.{Ended}
 use Rattle.daemon_core.specs.Recordings.{Recording}
 use Rattle.daemon_desk.specs.Desks.{IsEntry, told_by}
-use Rattle.daemon_rounds.specs.Stepping.{HasStepped}
+use Rattle.daemon_core.specs.Stepping.{HasStepped}
 use Rattle.daemon_table.specs.declared.line.Line.{Line}
 use Rattle.daemon_table.specs.declared.table.Table.{Table}
 use Rattle.daemon_table.specs.Lines.{AreBelow, AreTakenBut, HasLeft, HasLine, HasSigned, IsGone, IsKnown, IsLine, IsLineOf, IsOver, Serves, frames_to, gate_of, inputs_of, news_of}

@@ -194,7 +194,7 @@ impl<G: Gate + Drop> Table<G> {
     ///
     /// # Errors
     ///
-    /// As `step_inbox` of `daemon_rounds`.
+    /// As `step_inbox` of `daemon_core`.
     pub fn step<D: Dues + Drop, W: Write + Drop>(
         &mut self,
         core: &mut RecordingCore<D, W>,

@@ -8,7 +8,7 @@ use Rattle.conn_serving.specs.declared.script.Script.{Script}
 use Rattle.conn_serving.specs.declared.serving.Status.{Status}
 use Rattle.conn_serving.specs.Served.{IsOpen, LineHolds}
 use Rattle.daemon_desk.specs.Desks.{IsEntry, Laid, is_empty, told_by}
-use Rattle.daemon_lines.specs.Lines.{HasServed}
+use Rattle.daemon_desk.specs.Lines.{HasServed}
 
 module _ {G : Type 0} (Delivered Took : G → List ℕ → Type 0) where
   -- an engine that goes on with a desk is open as it was

@@ -4,12 +4,13 @@ ghost use Rattle.std.specs.Prelude.{◌≡◌, ◌<◌, [], length, IfOk};
 ghost use Rattle.conn_engine.specs.Pausing.{resumed};
 ghost use Rattle.conn_serving.specs.Served.{IsOpen, status_after};
 ghost use Rattle.daemon_desk.specs.Desks.{is_empty};
-ghost use Rattle.daemon_lines.specs.Lines.{HasServed};
+ghost use Rattle.daemon_desk.specs.Lines.{HasServed};
 
+use crate::before::Before;
+use crate::desk::Desk;
 use capture_form::{Frame, Record};
 use conn_engine::{Gate, PausedEngine};
 use conn_serving::{Script, Stop, Turn, serve};
-use daemon_desk::{Before, Desk};
 use std::alloc::Global;
 use std::collections::VecDeque;
 

@@ -7,7 +7,7 @@ use Rattle.conn_engine.specs.Pausing.{Paused}
 use Rattle.conn_serving.specs.declared.script.Script.{Script}
 use Rattle.conn_serving.specs.declared.serving.Status.TheVariants.{Failed}
 use Rattle.daemon_desk.specs.Desks.{IsEntry}
-use Rattle.daemon_lines.specs.Lines.{HasServed}
+use Rattle.daemon_desk.specs.Lines.{HasServed}
 
 -- of a connection of which one item was taken, which was given one frame, and to which two are due; of one that stopped nothing is
 -- known of its octets
