@@ -73,7 +73,8 @@ fn named_by_name<C: Cuts>(payload: &C, at: usize, to: usize) -> Option<Named>
     None
 }
 
-/// The number in eight octets.
+/// The number in the eight octets from the offset `at` on, the highest first, as an ulong has them behind its first octet
+/// (part 1, 1.6.6). All eight must be there.
 fn long<C: Cuts>(payload: &C, at: usize) -> u64
     requires there { at + 8 ≤ length (C.octets payload.now) }
     requires fits { at + 8 < 2 ^ 64 }

@@ -67,7 +67,7 @@ impl<'a> Fields<'a> {
         }
     }
 
-    /// The next field, if it is an ubyte.
+    /// The next field, if it is an ubyte. `None` where it is null, missing or of another type; it is taken then too.
     pub fn ubyte(&mut self) -> Option<u8>
         ensures value { result ≡ ubyte_in (first self.old).part }
         ensures left { self.new ≡ others self.old }
@@ -75,7 +75,7 @@ impl<'a> Fields<'a> {
         self.next()?.as_ubyte()
     }
 
-    /// The next field, if it is a binary.
+    /// The next field, if it is a binary. `None` where it is null, missing or of another type; it is taken then too.
     pub fn binary(&mut self) -> Option<&'a [u8]>
         ensures value { option_copied result ≡ binary_in (first self.old).part }
         ensures left { self.new ≡ others self.old }
@@ -83,7 +83,7 @@ impl<'a> Fields<'a> {
         self.next()?.as_binary()
     }
 
-    /// The next field, if it is a string.
+    /// The next field, if it is a string. `None` where it is null, missing or of another type; it is taken then too.
     pub fn text(&mut self) -> Option<&'a str>
         ensures value { option_copied result ≡ str_in (first self.old).part }
         ensures left { self.new ≡ others self.old }
@@ -91,7 +91,7 @@ impl<'a> Fields<'a> {
         self.next()?.as_str()
     }
 
-    /// The next field, if it is a symbol.
+    /// The next field, if it is a symbol. `None` where it is null, missing or of another type; it is taken then too.
     pub fn symbol(&mut self) -> Option<&'a str>
         ensures value { option_copied result ≡ symbol_in (first self.old).part }
         ensures left { self.new ≡ others self.old }
@@ -99,7 +99,8 @@ impl<'a> Fields<'a> {
         self.next()?.as_symbol()
     }
 
-    /// The elements of the next field, if it is an array.
+    /// The elements of the next field, if it is an array. `None` where it is null, missing or of another type; it is taken then
+    /// too.
     pub fn array(&mut self) -> Option<Items<'a>>
         ensures value { option_map fields_left result ≡ array_in (first self.old).part }
         ensures left { self.new ≡ others self.old }

@@ -65,6 +65,12 @@ impl<'a> Performative<'a> {
         Performative::read_front(octets)
     }
 
+    /// What `read` answers: the performative at the front of these octets, and the octets behind it. A transfer, a disposition
+    /// or a flow in its usual form is read in one go, all else as a described list whose fields are checked by their table.
+    ///
+    /// # Errors
+    ///
+    /// Those of `read`.
     #[tactic(auto, unfolding(crate::specs::Reading::performative_at))]
     fn read_front(octets: &'a [u8]) -> Result<(Performative<'a>, &'a [u8]), PerfFault>
         ensures { Gives (λ x. (view x.0, x.1.now)) result (performative_at octets.now) }
@@ -128,7 +134,7 @@ impl<'a> Performative<'a> {
         }
     }
 
-    /// The octets of the state that a disposition tells.
+    /// The octets of the state that a disposition tells. `None` where it tells none, and of any other performative.
     pub fn state_raw(&self) -> Option<&'a [u8]>
         ensures { option_copied result ≡ state_octets (view self.now) }
     {

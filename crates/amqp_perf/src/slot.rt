@@ -199,6 +199,10 @@ impl<'a> Slot<'a> {
     }
 
     /// Appends the field: null where it is absent.
+    ///
+    /// # Errors
+    ///
+    /// Where memory is refused: then nothing was appended.
     fn put(self, out: &mut Vec<u8>) -> Result<(), AllocError>
         requires { CanStand levels_in_described (slot_view self) }
         ensures { Puts out.old.items out.new.items result (or_null (slot_view self.entry)).octets }
@@ -222,6 +226,10 @@ impl<'a> Slot<'a> {
 const USUAL_OCTETS: usize = 96;
 
 /// Appends a list that this code describes, with these fields up to the last that is there.
+///
+/// # Errors
+///
+/// Where memory is refused: then nothing was appended.
 pub fn put_fields(out: &mut Vec<u8>, code: u8, slots: &[Slot<'_>]) -> Result<(), AllocError>
     requires fields { AllCanStand levels_in_described (slots_view slots.now) }
     requires few { AreShort (slots_view slots.now) }

@@ -186,7 +186,9 @@ impl<'a> Items<'a> {
         self.uint_of_any()
     }
 
-    /// The same, whatever the first octet is.
+    /// As `next_uint`, of every value: of an array's element too, whose constructor does not stand in front of it, while
+    /// `next_uint` itself looks for the first octet of a null or an uint there. `None` where it is another value, which is not
+    /// taken, and behind the last.
     #[tactic(auto, unfolding(crate::specs::Items::items_in))]
     #[inline(never)]
     fn uint_of_any(&mut self) -> Option<Option<u32>>
@@ -224,7 +226,9 @@ impl<'a> Items<'a> {
         self.bool_of_any()
     }
 
-    /// The same, whatever the first octet is.
+    /// As `next_bool`, of every value: of an array's element too, whose constructor does not stand in front of it, while
+    /// `next_bool` itself looks for the first octet of a null or a boolean there. `None` where it is another value, which is not
+    /// taken, and behind the last.
     #[tactic(auto, unfolding(crate::specs::Items::items_in))]
     #[inline(never)]
     fn bool_of_any(&mut self) -> Option<Option<bool>>

@@ -6,14 +6,22 @@ ghost use Rattle.svg_parts.specs.Parts.{Draws, element_octets, label_octets, lin
 use std::alloc::AllocError;
 use svg_text::{Attribute, Drawing, Element, Name, Value};
 
-/// An element with a text in it, and no attributes.
+/// An element with a text in it, and no attributes. The text is escaped.
+///
+/// # Errors
+///
+/// Where memory is refused. The drawing is gone.
 pub fn draw_words(drawing: Drawing, element: Element, words: &str) -> Result<Drawing, AllocError>
     ensures { IfOk result (λ after. Draws drawing after (element_octets element words.now)) }
 {
     drawing.start(element, &[])?.text(words)?.end()
 }
 
-/// A line of this class.
+/// A line of this class, `from` one place `to` another: each is how far right and how far down, in units of the drawing.
+///
+/// # Errors
+///
+/// Where memory is refused. The drawing is gone.
 pub fn draw_line(
     drawing: Drawing,
     class: &str,
@@ -49,7 +57,11 @@ pub fn draw_line(
     )
 }
 
-/// A path of this class, along this data (SVG 1.1, 8.3).
+/// A path of this class, along this data (SVG 1.1, 8.3). It is written as it is: whether it is path data is not looked at.
+///
+/// # Errors
+///
+/// Where memory is refused. The drawing is gone.
 pub fn draw_path(drawing: Drawing, class: &str, along: &str) -> Result<Drawing, AllocError>
     ensures { IfOk result (λ after. Draws drawing after (path_octets class.now along.now)) }
 {
@@ -68,7 +80,12 @@ pub fn draw_path(drawing: Drawing, class: &str, along: &str) -> Result<Drawing, 
     )
 }
 
-/// Words at a place.
+/// Words at a place, which is that of their start, at the foot of their letters: how far right and how far down, in units of
+/// the drawing. The words are escaped.
+///
+/// # Errors
+///
+/// Where memory is refused. The drawing is gone.
 pub fn draw_label(drawing: Drawing, at: (u32, u32), words: &str) -> Result<Drawing, AllocError>
     ensures { IfOk result (λ after. Draws drawing after (label_octets at words.now)) }
 {

@@ -1,13 +1,15 @@
 //! The attributes that a chart has.
 
-/// The name of an attribute of SVG 1.1.
+/// The name of an attribute of SVG 1.1. A variant that is not spelled so, but for its capital, has its spelling beside it.
 #[derive(Clone, Copy, Debug, PartialEq, Eq)]
 pub enum Name {
+    /// `xmlns`.
     Namespace,
     Version,
     Width,
     Height,
     ViewBox,
+    /// `id`.
     Identity,
     Class,
     X,
@@ -16,6 +18,7 @@ pub enum Name {
     Y1,
     X2,
     Y2,
+    /// `d`: what a path goes along.
     Data,
     RefX,
     RefY,
@@ -24,12 +27,14 @@ pub enum Name {
     Orient,
 }
 
-/// The value of an attribute.
+/// The value of an attribute, as it is written between quotes.
 #[derive(Clone, Copy, Debug)]
 pub enum Value<'a> {
+    /// Any text. It is escaped, as that of an element is.
     Text(&'a str),
+    /// A number, in decimal digits.
     Number(u32),
-    /// From 0 0 on, of this width and height.
+    /// From 0 0 on, of this width and height: `0 0 width height`.
     Area(u32, u32),
 }
 
@@ -44,6 +49,7 @@ impl Name {
     ghost use Rattle.std.specs.Prelude.{◌≡◌};
     ghost use Rattle.svg_text.specs.Names.{attribute_name};
 
+    /// How it is spelled.
     pub(crate) fn text(self) -> &'static str
         ensures { result.now ≡ attribute_name self }
     {

@@ -36,7 +36,12 @@ impl Drawing {
     ghost use Rattle.std.specs.String.{string_bytes};
     ghost use Rattle.svg_text.specs.Drawn.{AreDistinct, IsSvg, empty_octets, end_octets, root_end, root_octets, start_octets, text_octets};
 
-    /// A drawing of this size, with nothing in it.
+    /// A drawing of this size, with nothing in it: places in it count right and down from the left upper
+    /// corner, in pixels (SVG 1.1, 7.10).
+    ///
+    /// # Errors
+    ///
+    /// Where memory is refused.
     pub fn new(alloc: Global, width: u32, height: u32) -> Result<Drawing, AllocError>
         ensures { IfOk result (λ drawing. drawing ≡ record { octets = root_octets width height; unclosed = [] }) }
     {
@@ -54,7 +59,11 @@ impl Drawing {
         Ok(Drawing { text, unclosed })
     }
 
-    /// Opens an element. What is written next stands in it.
+    /// Opens an element. What is written next stands in it, until `end` closes it. No two attributes have one name.
+    ///
+    /// # Errors
+    ///
+    /// Where memory is refused. The drawing is gone.
     pub fn start(
         self,
         element: Element,
@@ -73,7 +82,11 @@ impl Drawing {
         Ok(Drawing { text, unclosed })
     }
 
-    /// Writes an element that has no content, and ends the line.
+    /// Writes an element that has no content, and ends the line. No two attributes have one name.
+    ///
+    /// # Errors
+    ///
+    /// Where memory is refused. The drawing is gone.
     pub fn empty(
         self,
         element: Element,
@@ -88,7 +101,11 @@ impl Drawing {
         Ok(Drawing { text, unclosed })
     }
 
-    /// Writes a text.
+    /// Writes a text. What stands for markup in it is escaped, and U+FFFD stands for a character that no document may have.
+    ///
+    /// # Errors
+    ///
+    /// Where memory is refused. The drawing is gone.
     pub fn text(self, text: &str) -> Result<Drawing, AllocError>
         ensures written { IfOk result (λ drawing. drawing ≡ record { octets = self.octets ++ text_octets (chars text.now); unclosed = self.unclosed }) }
         // A reader finds each character there, or what stands for one that no document may have.
@@ -107,7 +124,11 @@ impl Drawing {
         })
     }
 
-    /// Closes the element that was opened last, and ends the line.
+    /// Closes the element that was opened last, and ends the line. There must be one: the root is closed by `finish`.
+    ///
+    /// # Errors
+    ///
+    /// Where memory is refused. The drawing is gone.
     pub fn end(self) -> Result<Drawing, AllocError>
         requires { self.unclosed ≢ [] }
         ensures { (before : List Element) (element : Element) → self.unclosed ≡ before ++ element ∷ []
@@ -124,7 +145,11 @@ impl Drawing {
         Ok(Drawing { text, unclosed })
     }
 
-    /// The document, whole.
+    /// The document, whole: the root is closed. No other element may be open.
+    ///
+    /// # Errors
+    ///
+    /// Where memory is refused. The drawing is gone.
     pub fn finish(self) -> Result<String, AllocError>
         requires { self.unclosed ≡ [] }
         ensures text { IfOk result (λ text. string_bytes text ≡ self.octets ++ root_end) }
@@ -142,6 +167,7 @@ impl Drawing {
 
 ghost use Rattle.std.specs.Prelude.{◌≡◌};
 
+/// An attribute of the root.
 fn attribute(name: Name, value: Value<'_>) -> Attribute<'_>
     ensures { result ≡ record { name = name; value = value.entry } }
 {

@@ -1,16 +1,20 @@
 //! The elements that a chart has.
 
-/// An element of SVG 1.1, other than the root.
+/// An element of SVG 1.1, other than the root. A variant that is not spelled so, but for its capital, has its spelling beside it.
 #[derive(Clone, Copy, Debug, PartialEq, Eq)]
 pub enum Element {
     Title,
+    /// `desc`.
     Description,
     Style,
+    /// `defs`.
     Definitions,
     Marker,
     Path,
+    /// `g`.
     Group,
     Line,
+    /// `rect`.
     Rectangle,
     Text,
 }
@@ -19,6 +23,7 @@ impl Element {
     ghost use Rattle.std.specs.Prelude.{◌≡◌};
     ghost use Rattle.svg_text.specs.Names.{element_name};
 
+    /// How it is spelled.
     pub(crate) fn name(self) -> &'static str
         ensures { result.now ≡ element_name self }
     {

@@ -148,6 +148,9 @@ impl Asked for BrokenByNext {
 /// Whether the record of this number meets the law, by those before it. It takes no memory of the heap, but a call on the
 /// stack for each of these: for many thousand records that is more stack than a thread has.
 ///
+/// `Ok` says that it breaks no clause, as no record does that isn't a frame of the router's; of the other records it says
+/// nothing, and they are taken as they stand, those before it too that break one.
+///
 /// # Errors
 ///
 /// The first clause that it breaks.
@@ -201,7 +204,9 @@ pub fn credit_at<'a>(
 }
 
 /// Whether the delivery that begins in record `d` waits for a consumer, by the records below this number (by all, where
-/// there are fewer). It takes stack as `slow_check` does, and no other memory.
+/// there are fewer): it is complete, not of multicast, and went to no consumer, and its address has had one from its completion
+/// on. `false` also where no delivery of a client's begins in that record. It takes stack as `slow_check` does, and no other
+/// memory.
 pub fn waiting_at<'a>(capture: &'a Capture, i: usize, d: u64) -> bool
     ensures { result ≡ checked.waits capture.now.rules d (checked.events_below i capture.now) }
 {

@@ -83,7 +83,8 @@ impl Asked for Tallied {
     }
 }
 
-/// What the capture holds. It takes stack as `slow_check` does, and no other memory.
+/// What the capture holds: its records, the deliveries to clients that begin in them, and the outcomes told, whether they meet
+/// the law or not. It takes stack as `slow_check` does, and no other memory.
 pub fn tally_capture<'a>(capture: &'a Capture) -> Tally
     ensures { result ≡ tally_of (history capture.now.rules capture.now.records) }
 {
