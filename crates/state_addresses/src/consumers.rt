@@ -92,7 +92,8 @@ impl Consumers {
         self.groups.count(address)
     }
 
-    /// The number at the index of those of the address, in an order that stays until one of them ends.
+    /// The number at the index of those of the address, in an order that stays until one of them ends. `None` from their count
+    /// on.
     pub fn get(&self, address: &[u8], index: usize) -> Option<u64>
         ensures { result ≡ slice_get (numbers_at self.now address.now) index }
     {

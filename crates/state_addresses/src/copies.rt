@@ -60,7 +60,7 @@ pub(crate) fn copied<'a>(
     }
 }
 
-/// The link on which a transfer to a client names a delivery, and that delivery, by their numbers.
+/// The link on which a transfer to a client names a delivery, and that delivery, by their numbers. `None` of any other event.
 pub fn named_on_link(event: &Event) -> Option<(u64, u64)>
     ensures names { (link n : ℕ) → is_some_and result (λ x. x.0 == link && (x.1 == n)) ≡ names_at link n (event_view event.now) }
     ensures on { IfSome result (λ x. is_some_and (event_view event.now).link (λ l. l.number == x.0) ≡ true) }

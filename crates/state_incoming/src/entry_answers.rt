@@ -102,7 +102,8 @@ impl Deliveries {
         self.is_before(first.number, second.number)
     }
 
-    /// The delivery that a note names, where it may go to consumers: it is complete, and not gone.
+    /// The delivery that a note names, where it may go to consumers: it is complete, and not gone. `None` of any other, of one
+    /// that is not kept, and where the note names none.
     pub fn to_carry(&self, note: Note) -> Option<Incoming<'_>>
         ensures value { (rules : RuleSet) (history : Events) → AreHeld rules self.now history → names_let_go self.now.let_go.items note ≡ false →
             option_map incoming_view result ≡ transfers.to_carry rules note history }

@@ -67,7 +67,7 @@ impl Deliveries {
         self.groups.undecided.count(&link.number) as u64
     }
 
-    /// The undecided delivery of the id on the session, whose outcome may be told.
+    /// The undecided delivery of the id on the session, whose outcome may be told. `None` where there is none.
     pub fn to_tell(&self, session: Session, id: u32) -> Option<Incoming<'_>>
         ensures value { (rules : RuleSet) (history : Events) → IsHistory rules history → IsTable rules self.now history →
             option_map incoming_view result ≡ settling.to_tell rules session id history }
@@ -80,7 +80,7 @@ impl Deliveries {
         self.kept(self.groups.in_use.first(&at))
     }
 
-    /// The delivery of a producer's live link whose last part hasn't come yet.
+    /// The delivery of a producer's live link whose last part hasn't come yet. `None` where there is none.
     pub fn incoming_in_progress(&self, link: &Link) -> Option<Incoming<'_>>
         ensures value { (rules : RuleSet) (history : Events) → IsHistory rules history → IsTable rules self.now history → IsLiveLink (link_view link.now) history →
             option_map incoming_view result ≡ received.in_progress (link_view link.now) history }

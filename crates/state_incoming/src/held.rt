@@ -112,7 +112,7 @@ impl HeldDelivery {
         })
     }
 
-    /// The delivery that the event begins, unless nothing is left of it at once. What the event completes is for this
+    /// The delivery that the event begins, unless nothing is left of it at once; `None` also where it begins none. What the event completes is for this
     /// address, and `has_consumer` says whether the delivery's own has one behind the event.
     ///
     /// # Errors
@@ -218,7 +218,7 @@ impl HeldDelivery {
         &self.payload
     }
 
-    /// The record that completed it.
+    /// The record that completed it. `None` until one has.
     #[tactic(auto, using(crate::proofs::HeldKnown::entry_completion))]
     pub fn completion(&self) -> Option<u64>
         ensures stored { result ≡ self.now.completion }

@@ -25,7 +25,7 @@ use trace_events::Session;
 use trace_values::{Decision, Incoming, Link, Outgoing};
 
 impl SentDeliveries {
-    /// The delivery of a consumer's link whose last part isn't written yet.
+    /// The delivery of a consumer's link whose last part isn't written yet. `None` where there is none.
     pub fn outgoing_in_progress(&self, link: &Link) -> Option<Outgoing<'_>>
         ensures { (rules : RuleSet) (records : List Record) → IsTable self.now (history rules records) →
             option_map outgoing_view result ≡ law.in_progress (link_view link.now) (history rules records) }
@@ -34,7 +34,7 @@ impl SentDeliveries {
     }
 
     /// The number of the delivery from a client that the last one begun on the link carries. It is asked of a table from which
-    /// nothing was let go.
+    /// nothing was let go. `None` where none began there, or it carries none.
     pub fn carried_before(&self, link: &Link) -> Option<u64>
         ensures { (rules : RuleSet) (records : List Record) → IsTable self.now (history rules records) → self.now.let_go.items ≡ [] →
             option_and_then (λ n. incoming_at n (history rules records)) result ≡ transfers.carried_before (link_view link.now) (history rules records) }
@@ -42,7 +42,8 @@ impl SentDeliveries {
         self.carried_by(self.last_begun_on(link.number))
     }
 
-    /// The number of the delivery from a client that the one of this number carries, if the table has that.
+    /// The number of the delivery from a client that the one of this number carries, if the table has that. `None` also where it
+    /// carries none, and without a number.
     pub fn carried_by(&self, number: Option<u64>) -> Option<u64>
         ensures { result ≡ entries.carried (option_and_then (sent_in self.now) number) }
     {
@@ -52,7 +53,7 @@ impl SentDeliveries {
         }
     }
 
-    /// The last delivery that carries the one from a client.
+    /// The last delivery that carries the one from a client. `None` where none does, or the one from a client was let go.
     pub fn pairing(&self, delivery: &Incoming) -> Option<Outgoing<'_>>
         ensures value { (rules : RuleSet) (records : List Record) → IsTable self.now (history rules records) →
             is_let_go self.now.let_go.items (incoming_view delivery.now).number ≡ false →
@@ -81,7 +82,7 @@ impl SentDeliveries {
         self.says_sent(delivery.number)
     }
 
-    /// The consumer's decision, by the terminal state that it tells; on a pre-settled link there is none.
+    /// The consumer's decision, by the terminal state that it tells; on a pre-settled link there is none, and until it decides.
     pub fn decision(&self, delivery: &Outgoing) -> Option<Decision<'_>>
         ensures { (rules : RuleSet) (records : List Record) → AreSent self.now (history rules records) →
             KnowsOrBegins self.now (history rules records) (outgoing_view delivery.now) →
@@ -99,7 +100,7 @@ impl SentDeliveries {
     }
 
     /// The earliest delivery of the id on the session that the router is to settle, given of which deliveries from clients
-    /// nothing more is to be told. It takes the time of the unsettled ones of the id.
+    /// nothing more is to be told; `None` where there is none. It takes the time of the unsettled ones of the id.
     pub fn to_settle<C: Closings>(
         &self,
         session: Session,

@@ -148,7 +148,7 @@ impl SentDeliveries {
         }
     }
 
-    /// The delivery that began in this record.
+    /// The delivery that began in this record. `None` where the table has none.
     pub fn get(&self, number: u64) -> Option<&SentDelivery>
         ensures { option_map sent_view (option_copied result) ≡ sent_in self.now number }
     {
@@ -177,14 +177,16 @@ impl SentDeliveries {
         }
     }
 
-    /// The number of the last delivery that began on the link of this number, unless what it carries was let go.
+    /// The number of the last delivery that began on the link of this number, unless what it carries was let go. `None` also where
+    /// none began there.
     pub fn last_begun_on(&self, link: u64) -> Option<u64>
         ensures { (history : Events) → IsTable self.now history → result ≡ last_number self.now.let_go.items link history }
     {
         self.begun.on_link.get(&link).copied()
     }
 
-    /// That of the last delivery whose note names the delivery from a client of this number, unless this one was let go.
+    /// That of the last delivery whose note names the delivery from a client of this number, unless this one was let go. `None`
+    /// also where none does.
     pub fn carrier_of(&self, number: u64) -> Option<u64>
         ensures stored { result ≡ slice_get (carriers_in self.now.begun number) 0 }
         ensures known { (history : Events) → IsTable self.now history →

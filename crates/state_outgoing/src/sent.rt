@@ -70,7 +70,7 @@ impl SentDelivery {
         })
     }
 
-    /// The delivery that the event begins.
+    /// The delivery that the event begins. `None` where it begins none.
     ///
     /// # Errors
     ///
@@ -126,7 +126,7 @@ impl SentDelivery {
         self.is_sent
     }
 
-    /// The consumer's decision, by the terminal state that it tells; on a pre-settled link there is none.
+    /// The consumer's decision, by the terminal state that it tells; on a pre-settled link there is none, and until it decides.
     pub fn decision(&self) -> Option<Decision<'_>>
         ensures stored { option_map decision_view result ≡ (sent_view self.now).decision }
         ensures known { (history : Events) → IsEntry history (sent_view self.now) →

@@ -29,7 +29,7 @@ impl Connections {
         self.seen(connection).has_in_open
     }
 
-    /// The session that lives on the channel.
+    /// The session that lives on the channel. `None` where none does.
     #[tactic(auto, using(crate::proofs::LiveEntries::live_is))]
     pub fn live_session(&self, connection: u32, channel: u16) -> Option<Session>
         ensures { (history : Events) → AreKept self.now history → result ≡ sessions.live_session connection channel history }

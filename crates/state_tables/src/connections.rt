@@ -76,7 +76,7 @@ impl Connections {
         }
     }
 
-    /// The live session of the channel, with its counts.
+    /// The live session of the channel, with its counts. `None` where none lives there.
     pub fn session(&self, connection: u32, channel: u16) -> Option<CountedSession>
         ensures stored { result ≡ session_in self.now connection channel }
         ensures known { (history : Events) → AreKept self.now history → result ≡ session_at connection channel history }

@@ -17,7 +17,7 @@ use trace_events::Session;
 use trace_values::{Asking, Link};
 
 impl Links {
-    /// The link that lives on the handle of a live session.
+    /// The link that lives on the handle of a live session. `None` where none does.
     #[tactic(auto, using(crate::proofs::LiveHandles::standing_live, crate::proofs::LiveHandles::linked))]
     pub fn session_link(&self, session: Session, handle: u32) -> Option<Link<'_>>
         ensures { (history : Events) → AreLinked self.now history → IsLiveOn session history →
@@ -67,7 +67,7 @@ impl Links {
         }
     }
 
-    /// What an attach of the client's on a live session asks for that is still to be answered.
+    /// What an attach of the client's on a live session asks for that is still to be answered. `None` where there is none.
     #[tactic(auto, using(crate::proofs::LiveHandles::standing_live, crate::proofs::LiveHandles::asked))]
     pub fn asking(&self, session: Session, handle: u32) -> Option<Asking<'_>>
         ensures { (history : Events) → AreLinked self.now history → IsLiveOn session history →

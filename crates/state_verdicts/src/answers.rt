@@ -53,7 +53,7 @@ impl Verdicts {
     }
 
     /// The verdict of the whole delivery, which is one of the capture, and whose verdicts were not let go: the best one of its
-    /// copies, once all have theirs.
+    /// copies, once all have theirs, and `None` before.
     pub fn whole_verdict(&self, delivery: &Incoming) -> Option<Outcome>
         ensures { (rules : RuleSet) (records : List Record) → AreVerdicts rules self.now (history rules records) →
             is_let_go self.now.let_go.items (incoming_view delivery.now).number ≡ false →

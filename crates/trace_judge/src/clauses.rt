@@ -202,7 +202,7 @@ fn broken_by_spoken<'a, 'm: 'a, P: Questions<'a>>(
 }
 
 /// The first clause that an event breaks: only what the router wrote breaks one. A frame of the router's that is no performative
-/// breaks L1.
+/// breaks L1. `None` where it breaks none.
 pub fn broken_clause<'a, 'm: 'a, P: Questions<'a>>(
     past: &P,
     rules: &RuleSet,

@@ -203,7 +203,7 @@ fn whole_told<'a, P: Outcomes<'a>>(
     }
 }
 
-/// What row `why` tells of a delivery, where it applies.
+/// What row `why` tells of a delivery, where it applies; `None` where it does not.
 pub fn row<'a, P: Outcomes<'a>>(
     past: &P,
     rules: &RuleSet,

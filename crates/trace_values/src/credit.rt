@@ -41,7 +41,7 @@ impl<'a, 'r, 'm> Event<'a, 'r, 'm> {
         }
     }
 
-    /// How it moves the credit of the link that it names.
+    /// How it moves the credit of the link that it names. `None` where it is neither a flow nor a transfer that begins a delivery.
     pub fn link_event(&self) -> Option<LinkEvent>
         ensures { option_map link_event_view result ≡ law.link_event (event_view self.now) (event_view self.now).moment }
     {
@@ -60,7 +60,7 @@ impl<'a, 'r, 'm> Event<'a, 'r, 'm> {
         }
     }
 
-    /// How it moves the credit of this link.
+    /// How it moves the credit of this link. `None` where it does not, or does not name the link.
     pub fn event_of(&self, link: &Link) -> Option<LinkEvent>
         ensures { option_map link_event_view result
             ≡ (if is_on_link (link_view link.now) (event_view self.now) then law.link_event (event_view self.now) (event_view self.now).moment else None) }

@@ -37,7 +37,7 @@ impl<'a, 'r, 'm> Event<'a, 'r, 'm> {
         }
     }
 
-    /// The delivery that it completes.
+    /// The delivery that it completes. `None` where it is the last part of none.
     pub fn completed_by(&self) -> Option<Incoming<'a>>
         ensures { option_map incoming_view result ≡ law.completed_by (event_view self.now) }
     {
@@ -67,7 +67,7 @@ impl<'a, 'r, 'm> Event<'a, 'r, 'm> {
         }
     }
 
-    /// The delivery that begins in it.
+    /// The delivery that begins in it. `None` where none of a client's does.
     pub fn incoming_begun(&self) -> Option<Incoming<'a>>
         ensures { option_map incoming_view result ≡ law.incoming_begun (event_view self.now) }
     {

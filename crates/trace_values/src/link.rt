@@ -175,7 +175,7 @@ impl<'a, 'r, 'm> Event<'a, 'r, 'm> {
         }
     }
 
-    /// The consumer's link that it opens.
+    /// The consumer's link that it opens. `None` where it opens none, or a producer's.
     pub fn opened_consumer(&self) -> Option<Link<'a>>
         ensures { option_map link_view result ≡ opened_consumer (event_view self.now) }
     {

@@ -50,7 +50,7 @@ impl<'a, 'r, 'm> Event<'a, 'r, 'm> {
         }
     }
 
-    /// The delivery that begins in it.
+    /// The delivery that begins in it. `None` where none to a client does.
     pub fn outgoing_begun(&self) -> Option<Outgoing<'a>>
         ensures { option_map outgoing_view result ≡ law.outgoing_begun (event_view self.now) }
     {
@@ -89,7 +89,7 @@ impl<'a, 'r, 'm> Event<'a, 'r, 'm> {
         names(delivery.number, self.note) && self.is_on_link(link) && self.out_transfer().is_some()
     }
 
-    /// A heard disposition of the consumer, behind the delivery's first transfer, that covers its id.
+    /// A heard disposition of the consumer, behind the delivery's first transfer, that covers its id. `None` where it is no such.
     pub fn answering(&self, delivery: &Outgoing) -> Option<Disposition<'m>>
         ensures { option_map disposition_fields result ≡ law.answering (outgoing_view delivery.now) (event_view self.now) }
     {

@@ -57,7 +57,7 @@ impl<'a> Moment<'a> {
         matches!(self, Moment::Out(_))
     }
 
-    /// The performative of a frame, in either direction.
+    /// The performative of a frame, in either direction. `None` where there is no frame, or it says none.
     pub fn spoken(&self) -> Option<&Spoken<'a>>
         ensures { option_map (λ spoken. spoken_view spoken.now) result ≡ spoken_of (moment_view self.now) }
     {
@@ -67,7 +67,7 @@ impl<'a> Moment<'a> {
         }
     }
 
-    /// The channel of a whole frame, in either direction.
+    /// The channel of a whole frame, in either direction. `None` where there is none.
     pub fn channel(&self) -> Option<u16>
         ensures { result ≡ channel_of (moment_view self.now) }
     {
@@ -113,21 +113,21 @@ impl<'a, 'r, 'm> Event<'a, 'r, 'm> {
         }
     }
 
-    /// The performative that the client sent.
+    /// The performative that the client sent, if it is a frame of the client's that says one.
     pub fn in_spoken(&self) -> Option<&Spoken<'m>>
         ensures { option_map (λ spoken. spoken_view spoken.now) result ≡ said.in_spoken (event_view self.now) }
     {
         self.moment.in_frame()?.spoken()
     }
 
-    /// The performative that the router wrote.
+    /// The performative that the router wrote, if it is a frame of the router's that says one.
     pub fn out_spoken(&self) -> Option<&Spoken<'m>>
         ensures { option_map (λ spoken. spoken_view spoken.now) result ≡ said.out_spoken (event_view self.now) }
     {
         self.moment.out_frame()?.spoken()
     }
 
-    /// The client's open.
+    /// The client's open, if it is one.
     pub fn in_open(&self) -> Option<Open<'m>>
         ensures { option_map open_fields result ≡ said.in_open (event_view self.now) }
     {
@@ -137,7 +137,7 @@ impl<'a, 'r, 'm> Event<'a, 'r, 'm> {
         }
     }
 
-    /// The client's begin.
+    /// The client's begin, if it is one.
     pub fn in_begin(&self) -> Option<Begin>
         ensures { result ≡ said.in_begin (event_view self.now) }
     {
@@ -147,7 +147,7 @@ impl<'a, 'r, 'm> Event<'a, 'r, 'm> {
         }
     }
 
-    /// The client's attach.
+    /// The client's attach, if it is one.
     pub fn in_attach(&self) -> Option<Attach<'m>>
         ensures { option_map attach_fields result ≡ said.in_attach (event_view self.now) }
     {
@@ -157,7 +157,7 @@ impl<'a, 'r, 'm> Event<'a, 'r, 'm> {
         }
     }
 
-    /// The client's transfer.
+    /// The client's transfer, if it is one.
     pub fn in_transfer(&self) -> Option<Transfer<'m>>
         ensures { option_map transfer_fields result ≡ said.in_transfer (event_view self.now) }
     {
@@ -167,7 +167,7 @@ impl<'a, 'r, 'm> Event<'a, 'r, 'm> {
         }
     }
 
-    /// The client's disposition.
+    /// The client's disposition, if it is one.
     pub fn in_disposition(&self) -> Option<Disposition<'m>>
         ensures { option_map disposition_fields result ≡ said.in_disposition (event_view self.now) }
     {
@@ -177,7 +177,7 @@ impl<'a, 'r, 'm> Event<'a, 'r, 'm> {
         }
     }
 
-    /// The client's detach.
+    /// The client's detach, if it is one.
     pub fn in_detach(&self) -> Option<Detach<'m>>
         ensures { option_map detach_fields result ≡ said.in_detach (event_view self.now) }
     {
@@ -207,7 +207,7 @@ impl<'a, 'r, 'm> Event<'a, 'r, 'm> {
         }
     }
 
-    /// The router's begin.
+    /// The router's begin, if it is one.
     pub fn out_begin(&self) -> Option<Begin>
         ensures { result ≡ said.out_begin (event_view self.now) }
     {
@@ -217,7 +217,7 @@ impl<'a, 'r, 'm> Event<'a, 'r, 'm> {
         }
     }
 
-    /// The router's attach.
+    /// The router's attach, if it is one.
     pub fn out_attach(&self) -> Option<Attach<'m>>
         ensures { option_map attach_fields result ≡ said.out_attach (event_view self.now) }
     {
@@ -227,7 +227,7 @@ impl<'a, 'r, 'm> Event<'a, 'r, 'm> {
         }
     }
 
-    /// The router's transfer.
+    /// The router's transfer, if it is one.
     pub fn out_transfer(&self) -> Option<Transfer<'m>>
         ensures { option_map transfer_fields result ≡ said.out_transfer (event_view self.now) }
     {
@@ -237,7 +237,7 @@ impl<'a, 'r, 'm> Event<'a, 'r, 'm> {
         }
     }
 
-    /// The router's disposition.
+    /// The router's disposition, if it is one.
     pub fn out_disposition(&self) -> Option<Disposition<'m>>
         ensures { option_map disposition_fields result ≡ said.out_disposition (event_view self.now) }
     {
@@ -257,7 +257,7 @@ impl<'a, 'r, 'm> Event<'a, 'r, 'm> {
         }
     }
 
-    /// The router's detach.
+    /// The router's detach, if it is one.
     pub fn out_detach(&self) -> Option<Detach<'m>>
         ensures { option_map detach_fields result ≡ said.out_detach (event_view self.now) }
     {
@@ -293,7 +293,7 @@ ghost use Rattle.amqp_perf.specs.View.{view};
 ghost use Rattle.trace_events.specs.Said as said;
 ghost use Rattle.trace_events.specs.Heard as heard;
 
-/// The handle that a flow, a transfer or a detach names.
+/// The handle that a flow, a transfer or a detach names. `None` of a flow of the session alone, and of all others.
 pub fn handle_in(performative: &Performative) -> Option<u32>
     ensures { result ≡ said.handle_in (view performative.now) }
 {

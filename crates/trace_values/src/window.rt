@@ -10,7 +10,7 @@ impl<'a> Moment<'a> {
     ghost use Rattle.trace_events.specs.Window.{window_event};
     ghost use Rattle.trace_values.specs.View.{moment_view};
 
-    /// How it moves the windows of the session on which it stands.
+    /// How it moves the windows of the session on which it stands. `None` where it is neither a flow nor a transfer.
     pub fn window_event(&self) -> Option<WindowEvent>
         ensures { result ≡ window_event (moment_view self.now) }
     {
@@ -39,7 +39,7 @@ impl<'a, 'r, 'm> Event<'a, 'r, 'm> {
     ghost use Rattle.trace_events.specs.Window.{window_event};
     ghost use Rattle.trace_values.specs.View.{event_view};
 
-    /// How it moves the windows of this session.
+    /// How it moves the windows of this session. `None` where it does not, or does not stand on it.
     pub fn window_event(&self, session: Session) -> Option<WindowEvent>
         ensures { result
             ≡ (if is_on_session session (event_view self.now) then window_event (event_view self.now).moment else None) }
