@@ -106,7 +106,7 @@ impl<K: NumberKey> Groups<K> {
         self.get(key, 0)
     }
 
-    /// The number at the index, in that order.
+    /// The number at the index, in that order; `None` from the group's count on.
     pub fn get(&self, key: &K, index: usize) -> Option<u64>
         ensures { result ≡ slice_get (numbers K.eq self.now key.now) index }
     {

@@ -106,7 +106,7 @@ impl OctetGroups {
         self.get(key, 0)
     }
 
-    /// The number at the index, in that order.
+    /// The number at the index, in that order; `None` from the group's count on.
     pub fn get(&self, key: &[u8], index: usize) -> Option<u64>
         ensures { result ≡ slice_get (numbers self.now key.now) index }
     {

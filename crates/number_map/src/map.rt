@@ -89,7 +89,7 @@ impl<K: NumberKey, V, S: BuildHasher> NumberMap<K, V, S> {
         self.entries.reserve(additional)
     }
 
-    /// The value of the key.
+    /// The value of the key. `None` where it is not there.
     #[inline(always)]
     pub fn get(&self, key: &K) -> Option<&V>
         ensures value { option_copied result ≡ get_by (K.eq key.now) self.now }
@@ -101,7 +101,7 @@ impl<K: NumberKey, V, S: BuildHasher> NumberMap<K, V, S> {
         }
     }
 
-    /// The value of the key, to write.
+    /// The value of the key, to write. `None` where it is not there.
     #[inline(always)]
     pub fn get_mut(&mut self, key: &K) -> Option<&mut V>
         ensures* writes_back { sem 𝓛 (lends_get K.row V.row S.row S.Hasher.row K.Hash S.BuildHasher S.Hasher.Hasher self.entry (K.eq key.now) result) }
@@ -115,7 +115,7 @@ impl<K: NumberKey, V, S: BuildHasher> NumberMap<K, V, S> {
         }
     }
 
-    /// Inserts a pair. A key that is there keeps its place, and the old value is returned. A new key goes last.
+    /// Inserts a pair. A key that is there keeps its place, and the old value is returned. A new key goes last, with `None`.
     ///
     /// # Errors
     ///
@@ -140,7 +140,8 @@ impl<K: NumberKey, V, S: BuildHasher> NumberMap<K, V, S> {
         Ok(old)
     }
 
-    /// Removes the key, and returns its value. The last entry takes its place.
+    /// Removes the key, and returns its value. The last entry takes its place. `None` where it is not there: then all stays as it
+    /// was.
     #[inline(always)]
     pub fn swap_remove(&mut self, key: &K) -> Option<V>
         ensures value { result ≡ get_by (K.eq key.now) self.old }
