@@ -61,8 +61,9 @@ impl EngineReport {
         }
     }
 
-    /// The device has ended, and this was answered.
-    pub fn has_ended(&mut self, answer: Result<(), EngineFault>) {
+    /// Notes that the device has ended, and that the engine answered this: what it answered first is kept, and each time after
+    /// that it has to answer `Ok`.
+    pub fn note_end(&mut self, answer: Result<(), EngineFault>) {
         match self.loss {
             Some(_) => self.expect(answer == Ok(())),
             None => self.loss = Some(answer),

@@ -112,8 +112,8 @@ impl HeldDelivery {
         })
     }
 
-    /// The delivery that the event begins, unless nothing is left of it at once; `None` also where it begins none. What the event completes is for this
-    /// address, and `has_consumer` says whether the delivery's own has one behind the event.
+    /// The delivery that the event begins, unless nothing is left of it at once; `None` also where it begins none. What the event
+    /// completes is for this address, and `has_consumer` says whether the delivery's own has one behind the event.
     ///
     /// # Errors
     ///

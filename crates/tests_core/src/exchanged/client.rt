@@ -126,7 +126,7 @@ impl<'a> Client<'a> {
     /// Its device ends.
     fn end(&mut self) -> Result<(), AllocError> {
         let answer = self.device.engine.gone();
-        self.seen.has_ended(answer);
+        self.seen.note_end(answer);
         self.look();
         memory_refused(answer)
     }
