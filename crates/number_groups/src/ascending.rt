@@ -88,7 +88,7 @@ impl Ascending {
         }
     }
 
-    /// The lowest; `None` where there is no number.
+    /// The lowest. `None` where there is no number.
     pub fn first(&self) -> Option<u64>
         ensures there { IfSome result (λ number. has self.now number ≡ true) }
         ensures none { result ≡ None → (n : ℕ) → has self.now n ≡ false }
@@ -99,7 +99,7 @@ impl Ascending {
         }
     }
 
-    /// The lowest that passes the test; `None` where none does. It takes the time of those up to there.
+    /// The lowest that passes the test. `None` where none does. It takes the time of those up to there.
     pub fn first_passing<T: NumberTest>(&self, test: &T) -> Option<u64>
         ensures passes { IfSome result (λ number. T.does_pass test.now number ≡ true) }
         ensures none { result ≡ None → (n : ℕ) → has self.now n ≡ true → T.does_pass test.now n ≡ false }

@@ -50,7 +50,7 @@ impl NumberSet {
         Ok(())
     }
 
-    /// Takes out the number that came last; `None` where there is none.
+    /// Takes out the number that came last. `None` where there is none.
     pub fn pop(&mut self) -> Option<u64>
         ensures last { self.old ≡ self.new ++ option_to_list result }
         ensures found { IsSome result ↔ (0 < length self.old) }

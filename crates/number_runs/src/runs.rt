@@ -44,7 +44,7 @@ impl<V: RunValue> NumberRuns<V> {
         self.runs.len()
     }
 
-    /// The value of the number; `None` where it has none. It takes the time of the logarithm of the number of runs; of a number
+    /// The value of the number. `None` where it has none. It takes the time of the logarithm of the number of runs; of a number
     /// behind all of them, none.
     pub fn get(&self, number: u32) -> Option<V>
         ensures { result ≡ value_in self.now number }

@@ -145,7 +145,7 @@ impl Drawing {
         Ok(Drawing { text, unclosed })
     }
 
-    /// The document, whole: the root is closed. No other element may be open.
+    /// The document, whole. The root is closed; no other element may be open.
     ///
     /// # Errors
     ///
