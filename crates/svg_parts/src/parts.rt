@@ -57,7 +57,7 @@ pub fn draw_line(
     )
 }
 
-/// A path of this class, along this data (SVG 1.1, 8.3). It is written as it is: whether it is path data is not looked at.
+/// A path of this class, along this data (SVG 1.1, 8.3). Whether it is path data is not looked at.
 ///
 /// # Errors
 ///
@@ -80,8 +80,8 @@ pub fn draw_path(drawing: Drawing, class: &str, along: &str) -> Result<Drawing, 
     )
 }
 
-/// Words at a place, which is that of their start, at the foot of their letters: how far right and how far down, in units of
-/// the drawing. The words are escaped.
+/// Words at a place, the x and y of a text (SVG 1.1, 10.4): how far right and how far down, in units of the drawing. The words
+/// are escaped.
 ///
 /// # Errors
 ///

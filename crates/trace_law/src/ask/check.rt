@@ -148,8 +148,8 @@ impl Asked for BrokenByNext {
 /// Whether the record of this number meets the law, by those before it. It takes no memory of the heap, but a call on the
 /// stack for each of these: for many thousand records that is more stack than a thread has.
 ///
-/// `Ok` says that it breaks no clause, as no record does that isn't a frame of the router's; of the other records it says
-/// nothing, and they are taken as they stand, those before it too that break one.
+/// `Ok` says that it breaks no clause; one that is no frame of the router's never does. Of the records before it nothing is
+/// said: they are taken as they stand, also where one breaks a clause.
 ///
 /// # Errors
 ///
