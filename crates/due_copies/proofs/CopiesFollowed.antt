@@ -24,7 +24,7 @@ use Rattle.trace_clauses.proofs.UnsentCopies.{unsent_complete}
 use Rattle.trace_clauses.proofs.WaitingQueue.{completed_below, completed_once, completion_complete}
 use Rattle.trace_clauses.specs.TransferClause.{may_take}
 use Rattle.state_addresses.specs.Addressed.{IsAddressed}
-use Rattle.state_addresses.specs.ConsumerLinks.{has_number, consumer_at}
+use Rattle.state_addresses.specs.ConsumerLinks.{has_link, consumer_at}
 use Rattle.state_addresses.specs.Copies.{AreReceivers, names_at}
 use Rattle.state_addresses.specs.declared.copies.Receiver.{Receiver}
 use Rattle.due_flows.specs.Standing.{grants_window}
@@ -64,9 +64,9 @@ module _ (rules : RuleSet) (e : Event) (past : List Event) (are : AreJudged rule
     (ended : List Link) (all : (l : Link) → Contains ended l ↔ IsLiveLink l past × (ends_link l e ≡ true))
     (address : List ℕ) (addressed : IsAddressed e past address) (receivers : List Receiver) (given : AreReceivers rules address e past receivers)
     (old l₁ l₂ l₃ l₄ new : Lists)
-    (listed₁ : (link c : ℕ) → has_number ended link ≡ false → copy_on l₁ link c ≡ copy_on old link c)
+    (listed₁ : (link c : ℕ) → has_link ended link ≡ false → copy_on l₁ link c ≡ copy_on old link c)
     (only₁ : (link c n : ℕ) → copy_on l₁ link c ≡ Some n → copy_on old link c ≡ Some n)
-    (stood₁ : (session n : ℕ) → has_number ended n ≡ false → stands old session n ≡ true → stands l₁ session n ≡ true)
+    (stood₁ : (session n : ℕ) → has_link ended n ≡ false → stands old session n ≡ true → stands l₁ session n ≡ true)
     (waited₁ : (c n : ℕ) → waits l₁ c n ≡ waits old c n)
     (listed₂ : (link c n : ℕ) → names_at link n e ≡ false → copy_on l₁ link c ≡ Some n → copy_on l₂ link c ≡ Some n)
     (only₂ : (link c n : ℕ) → copy_on l₂ link c ≡ Some n → copy_on l₁ link c ≡ Some n)
@@ -132,7 +132,7 @@ module _ (rules : RuleSet) (e : Event) (past : List Event) (are : AreJudged rule
       before : IsUnsentOn rules l d past
       before = was rules e past are lawful l d h none
 
-      going : has_number ended l.number ≡ false
+      going : has_link ended l.number ≡ false
       going = not-ended rules e past are ended all l before.live h.live
 
       listed₄ : (c : ℕ) → completion d past ≡ Some c → copy_on l₄ l.number c ≡ Some d.number

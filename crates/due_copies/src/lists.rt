@@ -13,7 +13,7 @@ ghost use Rattle.trace_events.specs.Incoming.{completes, incoming_at};
 ghost use Rattle.trace_events.specs.Link.{IsLiveLink};
 ghost use Rattle.trace_values.specs.View.{event_view, incoming_view};
 ghost use Rattle.state_tables.specs.EndedLinks.{views};
-ghost use Rattle.state_addresses.specs.ConsumerLinks.{has_number, link_in};
+ghost use Rattle.state_addresses.specs.ConsumerLinks.{has_link, link_in};
 ghost use Rattle.state_addresses.specs.Copies.{AreCopies, names_at};
 ghost use Rattle.due_flows.specs.Standing.{grants_window};
 ghost use Rattle.due_copies.specs.Lists.{AreWith, IsIn, IsKept, IsKeptBut, IsOfBoth, Stays, Waits, copy_on, receives, stands, waits};
@@ -51,9 +51,9 @@ impl Lists {
 
     /// Nothing is to be sent on these links any more.
     pub fn end(&mut self, ended: &[Link])
-        ensures listed { (link c : ℕ) → has_number (views ended.now) link ≡ false → copy_on self.new link c ≡ copy_on self.old link c }
+        ensures listed { (link c : ℕ) → has_link (views ended.now) link ≡ false → copy_on self.new link c ≡ copy_on self.old link c }
         ensures only { (link c n : ℕ) → copy_on self.new link c ≡ Some n → copy_on self.old link c ≡ Some n }
-        ensures stood { (session n : ℕ) → has_number (views ended.now) n ≡ false → stands self.old session n ≡ true → stands self.new session n ≡ true }
+        ensures stood { (session n : ℕ) → has_link (views ended.now) n ≡ false → stands self.old session n ≡ true → stands self.new session n ≡ true }
         ensures waited { (c n : ℕ) → waits self.new c n ≡ waits self.old c n }
     {
         for link in ended {

@@ -25,7 +25,7 @@ use Rattle.state_incoming.specs.HeldTables.{IsTable}
 use Rattle.state_incoming.specs.declared.deliveries.Deliveries.{Deliveries}
 use Rattle.state_incoming.proofs.CarriedHeld.{knows-held}
 use Rattle.state_incoming.proofs.OverKnown.{undecided-kept}
-use Rattle.state_addresses.specs.ConsumerLinks.{has_number}
+use Rattle.state_addresses.specs.ConsumerLinks.{has_link}
 use Rattle.state_answers.specs.declared.lent_tables.LentTables.{LentTables}
 use Rattle.state_answers.specs.Tables.{TellsOf}
 use Rattle.due_flows.specs.Credits.{HasCredits, IsIn, AreEndedIn, AreFreedIn, AreOpenedIn, HasMore, AreTouchedIn, AreWokenIn, has_waited, place_in, on_session, at_address, waits}
@@ -103,7 +103,7 @@ module _ (rules : RuleSet) (e : Event) (past : List Event) (are : AreJudged rule
     was : IsIn old l × (may_be_topped_up rules past l ≡ true → waits old l.number ≡ true)
     was = has l (record { live = live; producer = is.producer })
 
-    stays : has_number ended l.number ≡ false
+    stays : has_link ended l.number ≡ false
     stays = not-ended rules e past are ended all l live is.live
 
     below : l.number < length past

@@ -11,7 +11,7 @@ use Rattle.trace_clauses.specs.FlowClause.{may_be_drained, nothing_waits}
 use Rattle.trace_events.proofs.Judged.{AreJudged}
 use Rattle.trace_duties.specs.Quiet.{none_is_undrained}
 use Rattle.trace_duties.proofs.QuietLists.{all-each}
-use Rattle.state_addresses.specs.ConsumerLinks.{has_number, consumer_at}
+use Rattle.state_addresses.specs.ConsumerLinks.{has_link, consumer_at}
 use Rattle.due_flows.specs.Draining.{IsDraining, IsDrainable, asks_drain, writes_part}
 use Rattle.due_flows.proofs.LiveOnes.{live_links-live}
 use Rattle.due_flows.proofs.DrainingLinks.{draining-before, nothing-before}
@@ -40,7 +40,7 @@ drained-all false credit nothing p q r = absurd cc
 module _ (rules : RuleSet) (e : Event) (past : List Event) (are : AreJudged rules (e ∷ past)) (lawful : first_broken rules (e ∷ past) ≡ None)
     (ended : List Link) (all : (l : Link) → Contains ended l ↔ IsLiveLink l past × (ends_link l e ≡ true))
     (stood stand₁ stand₂ stand : List ℕ → ℕ → Bool) (waited wait₁ wait₂ wait : ℕ → Bool)
-    (stood₁ : (address : List ℕ) (n : ℕ) → has_number ended n ≡ false → stood address n ≡ true → stand₁ address n ≡ true)
+    (stood₁ : (address : List ℕ) (n : ℕ) → has_link ended n ≡ false → stood address n ≡ true → stand₁ address n ≡ true)
     (waited₁ : (n : ℕ) → wait₁ n ≡ waited n)
     (asked : (l : Link) → e.link ≡ Some l → asks_drain e ≡ true → (stand₂ l.address l.number ≡ true) × (wait₂ l.number ≡ true))
     (stood₂ : (address : List ℕ) (n : ℕ) → stand₁ address n ≡ true → stand₂ address n ≡ true)

@@ -15,7 +15,7 @@ use Rattle.trace_clauses.proofs.LinkEnds.{is_live-next}
 use Rattle.trace_clauses.proofs.WaitingQueue.{contains_first, contains_later}
 use Rattle.trace_duties.specs.Quiet.{stands_still, none_stands_still}
 use Rattle.trace_duties.proofs.QuietLists.{all-each}
-use Rattle.state_addresses.specs.ConsumerLinks.{has_number}
+use Rattle.state_addresses.specs.ConsumerLinks.{has_link}
 use Rattle.due_flows.specs.Standing.{IsGoing, IsStill, has_window, goes_on, grants_window}
 use Rattle.due_flows.proofs.LiveOnes.{link-found, link-lives, live_links-live}
 use Rattle.due_flows.proofs.StandingParts.{IsPartOn, going-before, window-before}
@@ -23,11 +23,11 @@ use Rattle.due_flows.proofs.StandingParts.{IsPartOn, going-before, window-before
 -- ---- links that an event ends
 
 -- a list that has the number has a link of it
-numbered : (links : List Link) (n : ℕ) → has_number links n ≡ true → (l : Link) × (Contains links l × (l.number ≡ n))
+numbered : (links : List Link) (n : ℕ) → has_link links n ≡ true → (l : Link) × (Contains links l × (l.number ≡ n))
 numbered [] n is = absurd cc
 numbered (m ∷ ms) n is = by (m.number == n) refl is (numbered ms n)
   where
-    by : (b : Bool) → (m.number == n) ≡ b → b || has_number ms n ≡ true → (has_number ms n ≡ true → (l : Link) × (Contains ms l × (l.number ≡ n)))
+    by : (b : Bool) → (m.number == n) ≡ b → b || has_link ms n ≡ true → (has_link ms n ≡ true → (l : Link) × (Contains ms l × (l.number ≡ n)))
         → (l : Link) × (Contains (m ∷ ms) l × (l.number ≡ n))
     by true same is rest = (m, (contains_first m ms, eqb-true m.number n same))
     by false other is rest = let there = rest is in (there.0, (contains_later m ms there.0 there.1.0, there.1.1))
@@ -46,10 +46,10 @@ never-both was false is ends = cc
 module _ (rules : RuleSet) (e : Event) (past : List Event) (are : AreJudged rules (e ∷ past)) (ended : List Link)
     (all : (l : Link) → Contains ended l ↔ IsLiveLink l past × (ends_link l e ≡ true)) where
   -- one that lived and lives on is none of them
-  pub not-ended : (l : Link) → IsLiveLink l past → IsLiveLink l (e ∷ past) → has_number ended l.number ≡ false
-  not-ended l was live = by (has_number ended l.number) refl
+  pub not-ended : (l : Link) → IsLiveLink l past → IsLiveLink l (e ∷ past) → has_link ended l.number ≡ false
+  not-ended l was live = by (has_link ended l.number) refl
     where
-      by : (b : Bool) → has_number ended l.number ≡ b → b ≡ false
+      by : (b : Bool) → has_link ended l.number ≡ b → b ≡ false
       by false none = refl
       by true has =
           let found = numbered ended l.number has in
@@ -67,7 +67,7 @@ Have stand wait past = (l : Link) → IsGoing l past → (stand l.session.number
 module _ (rules : RuleSet) (e : Event) (past : List Event) (are : AreJudged rules (e ∷ past)) (lawful : first_broken rules (e ∷ past) ≡ None)
     (ended : List Link) (all : (l : Link) → Contains ended l ↔ IsLiveLink l past × (ends_link l e ≡ true))
     (stood stand₁ stand₂ stand : ℕ → ℕ → Bool) (waited wait₁ wait₂ wait : ℕ → Bool)
-    (stood₁ : (session n : ℕ) → has_number ended n ≡ false → stood session n ≡ true → stand₁ session n ≡ true)
+    (stood₁ : (session n : ℕ) → has_link ended n ≡ false → stood session n ≡ true → stand₁ session n ≡ true)
     (waited₁ : (n : ℕ) → wait₁ n ≡ waited n)
     (part : (j : Outgoing) → e.outgoing ≡ Some j → goes_on e ≡ true → (stand₂ j.link.session.number j.link.number ≡ true) × (wait₂ j.link.number ≡ true))
     (stood₂ : (session n : ℕ) → is_some_and e.outgoing (λ j. j.link.number == n) ≡ false → stand₁ session n ≡ true → stand₂ session n ≡ true)

@@ -14,7 +14,7 @@ use Rattle.trace_events.specs.Outgoing.{carried_number}
 use Rattle.trace_events.specs.Waiting.{has_waiting}
 use Rattle.trace_clauses.specs.FlowClause.{may_be_topped_up}
 use Rattle.state_incoming.specs.EntryAnswers.{Knows}
-use Rattle.state_addresses.specs.ConsumerLinks.{has_number}
+use Rattle.state_addresses.specs.ConsumerLinks.{has_link}
 use Rattle.state_answers.specs.declared.lent_tables.LentTables.{LentTables}
 use Rattle.state_answers.specs.Tables.{TellsOf}
 use Rattle.due_flows.specs.Candidates.{value_of}
@@ -54,9 +54,9 @@ HasCredits rules credits past = (l : Link) → IsProducing l past → IsIn credi
 
 -- of all but these links nothing has changed
 pub record AreEndedIn (ended : List Link) (earlier later : Credits) : Type 0 where
-  pub places : (n : ℕ) → has_number ended n ≡ false → place_in later n ≡ place_in earlier n
-  pub sessions : (session n : ℕ) → has_number ended n ≡ false → on_session earlier session n ≡ true → on_session later session n ≡ true
-  pub addresses : (address : List ℕ) (n : ℕ) → has_number ended n ≡ false → at_address earlier address n ≡ true → at_address later address n ≡ true
+  pub places : (n : ℕ) → has_link ended n ≡ false → place_in later n ≡ place_in earlier n
+  pub sessions : (session n : ℕ) → has_link ended n ≡ false → on_session earlier session n ≡ true → on_session later session n ≡ true
+  pub addresses : (address : List ℕ) (n : ℕ) → has_link ended n ≡ false → at_address earlier address n ≡ true → at_address later address n ≡ true
   pub waiting : (n : ℕ) → waits later n ≡ waits earlier n
 
 -- the producer's link that the event opens has come in

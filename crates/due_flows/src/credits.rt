@@ -15,7 +15,7 @@ ghost use Rattle.trace_duties.specs.Quiet.{none_lacks_credit};
 ghost use Rattle.state_incoming.specs.EntryAnswers.{Knows};
 ghost use Rattle.state_tables.specs.Connections.{IsLawfulNext};
 ghost use Rattle.state_tables.specs.EndedLinks.{views};
-ghost use Rattle.state_addresses.specs.ConsumerLinks.{has_number};
+ghost use Rattle.state_addresses.specs.ConsumerLinks.{has_link};
 ghost use Rattle.state_answers.specs.Tables.{TellsOf};
 ghost use Rattle.event_effects.specs.Effects.{AreEffects};
 ghost use Rattle.due_flows.specs.Topping.{IsToppable, settles};

@@ -8,7 +8,7 @@ ghost use Rattle.trace_events.specs.History.{history};
 ghost use Rattle.trace_duties.specs.Quiet.{none_is_undrained};
 ghost use Rattle.state_tables.specs.Connections.{IsLawfulNext};
 ghost use Rattle.state_tables.specs.EndedLinks.{views};
-ghost use Rattle.state_addresses.specs.ConsumerLinks.{has_number};
+ghost use Rattle.state_addresses.specs.ConsumerLinks.{has_link};
 ghost use Rattle.state_answers.specs.Tables.{TellsOf};
 ghost use Rattle.event_effects.specs.Effects.{AreEffects};
 ghost use Rattle.due_flows.specs.Draining.{IsDrainable, asks_drain, writes_part};
@@ -62,7 +62,7 @@ impl Drains {
 
     /// These links drain no more.
     fn end(&mut self, ended: &[Link])
-        ensures stood { (address : List ℕ) (n : ℕ) → has_number (views ended.now) n ≡ false → stands self.old address n ≡ true → stands self.new address n ≡ true }
+        ensures stood { (address : List ℕ) (n : ℕ) → has_link (views ended.now) n ≡ false → stands self.old address n ≡ true → stands self.new address n ≡ true }
         ensures waiting { (n : ℕ) → waits self.new n ≡ waits self.old n }
     {
         for link in ended {

@@ -12,7 +12,7 @@ ghost use Rattle.trace_events.specs.History.{history};
 ghost use Rattle.trace_duties.specs.Quiet.{none_stands_still};
 ghost use Rattle.state_tables.specs.Connections.{IsLawfulNext};
 ghost use Rattle.state_tables.specs.EndedLinks.{views};
-ghost use Rattle.state_addresses.specs.ConsumerLinks.{has_number};
+ghost use Rattle.state_addresses.specs.ConsumerLinks.{has_link};
 ghost use Rattle.state_answers.specs.Tables.{TellsOf};
 ghost use Rattle.event_effects.specs.Effects.{AreEffects};
 ghost use Rattle.due_flows.specs.Standing.{IsStill, goes_on, grants_window};
@@ -74,7 +74,7 @@ impl DeliveriesInProgress {
 
     /// Nothing is in progress on these links any more.
     fn end(&mut self, ended: &[Link])
-        ensures stood { (session n : ℕ) → has_number (views ended.now) n ≡ false → stands self.old session n ≡ true → stands self.new session n ≡ true }
+        ensures stood { (session n : ℕ) → has_link (views ended.now) n ≡ false → stands self.old session n ≡ true → stands self.new session n ≡ true }
         ensures waiting { (n : ℕ) → waits self.new n ≡ waits self.old n }
     {
         for link in ended {

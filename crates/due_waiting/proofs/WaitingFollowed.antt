@@ -11,7 +11,7 @@ use Rattle.trace_events.specs.Link.{IsLiveLink, is_consumer, opened_consumer}
 use Rattle.trace_events.proofs.IncomingSteps.{address_of-same}
 use Rattle.trace_events.proofs.Judged.{AreJudged}
 use Rattle.trace_clauses.specs.Clauses.{first_broken}
-use Rattle.state_addresses.specs.ConsumerLinks.{consumer_at, has_number}
+use Rattle.state_addresses.specs.ConsumerLinks.{consumer_at, has_link}
 use Rattle.due_flows.specs.Standing.{goes_on, grants_window}
 use Rattle.due_flows.proofs.LiveOnes.{link-before}
 use Rattle.due_flows.proofs.PartsDue.{consumer-found}
@@ -38,7 +38,7 @@ module _ (rules : RuleSet) (e : Event) (past : List Event) (are : AreJudged rule
     (freed : (j : Outgoing) → e.outgoing ≡ Some j → goes_on e ≡ false → to_try j.link.address ≡ true)
     (granted : (l : Link) → IsGranted e past l → stood l.session.number l.number ≡ true → consumer_at l.number past ≡ Some l → to_try l.address ≡ true)
     (kept : (address : List ℕ) → was_to_try address ≡ true → to_try address ≡ true)
-    (stood₁ : (session n : ℕ) → has_number ended n ≡ false → stood session n ≡ true → stand₁ session n ≡ true)
+    (stood₁ : (session n : ℕ) → has_link ended n ≡ false → stood session n ≡ true → stand₁ session n ≡ true)
     (opened : (l : Link) → opened_consumer e ≡ Some l → stand l.session.number l.number ≡ true)
     (stood₂ : (session n : ℕ) → stand₁ session n ≡ true → stand session n ≡ true)
     (has : Have rules stood was_to_try past) where

@@ -6,7 +6,7 @@ ghost use Rattle.number_groups.specs.Groups.{numbers};
 ghost use Rattle.trace_events.specs.Event as law;
 ghost use Rattle.trace_values.specs.View.{event_view};
 ghost use Rattle.state_tables.specs.EndedLinks.{views};
-ghost use Rattle.state_addresses.specs.ConsumerLinks.{has_number};
+ghost use Rattle.state_addresses.specs.ConsumerLinks.{has_link};
 ghost use Rattle.due_waiting.specs.BySession.{HasNone, stands};
 
 use number_groups::Groups;
@@ -31,7 +31,7 @@ impl BySession {
 
     /// These links are over.
     pub fn end(&mut self, ended: &[Link])
-        ensures { (session n : ℕ) → has_number (views ended.now) n ≡ false → stands self.old session n ≡ true → stands self.new session n ≡ true }
+        ensures { (session n : ℕ) → has_link (views ended.now) n ≡ false → stands self.old session n ≡ true → stands self.new session n ≡ true }
     {
         for link in ended {
             self.numbers.remove(&link.session.number, link.number);

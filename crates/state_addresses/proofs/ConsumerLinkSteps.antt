@@ -13,7 +13,7 @@ use Rattle.trace_events.proofs.LinkLives.{is_live-new}
 use Rattle.trace_events.proofs.LinkNumbers.{judged-found, link_at-later, own_link-number}
 use Rattle.trace_clauses.proofs.LinkEnds.{is_live-next, lives-live}
 use Rattle.trace_clauses.proofs.OneConsumer.{passes-some}
-use Rattle.state_addresses.specs.ConsumerLinks.{consumer_at, has_number, is_live_consumer, opened_at, with_opened, without}
+use Rattle.state_addresses.specs.ConsumerLinks.{consumer_at, has_link, is_live_consumer, opened_at, with_opened, without}
 use Rattle.state_addresses.proofs.ConsumerSteps.{any-from, any-gives, known, same_some}
 
 -- a consumer's link that is found by its number is a live one
@@ -25,14 +25,14 @@ consumer-lives rules past are n l is =
 module _ (rules : RuleSet) (e : Event) (past : List Event) (are : AreJudged rules (e ∷ past)) (ended : List Link)
     (all : (l : Link) → Contains ended l ↔ IsLiveLink l past × (ends_link l e ≡ true)) where
   -- of these the one of a number is a live link, and ends
-  ended-found : (n : ℕ) → has_number ended n ≡ true → (m : Link) × ((m.number ≡ n) × IsLiveLink m past × (ends_link m e ≡ true))
+  ended-found : (n : ℕ) → has_link ended n ≡ true → (m : Link) × ((m.number ≡ n) × IsLiveLink m past × (ends_link m e ≡ true))
   ended-found n is =
       let found = any-from (λ (l : Link). l.number == n) ended is in
       let of = (all found.0).0 found.1.0 in
       (found.0, (eqb-true found.0.number n found.1.1, of.0, of.1))
 
   none-without : (n : ℕ) → without ended n None ≡ None
-  none-without n = by (has_number ended n)
+  none-without n = by (has_link ended n)
     where
       by : (b : Bool) → ◌≡◌ {A = Option Link} (if b then None else None) None
       by true = refl
@@ -46,13 +46,13 @@ module _ (rules : RuleSet) (e : Event) (past : List Event) (are : AreJudged rule
     found : link_at l.number past ≡ Some l
     found = ap (λ m. link_at m past) own ∙ at
 
-    ends-same : is_live past l ≡ true → has_number ended n ≡ ends_link l e
-    ends-same lives = by (has_number ended n) (ends_link l e) refl refl
+    ends-same : is_live past l ≡ true → has_link ended n ≡ ends_link l e
+    ends-same lives = by (has_link ended n) (ends_link l e) refl refl
       where
         live : IsLiveLink l past
         live = lives-live rules past are.1 l found lives
 
-        by : (a b : Bool) → has_number ended n ≡ a → ends_link l e ≡ b → a ≡ b
+        by : (a b : Bool) → has_link ended n ≡ a → ends_link l e ≡ b → a ≡ b
         by true true is ends = refl
         by false false is ends = refl
         by false true is ends = sym is ∙ any-gives (λ (m : Link). m.number == n) ended l ((all l).1 (live, ends)) (eq-eqb l.number n own)
@@ -94,10 +94,10 @@ module _ (rules : RuleSet) (e : Event) (past : List Event) (are : AreJudged rule
     none-stood : link_at k.number past ≡ None
     none-stood = let number = own_link-number rules e past k are own in link_at-later rules past are.1 k.number (omega (arith, number))
 
-    none-ended : has_number ended k.number ≡ false
-    none-ended = by (has_number ended k.number) refl
+    none-ended : has_link ended k.number ≡ false
+    none-ended = by (has_link ended k.number) refl
       where
-        by : (b : Bool) → has_number ended k.number ≡ b → b ≡ false
+        by : (b : Bool) → has_link ended k.number ≡ b → b ≡ false
         by false is = refl
         by true is = let m = ended-found k.number is in let never : ◌≡◌ {A = Option Link} (Some m.0) None = sym (known rules e past are ended all m.0 m.1.1).at ∙ (ap (λ n. link_at n past) m.1.0 ∙ none-stood) in absurd cc
 

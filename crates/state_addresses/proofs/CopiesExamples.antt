@@ -9,7 +9,8 @@ use Rattle.trace_events.specs.Event.{Event, Link, Incoming}
 use Rattle.trace_events.specs.Outgoing.{names}
 use Rattle.trace_events.specs.Said.{out_transfer}
 use Rattle.trace_events.specs.Words.{is_some_and}
-use Rattle.state_addresses.specs.Copies.{has_number, has_room, is_ended, names_at}
+use Rattle.state_addresses.specs.ConsumerLinks.{has_link}
+use Rattle.state_addresses.specs.Copies.{has_number, has_room, names_at}
 use Rattle.state_addresses.specs.Receivers.{receiver_on}
 use Rattle.state_addresses.specs.declared.copies.Receiver.{Receiver}
 
@@ -44,10 +45,10 @@ numbered = refl
 other_number : has_number 21 (twenty ∷ []) ≡ false
 other_number = refl
 
-ended : is_ended (link_six ∷ []) 6 ≡ true
+ended : has_link (link_six ∷ []) 6 ≡ true
 ended = refl
 
-another_ended : is_ended (link_six ∷ []) 8 ≡ false
+another_ended : has_link (link_six ∷ []) 8 ≡ false
 another_ended = refl
 
 -- before its first flow a link has no credit (part 2 of the standard, section 2.6.7)

@@ -38,7 +38,8 @@ use Rattle.trace_clauses.proofs.UnsentCopies.{completes-written_none, unsent_cop
 use Rattle.trace_clauses.proofs.WaitingQueue.{contains_first, contains_later, contains_cases, contains_none}
 use Rattle.number_groups.specs.Numbers.{is_among}
 use Rattle.state_addresses.specs.Addressed.{IsAddressed}
-use Rattle.state_addresses.specs.Copies.{copies_on, copies_at, has_number, copied_by, AreReceiversOf, AreReceivers, has_room, comes_to, names_at, is_ended}
+use Rattle.state_addresses.specs.ConsumerLinks.{has_link}
+use Rattle.state_addresses.specs.Copies.{copies_on, copies_at, has_number, copied_by, AreReceiversOf, AreReceivers, has_room, comes_to, names_at}
 use Rattle.state_addresses.specs.declared.copies.Receiver.{Receiver}
 use Rattle.state_addresses.proofs.CopyNumbers.{and_false, and_true, or_false, number-left, number-join, numbers-counted}
 
@@ -357,26 +358,26 @@ module _ (rules : RuleSet) (e : Event) (past : List Event) (are : AreJudged rule
           let session = last_session-known rules past are.1 s.connection s.channel s (last_of (is_over s.connection past) (last_session s.connection s.channel past) s live.0) in
           (judged-stands rules past are.1).known s l.handle l session live.1
 
-      ended-is : (l : Link) (link : ℕ) → l.number ≡ link → link_at link past ≡ Some l → is_live past l ≡ true → is_ended ended link ≡ ends_link l e
-      ended-is l link own at live = both-ways (is_ended ended link) (ends_link l e) there back
+      ended-is : (l : Link) (link : ℕ) → l.number ≡ link → link_at link past ≡ Some l → is_live past l ≡ true → has_link ended link ≡ ends_link l e
+      ended-is l link own at live = both-ways (has_link ended link) (ends_link l e) there back
         where
-          there : is_ended ended link ≡ true → ends_link l e ≡ true
+          there : has_link ended link ≡ true → ends_link l e ≡ true
           there is =
               let m = any-from (λ (m : Link). m.number == link) ended is in
               let of = (all m.0).0 m.1.0 in
               let same : m.0 ≡ l = same_some m.0 l (sym (found-live m.0 of.0).at ∙ (ap (λ k. link_at k past) (eqb-true m.0.number link m.1.1) ∙ at)) in
               ap (λ (k : Link). ends_link k e) (sym same) ∙ of.1
 
-          back : ends_link l e ≡ true → is_ended ended link ≡ true
+          back : ends_link l e ≡ true → has_link ended link ≡ true
           back ends = any-gives (λ (m : Link). m.number == link) ended l ((all l).1 (lives-live rules past are.1 l (ap (λ k. link_at k past) own ∙ at) live, ends)) (eq-eqb l.number link own)
 
       -- ---- all together
 
       abbrev now : ℕ → ℕ → ℕ → Bool → Bool
-      now count link n before = ((comes_to rules address e receivers count link n || before) && not (names_at link n e)) && not (is_ended ended link)
+      now count link n before = ((comes_to rules address e receivers count link n || before) && not (names_at link n e)) && not (has_link ended link)
 
       quiet : (count link n : ℕ) → comes_to rules address e receivers count link n ≡ false → now count link n false ≡ false
-      quiet count link n none = ap (λ b. ((b || false) && not (names_at link n e)) && not (is_ended ended link)) none
+      quiet count link n none = ap (λ b. ((b || false) && not (names_at link n e)) && not (has_link ended link)) none
 
       stayed : (l : Link) (link n : ℕ) → l.number ≡ link → link_at link past ≡ Some l → (live : Bool) → is_live past l ≡ live
           → now (length (copies_on rules past (if live then Some l else None))) link n (has_number n (copies_on rules past (if live then Some l else None)))

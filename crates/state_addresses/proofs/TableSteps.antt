@@ -12,7 +12,8 @@ use Rattle.trace_events.specs.Event as law
 use Rattle.trace_values.specs.View.{link_view}
 use Rattle.trace_values.specs.declared.event.Link.{Link}
 use Rattle.state_tables.specs.EndedLinks.{views}
-use Rattle.state_addresses.specs.Copies.{has_room, is_ended}
+use Rattle.state_addresses.specs.ConsumerLinks.{has_link}
+use Rattle.state_addresses.specs.Copies.{has_room}
 use Rattle.state_addresses.specs.declared.copies.Receiver.{Receiver}
 use Rattle.state_addresses.proofs.CopyNumbers.{and_false, and_true, or_false}
 
@@ -140,19 +141,19 @@ cleared link at old new n others own = by (link == at) refl
 abbrev is_it : ℕ → law.Link → Bool
 is_it link l = l.number == link
 
-ended-more : (links : List Link) (i : ℕ) (x : Link) → i < length links → (link : ℕ) → is_ended (views (take (i + 1) links)) link ≡ is_ended (views (take i links)) link || is_it link (link_view (get_or links i x))
+ended-more : (links : List Link) (i : ℕ) (x : Link) → i < length links → (link : ℕ) → has_link (views (take (i + 1) links)) link ≡ has_link (views (take i links)) link || is_it link (link_view (get_or links i x))
 ended-more links i x below link =
-    ap (λ k. is_ended (views (take k links)) link) (add-one i)
-    ∙ (ap (λ xs. is_ended (views xs) link) (take-suc links i x below)
-    ∙ (ap (λ ls. is_ended ls link) (map-append link_view (take i links) (get_or links i x ∷ []))
-    ∙ (list_any-append (is_it link) (views (take i links)) (link_view (get_or links i x) ∷ []) ∙ ap (λ b. is_ended (views (take i links)) link || b) (or_false (is_it link (link_view (get_or links i x)))))))
+    ap (λ k. has_link (views (take k links)) link) (add-one i)
+    ∙ (ap (λ xs. has_link (views xs) link) (take-suc links i x below)
+    ∙ (ap (λ ls. has_link ls link) (map-append link_view (take i links) (get_or links i x ∷ []))
+    ∙ (list_any-append (is_it link) (views (take i links)) (link_view (get_or links i x) ∷ []) ∙ ap (λ b. has_link (views (take i links)) link || b) (or_false (is_it link (link_view (get_or links i x)))))))
 
-pub left-more : (links : List Link) (i : ℕ) (x : Link) → i < length links → (before now then_ : Bool) (link : ℕ) → now ≡ (before && not (is_ended (views (take i links)) link))
-    → then_ ≡ (now && not ((get_or links i x).number == link)) → then_ ≡ (before && not (is_ended (views (take (i + 1) links)) link))
+pub left-more : (links : List Link) (i : ℕ) (x : Link) → i < length links → (before now then_ : Bool) (link : ℕ) → now ≡ (before && not (has_link (views (take i links)) link))
+    → then_ ≡ (now && not ((get_or links i x).number == link)) → then_ ≡ (before && not (has_link (views (take (i + 1) links)) link))
 left-more links i x below before now then_ link is next =
     next
     ∙ (ap (λ b. b && not ((get_or links i x).number == link)) is
-    ∙ (by before (is_ended (views (take i links)) link) ((get_or links i x).number == link) ∙ ap (λ b. before && not b) (sym (ended-more links i x below link))))
+    ∙ (by before (has_link (views (take i links)) link) ((get_or links i x).number == link) ∙ ap (λ b. before && not b) (sym (ended-more links i x below link))))
   where
     by : (a b c : Bool) → a && not b && not c ≡ a && not (b || c)
     by false b c = refl

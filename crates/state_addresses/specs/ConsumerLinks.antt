@@ -37,9 +37,9 @@ abbrev pub with_opened : ℕ → Event → Option Link → Option Link
 with_opened n e earlier = or_else (opened_at n e) earlier
 
 -- one of these links has the number
-abbrev pub has_number : List Link → ℕ → Bool
-has_number links n = list_any (λ l. l.number == n) links
+abbrev pub has_link : List Link → ℕ → Bool
+has_link links n = list_any (λ l. l.number == n) links
 
 -- what stood under the number, unless one of these links has it
 abbrev pub without : List Link → ℕ → Option Link → Option Link
-without links n earlier = if has_number links n then None else earlier
+without links n earlier = if has_link links n then None else earlier

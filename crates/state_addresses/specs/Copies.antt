@@ -73,7 +73,3 @@ AreDue rules e past due = (link : ℕ) → list_any (λ m. m == link) due ≡ is
 -- a transfer to the client names the delivery of this number on the link of this number
 abbrev pub names_at : ℕ → ℕ → Event → Bool
 names_at link n e = is_some (out_transfer e) && is_some_and e.link (λ l. l.number == link) && names n e.note
-
--- one of these links has this number
-abbrev pub is_ended : List Link → ℕ → Bool
-is_ended ended link = list_any (λ l. l.number == link) ended

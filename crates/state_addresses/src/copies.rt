@@ -16,7 +16,8 @@ ghost use Rattle.trace_values.specs.View.{event_view, incoming_view, link_view};
 ghost use Rattle.state_tables.specs.Connections.{IsLawfulNext};
 ghost use Rattle.state_tables.specs.EndedLinks.{AreEnded, views};
 ghost use Rattle.state_addresses.specs.Addressed.{IsAddressed};
-ghost use Rattle.state_addresses.specs.Copies.{AreCopies, AreCounted, AreDue, AreReceivers, comes_to, copied_by, has_room, is_ended, names_at, stands};
+ghost use Rattle.state_addresses.specs.ConsumerLinks.{has_link};
+ghost use Rattle.state_addresses.specs.Copies.{AreCopies, AreCounted, AreDue, AreReceivers, comes_to, copied_by, has_room, names_at, stands};
 
 use capture_form::RuleSet;
 use number_groups::Groups;
@@ -204,7 +205,7 @@ impl Copies {
 
     /// Nothing is to be sent on these links any more.
     fn end(&mut self, ended: &[Link])
-        ensures { (link n : ℕ) → stands self.new link n ≡ (stands self.old link n && not (is_ended (views ended.now) link)) }
+        ensures { (link n : ℕ) → stands self.new link n ≡ (stands self.old link n && not (has_link (views ended.now) link)) }
     {
         for link in ended {
             self.clear(link.number);

@@ -34,7 +34,8 @@ use Rattle.trace_clauses.proofs.WaitingQueue.{all_contained, completed_once, con
 use Rattle.trace_clauses.specs.CopyVerdict.{copy_verdict, begun_verdict_by, verdict_by, awaits_verdict, awaits_now}
 use Rattle.trace_clauses.specs.BestVerdict.{is_same_outcome, is_verdict, has_verdict}
 use Rattle.trace_clauses.proofs.AwaitedSteps.{awaits_verdict_moves, awaits_now-live, awaited-given, has_verdict_moves, new_link-undue}
-use Rattle.state_addresses.specs.Copies.{AreDue, is_ended}
+use Rattle.state_addresses.specs.ConsumerLinks.{has_link}
+use Rattle.state_addresses.specs.Copies.{AreDue}
 use Rattle.state_verdicts.specs.Verdicts.{AreGiven, awaits_at, verdict_at, comes_now, is_given, is_of_copy, is_verdict_of}
 use Rattle.state_verdicts.specs.declared.verdicts.CopyVerdict.{CopyVerdict}
 use Rattle.state_verdicts.proofs.TableSteps.{and_false, any-gives, any-from, both-ways}
@@ -83,17 +84,17 @@ module _ (rules : RuleSet) (e : Event) (past : List Event) (are : AreJudged rule
       let session = last_session-known rules past are.1 s.connection s.channel s (last_of (is_over s.connection past) (last_session s.connection s.channel past) s live.0) in
       (judged-stands rules past are.1).known s l.handle l session live.1
 
-  ended-is : (l : Link) → link_at l.number past ≡ Some l → is_live past l ≡ true → is_ended ended l.number ≡ ends_link l e
-  ended-is l at live = both-ways (is_ended ended l.number) (ends_link l e) there back
+  ended-is : (l : Link) → link_at l.number past ≡ Some l → is_live past l ≡ true → has_link ended l.number ≡ ends_link l e
+  ended-is l at live = both-ways (has_link ended l.number) (ends_link l e) there back
     where
-      there : is_ended ended l.number ≡ true → ends_link l e ≡ true
+      there : has_link ended l.number ≡ true → ends_link l e ≡ true
       there is =
           let m = any-from (λ (m : Link). m.number == l.number) ended is in
           let of = (all m.0).0 m.1.0 in
           let same : m.0 ≡ l = same_some m.0 l (sym (found-live m.0 of.0).at ∙ (ap (λ k. link_at k past) (eqb-true m.0.number l.number m.1.1) ∙ at)) in
           ap (λ (k : Link). ends_link k e) (sym same) ∙ of.1
 
-      back : ends_link l e ≡ true → is_ended ended l.number ≡ true
+      back : ends_link l e ≡ true → has_link ended l.number ≡ true
       back ends = any-gives (λ (m : Link). m.number == l.number) ended l ((all l).1 (lives-live rules past are.1 l at live, ends)) (eq-eqb l.number l.number refl)
 
   -- ---- what awaits with the event, before verdicts are given
@@ -223,9 +224,9 @@ module _ (rules : RuleSet) (e : Event) (past : List Event) (are : AreJudged rule
           by false is = refl
           by true waits = ap not (given-is waits) ∙ off (begun_verdict_by e past d l)
 
-      awaits-here : (came l.number d.number && not (is_given given l.number d.number)) && not (is_ended ended l.number) ≡ awaits_verdict rules d (e ∷ past) l
+      awaits-here : (came l.number d.number && not (is_given given l.number d.number)) && not (has_link ended l.number) ≡ awaits_verdict rules d (e ∷ past) l
       awaits-here =
-          ap (λ b. b && not (is_ended ended l.number)) left-is
+          ap (λ b. b && not (has_link ended l.number)) left-is
           ∙ (by (awaits_now rules e past d l) refl (begun_verdict_by e past d l) ∙ sym (awaits_verdict_moves rules e past are lawful d found l at))
         where
           bits : (ends : Bool) (o : Option Outcome) → is_none o && not ends ≡ is_none (or_else o (if ends then Some Modified else None))
@@ -234,7 +235,7 @@ module _ (rules : RuleSet) (e : Event) (past : List Event) (are : AreJudged rule
           bits ends (Some x) = refl
 
           by : (a : Bool) → awaits_now rules e past d l ≡ a → (o : Option Outcome)
-              → (a && is_none o) && not (is_ended ended l.number) ≡ a && is_none (or_else o (if ends_link l e then Some Modified else None))
+              → (a && is_none o) && not (has_link ended l.number) ≡ a && is_none (or_else o (if ends_link l e then Some Modified else None))
           by false is o = refl
           by true is o =
               ap (λ b. is_none o && not b) (ended-is l at (awaits_now-live rules e past are lawful d found l at is)) ∙ bits (ends_link l e) o
@@ -242,10 +243,10 @@ module _ (rules : RuleSet) (e : Event) (past : List Event) (are : AreJudged rule
   -- ---- which copies await their verdict behind the event
 
   abbrev now : ℕ → ℕ → Bool
-  now link n = (came link n && not (is_given given link n)) && not (is_ended ended link)
+  now link n = (came link n && not (is_given given link n)) && not (has_link ended link)
 
   quiet : (link n : ℕ) → came link n ≡ false → now link n ≡ false
-  quiet link n none = ap (λ b. (b && not (is_given given link n)) && not (is_ended ended link)) none
+  quiet link n none = ap (λ b. (b && not (is_given given link n)) && not (has_link ended link)) none
 
   on_old : (link n : ℕ) → (o : Option Link) → link_at link past ≡ o → now link n ≡ is_some_and o (λ l. is_some_and (incoming_at n (e ∷ past)) (λ d. awaits_verdict rules d (e ∷ past) l))
   on_old link n None none = quiet link n (came-none link n none)

@@ -1,7 +1,8 @@
 use Rattle.std.proofs.Common.{ap, sym, ◌∙◌, ◌&&◌, not}
 use Rattle.std.proofs.lemmas.List.{take_all}
 use Rattle.state_tables.specs.EndedLinks.{views}
-use Rattle.state_addresses.specs.Copies.{is_ended, stands}
+use Rattle.state_addresses.specs.ConsumerLinks.{has_link}
+use Rattle.state_addresses.specs.Copies.{stands}
 use Rattle.state_addresses.proofs.CopyNumbers.{and_true}
 use Rattle.state_addresses.proofs.TableSteps.{left-more}
 use Rattle.state_addresses.proofs.copies.Copies.end.Goals as goal
@@ -16,4 +17,4 @@ loop-link-preserved c = λ link n.
 
 pub returns : goal.returns
 returns c = λ link n.
-    c.loop-link.invariant link n ∙ ap (λ ls. stands c.args.self.now link n && not (is_ended (views ls) link)) (take_all c.loop-link.link-index c.args.ended.now c.loop-link-test.false)
+    c.loop-link.invariant link n ∙ ap (λ ls. stands c.args.self.now link n && not (has_link (views ls) link)) (take_all c.loop-link.link-index c.args.ended.now c.loop-link-test.false)
